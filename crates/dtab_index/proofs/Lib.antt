@@ -1,0 +1,6 @@
+pub mod Filed
+pub mod Found
+pub mod Fronts
+pub mod Hashing
+pub mod Members
+pub mod Shapes

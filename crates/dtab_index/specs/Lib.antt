@@ -1,0 +1,4 @@
+pub mod Filing
+pub mod Index
+pub mod Key
+pub mod Prefix

@@ -1,0 +1,81 @@
+//! Prefixes of paths, and which of them match a path.
+
+use crate::Mem;
+use crate::filing::{candidates, gather, note_place, note_shape};
+use crate::key::prefix_key;
+use crate::prefix::{Entry, Shape};
+use std::alloc::Global;
+use std::collections::HashMap;
+use std::marker::Model;
+
+/// Some prefixes of paths, each with its position, which contracts see as the list of what was added.
+#[derive(Debug, Drop)]
+pub struct Index {
+    entries: Vec<Entry>,
+    shapes: Vec<Shape>,
+    buckets: HashMap<u64, Vec<usize>>,
+}
+
+impl Model for Index {
+    ghost use Rattle.std.specs.Prelude.{List, Option, ℕ};
+
+    ghost Value = { List (List (Option (List ℕ)) × ℕ) };
+
+    ghost use Rattle.std.specs.Prelude.{map};
+    ghost use Rattle.dtab_index.specs.Prefix.{placed_of, stars_of};
+    ghost use Rattle.dtab_index.specs.Filing.{AreRising, AreFiled, places_at};
+
+    ghost view = { λ x. map placed_of x.entries.items };
+
+    ghost invariant = { λ x. AreRising (map placed_of x.entries.items) × AreFiled (map placed_of x.entries.items) (map stars_of x.shapes.items) (places_at x.buckets) };
+}
+
+impl Index {
+    ghost use Rattle.std.specs.Prelude.{◌≡◌, [], ◌∷◌, ◌++◌, map, IfOk, OnOk, OnErr};
+    ghost use Rattle.dtab_index.specs.Index.{matching, AreBelow};
+    ghost use Rattle.dtab_index.specs.Prefix.{patterns_of};
+
+    /// The index with no prefix. It takes no memory.
+    pub fn new(alloc: Global) -> Index
+        ensures { result ≡ [] }
+    {
+        Index {
+            entries: Vec::new(alloc),
+            shapes: Vec::new(alloc),
+            buckets: HashMap::new(alloc),
+        }
+    }
+
+    /// Puts a prefix, in which `None` is `*`, and its position behind the others. An `Err` changes nothing.
+    ///
+    /// The cost is one pass over the prefix, and a look at each shape that the index has.
+    pub fn add(&mut self, alloc: Global, prefix: Vec<Option<Vec<u8>>>, at: u32) -> Mem<()>
+        requires { AreBelow at self.old }
+        ensures ok { OnOk result (self.new ≡ self.old ++ (patterns_of prefix.items, at) ∷ []) }
+        ensures err { OnErr result (self.new ≡ self.old) }
+    {
+        note_shape(alloc, &mut self.shapes, prefix.as_slice())?;
+        let key = prefix_key(prefix.as_slice());
+        note_place(alloc, &mut self.buckets, key, self.entries.len())?;
+        self.entries.push(Entry { prefix, at })?;
+        Ok(())
+    }
+
+    /// The positions of the prefixes that match a path of these labels, the greatest first.
+    ///
+    /// The cost is one pass over the path and one look-up for each shape that the index has, a comparison for each prefix that has
+    /// the path's labels, and the memory of the answer: none where nothing matches.
+    pub fn matching(&self, alloc: Global, path: &[Vec<u8>]) -> Mem<Vec<u32>>
+        ensures { IfOk result (λ found. found.items ≡ matching self.now (map (λ l. l.items) path.now)) }
+    {
+        let mut found = Vec::new(alloc);
+        for shape in &self.shapes {
+            let places = candidates(&self.buckets, shape.stars.as_slice(), path);
+            gather(self.entries.as_slice(), places, path, &mut found)?;
+        }
+        found.sort_unstable();
+        found.dedup();
+        found.reverse();
+        Ok(found)
+    }
+}
