@@ -1,0 +1,5 @@
+pub mod Arrows
+pub mod Matching
+pub mod Places
+pub mod Placing
+pub mod Rewriting

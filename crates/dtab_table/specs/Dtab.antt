@@ -1,0 +1,28 @@
+-- Delegation tables as values, and what they rewrite a path to.
+use Rattle.std.specs.Prelude.{Bool, true, if◌then◌else◌, List, [], ◌∷◌, ◌++◌, map, Option, Some, None, option_map}
+use Rattle.std.specs.Option.{option_to_list}
+use Rattle.std.specs.Str.{bytes_eq}
+use Rattle.name_tree.specs.Path.{Label, Labels}
+use Rattle.name_tree.specs.Tree.{Name, append_rest}
+pub use Rattle.dtab_table.specs.Rules.{Pattern, Rule, pattern_of, patterns_of, rule_of}
+use Rattle.dtab_table.specs.declared.dtab.Dtab.{Dtab}
+
+-- the rules of a table, in their order
+abbrev pub rules_of : Dtab → List Rule
+rules_of dtab = map rule_of dtab.entries.items
+
+-- what follows a prefix in a path that it matches: the path has a label for each of the prefix, the same unless that is `*`
+abbrev pub rest_behind : List Pattern → Labels → Option Labels
+rest_behind [] path = Some path
+rest_behind (p ∷ ps) [] = None
+rest_behind (None ∷ ps) (l ∷ ls) = rest_behind ps ls
+rest_behind (Some m ∷ ps) (l ∷ ls) = if bytes_eq m l then rest_behind ps ls else None
+
+-- the tree of a rule that matches, with the rest of the path behind every leaf
+abbrev pub rewrite : Rule → Labels → Option Name
+rewrite rule path = option_map (append_rest rule.tree) (rest_behind rule.prefix path)
+
+-- what a table rewrites a path to: the trees of all rules that match, the last rule first
+abbrev pub rewrites : List Rule → Labels → List Name
+rewrites [] path = []
+rewrites (r ∷ rs) path = rewrites rs path ++ option_to_list (rewrite r path)
