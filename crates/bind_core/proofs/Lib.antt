@@ -1,0 +1,5 @@
+pub mod Hosts
+pub mod Stacks
+pub mod Trees
+pub mod Turns
+pub mod Widths

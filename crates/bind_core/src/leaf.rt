@@ -1,0 +1,28 @@
+//! What a delegation binds a path to.
+use crate::addr::Addr;
+use name_tree::Path;
+
+/// Where a leaf's replicas are.
+#[derive(Debug, Drop)]
+pub enum Cluster {
+    /// One address, of a path `/$/inet/HOST/PORT`.
+    Inet(Addr),
+}
+
+/// A bound leaf: its replicas, and how its path was split.
+#[derive(Debug, Drop)]
+pub struct Leaf {
+    /// Where the replicas are.
+    pub cluster: Cluster,
+    /// The labels that named the replicas.
+    pub client: Path,
+    /// The labels behind those, which name nothing here and are passed on.
+    pub residual: Path,
+}
+
+/// What a path is bound to.
+#[derive(Debug, Drop)]
+pub enum Bound {
+    /// One leaf.
+    One(Leaf),
+}
