@@ -1,0 +1,20 @@
+-- The fields of a head, looked up by name (RFC 9110 section 5).
+use Rattle.std.specs.Prelude.{ℕ, Bool, List, map, filter, bytes_eq}
+use Rattle.std.specs.Char.{to_ascii_lowercase}
+use Rattle.http_wire.specs.declared.head.Field.{Field}
+
+-- the bytes with each ASCII letter in lower case
+abbrev pub lower : List ℕ → List ℕ
+lower bytes = map to_ascii_lowercase bytes
+
+-- field names are compared without case (RFC 9110 section 5.1), and so are some values
+unfoldable pub same_ignoring_case : List ℕ → List ℕ → Bool
+same_ignoring_case a b = bytes_eq (lower a) (lower b)
+
+-- the field has this name
+abbrev pub is_named : List ℕ → Field → Bool
+is_named name field = same_ignoring_case field.name name
+
+-- the values of the fields of this name, in order (RFC 9110 section 5.3)
+unfoldable pub values_of : List ℕ → List Field → List (List ℕ)
+values_of name fields = map (λ (field : Field). field.value) (filter (is_named name) fields)

@@ -1,0 +1,9 @@
+pub mod Fields
+pub mod FirstLine
+pub mod Framing
+pub mod Heads
+pub mod Host
+pub mod Parsed
+pub mod Reading
+pub mod Rest
+pub mod Target

@@ -1,0 +1,92 @@
+//! The head of a request.
+ghost use Rattle.std.specs.Prelude.{◌≡◌, count_by, find, length, slice_get};
+ghost use Rattle.std.specs.Option.{option_copied};
+ghost use Rattle.http_wire.specs.Fields.{is_named, values_of};
+
+use crate::text::{FieldName, Text};
+use http::Method;
+use std::marker::Model;
+
+/// A field of a head: its name and its value, without the blanks around the value.
+#[derive(Debug, Drop)]
+pub struct Field {
+    /// The name, as received.
+    pub name: FieldName,
+    /// The value, as received.
+    pub value: Text,
+}
+
+/// Fields, in the order in which they were received. Contracts see it as the list of them.
+#[derive(Debug, Drop)]
+pub struct FieldList {
+    fields: Vec<Field>,
+}
+
+impl Model for FieldList {
+    ghost use Rattle.std.specs.Prelude.{List};
+    ghost use Rattle.http_wire.specs.declared.head.Field.{Field};
+
+    ghost Value = { List Field };
+
+    ghost view = { λ l. l.fields.items };
+}
+
+impl FieldList {
+    /// The list of these fields. It takes no memory.
+    pub fn of(items: Vec<Field>) -> FieldList
+        ensures { result ≡ items.items }
+    {
+        FieldList { fields: items }
+    }
+
+    /// The fields.
+    pub fn items(&self) -> &[Field]
+        ensures { result.now ≡ self.now }
+    {
+        self.fields.as_slice()
+    }
+
+    /// How many fields have this name, in any case.
+    pub fn count(&self, name: &str) -> usize
+        ensures { result ≡ length (values_of name.now self.now) }
+    {
+        count_named(self.items(), name)
+    }
+
+    /// The value of the first field of this name, in any case.
+    pub fn first(&self, name: &str) -> Option<&[u8]>
+        ensures { option_copied result ≡ slice_get (values_of name.now self.now) 0 }
+    {
+        match find_named(self.items(), name) {
+            Some(field) => Some(field.value.bytes()),
+            None => None,
+        }
+    }
+}
+
+/// How many of the fields have this name.
+fn count_named(fields: &[Field], name: &str) -> usize
+    ensures { result ≡ count_by (is_named name.now) fields.now }
+{
+    fields.iter().filter(|field| field.name.is(name)).count()
+}
+
+/// The first of the fields that has this name.
+fn find_named<'a>(fields: &'a [Field], name: &str) -> Option<&'a Field>
+    ensures { option_copied result ≡ find (is_named name.now) fields.now }
+{
+    fields.iter().find(|field| field.name.is(name))
+}
+
+/// The head of a request (RFC 9112 sections 2 to 5).
+#[derive(Debug, Drop)]
+pub struct Head {
+    /// The method.
+    pub method: Method,
+    /// The request target, as received.
+    pub target: Text,
+    /// 0 for HTTP/1.0 and 1 for HTTP/1.1.
+    pub version: u8,
+    /// The fields, in order.
+    pub fields: FieldList,
+}

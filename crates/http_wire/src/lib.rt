@@ -1,0 +1,60 @@
+//! The heads of HTTP/1.1 requests: reading one off a connection, its framing, its target and its host.
+//!
+//! [`read_request_head`] reads a [`Head`] off a [`Peer`](line_base::Peer), in any pieces, and keeps the bytes past it in a
+//! [`Rest`]. [`framing`] says how the body behind it ends, [`read_target`] what its target goes on as, and [`read_host`] whom
+//! it asks. The profile is that of RFC 9110 and RFC 9112, stricter where two readers of the same bytes could see two
+//! different requests; `docs/HTTP.md` states it.
+//!
+//! # What is proved
+//! The head that is read is that of all the bytes, whatever the pieces in which they came and whatever follows, by the
+//! grammar of the crate `httparse`; the bytes past it are kept. A head is refused as bad exactly where no continuation of the
+//! bytes is one, as another version and as too large exactly where the first line and the length say so; the end of the
+//! connection and a failed read are told only where the peer's count of them rose. Framing, target and host are given, and
+//! refused, exactly by the definitions of `specs/`. That a refusal is told before a further byte is read is tested.
+//!
+//! # Example
+//! ```
+//! let mut rest = Rest::room(alloc)?;
+//! let head = read_request_head(alloc, &mut peer, &mut rest)?;
+//! assert_eq!(head.target.bytes(), b"/x");
+//! assert_eq!(framing(&head), Ok(Framing::Nothing));
+//! let target = read_target(alloc, &head)?;
+//! assert_eq!(read_host(alloc, &head, &target)?.as_slice(), b"web");
+//! ```
+#![tactic(auto)]
+
+use std::alloc::AllocError;
+
+mod body;
+mod ended;
+mod first_line;
+mod frames;
+mod head;
+mod host;
+mod list;
+mod parse;
+mod reading;
+mod rest;
+mod seen;
+mod target;
+mod text;
+mod watch;
+
+pub use body::framing;
+pub use ended::Ended;
+pub use frames::{Framing, FramingFault};
+pub use head::{Field, FieldList, Head};
+pub use host::{HostFault, read_host};
+pub use reading::{HeadEnd, read_request_head};
+pub use rest::{FillFault, Rest};
+pub use target::{Target, TargetFault, read_target};
+pub use text::{FieldName, Text};
+
+/// A value, unless there was no memory for it.
+pub type Mem<T> = Result<T, AllocError>;
+
+/// Bytes of a text.
+pub type Bytes = Vec<u8>;
+
+#[cfg(test)]
+mod tests;
