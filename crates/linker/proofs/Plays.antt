@@ -1,0 +1,99 @@
+-- The play of a script: what was written so far, what waits to be written, and what is yet to be played.
+use Rattle.std.proofs.Common.{◌≡◌, ℕ, ◌+◌, ◌≤◌, List, [], ◌∷◌, ◌++◌, drop, append_assoc, sym, ap, subst, ◌∙◌, arith, Bool, true, false, inl, inr}
+use Rattle.std.specs.Prelude.{slice_range, Option}
+use Rattle.std.proofs.lemmas.List.{append-nil}
+use Rattle.std.specs.Io.KnownBytes.{Appends}
+use Rattle.std.proofs.KnownBytes.{Appends-trans}
+use Rattle.line_base.specs.Counts.{Rose}
+use Rattle.dtab_table.specs.Dtab.{Rule}
+use Rattle.linker.specs.Line.{lines_of, line_value}
+use Rattle.linker.specs.Replay.{Played, before, played, line_played}
+use Rattle.linker.specs.Run.{AppendsFront}
+use Rattle.linker.specs.declared.player.PlayEnd.{PlayEnd}
+use Rattle.linker.specs.declared.player.PlayEnd.TheVariants.{Done, BadLine, WriteFault, OutOfMemory}
+use Rattle.linker.specs.declared.player.Turn.{Turn}
+use Rattle.linker.specs.declared.player.Turn.TheVariants.{Next, Stop}
+use Rattle.linker.specs.Told.{Answers, Plays, Finishes}
+
+-- a front of what comes next, behind what was written
+pub front_of : (a b c : Option (List ℕ)) (all written bytes rest : List ℕ) → all ≡ written ++ (bytes ++ rest) → Appends a b written → AppendsFront b c bytes → AppendsFront a c all
+front_of a b c all written bytes rest is old now = (
+  written ++ now.0,
+  now.1 ++ rest,
+  is ∙ (ap (λ (xs : List ℕ). written ++ (xs ++ rest)) now.2 ∙ (ap (λ (xs : List ℕ). written ++ xs) (append_assoc now.0 now.1 rest) ∙ sym (append_assoc written now.0 (now.1 ++ rest)))),
+  Appends-trans a b c written now.0 old now.3,
+)
+
+-- the count rose before it did not fall
+pub rose_later : (a b c : ℕ) → a ≤ b → Rose b c → Rose a c
+rose_later a b c later rose = omega arith
+
+-- a play that ends with its last replies
+pub plays_end : (all : Played) (end result : PlayEnd) (a b c : Option (List ℕ)) (f g : ℕ) (written replies rest : List ℕ) → all.0 ≡ written ++ (replies ++ rest)
+    → Appends a b written → Finishes replies end b c f g result → (Appends a c (written ++ replies) → Plays all a c end) → Plays all a c result
+plays_end all end result a b c f g written replies rest is old (inl done) ends =
+    subst (Plays all a c) (sym done.0) (ends (Appends-trans a b c written replies old done.1))
+plays_end all end result a b c f g written replies rest is old (inr failed) ends =
+    subst (Plays all a c) (sym failed.0) (front_of a b c all.0 written replies rest is old failed.2)
+
+pub fault_cause : (end result : PlayEnd) (bytes : List ℕ) (b c : Option (List ℕ)) (e f g : ℕ) → e ≤ f → Finishes bytes end b c f g result → (end ≡ WriteFault → ⊥) → result ≡ WriteFault → Rose e g
+fault_cause end result bytes b c e f g later (inl done) other is = absurd (other (sym done.0 ∙ is))
+fault_cause end result bytes b c e f g later (inr failed) other is = rose_later e f g later failed.1
+
+module _ (all : Played) (written replies piece new_replies : List ℕ) (rules : List Rule) (number : ℕ) (script : List ℕ) (at stop next : ℕ)
+    (line : lines_of (drop at script) ≡ slice_range script at stop ∷ lines_of (drop next script))
+    (same : all ≡ before (written ++ replies) (played rules number (lines_of (drop at script))))
+    (grown : new_replies ≡ replies ++ piece) where
+  abbrev rest : List Rule → Played
+  rest rules' = played rules' (number + 1) (lines_of (drop next script))
+
+  here : played rules number (lines_of (drop at script)) ≡ line_played (line_value (slice_range script at stop)) rules number rest
+  here = ap (played rules number) line
+
+  joined : (end : Played) → before (written ++ replies) (before piece end) ≡ before (written ++ new_replies) end
+  joined end =
+      ap (λ (xs : List ℕ). (xs, end.1)) (sym (append_assoc (written ++ replies) piece end.0) ∙ ap (λ (xs : List ℕ). xs ++ end.0) (append_assoc written replies piece ∙ ap (λ (xs : List ℕ). written ++ xs) (sym grown)))
+
+  -- the script goes on
+  pub goes_on : (rules' : List Rule) (turn : Turn) → turn ≡ Next → Answers (line_value (slice_range script at stop)) rules number rules' piece turn → all ≡ before (written ++ new_replies) (rest rules')
+  goes_on rules' turn is answers =
+      let told = subst (Answers (line_value (slice_range script at stop)) rules number rules' piece) is answers in
+      same ∙ (ap (before (written ++ replies)) (here ∙ told rest) ∙ joined (rest rules'))
+
+  -- the line ends it
+  pub stops : (rules' : List Rule) (turn : Turn) → turn ≡ Stop → Answers (line_value (slice_range script at stop)) rules number rules' piece turn → all ≡ (written ++ new_replies, false)
+  stops rules' turn is answers =
+      let told = subst (Answers (line_value (slice_range script at stop)) rules number rules' piece) is answers in
+      same ∙ (ap (before (written ++ replies)) (here ∙ told rest) ∙ ap (λ (xs : List ℕ). (xs, false)) (append_assoc written replies piece ∙ ap (λ (xs : List ℕ). written ++ xs) (sym grown)))
+
+-- a front of the replies that waited is written now
+pub flushed : (all : Played) (written front others replies : List ℕ) (rest : Played) → replies ≡ front ++ others → all ≡ before (written ++ replies) rest → all ≡ before ((written ++ front) ++ others) rest
+flushed all written front others replies rest is same =
+    same ∙ ap (λ (xs : List ℕ). before xs rest) (ap (λ (xs : List ℕ). written ++ xs) is ∙ sym (append_assoc written front others))
+
+-- no line is left
+pub at_end : (all : Played) (bytes : List ℕ) → all ≡ before bytes ([], true) → all ≡ (bytes, true)
+at_end all bytes same = same ∙ ap (λ (xs : List ℕ). (xs, true)) (append-nil bytes)
+
+module _ (all : Played) (a b c : Option (List ℕ)) (f g : ℕ) (written replies bytes : List ℕ) (result : PlayEnd) (old : Appends a b written) (same : bytes ≡ replies) where
+  whole : (good : Bool) → all ≡ (written ++ replies, good) → all.0 ≡ written ++ (replies ++ [])
+  whole good is = ap (λ p. p.0) is ∙ ap (λ (xs : List ℕ). written ++ xs) (sym (append-nil replies))
+
+  pub plays_stop : all ≡ (written ++ replies, false) → Finishes bytes BadLine b c f g result → Plays all a c result
+  plays_stop is fin =
+      plays_end all BadLine result a b c f g written replies [] (whole false is) old (rw same at fin)
+      (λ app. (ap (λ p. p.1) is, subst (Appends a c) (sym (ap (λ p. p.0) is)) app))
+
+  pub plays_done : all ≡ (written ++ replies, true) → Finishes bytes Done b c f g result → Plays all a c result
+  plays_done is fin =
+      plays_end all Done result a b c f g written replies [] (whole true is) old (rw same at fin)
+      (λ app. (ap (λ p. p.1) is, subst (Appends a c) (sym (ap (λ p. p.0) is)) app))
+
+  pub plays_short : (rest : Played) → all ≡ before (written ++ replies) rest → Finishes bytes OutOfMemory b c f g result → Plays all a c result
+  plays_short rest is fin =
+      plays_end all OutOfMemory result a b c f g written replies rest.0 (ap (λ p. p.0) is ∙ append_assoc written replies rest.0) old (rw same at fin)
+      (λ app. (written ++ replies, rest.0, ap (λ p. p.0) is, app))
+
+  -- a front of the replies is written, and then a write fails
+  pub plays_fault : (rest : Played) → all ≡ before (written ++ replies) rest → AppendsFront b c replies → AppendsFront a c all.0
+  plays_fault rest is front = front_of a b c all.0 written replies rest.0 (ap (λ p. p.0) is ∙ append_assoc written replies rest.0) old front

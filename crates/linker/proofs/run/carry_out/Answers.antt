@@ -1,0 +1,15 @@
+use Rattle.std.proofs.Common.{refl, inl, inr}
+use Rattle.linker.specs.Run.{Output, script_read}
+use Rattle.linker.proofs.Runs.{tells_memory}
+use Rattle.linker.proofs.run.carry_out.Goals as goal
+
+pub returns-in-WriteFault : goal.returns-in-WriteFault
+returns-in-WriteFault g c = let e = c.in-WriteFault.ensures in inr (inr (refl, e.cause refl, _, inl refl, e.played))
+
+pub returns-in-OutOfMemory : goal.returns-in-OutOfMemory
+returns-in-OutOfMemory g c =
+    let old : Output = record { held = g.K.Sink.held c.args.out.now; faults = g.K.Sink.faults c.args.out.now } in
+    let mid : Output = record { held = g.K.Sink.held c.play.new.sink; faults = g.K.Sink.faults c.play.new.sink } in
+    let new : Output = record { held = g.K.Sink.held c.tell.new.out; faults = g.K.Sink.faults c.tell.new.out } in
+    let e = c.in-OutOfMemory.ensures in
+    tells_memory (script_read c.args.script.now) c.tell.result old mid new e.played.0 e.played.1 e.played.2 e.played.3 e.later c.tell.ensures

@@ -1,0 +1,26 @@
+use Rattle.std.proofs.Common.{refl, ap, Err}
+use Rattle.linker.specs.Run.{Output, read_failed, too_long, unread}
+use Rattle.linker.specs.declared.run.Status.TheVariants as status
+use Rattle.linker.proofs.Runs.{tells_end, tells_memory_first}
+use Rattle.linker.proofs.run.replay.Goals as goal
+
+pub returns-in-Err-Fault : goal.returns-in-Err-Fault
+returns-in-Err-Fault g c =
+    let old : Output = record { held = g.K.Sink.held c.args.out.now; faults = g.K.Sink.faults c.args.out.now } in
+    let new : Output = record { held = g.K.Sink.held c.tell.new.out; faults = g.K.Sink.faults c.tell.new.out } in
+    let e = c.in-Err-Fault.ensures in
+    (read_failed, (e.fault (ap Err c.in-Err-Fault.field-0-is), e.few (λ is. cc (is, c.in-Err-Fault.field-0-is))), tells_end read_failed _ status.Read c.tell.result old new refl refl c.tell.ensures)
+
+pub returns-in-Err-Long : goal.returns-in-Err-Long
+returns-in-Err-Long g c =
+    let old : Output = record { held = g.K.Sink.held c.args.out.now; faults = g.K.Sink.faults c.args.out.now } in
+    let new : Output = record { held = g.K.Sink.held c.tell-in-Err-Long.new.out; faults = g.K.Sink.faults c.tell-in-Err-Long.new.out } in
+    let e = c.in-Err-Long.ensures in
+    (too_long, e.long (ap Err c.in-Err-Long.field-0-is), tells_end too_long _ status.Long c.tell-in-Err-Long.result old new refl refl c.tell-in-Err-Long.ensures)
+
+pub returns-in-Err-OutOfMemory : goal.returns-in-Err-OutOfMemory
+returns-in-Err-OutOfMemory g c =
+    let old : Output = record { held = g.K.Sink.held c.args.out.now; faults = g.K.Sink.faults c.args.out.now } in
+    let new : Output = record { held = g.K.Sink.held c.tell-in-Err-OutOfMemory.new.out; faults = g.K.Sink.faults c.tell-in-Err-OutOfMemory.new.out } in
+    let e = c.in-Err-OutOfMemory.ensures in
+    (unread, e.few (λ is. cc (is, c.in-Err-OutOfMemory.field-0-is)), tells_memory_first unread c.tell-in-Err-OutOfMemory.result old new c.tell-in-Err-OutOfMemory.ensures)

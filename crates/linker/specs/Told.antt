@@ -1,0 +1,58 @@
+-- What the code's types say, and what its steps leave.
+use Rattle.std.specs.Prelude.{◌≡◌, ◌⊎◌, ℕ, true, false, List, ◌++◌, Option}
+use Rattle.std.specs.Io.KnownBytes.{Appends}
+use Rattle.line_base.specs.Counts.{Rose}
+use Rattle.dtab_table.specs.Dtab.{Rule, rules_of}
+use Rattle.linker.specs.declared.line.Line as code
+use Rattle.linker.specs.declared.line.Line.TheVariants as line
+use Rattle.linker.specs.declared.player.Turn.{Turn}
+use Rattle.linker.specs.declared.player.Turn.TheVariants.{Next, Stop}
+use Rattle.linker.specs.declared.player.PlayEnd.{PlayEnd}
+use Rattle.linker.specs.declared.player.PlayEnd.TheVariants.{Done, BadLine, WriteFault, OutOfMemory}
+use Rattle.linker.specs.Line.{Line, blank, table, pick}
+use Rattle.linker.specs.Replay.{Played, before, line_played}
+use Rattle.linker.specs.declared.run.Status.{Status}
+use Rattle.linker.specs.declared.run.Status.TheVariants as status
+use Rattle.linker.specs.Run.{AppendsFront, Output}
+
+-- what a line of the code says
+abbrev pub said_of : code.Line → Line
+said_of line.Blank = blank
+said_of (line.Table dtab) = table (rules_of dtab)
+said_of (line.Pick path) = pick path
+
+-- this piece is what is written for a line, and the rest is played with the new table, or not at all
+abbrev pub Answers : Line → List Rule → ℕ → List Rule → List ℕ → Turn → Type 0
+Answers said rules number new piece Next = (rest : List Rule → Played) → line_played said rules number rest ≡ before piece (rest new)
+Answers said rules number new piece Stop = (rest : List Rule → Played) → line_played said rules number rest ≡ (piece, false)
+
+-- what the sink has gained when the play of a script ends so
+abbrev pub Plays : Played → Option (List ℕ) → Option (List ℕ) → PlayEnd → Type 0
+Plays all old new Done = (all.1 ≡ true) × Appends old new all.0
+Plays all old new BadLine = (all.1 ≡ false) × Appends old new all.0
+Plays all old new WriteFault = AppendsFront old new all.0
+Plays all old new OutOfMemory = AppendsFront old new all.0
+
+-- these bytes were written and the play ends as it was to, or a write failed
+abbrev pub Finishes : List ℕ → PlayEnd → Option (List ℕ) → Option (List ℕ) → ℕ → ℕ → PlayEnd → Type 0
+Finishes bytes end old new before now result =
+    ((result ≡ end) × Appends old new bytes) ⊎ ((result ≡ WriteFault) × Rose before now × AppendsFront old new bytes)
+
+-- a front of some bytes was written, and these are the others
+abbrev pub Flushes : List ℕ → List ℕ → Option (List ℕ) → Option (List ℕ) → Type 0
+Flushes bytes others old new = (written : List ℕ) × (bytes ≡ written ++ others) × Appends old new written
+
+-- the number of a status
+abbrev pub code_of : Status → ℕ
+code_of status.Done = 0
+code_of status.Words = 2
+code_of status.Line = 3
+code_of status.Read = 4
+code_of status.Write = 5
+code_of status.Memory = 7
+code_of status.Long = 8
+
+-- a last line was written and this is the status, or the write failed
+abbrev pub Tells : List ℕ → Status → Output → Output → Status → Type 0
+Tells line end old new result =
+    ((result ≡ end) × Appends old.held new.held line) ⊎ ((result ≡ status.Write) × Rose old.faults new.faults × AppendsFront old.held new.held line)

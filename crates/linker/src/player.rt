@@ -1,0 +1,149 @@
+//! The play of a script, line by line.
+ghost use Rattle.std.specs.Prelude.{◌≡◌, ◌≤◌, ◌++◌, [], List, ℕ, length, IfOk, OnOk, OnErr};
+ghost use Rattle.line_base.specs.Counts.{Rose};
+ghost use Rattle.dtab_table.specs.Dtab.{rules_of};
+ghost use Rattle.linker.specs.Line.{line_value};
+ghost use Rattle.linker.specs.Replay.{replay_of};
+ghost use Rattle.linker.specs.Run.{AppendsFront};
+ghost use Rattle.linker.specs.Told.{Answers, Plays, Finishes, Flushes};
+
+use crate::ends::write_all;
+use crate::line::{Line, LineFault, cut_line, read_line};
+use crate::reply::{append_bad_line, append_pick};
+use bind_core::{Bytes, Mem};
+use dtab_table::Dtab;
+use line_base::{Failed, Sink, Steps};
+use std::alloc::{AllocError, Global};
+use std::sync::ledger::Ledger;
+
+/// Replies are written once there are so many bytes of them.
+const FLUSH: usize = 65_536;
+
+/// Whether a script goes on behind a line.
+#[derive(Clone, Copy, Debug, PartialEq, Eq)]
+pub enum Turn {
+    /// It goes on.
+    Next,
+    /// The line is bad, and ends it.
+    Stop,
+}
+
+/// How the play of a script ends.
+#[derive(Clone, Copy, Debug, PartialEq, Eq)]
+pub enum PlayEnd {
+    /// Every line was answered.
+    Done,
+    /// A line was bad.
+    BadLine,
+    /// A write failed.
+    WriteFault,
+    /// There was no memory.
+    OutOfMemory,
+}
+
+/// Carries out one line, and puts what is answered behind the replies. An `Err` leaves the replies as they were.
+fn answer<L: Ledger>(
+    alloc: Global,
+    line: &[u8],
+    number: u64,
+    table: &mut Dtab,
+    replies: &mut Bytes,
+    steps: &mut Steps<L>,
+) -> Mem<Turn>
+    ensures ok { IfOk result (λ turn. (piece : List ℕ) × (replies.new.items ≡ replies.old.items ++ piece)
+        × Answers (line_value line.now) (rules_of table.old) number (rules_of table.new) piece turn) }
+    ensures err { OnErr result (replies.new.items ≡ replies.old.items) }
+{
+    match read_line(alloc, line) {
+        Ok(Line::Blank) => Ok(Turn::Next),
+        Ok(Line::Table(new)) => {
+            replies.extend_from_slice(b"ok\n")?;
+            *table = new;
+            Ok(Turn::Next)
+        }
+        Ok(Line::Pick(path)) => {
+            let kept = replies.len();
+            match append_pick(alloc, table, &path, replies, steps) {
+                Ok(()) => Ok(Turn::Next),
+                Err(wanting) => {
+                    replies.truncate(kept);
+                    Err(wanting)
+                }
+            }
+        }
+        Err(LineFault::Bad) => {
+            append_bad_line(alloc, number, replies)?;
+            Ok(Turn::Stop)
+        }
+        Err(LineFault::OutOfMemory) => Err(AllocError),
+    }
+}
+
+/// Writes the last replies, and ends so, unless the write fails.
+fn finish<K: Sink>(sink: &mut K, replies: &[u8], end: PlayEnd) -> PlayEnd
+    ensures finishes { Finishes replies.now end (K.held sink.old) (K.held sink.new) (K.faults sink.old) (K.faults sink.new) result }
+    ensures later { K.faults sink.old ≤ K.faults sink.new }
+{
+    match write_all(sink, replies) {
+        Ok(()) => end,
+        Err(_) => PlayEnd::WriteFault,
+    }
+}
+
+/// Writes the replies where there are many of them. At `Err` a front of them was written.
+fn flush<K: Sink>(sink: &mut K, replies: &mut Bytes) -> Result<(), Failed>
+    ensures ok { OnOk result (Flushes replies.old.items replies.new.items (K.held sink.old) (K.held sink.new)) }
+    ensures err { OnErr result (AppendsFront (K.held sink.old) (K.held sink.new) replies.old.items) }
+    ensures cause { OnErr result (Rose (K.faults sink.old) (K.faults sink.new)) }
+    ensures later { K.faults sink.old ≤ K.faults sink.new }
+{
+    if replies.len() < FLUSH {
+        return Ok(());
+    }
+    match write_all(sink, replies.as_slice()) {
+        Ok(()) => {
+            replies.clear();
+            Ok(())
+        }
+        Err(failed) => Err(failed),
+    }
+}
+
+/// Carries out the lines of a script in order, and writes their replies, up to the first line that is bad.
+pub fn play<K: Sink, L: Ledger>(
+    alloc: Global,
+    script: &[u8],
+    sink: &mut K,
+    steps: &mut Steps<L>,
+) -> PlayEnd
+    requires { length script.now ≤ 67108864 }
+    ensures played { Plays (replay_of script.now) (K.held sink.old) (K.held sink.new) result }
+    ensures cause { result ≡ PlayEnd.WriteFault → Rose (K.faults sink.old) (K.faults sink.new) }
+    ensures later { K.faults sink.old ≤ K.faults sink.new }
+{
+    let mut table = Dtab::empty(alloc);
+    let mut replies: Bytes = Vec::new(alloc);
+    let mut at = 0;
+    let mut number = 1u64;
+    while at < script.len() {
+        let cut = cut_line(script, at);
+        match answer(
+            alloc,
+            &script[at..cut.stop],
+            number,
+            &mut table,
+            &mut replies,
+            steps,
+        ) {
+            Ok(Turn::Next) => {}
+            Ok(Turn::Stop) => return finish(sink, replies.as_slice(), PlayEnd::BadLine),
+            Err(_) => return finish(sink, replies.as_slice(), PlayEnd::OutOfMemory),
+        }
+        let Ok(()) = flush(sink, &mut replies) else {
+            return PlayEnd::WriteFault;
+        };
+        at = cut.next;
+        number += 1;
+    }
+    finish(sink, replies.as_slice(), PlayEnd::Done)
+}

@@ -1,0 +1,129 @@
+//! The program, from its words to its status.
+ghost use Rattle.std.specs.Prelude.{◌≡◌, ◌<◌, ◌≤◌, length, map, string_bytes, IfOk};
+ghost use Rattle.linker.specs.Run.{Ran, Course, words_refused, script_read, output_of, Reads, Ended, Input, Output};
+ghost use Rattle.linker.specs.Told.{code_of, Tells};
+
+use crate::ends::{ReadEnd, read_all, write_all};
+use crate::player::{PlayEnd, play};
+use crate::words::{Command, read_words};
+use bind_core::Mem;
+use line_base::{Sink, Source, Steps};
+use std::alloc::Global;
+use std::sync::ledger::{Blank, Ledger};
+
+/// The most bytes of a script.
+pub const MOST_SCRIPT: usize = 67_108_864;
+
+/// How a run ends.
+#[derive(Clone, Copy, Debug, PartialEq, Eq)]
+pub enum Status {
+    /// All was done.
+    Done = 0,
+    /// The words fit no command.
+    Words = 2,
+    /// A line of the script is bad.
+    Line = 3,
+    /// A read failed.
+    Read = 4,
+    /// A write failed.
+    Write = 5,
+    /// There was no memory.
+    Memory = 7,
+    /// The script is too long.
+    Long = 8,
+}
+
+impl Status {
+    /// The number of the status, with which the program ends.
+    pub fn code(self) -> u8
+        ensures { result ≡ code_of self }
+    {
+        self as u8
+    }
+}
+
+/// Writes a last line, and ends so, unless the write fails.
+pub fn tell<K: Sink>(out: &mut K, line: &[u8], status: Status) -> Status
+    ensures { Tells line.now status (record { held = K.held out.old; faults = K.faults out.old }) (record { held = K.held out.new; faults = K.faults out.new }) result }
+{
+    match write_all(out, line) {
+        Ok(()) => status,
+        Err(_) => Status::Write,
+    }
+}
+
+/// The line that tells of the first word that fits no command.
+fn words_line(alloc: Global, place: usize) -> Mem<String>
+    ensures { IfOk result (λ line. string_bytes line ≡ output_of (words_refused place)) }
+{
+    format!(in alloc; "error words {place}\n")
+}
+
+/// Tells of the first word that fits no command.
+fn refuse_words<K: Sink>(alloc: Global, out: &mut K, place: usize) -> Status
+    ensures { Ended (words_refused place) (record { held = K.held out.old; faults = K.faults out.old }) (record { held = K.held out.new; faults = K.faults out.new }) (code_of result) }
+{
+    match words_line(alloc, place) {
+        Ok(line) => tell(out, line.as_bytes(), Status::Words),
+        Err(_) => tell(out, b"error memory\n", Status::Memory),
+    }
+}
+
+/// Carries out a script that was read.
+fn carry_out<K: Sink, L: Ledger>(
+    alloc: Global,
+    script: &[u8],
+    out: &mut K,
+    steps: &mut Steps<L>,
+) -> Status
+    requires { length script.now ≤ 67108864 }
+    ensures { Ended (script_read script.now) (record { held = K.held out.old; faults = K.faults out.old }) (record { held = K.held out.new; faults = K.faults out.new }) (code_of result) }
+{
+    match play(alloc, script, out, steps) {
+        PlayEnd::Done => Status::Done,
+        PlayEnd::BadLine => Status::Line,
+        PlayEnd::WriteFault => Status::Write,
+        PlayEnd::OutOfMemory => tell(out, b"error memory\n", Status::Memory),
+    }
+}
+
+/// Reads a script to its end, and carries it out.
+fn replay<S: Source, K: Sink, L: Ledger>(
+    alloc: Global,
+    input: &mut S,
+    out: &mut K,
+    steps: &mut Steps<L>,
+) -> Status
+    ensures { (course : Course)
+        × Reads (record { left = S.left input.old; faults = S.faults input.old; ends = S.ends input.old }) (record { left = S.left input.new; faults = S.faults input.new; ends = S.ends input.new }) course
+        × Ended course (record { held = K.held out.old; faults = K.faults out.old }) (record { held = K.held out.new; faults = K.faults out.new }) (code_of result) }
+{
+    match read_all(alloc, input, MOST_SCRIPT) {
+        Ok(script) => carry_out(alloc, script.as_slice(), out, steps),
+        Err(ReadEnd::Fault) => tell(out, b"error read\n", Status::Read),
+        Err(ReadEnd::Long) => tell(out, b"error long\n", Status::Long),
+        Err(ReadEnd::OutOfMemory) => tell(out, b"error memory\n", Status::Memory),
+    }
+}
+
+/// Does what the words say.
+pub fn run<S: Source, K: Sink, L: Ledger>(
+    alloc: Global,
+    words: &[String],
+    input: &mut S,
+    out: &mut K,
+    blank: Blank,
+) -> Status
+    requires name { blank.name ≡ L.name }
+    requires parts { blank.parts ≡ L.parts }
+    requires some { 0 < blank.parts }
+    ensures { Ran (map string_bytes words.now)
+        (record { left = S.left input.old; faults = S.faults input.old; ends = S.ends input.old }) (record { left = S.left input.new; faults = S.faults input.new; ends = S.ends input.new })
+        (record { held = K.held out.old; faults = K.faults out.old }) (record { held = K.held out.new; faults = K.faults out.new }) (code_of result) }
+{
+    let mut steps = Steps::<L>::start(blank);
+    match read_words(words) {
+        Ok(Command::Replay) => replay(alloc, input, out, &mut steps),
+        Err(place) => refuse_words(alloc, out, place),
+    }
+}

@@ -1,0 +1,281 @@
+//! The program over sources and sinks in memory: scripts with their replies, words, limits, and faults at each call in turn.
+use crate::adapters::{ReaderSource, WriterSink};
+use crate::program::linker;
+use line_base::{Failed, MemSink, MemSource, Sink, Source};
+use std::alloc::{AllocError, Global};
+use std::test::Fail;
+
+/// A script that answers each kind of line, and what it writes.
+const SAMPLE: &str = "dtab /svc => /$/inet/127.0.0.1/8080\n\npick /svc/a\npick /b\n";
+
+const SAMPLE_OUT: &str = "ok\n127.0.0.1:8080 /$/inet/127.0.0.1/8080 /a\nnegative\n";
+
+/// What is written, and the status.
+fn run(
+    rt: &HostRuntime,
+    words: &[&str],
+    source: MemSource,
+    sink: MemSink,
+) -> Result<(MemSink, u8), AllocError> {
+    let alloc = rt.alloc();
+    let mut owned = Vec::new(alloc);
+    for word in words {
+        owned.push(String::from_str(alloc, word)?)?;
+    }
+    let mut source = source;
+    let mut sink = sink;
+    let status = linker(rt, owned.as_slice(), &mut source, &mut sink);
+    Ok((sink, status))
+}
+
+fn source(alloc: Global, script: &str) -> Result<MemSource, AllocError> {
+    Ok(MemSource::of(
+        Vec::from_slice(alloc, script.as_bytes())?,
+        Vec::new(alloc),
+        Vec::new(alloc),
+    ))
+}
+
+fn sink(alloc: Global) -> MemSink {
+    MemSink::of(alloc, Vec::new(alloc), Vec::new(alloc))
+}
+
+/// What `replay` writes for a script, and its status.
+fn replayed(rt: &HostRuntime, script: &str) -> Result<(String, u8), Fail> {
+    let alloc = rt.alloc();
+    let (sink, status) = run(rt, &["replay"], source(alloc, script)?, sink(alloc))?;
+    let mut text = String::new(alloc);
+    for byte in sink.held() {
+        text.push(char::from(*byte))?;
+    }
+    Ok((text, status))
+}
+
+#[test]
+fn scripts_and_replies(rt: HostRuntime) -> Result<(), Fail> {
+    let nine = "127.0.0.1:9 /$/inet/127.0.0.1/9 /\n";
+    let rows = [
+        (
+            "dtab /svc => /$/inet/127.0.0.1/8080\npick /svc/a",
+            "ok\n127.0.0.1:8080 /$/inet/127.0.0.1/8080 /a\n",
+            0,
+        ),
+        (SAMPLE, SAMPLE_OUT, 0),
+        ("", "", 0),
+        ("pick /svc/a", "negative\n", 0),
+        (
+            "pick /svc/a\nnonsense\npick /svc/a",
+            "negative\nerror line 2\n",
+            3,
+        ),
+        ("dtab /a => /a\npick /a", "ok\ntoo-deep\n", 0),
+        (
+            "dtab /svc => /$/inet/127.0.0.1/1; /svc => /$/inet/127.0.0.1/2\npick /svc",
+            "ok\n127.0.0.1:2 /$/inet/127.0.0.1/2 /\n",
+            0,
+        ),
+        (
+            "dtab /svc => /$/inet/127.0.0.1/1; /svc => ~\npick /svc",
+            "ok\n127.0.0.1:1 /$/inet/127.0.0.1/1 /\n",
+            0,
+        ),
+        (
+            "dtab /s => $ | /$/inet/127.0.0.1/9\npick /s",
+            "ok\nempty\n",
+            0,
+        ),
+        (
+            "dtab /s => ! | /$/inet/127.0.0.1/9\npick /s",
+            "ok\nfailing\n",
+            0,
+        ),
+        // The later table stands alone, and an empty one is a table too.
+        (
+            "dtab /a => !\ndtab /b => $\npick /a\npick /b\ndtab\npick /b",
+            "ok\nok\nnegative\nempty\nok\nnegative\n",
+            0,
+        ),
+        // Blank lines count, a CR before an LF is dropped, and words may have spaces and tabs round them.
+        (
+            "\n \t\r\n\r\n\tpick  /a \r\n  dtab \t/a=>!;\r\npick\t/a\t\nx",
+            "negative\nok\nfailing\nerror line 7\n",
+            3,
+        ),
+        // A CR with no LF behind it stays: a blank of a path, and no part of a word.
+        ("pick /a\r", "negative\n", 0),
+        ("dtab\r", "error line 1\n", 3),
+        ("pick /a \r", "error line 1\n", 3),
+        ("pick", "error line 1\n", 3),
+        ("pick /a /b", "error line 1\n", 3),
+        ("pick /a/", "error line 1\n", 3),
+        ("dtabs /a => /b", "error line 1\n", 3),
+        ("dtab /a => ", "error line 1\n", 3),
+        ("pick localhost", "error line 1\n", 3),
+        (
+            "dtab /l => /$/inet/localhost\npick /l/80/x/y",
+            "ok\n127.0.0.1:80 /$/inet/localhost/80 /x/y\n",
+            0,
+        ),
+    ];
+    for (script, written, status) in rows {
+        let (text, ended) = replayed(&rt, script)?;
+        assert_eq!(rt; text.as_str(), written, "of {script:?}");
+        assert_eq!(rt; ended, status, "of {script:?}");
+    }
+    let (text, _) = replayed(&rt, "dtab /s => ~ | /$/inet/127.0.0.1/9\npick /s")?;
+    assert_eq!(rt;
+        text.as_str(),
+        format!(in rt.alloc(); "ok\n{nine}")?.as_str()
+    );
+    Ok(())
+}
+
+/// `/c0 => /c1` and so on, and the last to an address.
+fn chain(alloc: Global, links: u32) -> Result<String, AllocError> {
+    let mut script = String::from_str(alloc, "dtab ")?;
+    for link in 0..links {
+        let next = link + 1;
+        write!(script, "/c{link} => /c{next};")?;
+    }
+    write!(script, "/c{links} => /$/inet/127.0.0.1/80\npick /c0")?;
+    Ok(script)
+}
+
+/// `/a0 => /a1 | /a1` and so on: each level doubles the lookups.
+fn doubling(alloc: Global, levels: u32) -> Result<String, AllocError> {
+    let mut script = String::from_str(alloc, "dtab ")?;
+    for level in 0..levels {
+        let next = level + 1;
+        write!(script, "/a{level} => /a{next} | /a{next};")?;
+    }
+    script.push_str("\npick /a0")?;
+    Ok(script)
+}
+
+/// `pick` of one label of so many bytes.
+fn long_label(alloc: Global, bytes: usize) -> Result<String, AllocError> {
+    let mut script = String::from_str(alloc, "pick /")?;
+    for _ in 0..bytes {
+        script.push('a')?;
+    }
+    Ok(script)
+}
+
+/// `dtab` and a table of so many entries.
+fn entries(alloc: Global, count: u32) -> Result<String, AllocError> {
+    let mut script = String::from_str(alloc, "dtab ")?;
+    for entry in 0..count {
+        write!(script, "/e{entry} => ~;")?;
+    }
+    Ok(script)
+}
+
+#[test]
+fn limits(rt: HostRuntime) -> Result<(), Fail> {
+    let alloc = rt.alloc();
+    let rows = [
+        (
+            chain(alloc, 98)?,
+            "ok\n127.0.0.1:80 /$/inet/127.0.0.1/80 /\n",
+            0,
+        ),
+        (chain(alloc, 99)?, "ok\ntoo-deep\n", 0),
+        (doubling(alloc, 12)?, "ok\nnegative\n", 0),
+        (doubling(alloc, 13)?, "ok\ntoo-wide\n", 0),
+        (long_label(alloc, 2047)?, "negative\n", 0),
+        (long_label(alloc, 2048)?, "too-deep\n", 0),
+        (long_label(alloc, 65_535)?, "too-deep\n", 0),
+        (long_label(alloc, 65_536)?, "error line 1\n", 3),
+        (entries(alloc, 1024)?, "ok\n", 0),
+        (entries(alloc, 1025)?, "error line 1\n", 3),
+    ];
+    for (script, written, status) in rows.iter() {
+        let (text, ended) = replayed(&rt, script.as_str())?;
+        assert_eq!(rt; text.as_str(), *written);
+        assert_eq!(rt; ended, *status);
+    }
+    Ok(())
+}
+
+#[test]
+fn words(rt: HostRuntime) -> Result<(), Fail> {
+    let alloc = rt.alloc();
+    let rows: [(&[&str], &str, u8); 6] = [
+        (&[], "error words 1\n", 2),
+        (&["storm"], "error words 1\n", 2),
+        (&[""], "error words 1\n", 2),
+        (&["--help"], "error words 1\n", 2),
+        (&["replay", "x"], "error words 2\n", 2),
+        (&["replay", "replay", "x"], "error words 2\n", 2),
+    ];
+    for (words, written, status) in rows {
+        let (sink, ended) = run(&rt, words, source(alloc, SAMPLE)?, sink(alloc))?;
+        assert_eq!(rt; sink.held(), written.as_bytes());
+        assert_eq!(rt; ended, status);
+    }
+    Ok(())
+}
+
+/// One byte a read, and each read failing in turn: nothing is carried out then.
+#[test]
+fn reads_in_pieces_and_failing(rt: HostRuntime) -> Result<(), Fail> {
+    let alloc = rt.alloc();
+    let bytes = SAMPLE.len();
+    for failing in 0..bytes + 2 {
+        let source = MemSource::of(
+            Vec::from_slice(alloc, SAMPLE.as_bytes())?,
+            Vec::from_elem(alloc, 1usize, bytes)?,
+            vec![in alloc; failing as u64]?,
+        );
+        let (sink, status) = run(&rt, &["replay"], source, sink(alloc))?;
+        if failing <= bytes {
+            assert_eq!(rt; (sink.held(), status), (b"error read\n".as_slice(), 4));
+        } else {
+            assert_eq!(rt; (sink.held(), status), (SAMPLE_OUT.as_bytes(), 0));
+        }
+    }
+    Ok(())
+}
+
+/// One byte a write, and each write failing in turn: a front of the replies is written.
+#[test]
+fn writes_in_pieces_and_failing(rt: HostRuntime) -> Result<(), Fail> {
+    let alloc = rt.alloc();
+    let bytes = SAMPLE_OUT.len();
+    for failing in 0..bytes + 1 {
+        let sink = MemSink::of(
+            alloc,
+            Vec::from_elem(alloc, 1usize, bytes)?,
+            vec![in alloc; failing as u64]?,
+        );
+        let (sink, status) = run(&rt, &["replay"], source(alloc, SAMPLE)?, sink)?;
+        if failing < bytes {
+            assert_eq!(rt;
+                (sink.held(), status),
+                (&SAMPLE_OUT.as_bytes()[..failing], 5)
+            );
+        } else {
+            assert_eq!(rt; (sink.held(), status), (SAMPLE_OUT.as_bytes(), 0));
+        }
+    }
+    Ok(())
+}
+
+/// A reader's end is an end and no fault, and a writer that takes nothing is at fault.
+#[test]
+fn over_readers_and_writers(rt: HostRuntime) {
+    let text: &[u8] = b"ab";
+    let mut source = ReaderSource::of(text);
+    let mut into = [0u8; 4];
+    assert_eq!(rt; source.read(&mut into), Ok(2));
+    assert_eq!(rt; source.read(&mut []), Ok(0));
+    assert_eq!(rt; source.read(&mut into), Ok(0));
+    assert_eq!(rt; &into[..2], b"ab".as_slice());
+    let mut room = [0u8; 3];
+    let full: &mut [u8] = &mut room;
+    let mut sink = WriterSink::of(full);
+    assert_eq!(rt; sink.write(b"cd"), Ok(2));
+    assert_eq!(rt; sink.write(b""), Ok(0));
+    assert_eq!(rt; sink.write(b"ef"), Ok(1));
+    assert_eq!(rt; sink.write(b"f"), Err(Failed));
+}
