@@ -1,0 +1,16 @@
+pub mod Answers
+pub mod Canon
+pub mod Faults
+pub mod Grammar
+pub mod LabelReading
+pub mod Laws
+pub mod Parts
+pub mod PathReading
+pub mod Recogniser
+pub mod Separated
+pub mod Taken
+pub mod Tree
+pub mod TreeReaders
+pub mod TreeReading
+pub mod Value
+pub mod Readers

@@ -1,0 +1,52 @@
+//! The texts of paths and of name trees: their grammar, readers that are exact for it, and canonical texts.
+//!
+//! A [`Tree`] says what a name stands for, as the Finagle user guide has it: a path that is looked up in turn, a mark (`~` negative, `!`
+//! fail, `$` empty), alternatives that are tried in order, or a union whose branches share the calls by their weights. [`read_path`] and
+//! [`read_tree`] read texts; [`write_tree`] and [`append_tree`] write the canonical text. A weight counts in millionths.
+//!
+//! `specs/Grammar.antt` is the grammar as a table: which texts spell a label, a path, a weight, a tree, and with what value. A text is
+//! read exactly where it is of the grammar, no longer than [`MOST_BYTES`] and nested no deeper than [`MOST_OPEN`], and gives the value
+//! that it spells there. Any other text is refused at the exact place: [`TextFault::Syntax`] holds the length of the longest front of
+//! the text that begins some text of the grammar. A text stands for at most one value, and the canonical text of a value is read as that
+//! value ([`texts_have_one_value`], [`canonical_texts_read_back`]).
+//!
+//! A reader takes byte by byte ([`TreeReader`]), with a stack of its own for what is open, so that a text can't exhaust the call stack,
+//! and each byte is looked at once. Each call that takes memory takes an allocator and answers an error where there is none.
+//!
+//! ```text
+//! let tree = read_tree(alloc, b"/a|/b&.50*(~)")?;
+//! // `/a | 1 * /b & 0.5 * ~`
+//! let text = write_tree(alloc, &tree)?;
+//! // The `&` stands, and no branch follows it.
+//! assert_eq!(read_tree(alloc, b"/a &").err(), Some(TextFault::Syntax(4)));
+//! ```
+#![tactic(auto)]
+
+use std::alloc::AllocError;
+
+mod label;
+mod laws;
+mod path_text;
+mod read;
+#[cfg(test)]
+mod tests;
+mod tree;
+mod tree_text;
+mod union;
+mod walk;
+mod weight;
+mod write;
+
+pub use label::{LabelReader, Refused, is_blank_byte, is_plain_byte};
+pub use laws::{canonical_texts_read_back, texts_have_one_value};
+pub use path_text::is_in_paths;
+pub use read::{MOST_BYTES, MOST_OPEN, TextFault, read_path, read_tree};
+pub use tree::{Branch, Branches, Tree, Trees};
+pub use tree_text::TreeReader;
+pub use write::{append_tree, write_tree};
+
+/// A value, unless there was no memory for it.
+pub type Mem<T> = Result<T, AllocError>;
+
+/// Bytes of a text.
+pub type Bytes = Vec<u8>;

@@ -1,0 +1,108 @@
+//! The readers of texts.
+ghost use Rattle.std.specs.Prelude.{◌≡◌, IfOk, MatchResult};
+ghost use Rattle.name_tree.specs.Path.{Labels};
+ghost use Rattle.name_text.specs.Value.{Name};
+ghost use Rattle.name_text.specs.Canon.{IsSound, HasLabels};
+ghost use Rattle.name_text.specs.Grammar.{PathText, TreeText};
+ghost use Rattle.name_text.specs.Faults.{IsValue};
+ghost use Rattle.name_text.specs.Answers.{FaultFits};
+ghost use Rattle.name_text.specs.Tree.{name_of};
+
+use crate::label::Refused;
+use crate::path_text::PathTextReader;
+use crate::tree::Tree;
+use crate::tree_text::TreeReader;
+use name_tree::Path;
+use std::alloc::Global;
+
+/// The most bytes of a text that is read: 65,536.
+pub const MOST_BYTES: usize = 65_536;
+
+/// The most parentheses that may be open at a place of a text: 64.
+pub const MOST_OPEN: usize = 64;
+
+/// Why a text was not read.
+#[derive(Clone, Copy, Debug, PartialEq, Eq)]
+pub enum TextFault {
+    /// The text is longer than so many bytes.
+    TooLong(usize),
+    /// The first `(` that stands inside 64 open parentheses stands here, and the text up to it and with it begins some text of the grammar.
+    TooNested(usize),
+    /// The text is not in the grammar, and its first so many bytes are the longest front of it that begins some text of the grammar.
+    Syntax(usize),
+    /// There was no memory for the value.
+    OutOfMemory,
+}
+
+/// Reads the text of a path: `/`, or `/` and a label one or more times, with blanks (space, tab, CR, LF) at both ends, as the Finagle
+/// user guide writes paths. A label is one or more of an ASCII letter, a digit and `_ : . # $ % -`, which stand for themselves, and
+/// `\x` with two hexadecimal digits of either case, which stands for any byte.
+///
+/// It takes time linear in the text.
+pub fn read_path(alloc: Global, text: &[u8]) -> Result<Path, TextFault>
+    ensures exact { MatchResult result (IsValue PathText text.now) (FaultFits PathText text.now) }
+    ensures only { (path : Labels) → IsValue PathText text.now path → MatchResult result (λ read. read ≡ path) (λ fault. fault ≡ TextFault.OutOfMemory) }
+{
+    path_in(alloc, text)
+}
+
+/// The path that a text stands for.
+fn path_in(alloc: Global, text: &[u8]) -> Result<Path, TextFault>
+    ensures { MatchResult result (IsValue PathText text.now) (FaultFits PathText text.now) }
+{
+    if text.len() > MOST_BYTES {
+        return Err(TextFault::TooLong(MOST_BYTES));
+    }
+    let mut reader = PathTextReader::new(alloc);
+    for (at, byte) in text.iter().enumerate() {
+        match reader.take(alloc, *byte) {
+            Ok(()) => {}
+            Err(Refused::Byte) => return Err(TextFault::Syntax(at)),
+            Err(Refused::OutOfMemory) => return Err(TextFault::OutOfMemory),
+        }
+    }
+    match reader.end() {
+        Ok(path) => Ok(path),
+        Err(Refused::Byte) => Err(TextFault::Syntax(text.len())),
+        Err(Refused::OutOfMemory) => Err(TextFault::OutOfMemory),
+    }
+}
+
+/// Reads the text of a tree, with blanks at both ends and between any two tokens, as the Finagle user guide writes trees: a path, `!`
+/// (fail), `~` (negative), `$` (empty), a tree in parentheses, alternatives with `|` between them, and unions with `&` between their
+/// branches, which bind tighter. A branch may begin with a weight and `*`: one to six digits, or none to six digits, `.` and one or more
+/// digits, of which six count. A branch of several without a weight has the weight 1.
+///
+/// It takes time linear in the text.
+pub fn read_tree(alloc: Global, text: &[u8]) -> Result<Tree, TextFault>
+    ensures exact { MatchResult result (λ tree. IsValue TreeText text.now (name_of tree)) (FaultFits TreeText text.now) }
+    ensures only { (name : Name) → IsValue TreeText text.now name → MatchResult result (λ tree. name_of tree ≡ name) (λ fault. fault ≡ TextFault.OutOfMemory) }
+    ensures sound { IfOk result (λ tree. IsSound (name_of tree) × HasLabels (name_of tree)) }
+{
+    tree_in(alloc, text)
+}
+
+/// The tree that a text stands for.
+fn tree_in(alloc: Global, text: &[u8]) -> Result<Tree, TextFault>
+    ensures { MatchResult result (λ tree. IsValue TreeText text.now (name_of tree)) (FaultFits TreeText text.now) }
+{
+    if text.len() > MOST_BYTES {
+        return Err(TextFault::TooLong(MOST_BYTES));
+    }
+    let mut reader = TreeReader::new(alloc);
+    for (at, byte) in text.iter().enumerate() {
+        match reader.take(alloc, *byte) {
+            Ok(()) => {}
+            Err(Refused::Byte) => return Err(TextFault::Syntax(at)),
+            Err(Refused::OutOfMemory) => return Err(TextFault::OutOfMemory),
+        }
+        if reader.depth() > MOST_OPEN {
+            return Err(TextFault::TooNested(at));
+        }
+    }
+    match reader.end(alloc) {
+        Ok(tree) => Ok(tree),
+        Err(Refused::Byte) => Err(TextFault::Syntax(text.len())),
+        Err(Refused::OutOfMemory) => Err(TextFault::OutOfMemory),
+    }
+}

@@ -1,0 +1,11 @@
+pub mod Answers
+pub mod Laws
+pub mod PrefixReading
+pub mod Prefixes
+pub mod Readers
+pub mod Table
+pub mod TableCanon
+pub mod TableGrammar
+pub mod TableReaders
+pub mod TableReading
+pub mod Tables

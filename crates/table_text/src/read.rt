@@ -1,0 +1,115 @@
+//! The readers of prefixes and tables.
+ghost use Rattle.std.specs.Prelude.{◌≡◌, List, IfOk, MatchResult};
+ghost use Rattle.table_text.specs.Table.{Pattern, Rule};
+ghost use Rattle.table_text.specs.TableCanon.{ArePatterns, AreSoundRules};
+ghost use Rattle.table_text.specs.Prefixes.{patterns_of};
+ghost use Rattle.table_text.specs.Tables.{rules_of};
+ghost use Rattle.table_text.specs.TableGrammar.{PrefixText};
+ghost use Rattle.table_text.specs.Answers.{IsTable, DtabFaultFits, PrefixFaultFits};
+
+use crate::dtab::Dtab;
+use crate::prefix::Prefix;
+use crate::prefix_text::PrefixTextReader;
+use crate::table_reader::TableReader;
+use name_text::{MOST_BYTES, MOST_OPEN, Refused};
+use std::alloc::Global;
+
+/// The most entries of a table that is read: 1,024.
+pub const MOST_ENTRIES: usize = 1_024;
+
+/// Why a text was not read as a prefix.
+#[derive(Clone, Copy, Debug, PartialEq, Eq)]
+pub enum PrefixFault {
+    /// It is none.
+    NotPrefix,
+    /// There was no memory for it.
+    OutOfMemory,
+}
+
+/// Why a text was not read as a table.
+#[derive(Clone, Copy, Debug, PartialEq, Eq)]
+pub enum DtabFault {
+    /// The text is longer than so many bytes.
+    TooLong(usize),
+    /// The first `(` that stands inside 64 open parentheses stands here, and the text up to it and with it begins some table's text.
+    TooNested(usize),
+    /// The text is no table, and its first so many bytes are the longest front of it that begins some table's text.
+    Syntax(usize),
+    /// The table has so many entries, more than 1,024.
+    TooMany(usize),
+    /// There was no memory for the table.
+    OutOfMemory,
+}
+
+/// Reads the text of a prefix: a path in which a whole label may be `*`, with blanks (space, tab, CR, LF) at both ends.
+///
+/// It takes time linear in the text, of which any length is read.
+pub fn read_prefix(alloc: Global, text: &[u8]) -> Result<Prefix, PrefixFault>
+    ensures exact { MatchResult result (λ prefix. PrefixText text.now (patterns_of prefix)) (PrefixFaultFits text.now) }
+    ensures only { (labels : List Pattern) → PrefixText text.now labels → MatchResult result (λ prefix. patterns_of prefix ≡ labels) (λ fault. fault ≡ PrefixFault.OutOfMemory) }
+    ensures labels { IfOk result (λ prefix. ArePatterns (patterns_of prefix)) }
+{
+    prefix_in(alloc, text)
+}
+
+/// The prefix that a text stands for.
+fn prefix_in(alloc: Global, text: &[u8]) -> Result<Prefix, PrefixFault>
+    ensures { MatchResult result (λ prefix. PrefixText text.now (patterns_of prefix)) (PrefixFaultFits text.now) }
+{
+    let mut reader = PrefixTextReader::new(alloc);
+    for byte in text {
+        match reader.take(alloc, *byte) {
+            Ok(()) => {}
+            Err(Refused::Byte) => return Err(PrefixFault::NotPrefix),
+            Err(Refused::OutOfMemory) => return Err(PrefixFault::OutOfMemory),
+        }
+    }
+    match reader.end(alloc) {
+        Ok(prefix) => Ok(prefix),
+        Err(Refused::Byte) => Err(PrefixFault::NotPrefix),
+        Err(Refused::OutOfMemory) => Err(PrefixFault::OutOfMemory),
+    }
+}
+
+/// Reads the text of a table: any number of places separated by `;`, each an entry or nothing, with blanks (space, tab, CR, LF) at both
+/// ends and between any two tokens, as the Finagle user guide writes dtabs. An entry is a prefix, `=>` and a tree. A prefix is written as a
+/// path, in which a whole label may be `*`.
+///
+/// It takes time linear in the text.
+pub fn read_dtab(alloc: Global, text: &[u8]) -> Result<Dtab, DtabFault>
+    ensures exact { MatchResult result (λ dtab. IsTable text.now (rules_of dtab)) (DtabFaultFits text.now) }
+    ensures only { (rules : List Rule) → IsTable text.now rules → MatchResult result (λ dtab. rules_of dtab ≡ rules) (λ fault. fault ≡ DtabFault.OutOfMemory) }
+    ensures sound { IfOk result (λ dtab. AreSoundRules (rules_of dtab)) }
+{
+    dtab_in(alloc, text)
+}
+
+/// The table that a text stands for.
+fn dtab_in(alloc: Global, text: &[u8]) -> Result<Dtab, DtabFault>
+    ensures { MatchResult result (λ dtab. IsTable text.now (rules_of dtab)) (DtabFaultFits text.now) }
+{
+    if text.len() > MOST_BYTES {
+        return Err(DtabFault::TooLong(MOST_BYTES));
+    }
+    let mut reader = TableReader::new(alloc);
+    for (at, byte) in text.iter().enumerate() {
+        match reader.take(alloc, *byte) {
+            Ok(()) => {}
+            Err(Refused::Byte) => return Err(DtabFault::Syntax(at)),
+            Err(Refused::OutOfMemory) => return Err(DtabFault::OutOfMemory),
+        }
+        if reader.depth() > MOST_OPEN {
+            return Err(DtabFault::TooNested(at));
+        }
+    }
+    let dtab = match reader.end(alloc) {
+        Ok(dtab) => dtab,
+        Err(Refused::Byte) => return Err(DtabFault::Syntax(text.len())),
+        Err(Refused::OutOfMemory) => return Err(DtabFault::OutOfMemory),
+    };
+    let count = dtab.len();
+    if count > MOST_ENTRIES {
+        return Err(DtabFault::TooMany(count));
+    }
+    Ok(dtab)
+}
