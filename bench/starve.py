@@ -1,0 +1,74 @@
+#!/usr/bin/env python3
+"""Runs `linker replay` on the sample with memory refused: at each call in turn, once alone and once with all calls after it.
+
+Each run must end with status 7, having written whole replies from the front of what it writes with ample memory, and `error memory` or nothing
+behind them. It needs a C compiler, `cc`, for the malloc that refuses.
+
+usage: bench/starve.py [--program crates/linker/out/linker] [--script examples/first.script]
+"""
+import argparse, os, subprocess, sys, tempfile
+
+HERE = os.path.dirname(os.path.abspath(__file__))
+
+REFUSING_MALLOC = r"""
+#include <errno.h>
+#include <stdlib.h>
+
+extern void *__libc_malloc(size_t);
+extern void *__libc_realloc(void *, size_t);
+
+static long calls;
+
+static int is_refused(void) {
+    const char *first = getenv("REFUSE_FIRST"), *last = getenv("REFUSE_LAST");
+    calls++;
+    return first && calls >= atol(first) && (!last || calls <= atol(last));
+}
+
+void *malloc(size_t size) {
+    if (is_refused()) { errno = ENOMEM; return 0; }
+    return __libc_malloc(size);
+}
+
+void *realloc(void *old, size_t size) {
+    if (is_refused()) { errno = ENOMEM; return 0; }
+    return __libc_realloc(old, size);
+}
+"""
+
+
+def main():
+    parser = argparse.ArgumentParser(description=__doc__, formatter_class=argparse.RawDescriptionHelpFormatter)
+    parser.add_argument("--program", default=os.path.join(HERE, "..", "crates", "linker", "out", "linker"))
+    parser.add_argument("--script", default=os.path.join(HERE, "..", "examples", "first.script"))
+    options = parser.parse_args()
+    with open(options.script, "rb") as file:
+        script = file.read()
+
+    with tempfile.TemporaryDirectory() as folder:
+        library = os.path.join(folder, "refuse.so")
+        subprocess.run(["cc", "-shared", "-fPIC", "-O1", "-x", "c", "-o", library, "-"], input=REFUSING_MALLOC.encode(), check=True)
+
+        def run(**refuse):
+            done = subprocess.run([options.program, "replay"], input=script, capture_output=True, env={"LD_PRELOAD": library, **refuse})
+            return done.returncode, done.stdout
+
+        ample = run()
+        if ample[0] != 0:
+            sys.exit(f"with ample memory the status is {ample[0]}")
+        for name, only in (("that call alone", True), ("that call and all after it", False)):
+            at = 1
+            while True:
+                first = str(at)
+                status, output = run(REFUSE_FIRST=first, **({"REFUSE_LAST": first} if only else {}))
+                if (status, output) == ample:
+                    break
+                replies = output.removesuffix(b"error memory\n")
+                if status != 7 or not ample[1].startswith(replies) or (replies and not replies.endswith(b"\n")):
+                    sys.exit(f"call {at} refused, {name}: status {status}, output {output!r}")
+                at += 1
+            print(f"{name}: refused at each of {at - 1} calls; each run ended with status 7 after whole replies")
+
+
+if __name__ == "__main__":
+    main()
