@@ -1,5 +1,11 @@
+pub mod Bounded
+pub mod Bounds
+pub mod Filled
+pub mod Gathers
 pub mod Hosts
+pub mod Narrow
 pub mod Stacks
 pub mod Trees
 pub mod Turns
+pub mod Unions
 pub mod Widths

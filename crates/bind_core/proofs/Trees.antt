@@ -1,9 +1,11 @@
 -- Trees as values, and lists of them.
-use Rattle.std.proofs.Common.{◌≡◌, ℕ, ◌+◌, List, [], ◌∷◌, refl, ap}
+use Rattle.std.proofs.Common.{◌≡◌, ℕ, ◌+◌, ◌<◌, ◌≤◌, List, [], ◌∷◌, ◌⊎◌, inl, inr, true, false, refl, ap, arith}
+use Rattle.std.specs.Prelude.{◌==◌}
+use Rattle.std.proofs.lemmas.Bool.Decides.{nat_tests}
 use Rattle.name_tree.specs.Path.{Labels}
-use Rattle.name_tree.specs.Tree.{Name, names}
-use Rattle.bind_core.specs.Delegation.{Told, or_else, walk, walk_all, first_of}
-use Rattle.bind_core.specs.Stack.{tree_work, all_work, list_work}
+use Rattle.name_tree.specs.Value.{Name, names, Branches, no_branch, branch}
+use Rattle.bind_core.specs.Delegation.{Told, or_else, walk, walk_all, walk_each, first_of}
+use Rattle.bind_core.specs.Stack.{tree_work, all_work, list_work, each_work, weighted}
 
 pub walk_all-names : (look : Labels → Told) (ts : List Name) → walk_all look (names ts) ≡ first_of look ts
 walk_all-names look [] = refl
@@ -11,4 +13,20 @@ walk_all-names look (t ∷ ts) = ap (or_else (walk look t)) (walk_all-names look
 
 pub all_work-names : (work : Labels → ℕ) (ts : List Name) → all_work work (names ts) ≡ list_work work ts
 all_work-names work [] = refl
-all_work-names work (t ∷ ts) = ap (λ (k : ℕ). 1 + (tree_work work t + k)) (all_work-names work ts)
+all_work-names work (t ∷ ts) = ap (λ (k : ℕ). tree_work work t + k) (all_work-names work ts)
+
+-- the weight of a branch is 0, or it is not
+pub zero_or : (n : ℕ) → ((n == 0) ≡ true) ⊎ ((n == 0) ≡ false)
+zero_or n = elim (n == 0) as (λ b. (b ≡ true) ⊎ (b ≡ false)) [ true ↦ inl refl | false ↦ inr refl ]
+
+-- branches of weight 0 at the front change nothing
+pub walk_each-weighted : (look : Labels → Told) (bs : Branches) → walk_each look (weighted bs) ≡ walk_each look bs
+walk_each-weighted look no_branch = refl
+walk_each-weighted look (branch n t bs) = elim (zero_or n) [ inl zero ↦ rw zero (walk_each-weighted look bs) | inr some ↦ rw some (rw some refl) ]
+
+pub each_work-weighted : (work : Labels → ℕ) (bs : Branches) → each_work work (weighted bs) ≤ each_work work bs
+each_work-weighted work no_branch = omega arith
+each_work-weighted work (branch n t bs) = elim (zero_or n) [ inl zero ↦ rw zero (omega (arith, each_work-weighted work bs)) | inr some ↦ rw some (omega arith) ]
+
+pub walk_each-some : (look : Labels → Told) (n : ℕ) (t : Name) (bs : Branches) → 0 < n → walk_each look (branch n t bs) ≡ record { weight = n; told = walk look t } ∷ walk_each look bs
+walk_each-some look n t bs some = let test : (n == 0) ≡ false = grind (arith, nat_tests) in rw test refl

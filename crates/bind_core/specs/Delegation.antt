@@ -1,14 +1,11 @@
 -- Delegation: what a path comes to in a table, and how many lookups that takes. A recursion over the table as a list.
-use Rattle.std.specs.Prelude.{ℕ, zero, suc, ◌+◌, nat_lt, min, if◌then◌else◌, List, [], ◌∷◌, length, Option, Some, None}
+use Rattle.std.specs.Prelude.{ℕ, zero, suc, ◌+◌, nat_lt, min, ◌==◌, Bool, true, false, ◌||◌, if◌then◌else◌, List, [], ◌∷◌, ◌++◌, length, Option, Some, None}
 use Rattle.dtab_table.specs.Path.{Labels, canon_path}
-use Rattle.dtab_table.specs.Tree.{Name, Names, leaf, neg, fail, empty, alt, none, more}
+use Rattle.dtab_table.specs.Value.{Name, Names, Branches, leaf, neg, fail, empty, alt, union, none, more, no_branch, branch}
 use Rattle.dtab_table.specs.Dtab.{Rule, rewrites}
 use Rattle.bind_core.specs.declared.leaf.Leaf.{Leaf}
 use Rattle.bind_core.specs.Addr.{named_leaf}
-
--- the replicas that a delegation finds
-pub data Found : Type 0 where
-  one : Leaf → Found
+use Rattle.bind_core.specs.Found.{Found, one, many, members}
 
 -- what a tree, a lookup or a delegation comes to
 pub data Ending : Type 0 where
@@ -18,6 +15,11 @@ pub data Ending : Type 0 where
   too_deep : Ending
   too_wide : Ending
   bound : Found → Ending
+
+-- what is found, where it is bound, is so
+abbrev pub IfBound : (Found → Type 0) → Ending → Type 0
+IfBound P (bound found) = P found
+IfBound P _ = Unit {0}
 
 -- an ending, and the lookups that were made for it
 abbrev pub Told : Type 0
@@ -32,6 +34,57 @@ or_else (too_deep, n) second = (too_deep, n)
 or_else (too_wide, n) second = (too_wide, n)
 or_else (bound found, n) second = (bound found, n)
 
+-- a branch of a union that is evaluated: its weight in millionths, and what its tree comes to
+pub record Evaluated : Type 0 where
+  pub weight : ℕ
+  pub told : Told
+
+abbrev pub is_too_deep : Ending → Bool
+is_too_deep too_deep = true
+is_too_deep _ = false
+
+abbrev pub is_failing : Ending → Bool
+is_failing failing = true
+is_failing _ = false
+
+abbrev pub is_empty : Ending → Bool
+is_empty no_replica = true
+is_empty _ = false
+
+-- some branch ends so
+abbrev pub some_end : (Ending → Bool) → List Evaluated → Bool
+some_end ends [] = false
+some_end ends (b ∷ bs) = ends b.told.0 || some_end ends bs
+
+-- what a branch finds, with its weight, where it is bound
+abbrev pub found_at : ℕ → Ending → List (ℕ × Found)
+found_at n (bound found) = (n, found) ∷ []
+found_at n _ = []
+
+-- what the bound branches find, with their weights, in order
+abbrev pub found_in : List Evaluated → List (ℕ × Found)
+found_in [] = []
+found_in (b ∷ bs) = found_at b.weight b.told.0 ++ found_in bs
+
+-- a union without a branch that is too deep is bound to what its bound branches find, if there are any; else it is failing if a branch is, else
+-- without replica if a branch is, else negative
+abbrev pub kept : List (ℕ × Found) → Bool → Bool → Ending
+kept [] fails lacks = if fails then failing else if lacks then no_replica else negative
+kept (m ∷ ms) fails lacks = bound (many (members (m ∷ ms)))
+
+-- the ending of a union with these branches: too deep if one of them is
+abbrev pub joint : List Evaluated → Ending
+joint bs = if some_end is_too_deep bs then too_deep else kept (found_in bs) (some_end is_failing bs) (some_end is_empty bs)
+
+-- the lookups of the branches up to the first that is too deep, and with it
+abbrev pub joint_cost : List Evaluated → ℕ
+joint_cost [] = 0
+joint_cost (b ∷ bs) = b.told.1 + (if is_too_deep b.told.0 then 0 else joint_cost bs)
+
+-- what a union comes to, of which these branches are evaluated
+abbrev pub together : List Evaluated → Told
+together bs = (joint bs, joint_cost bs)
+
 module _ (look : Labels → Told) where
   abbrev mutual
     -- a tree, whose leaves are looked up so
@@ -41,10 +94,16 @@ module _ (look : Labels → Told) where
     walk fail = (failing, 0)
     walk empty = (no_replica, 0)
     walk (alt ts) = walk_all ts
+    walk (union bs) = together (walk_each bs)
 
     pub walk_all : Names → Told
     walk_all none = (negative, 0)
     walk_all (more t ts) = or_else (walk t) (walk_all ts)
+
+    -- the branches of a union, but for those of weight 0, which are not evaluated
+    pub walk_each : Branches → List Evaluated
+    walk_each no_branch = []
+    walk_each (branch n t bs) = if n == 0 then walk_each bs else record { weight = n; told = walk t } ∷ walk_each bs
 
   -- the first of some trees that is not negative
   abbrev pub first_of : List Name → Told

@@ -1,8 +1,13 @@
 pub mod Addr
+pub mod Bound
 pub mod Delegation
+pub mod Found
+pub mod Kept
 pub mod Namer
 pub mod Outcome
 pub mod Stack
 pub use Rattle.dtab_table.specs.Dtab
 pub use Rattle.dtab_table.specs.Path
+pub use Rattle.dtab_table.specs.TableCanon
+pub use Rattle.dtab_table.specs.Value
 pub use Rattle.dtab_table.specs.Tree

@@ -4,13 +4,9 @@ use Rattle.dtab_table.specs.Path.{Labels}
 use Rattle.dtab_table.specs.Dtab.{Rule}
 use Rattle.bind_core.specs.declared.outcome.Outcome.{Outcome}
 use Rattle.bind_core.specs.declared.outcome.Outcome.TheVariants as outcome
-use Rattle.bind_core.specs.declared.leaf.Bound.{Bound}
-use Rattle.bind_core.specs.declared.leaf.Bound.TheVariants.{One}
 use Rattle.bind_core.specs.declared.outcome.Delegated.{Delegated}
-use Rattle.bind_core.specs.Delegation.{Found, one, Ending, negative, failing, no_replica, too_deep, too_wide, bound, outcome_of, cost_of}
-
-abbrev pub found_of : Bound → Found
-found_of (One found) = one found
+use Rattle.bind_core.specs.Bound.{found_of}
+use Rattle.bind_core.specs.Delegation.{Ending, negative, failing, no_replica, too_deep, too_wide, bound, outcome_of, cost_of}
 
 abbrev pub ending_of : Outcome → Ending
 ending_of outcome.Neg = negative

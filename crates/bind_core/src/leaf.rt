@@ -1,4 +1,4 @@
-//! What a delegation binds a path to.
+//! Leaves: where a path's replicas are, and how the path was split.
 use crate::addr::Addr;
 use name_tree::Path;
 
@@ -18,11 +18,4 @@ pub struct Leaf {
     pub client: Path,
     /// The labels behind those, which name nothing here and are passed on.
     pub residual: Path,
-}
-
-/// What a path is bound to.
-#[derive(Debug, Drop)]
-pub enum Bound {
-    /// One leaf.
-    One(Leaf),
 }

@@ -1,7 +1,7 @@
 //! Outcomes of delegations.
 ghost use Rattle.std.specs.Prelude.{◌≡◌};
 
-use crate::leaf::Bound;
+use crate::bound::Bound;
 
 /// What a path comes to in a table.
 #[derive(Debug, Drop)]
@@ -27,6 +27,21 @@ pub struct Delegated {
     pub outcome: Outcome,
     /// How many lookups were made, at most 10,000; or 10,001, exactly where there would be more.
     pub cost: u32,
+}
+
+impl Outcome {
+    ghost use Rattle.bind_core.specs.Outcome.{ending_of};
+    ghost use Rattle.bind_core.specs.Stack.{ends_all};
+
+    /// Whether this ends the whole delegation at once, whatever is left to try.
+    pub(crate) fn ends_all(&self) -> bool
+        ensures { result ≡ ends_all (ending_of self.now) }
+    {
+        match self {
+            Outcome::TooDeep | Outcome::TooWide => true,
+            Outcome::Neg | Outcome::Fail | Outcome::Empty | Outcome::Bound(_) => false,
+        }
+    }
 }
 
 impl Delegated {

@@ -1,5 +1,11 @@
-pub mod Arrows
-pub mod Matching
-pub mod Places
 pub mod Placing
+pub mod PrefixLaws
+pub mod PrefixSounds
+pub mod PrefixWalks
 pub mod Rewriting
+pub mod TableCanons
+pub mod TableComputing
+pub mod TableLaws
+pub mod TableSounds
+pub mod TableSpelled
+pub mod TableWriting

@@ -1,6 +1,6 @@
 -- What a table rewrites a path to, from the positions that its index gives.
 use Rattle.std.proofs.Common.{◌≡◌, ℕ, zero, suc, ◌+◌, ◌<◌, ◌≤◌, List, [], ◌∷◌, ◌++◌, Bool, true, false, ◌&&◌, length, map, drop, get_or, Option, Some, None, refl, sym, ap, ◌∙◌, arith, append_assoc, add-one, drop-cons}
-use Rattle.std.specs.Prelude.{option_map, if◌then◌else◌}
+use Rattle.std.specs.Prelude.{if◌then◌else◌}
 use Rattle.std.specs.List.{slice_get, flat_map}
 use Rattle.std.specs.Option.{option_to_list}
 use Rattle.std.specs.Str.{bytes_eq}
@@ -9,12 +9,13 @@ use Rattle.std.proofs.lemmas.List.Concat.{flat_map-cons, flat_map-append}
 use Rattle.std.proofs.lemmas.Option.{slice_get_within, get_or_from_slice_get}
 use Rattle.name_tree.specs.Path.{Labels}
 use Rattle.name_tree.specs.declared.tree.Tree.{Tree}
-use Rattle.name_tree.specs.Tree.{Name, name_of, append_rest}
+use Rattle.name_tree.specs.Value.{Name, append_rest}
+use Rattle.name_tree.specs.Tree.{name_of}
 use Rattle.dtab_index.specs.Index.{Placed, matches, matching}
 use Rattle.dtab_table.specs.declared.dtab.Entry.{Entry}
 use Rattle.dtab_table.specs.declared.prefix.Prefix.{Prefix}
 use Rattle.dtab_table.specs.declared.prefix.PrefixLabel.{PrefixLabel}
-use Rattle.dtab_table.specs.Rules.{Pattern, Rule, pattern_of, patterns_of, rule_of, placed_from}
+use Rattle.dtab_table.specs.Rules.{Pattern, pattern_of, patterns_of, rule_of, placed_from}
 use Rattle.dtab_table.specs.Dtab.{rest_behind, rewrite, rewrites}
 
 -- the tree of an entry that matches, with the rest of the path behind every leaf

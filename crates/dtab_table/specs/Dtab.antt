@@ -1,9 +1,9 @@
 -- Delegation tables as values, and what they rewrite a path to.
-use Rattle.std.specs.Prelude.{Bool, true, if◌then◌else◌, List, [], ◌∷◌, ◌++◌, map, Option, Some, None, option_map}
+use Rattle.std.specs.Prelude.{if◌then◌else◌, List, [], ◌∷◌, ◌++◌, map, Option, Some, None, option_map}
 use Rattle.std.specs.Option.{option_to_list}
 use Rattle.std.specs.Str.{bytes_eq}
-use Rattle.name_tree.specs.Path.{Label, Labels}
-use Rattle.name_tree.specs.Tree.{Name, append_rest}
+use Rattle.name_tree.specs.Path.{Labels}
+use Rattle.name_tree.specs.Value.{Name, append_rest}
 pub use Rattle.dtab_table.specs.Rules.{Pattern, Rule, pattern_of, patterns_of, rule_of}
 use Rattle.dtab_table.specs.declared.dtab.Dtab.{Dtab}
 

@@ -1,7 +1,8 @@
 -- The rules of a table, and what the code's types say.
 use Rattle.std.specs.Prelude.{ℕ, ◌+◌, List, [], ◌∷◌, map, Option, Some, None}
 use Rattle.name_tree.specs.Path.{Label}
-use Rattle.name_tree.specs.Tree.{Name, name_of}
+use Rattle.name_tree.specs.Value.{Name}
+use Rattle.name_tree.specs.Tree.{name_of}
 use Rattle.dtab_index.specs.Index.{Placed}
 use Rattle.dtab_table.specs.declared.prefix.PrefixLabel.{PrefixLabel}
 use Rattle.dtab_table.specs.declared.prefix.PrefixLabel.TheVariants.{Star, Label as Named}

@@ -1,5 +1,5 @@
 //! Delegation tables.
-ghost use Rattle.std.specs.Prelude.{◌≡◌, ◌<◌, ◌^◌, [], length, map, IfOk};
+ghost use Rattle.std.specs.Prelude.{◌≡◌, ◌<◌, ◌^◌, [], length, map, slice_get, Some, IfOk};
 ghost use Rattle.name_tree.specs.Tree.{name_of};
 ghost use Rattle.dtab_table.specs.Rules.{placed_from};
 
@@ -19,6 +19,35 @@ pub struct Entry {
     pub prefix: Prefix,
     /// What it is rewritten to.
     pub tree: Tree,
+}
+
+/// Some entries, in order. It is made from a `Vec` and gives it back without taking memory.
+#[derive(Debug, Drop)]
+pub struct EntryList {
+    items: Vec<Entry>,
+}
+
+impl EntryList {
+    /// These entries, in their order.
+    pub fn of(items: Vec<Entry>) -> EntryList
+        ensures { result.items ≡ items }
+    {
+        EntryList { items }
+    }
+
+    /// The entries, in order.
+    pub fn items(&self) -> &[Entry]
+        ensures { result.now ≡ self.now.items.items }
+    {
+        self.items.as_slice()
+    }
+
+    /// The entries, in order.
+    pub fn into_items(self) -> Vec<Entry>
+        ensures { result ≡ self.items }
+    {
+        self.items
+    }
 }
 
 /// A delegation table: a list of entries. Of two that match a path, the later one is tried first.
@@ -46,10 +75,11 @@ impl Dtab {
     }
 
     /// The table of these entries, in their order. It copies their prefixes into an index.
-    pub fn of(alloc: Global, entries: Vec<Entry>) -> Mem<Dtab>
-        requires { length entries.items < 2 ^ 32 }
-        ensures { IfOk result (λ dtab. rules_of dtab ≡ map rule_of entries.items) }
+    pub fn of(alloc: Global, entries: EntryList) -> Mem<Dtab>
+        requires { length entries.items.items < 2 ^ 32 }
+        ensures { IfOk result (λ dtab. rules_of dtab ≡ map rule_of entries.items.items) }
     {
+        let entries = entries.into_items();
         let index = index_of(alloc, entries.as_slice())?;
         Ok(Dtab { entries, index })
     }
@@ -59,6 +89,28 @@ impl Dtab {
         ensures { result ≡ length (rules_of self.now) }
     {
         self.entries.len()
+    }
+
+    /// Its entry at a place, counted from 0.
+    pub fn entry(&self, at: usize) -> &Entry
+        requires { at < length (rules_of self.now) }
+        ensures { slice_get (rules_of self.now) at ≡ Some (rule_of result.now) }
+    {
+        &self.entries[at]
+    }
+
+    /// Its entries, in order.
+    pub fn entries(&self) -> &[Entry]
+        ensures { map rule_of result.now ≡ rules_of self.now }
+    {
+        self.entries.as_slice()
+    }
+
+    /// Its entries, in order. It takes no memory.
+    pub fn into_entries(self) -> EntryList
+        ensures { map rule_of result.items.items ≡ rules_of self }
+    {
+        EntryList::of(self.entries)
     }
 
     /// What the table rewrites a path to: the trees of all entries whose prefix matches, the last entry first, each with the

@@ -1,34 +1,52 @@
 //! Delegation tables: what a path that begins with a prefix is rewritten to, in the manner of Finagle's dtabs.
 //!
-//! A [`Dtab`] is a list of entries `prefix => tree` with `;` between them. [`read_dtab`] reads its text, and [`Dtab::lookup`] gives what
-//! it rewrites a path to: the trees of all entries whose prefix matches the path, the last entry first, each with the rest of the path
-//! behind every leaf. A prefix matches a path that has at least as many labels, where each label of the prefix is the same as the
-//! path's or is `*`, which stands for any label.
+//! A [`Dtab`] is a list of entries `prefix => tree` with `;` between them. [`read_dtab`] reads its text, [`write_dtab`] writes the canonical
+//! one, and [`Dtab::lookup`] gives what it rewrites a path to: the trees of all entries whose prefix matches the path, the last entry
+//! first, each with the rest of the path behind every leaf. A [`Prefix`] matches a path that has at least as many labels, where each label of
+//! the prefix is the same as the path's or is `*`, which stands for any one label.
 //!
-//! A text is read exactly where the grammar of `specs/Text.antt` has it and it keeps the limits, and gives the entries that stand
-//! there. A lookup is exactly `rewrites` of `specs/Dtab.antt`, and takes at least one step of the [`Steps`](line_base::Steps) that it is lent.
+//! # What is proved
+//! `specs/TableGrammar.antt` is the grammar as a table, on that of trees. A table's text is read exactly where it is of the grammar and
+//! within the limits, and gives the entries that it spells, in order. Any other text is refused for its first cause: its length, the
+//! first parenthesis that is too deep, the place where it leaves the grammar, or the number of its entries ([`DtabFault`]). A text stands
+//! for at most one value, and the canonical text of a value is read as that value ([`texts_have_one_value`],
+//! [`canonical_texts_read_back`]). `table_of` of `specs/Computed.antt` computes the same values byte by byte, for definitions that go by cases
+//! on what a text stands for ([`computed_values_are_exact`]). A lookup is exactly `rewrites` of `specs/Dtab.antt`, and takes at least one step of the
+//! [`Steps`](line_base::Steps) that it is lent.
 //!
-//! ```text
-//! let dtab = read_dtab(alloc, b"/svc => /srv/a ; /svc => /srv/b")?;
-//! let path = read_path(alloc, b"/svc/web")?;
-//! // `/srv/b/web`, and then `/srv/a/web`
+//! # Example
+//! ```
+//! let dtab = read_dtab(alloc, b"/svc => /srv/a ; /svc/* => /srv/b")?;
+//! // `/svc=>/srv/a;/svc/*=>/srv/b`
+//! let text = write_dtab(alloc, &dtab)?;
+//! let path = read_path(alloc, b"/svc/web/users")?;
+//! // `/srv/b/users`, and then `/srv/a/web/users`
 //! let trees = dtab.lookup(alloc, &path, &mut steps)?;
+//! // `*` stands in a prefix alone.
+//! assert_eq!(read_dtab(alloc, b"/a => /*").err(), Some(DtabFault::Syntax(7)));
 //! ```
 #![tactic(auto)]
 
 use std::alloc::AllocError;
 
 mod dtab;
+mod laws;
 mod prefix;
+mod prefix_reader;
+mod prefix_text;
 mod read;
+mod table_reader;
 #[cfg(test)]
 mod tests;
 mod tree_list;
+mod write;
 
-pub use dtab::{Dtab, Entry};
+pub use dtab::{Dtab, Entry, EntryList};
+pub use laws::{canonical_texts_read_back, computed_values_are_exact, texts_have_one_value};
 pub use prefix::{Prefix, PrefixLabel};
-pub use read::{DtabFault, MOST_ENTRIES, read_dtab};
+pub use read::{DtabFault, MOST_ENTRIES, PrefixFault, read_dtab, read_prefix};
 pub use tree_list::TreeList;
+pub use write::{write_dtab, write_prefix};
 
 /// A value, unless there was no memory for it.
 pub type Mem<T> = Result<T, AllocError>;

@@ -1,7 +1,6 @@
 //! The prefixes of a table's entries, and what they match.
 
 use crate::Mem;
-use name_tree::Path;
 use std::alloc::Global;
 
 /// One label of a prefix.
@@ -38,10 +37,9 @@ impl PrefixLabel {
 }
 
 impl Prefix {
-    ghost use Rattle.std.specs.Prelude.{◌≡◌};
+    ghost use Rattle.std.specs.Prelude.{◌≡◌, [], map, IfOk};
     ghost use Rattle.dtab_index.specs.Prefix.{patterns_of as indexed};
     ghost use Rattle.dtab_table.specs.Rules.{pattern_of, patterns_of};
-    ghost use Rattle.std.specs.Prelude.{map, Some, IfOk};
 
     /// The prefix of these labels, in their order.
     pub fn of(labels: Vec<PrefixLabel>) -> Prefix
@@ -50,15 +48,13 @@ impl Prefix {
         Prefix { labels }
     }
 
-    /// The prefix that matches what begins with the labels of a path. It takes the labels over, and copies none.
-    pub fn of_path(alloc: Global, path: Path) -> Mem<Prefix>
-        ensures { IfOk result (λ prefix. patterns_of prefix ≡ map Some path) }
+    /// The prefix with no label, `/`, which matches every path. It takes no memory.
+    pub(crate) fn root(alloc: Global) -> Prefix
+        ensures { patterns_of result ≡ [] }
     {
-        let mut labels = Vec::with_capacity(alloc, path.len())?;
-        for label in path.into_labels() {
-            labels.push(PrefixLabel::Label(label))?;
+        Prefix {
+            labels: Vec::new(alloc),
         }
-        Ok(Prefix { labels })
     }
 
     /// Its labels, in order.

@@ -1,105 +1,120 @@
-//! The reader of tables. A text is read in one pass over its places.
-ghost use Rattle.std.specs.Prelude.{◌≡◌, ◌+◌, ◌≤◌, None, Some, MatchResult, MatchOption, length};
-ghost use Rattle.dtab_table.specs.Dtab.{rule_of, rules_of};
-ghost use Rattle.dtab_table.specs.Text.{round_arrow, entry_value, dtab_in_limits};
+//! The readers of prefixes and tables.
+ghost use Rattle.std.specs.Prelude.{◌≡◌, ◌⊎◌, List, Some, None, IfOk, MatchResult};
+ghost use Rattle.dtab_table.specs.Rules.{Pattern, Rule};
+ghost use Rattle.dtab_table.specs.TableCanon.{ArePatterns, AreSoundRules};
+ghost use Rattle.dtab_table.specs.Rules.{patterns_of};
+ghost use Rattle.dtab_table.specs.Dtab.{rules_of};
+ghost use Rattle.dtab_table.specs.TableGrammar.{PrefixText};
+ghost use Rattle.dtab_table.specs.Computed.{table_of};
+ghost use Rattle.dtab_table.specs.Answers.{IsTable, DtabFaultFits, PrefixFaultFits};
 
-use crate::dtab::{Dtab, Entry};
+use crate::dtab::{Dtab, EntryList};
 use crate::prefix::Prefix;
-use name_tree::{MOST_BYTES, Pieces, TextFault, read_path, read_tree, trim};
-use std::alloc::{AllocError, AllocFailed, Global};
+use crate::prefix_text::PrefixTextReader;
+use crate::table_reader::TableReader;
+use name_tree::{MOST_BYTES, MOST_OPEN, Refused};
+use std::alloc::Global;
 
-/// The most entries of a table that is read: 1,024. A place with nothing in it is no entry.
-pub const MOST_ENTRIES: usize = 1024;
+/// The most entries of a table that is read: 1,024.
+pub const MOST_ENTRIES: usize = 1_024;
 
-/// Why a text was not read.
+/// Why a text was not read as a prefix.
+#[derive(Clone, Copy, Debug, PartialEq, Eq)]
+pub enum PrefixFault {
+    /// It is none.
+    NotPrefix,
+    /// There was no memory for it.
+    OutOfMemory,
+}
+
+/// Why a text was not read as a table.
 #[derive(Clone, Copy, Debug, PartialEq, Eq)]
 pub enum DtabFault {
-    /// The text is not in the grammar, has more than 65,536 bytes, or has more than 1,024 entries.
-    Refused,
+    /// The text is longer than so many bytes.
+    TooLong(usize),
+    /// The first `(` that stands inside 64 open parentheses stands here, and the text up to it and with it begins some table's text.
+    TooNested(usize),
+    /// The text is no table, and its first so many bytes are the longest front of it that begins some table's text.
+    Syntax(usize),
+    /// The table has so many entries, more than 1,024.
+    TooMany(usize),
     /// There was no memory for the table.
     OutOfMemory,
 }
 
-impl From<AllocError> for DtabFault {
-    ghost use Rattle.dtab_table.specs.declared.read.DtabFault.{DtabFault};
-
-    ghost from_gives = { λ _ fault. fault ≡ DtabFault.OutOfMemory };
-
-    fn from(_error: AllocError) -> DtabFault {
-        DtabFault::OutOfMemory
-    }
+/// Reads the text of a prefix: a path in which a whole label may be `*`, with blanks (space, tab, CR, LF) at both ends.
+///
+/// It takes time linear in the text, of which any length is read.
+pub fn read_prefix(alloc: Global, text: &[u8]) -> Result<Prefix, PrefixFault>
+    ensures exact { MatchResult result (λ prefix. PrefixText text.now (patterns_of prefix)) (PrefixFaultFits text.now) }
+    ensures only { (labels : List Pattern) → PrefixText text.now labels → MatchResult result (λ prefix. patterns_of prefix ≡ labels) (λ fault. fault ≡ PrefixFault.OutOfMemory) }
+    ensures labels { IfOk result (λ prefix. ArePatterns (patterns_of prefix)) }
+{
+    prefix_in(alloc, text)
 }
 
-impl<T: Drop> From<AllocFailed<T>> for DtabFault {
-    ghost use Rattle.dtab_table.specs.declared.read.DtabFault.{DtabFault};
-
-    ghost from_gives = { λ _ fault. fault ≡ DtabFault.OutOfMemory };
-
-    fn from(_error: AllocFailed<T>) -> DtabFault {
-        DtabFault::OutOfMemory
-    }
-}
-
-impl From<TextFault> for DtabFault {
-    ghost use Rattle.dtab_table.specs.Faults.{fault_of};
-
-    ghost from_gives = { λ text fault. fault ≡ fault_of text };
-
-    fn from(fault: TextFault) -> DtabFault {
-        match fault {
-            TextFault::Refused => DtabFault::Refused,
-            TextFault::OutOfMemory => DtabFault::OutOfMemory,
+/// The prefix that a text stands for.
+fn prefix_in(alloc: Global, text: &[u8]) -> Result<Prefix, PrefixFault>
+    ensures { MatchResult result (λ prefix. PrefixText text.now (patterns_of prefix)) (PrefixFaultFits text.now) }
+{
+    let mut reader = PrefixTextReader::new(alloc);
+    for byte in text {
+        match reader.take(alloc, *byte) {
+            Ok(()) => {}
+            Err(Refused::Byte) => return Err(PrefixFault::NotPrefix),
+            Err(Refused::OutOfMemory) => return Err(PrefixFault::OutOfMemory),
         }
     }
+    match reader.end(alloc) {
+        Ok(prefix) => Ok(prefix),
+        Err(Refused::Byte) => Err(PrefixFault::NotPrefix),
+        Err(Refused::OutOfMemory) => Err(PrefixFault::OutOfMemory),
+    }
 }
 
-/// Reads the text of a table: any number of places with `;` between them, each an entry or nothing. An entry is a path, `=>` and a tree,
-/// as the Finagle user guide writes dtabs. Blanks (space, tab, CR, LF) may stand round each part, and not inside `=>`.
+/// Reads the text of a table: any number of places separated by `;`, each an entry or nothing, with blanks (space, tab, CR, LF) at both
+/// ends and between any two tokens, as the Finagle user guide writes dtabs. An entry is a prefix, `=>` and a tree. A prefix is written as a
+/// path, in which a whole label may be `*`.
 ///
-/// It answers `Refused` exactly where the text is not of this form, has more than 65,536 bytes or more than 1,024 entries.
+/// It takes time linear in the text.
 pub fn read_dtab(alloc: Global, text: &[u8]) -> Result<Dtab, DtabFault>
-    ensures { MatchResult result (λ dtab. dtab_in_limits text.now ≡ Some (rules_of dtab)) (λ fault. fault ≡ DtabFault.Refused → dtab_in_limits text.now ≡ None) }
+    ensures exact { MatchResult result (λ dtab. IsTable text.now (rules_of dtab)) (DtabFaultFits text.now) }
+    ensures only { (rules : List Rule) → IsTable text.now rules → MatchResult result (λ dtab. rules_of dtab ≡ rules) (λ fault. fault ≡ DtabFault.OutOfMemory) }
+    ensures computed { MatchResult result (λ dtab. table_of text.now ≡ Some (rules_of dtab)) (λ fault. (fault ≡ DtabFault.OutOfMemory) ⊎ (table_of text.now ≡ None)) }
+    ensures sound { IfOk result (λ dtab. AreSoundRules (rules_of dtab)) }
+{
+    dtab_in(alloc, text)
+}
+
+/// The table that a text stands for.
+fn dtab_in(alloc: Global, text: &[u8]) -> Result<Dtab, DtabFault>
+    ensures { MatchResult result (λ dtab. IsTable text.now (rules_of dtab)) (DtabFaultFits text.now) }
 {
     if text.len() > MOST_BYTES {
-        return Err(DtabFault::Refused);
+        return Err(DtabFault::TooLong(MOST_BYTES));
     }
-    let mut entries = Vec::new(alloc);
-    for place in Pieces::of(text, b';') {
-        if !trim(place).is_empty() {
-            entries.push(read_entry(alloc, place)?)?;
-        }
-    }
-    if entries.len() > MOST_ENTRIES {
-        return Err(DtabFault::Refused);
-    }
-    Ok(Dtab::of(alloc, entries)?)
-}
-
-/// Reads one entry.
-fn read_entry(alloc: Global, text: &[u8]) -> Result<Entry, DtabFault>
-    requires { length text.now ≤ 65536 }
-    ensures { MatchResult result (λ entry. entry_value text.now ≡ Some (rule_of entry)) (λ fault. fault ≡ DtabFault.Refused → entry_value text.now ≡ None) }
-{
-    let Some((front, back)) = round_first_arrow(text) else {
-        return Err(DtabFault::Refused);
-    };
-    let path = read_path(alloc, front)?;
-    let tree = read_tree(alloc, back)?;
-    let prefix = Prefix::of_path(alloc, path)?;
-    Ok(Entry { prefix, tree })
-}
-
-/// What stands before and behind the first `=`, if that begins `=>`.
-fn round_first_arrow(text: &[u8]) -> Option<(&[u8], &[u8])>
-    ensures { MatchOption result (round_arrow text.now ≡ None) (λ sides. (round_arrow text.now ≡ Some (sides.0.now, sides.1.now)) × (length sides.0.now ≤ length text.now) × (length sides.1.now ≤ length text.now)) }
-{
+    let mut reader = TableReader::new(alloc);
     for (at, byte) in text.iter().enumerate() {
-        if *byte == b'=' {
-            if at + 1 < text.len() && text[at + 1] == b'>' {
-                return Some((&text[..at], &text[at + 2..]));
-            }
-            return None;
+        match reader.take(alloc, *byte) {
+            Ok(()) => {}
+            Err(Refused::Byte) => return Err(DtabFault::Syntax(at)),
+            Err(Refused::OutOfMemory) => return Err(DtabFault::OutOfMemory),
+        }
+        if reader.depth() > MOST_OPEN {
+            return Err(DtabFault::TooNested(at));
         }
     }
-    None
+    let entries = match reader.end(alloc) {
+        Ok(entries) => entries,
+        Err(Refused::Byte) => return Err(DtabFault::Syntax(text.len())),
+        Err(Refused::OutOfMemory) => return Err(DtabFault::OutOfMemory),
+    };
+    let count = entries.len();
+    if count > MOST_ENTRIES {
+        return Err(DtabFault::TooMany(count));
+    }
+    match Dtab::of(alloc, EntryList::of(entries)) {
+        Ok(dtab) => Ok(dtab),
+        Err(_) => Err(DtabFault::OutOfMemory),
+    }
 }

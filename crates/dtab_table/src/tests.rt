@@ -1,4 +1,4 @@
-//! Texts of tables with their entries, what tables rewrite paths to, and the limits.
+//! Texts of prefixes and tables with their values and their places of refusal, what tables rewrite paths to, and the limits.
 ghost use Rattle.std.specs.Prelude.{◌≡◌, ◌<◌};
 
 use super::*;
@@ -9,7 +9,156 @@ use std::marker::Brand;
 use std::sync::ledger::{Blank, Ledger};
 use std::test::Fail;
 
-const REFUSED: DtabFault = DtabFault::Refused;
+/// Places at which texts of tables leave the grammar.
+const TABLE_FAULTS: [(&[u8], usize); 30] = [
+    (b"/a => /*", 7),
+    (b"/a", 2),
+    (b"/a =", 4),
+    (b"/a = > /b", 4),
+    (b"/a =>", 5),
+    (b"/a => ;", 6),
+    (b"/a => /b /c => /d", 9),
+    (b"/a => /b;/c", 11),
+    (b"a => /b", 0),
+    (b"/a*b => /c", 2),
+    (b"/*a => /b", 2),
+    (b"/** => /b", 2),
+    (b"/a/ => /b", 3),
+    (b"/a => (/b;/c)", 9),
+    (b"/a => /b & ;", 11),
+    (b"=> /b", 0),
+    (b"/a => /b;;/c=>", 14),
+    (b"/a == /b", 4),
+    (b"/a\\x2f=>", 8),
+    (b"1*/a => /b", 0),
+    (b"/a => 1.5", 9),
+    (b"/a>/b", 2),
+    (b"/a => /b,", 8),
+    (b"/ a => /b", 2),
+    (b"/*/ => /b", 3),
+    (b"/a => /b; => /c", 10),
+    (b"/a => /b | ~)", 12),
+    (b";;~", 2),
+    (b"/a/*b", 4),
+    (b"/a => 0000001", 12),
+];
+
+/// Texts that are no prefix.
+const NO_PREFIXES: [&[u8]; 10] = [
+    b"", b" ", b"*", b"/a/", b"//", b"/*a", b"/a*", b"/**", b"/a b", b"/\\x4",
+];
+
+#[test]
+fn refuses_tables_at_their_places(rt: HostRuntime) -> Result<(), Fail> {
+    for (text, at) in TABLE_FAULTS {
+        assert_eq!(rt;
+            read_dtab(rt.alloc(), text).err(),
+            Some(DtabFault::Syntax(at)),
+            "{text:?}"
+        );
+    }
+    Ok(())
+}
+
+#[test]
+fn refuses_what_is_no_prefix(rt: HostRuntime) -> Result<(), Fail> {
+    for text in NO_PREFIXES {
+        assert_eq!(rt;
+            read_prefix(rt.alloc(), text).err(),
+            Some(PrefixFault::NotPrefix),
+            "{text:?}"
+        );
+    }
+    Ok(())
+}
+
+#[test]
+fn writes_tables_that_were_read(rt: HostRuntime) -> Result<(), Fail> {
+    let rows: [(&[u8], usize, &[u8]); 7] = [
+        (b"", 0, b""),
+        (b" ;; ; ", 0, b""),
+        (b"/a => /b; ; /c => 1.5*/d;", 2, b"/a=>/b;/c=>1.5 * /d"),
+        (
+            b"/svc/*/x => /$/inet/127.0.0.1/9",
+            1,
+            b"/svc/*/x=>/$/inet/127.0.0.1/9",
+        ),
+        (b"/\t=>\r\n~", 1, b"/=>~"),
+        (b";/*=>(/a|/b)&$;", 1, b"/*=>1 * (/a | /b) & 1 * $"),
+        (b"/\\x2a=>!", 1, b"/\\x2a=>!"),
+    ];
+    for (text, count, want) in rows {
+        let dtab = read_dtab(rt.alloc(), text).map_err(|_| "refused")?;
+        assert_eq!(rt; dtab.len(), count);
+        assert_eq!(rt; write_dtab(rt.alloc(), &dtab)?.as_slice(), want, "{text:?}");
+    }
+    Ok(())
+}
+
+#[test]
+fn writes_prefixes_that_were_read(rt: HostRuntime) -> Result<(), Fail> {
+    let rows: [(&[u8], &[u8]); 4] = [
+        (b" /svc/* ", b"/svc/*"),
+        (b"/", b"/"),
+        (b"/*", b"/*"),
+        (b"/\\x41/\\x2F", b"/A/\\x2f"),
+    ];
+    for (text, want) in rows {
+        let prefix = read_prefix(rt.alloc(), text).map_err(|_| "refused")?;
+        assert_eq!(rt;
+            write_prefix(rt.alloc(), &prefix)?.as_slice(),
+            want,
+            "{text:?}"
+        );
+    }
+    Ok(())
+}
+
+#[test]
+fn reads_so_many_entries_and_no_more(rt: HostRuntime) -> Result<(), Fail> {
+    let mut text = Vec::new(rt.alloc());
+    for _ in 0..1_024 {
+        text.extend_from_slice(b"/a=>/b;")?;
+    }
+    let dtab = read_dtab(rt.alloc(), text.as_slice()).map_err(|_| "refused")?;
+    assert_eq!(rt; dtab.len(), 1_024);
+    text.extend_from_slice(b"/a=>/b")?;
+    assert_eq!(rt;
+        read_dtab(rt.alloc(), text.as_slice()).err(),
+        Some(DtabFault::TooMany(1_025))
+    );
+    let end = text.len();
+    text.push(b'&')?;
+    assert_eq!(rt;
+        read_dtab(rt.alloc(), text.as_slice()).err(),
+        Some(DtabFault::Syntax(end + 1))
+    );
+    Ok(())
+}
+
+#[test]
+fn keeps_the_limits_in_their_order(rt: HostRuntime) -> Result<(), Fail> {
+    let mut text = Vec::new(rt.alloc());
+    text.extend_from_slice(b"/a=>")?;
+    for _ in 0..65_536 {
+        text.push(b'(')?;
+    }
+    assert_eq!(rt;
+        read_dtab(rt.alloc(), text.as_slice()).err(),
+        Some(DtabFault::TooLong(65_536))
+    );
+    text.truncate(100);
+    assert_eq!(rt;
+        read_dtab(rt.alloc(), text.as_slice()).err(),
+        Some(DtabFault::TooNested(68))
+    );
+    text.truncate(68);
+    assert_eq!(rt;
+        read_dtab(rt.alloc(), text.as_slice()).err(),
+        Some(DtabFault::Syntax(68))
+    );
+    Ok(())
+}
 
 /// The leaves that the table rewrites the path to, each behind a blank; `?` stands for any other tree.
 fn leaves<L: Ledger>(alloc: Global, dtab: &Dtab, path: &Path, blank: Blank) -> Mem<Vec<u8>>
@@ -28,68 +177,6 @@ fn leaves<L: Ledger>(alloc: Global, dtab: &Dtab, path: &Path, blank: Blank) -> M
         }
     }
     Ok(out)
-}
-
-#[test]
-fn reads_tables(rt: HostRuntime) -> Result<(), Fail> {
-    let rows: [(&[u8], Result<usize, DtabFault>); 19] = [
-        (b"", Ok(0)),
-        (b";", Ok(0)),
-        (b" ;\r\n;\t", Ok(0)),
-        (b"/a => /b", Ok(1)),
-        (b"/a=>/b", Ok(1)),
-        (b"/ => ~", Ok(1)),
-        (b"/a => /b; ; /c=>/d;", Ok(2)),
-        (b"/a => /b | /c ; /a => !", Ok(2)),
-        (b"/a", Err(REFUSED)),
-        (b"/a =>", Err(REFUSED)),
-        (b"/a = > /b", Err(REFUSED)),
-        (b"/a => /b /c", Err(REFUSED)),
-        (b"=> /b", Err(REFUSED)),
-        (b"/a => /b => /c", Err(REFUSED)),
-        (b"/a => /b, /c => /d", Err(REFUSED)),
-        (b"~ => /b", Err(REFUSED)),
-        (b"/a = /b => /c", Err(REFUSED)),
-        (b"/a => /b; /c", Err(REFUSED)),
-        (b"/a >= /b", Err(REFUSED)),
-    ];
-    for (text, want) in rows {
-        assert_eq!(rt;
-            read_dtab(rt.alloc(), text).map(|dtab| dtab.len()),
-            want,
-            "{text:?}"
-        );
-    }
-    Ok(())
-}
-
-#[test]
-fn limits_bytes_and_entries(rt: HostRuntime) -> Result<(), Fail> {
-    let mut text = Vec::from_elem(rt.alloc(), b' ', 65_536)?;
-    assert_eq!(rt;
-        read_dtab(rt.alloc(), text.as_slice()).map(|dtab| dtab.len()),
-        Ok(0)
-    );
-    text.push(b' ')?;
-    assert_eq!(rt;
-        read_dtab(rt.alloc(), text.as_slice()).map(|dtab| dtab.len()),
-        Err(REFUSED)
-    );
-
-    let mut text = Vec::new(rt.alloc());
-    for _ in 0..1024 {
-        text.extend_from_slice(b";/=>/;")?;
-    }
-    assert_eq!(rt;
-        read_dtab(rt.alloc(), text.as_slice()).map(|dtab| dtab.len()),
-        Ok(1024)
-    );
-    text.extend_from_slice(b"/=>/")?;
-    assert_eq!(rt;
-        read_dtab(rt.alloc(), text.as_slice()).map(|dtab| dtab.len()),
-        Err(REFUSED)
-    );
-    Ok(())
 }
 
 #[test]
@@ -126,12 +213,31 @@ fn matches_any_label(rt: HostRuntime) -> Result<(), Fail> {
     let tree = read_tree(rt.alloc(), b"/s").ok().ok_or("refused")?;
     let mut entries = Vec::new(rt.alloc());
     entries.push(Entry { prefix, tree })?;
-    let dtab = Dtab::of(rt.alloc(), entries)?;
+    let dtab = Dtab::of(rt.alloc(), EntryList::of(entries))?;
     let path = read_path(rt.alloc(), b"/any/web/1").ok().ok_or("refused")?;
     let got = leaves::<Brand>(rt.alloc(), &dtab, &path, Blank::new(1))?;
     assert_eq!(rt; got.as_slice(), b" /s/1".as_slice());
     let path = read_path(rt.alloc(), b"/any").ok().ok_or("refused")?;
     let got = leaves::<Brand>(rt.alloc(), &dtab, &path, Blank::new(1))?;
     assert!(rt; got.is_empty());
+    Ok(())
+}
+
+#[test]
+fn makes_a_table_of_an_entry(rt: HostRuntime) -> Result<(), Fail> {
+    let prefix = read_prefix(rt.alloc(), b" /svc/* ").map_err(|_| "refused")?;
+    assert_eq!(rt; prefix.labels().len(), 2);
+    let service = PrefixLabel::Label(Vec::from_slice(rt.alloc(), b"svc")?);
+    assert_eq!(rt; &prefix.labels()[0], &service);
+    assert_eq!(rt; &prefix.labels()[1], &PrefixLabel::Star);
+    let tree = read_tree(rt.alloc(), b"/a").map_err(|_| "refused")?;
+    let entry = Entry { prefix, tree };
+    let dtab = Dtab::of(rt.alloc(), EntryList::of(vec![in rt.alloc(); entry]?))?;
+    assert_eq!(rt; dtab.len(), 1);
+    assert_eq!(rt; dtab.entry(0).prefix.labels().len(), 2);
+    assert_eq!(rt;
+        write_dtab(rt.alloc(), &dtab)?.as_slice(),
+        b"/svc/*=>/a".as_slice()
+    );
     Ok(())
 }

@@ -2,9 +2,10 @@
 use Rattle.std.specs.Prelude.{ℕ, Bool, true, false, ◌||◌, ◌&&◌, ◌==◌, if◌then◌else◌, List, [], ◌∷◌, codes, Option, Some, None}
 use Rattle.std.specs.Str.{bytes_eq}
 use Rattle.name_tree.specs.Path.{Labels}
-use Rattle.name_tree.specs.Text.{drop_blanks, path_value, in_limit}
+use Rattle.name_tree.specs.Grammar.{is_blank}
+use Rattle.name_tree.specs.Computed.{path_of}
 use Rattle.dtab_table.specs.Dtab.{Rule}
-use Rattle.dtab_table.specs.Text.{dtab_in_limits}
+use Rattle.dtab_table.specs.Computed.{table_of}
 
 -- a byte at the front of the first line
 abbrev pub joined : ℕ → List (List ℕ) → List (List ℕ)
@@ -37,6 +38,11 @@ abbrev pub behind_word : List ℕ → List ℕ
 behind_word [] = []
 behind_word (b ∷ bs) = if is_gap b then b ∷ bs else behind_word bs
 
+-- a line behind its leading blanks: spaces, tabs, CRs and LFs
+abbrev pub drop_blanks : List ℕ → List ℕ
+drop_blanks [] = []
+drop_blanks (b ∷ bs) = if is_blank b then drop_blanks bs else b ∷ bs
+
 abbrev pub is_empty : List ℕ → Bool
 is_empty [] = true
 is_empty (b ∷ bs) = false
@@ -58,12 +64,12 @@ pick_line (Some path) = pick path
 
 -- behind `pick`: a path, and nothing but gaps
 abbrev pub pick_value : List ℕ → Line
-pick_value text = if is_empty (drop_gaps (behind_word text)) then pick_line (in_limit path_value (word_of text)) else bad
+pick_value text = if is_empty (drop_gaps (behind_word text)) then pick_line (path_of (word_of text)) else bad
 
 -- a line by its first word: `dtab` and a table, or `pick` and a path
 abbrev pub command_value : List ℕ → Line
 command_value text =
-    if bytes_eq (word_of text) (codes "dtab") then table_line (dtab_in_limits (behind_word text)) else
+    if bytes_eq (word_of text) (codes "dtab") then table_line (table_of (behind_word text)) else
     (if bytes_eq (word_of text) (codes "pick") then pick_value (drop_gaps (behind_word text)) else bad)
 
 abbrev pub line_value : List ℕ → Line

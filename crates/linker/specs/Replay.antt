@@ -1,5 +1,5 @@
 -- What the replay of a script writes.
-use Rattle.std.specs.Prelude.{ℕ, ◌+◌, Bool, true, false, List, [], ◌∷◌, ◌++◌, codes}
+use Rattle.std.specs.Prelude.{ℕ, ◌+◌, Bool, true, false, List, [], ◌∷◌, ◌++◌, codes, Option, Some, None}
 use Rattle.std.specs.Fmt.{decimal}
 use Rattle.name_tree.specs.Path.{Labels, canon_path}
 use Rattle.dtab_table.specs.Dtab.{Rule}
@@ -7,7 +7,8 @@ use Rattle.bind_core.specs.declared.leaf.Leaf.{Leaf}
 use Rattle.bind_core.specs.declared.leaf.Cluster.{Cluster}
 use Rattle.bind_core.specs.declared.leaf.Cluster.TheVariants.{Inet}
 use Rattle.bind_core.specs.Addr.{addr_text}
-use Rattle.bind_core.specs.Delegation.{Found, one, Ending, negative, failing, no_replica, too_deep, too_wide, bound, outcome_of}
+use Rattle.bind_core.specs.Found.{first_leaf}
+use Rattle.bind_core.specs.Delegation.{Ending, negative, failing, no_replica, too_deep, too_wide, bound, outcome_of}
 use Rattle.linker.specs.Line.{Line, blank, table, pick, bad, line_value, lines_of}
 
 abbrev pub cluster_text : Cluster → List ℕ
@@ -17,8 +18,10 @@ cluster_text (Inet addr) = addr_text addr
 abbrev pub leaf_text : Leaf → List ℕ
 leaf_text found = cluster_text found.cluster ++ 32 ∷ [] ++ canon_path found.client ++ 32 ∷ [] ++ canon_path found.residual
 
-abbrev pub found_text : Found → List ℕ
-found_text (one found) = leaf_text found
+-- a pick answers the first leaf in order. There is one wherever a path is bound
+abbrev pub picked_text : Option Leaf → List ℕ
+picked_text None = codes "empty"
+picked_text (Some found) = leaf_text found
 
 -- the reply to a pick
 abbrev pub ending_text : Ending → List ℕ
@@ -27,7 +30,7 @@ ending_text failing = codes "failing"
 ending_text no_replica = codes "empty"
 ending_text too_deep = codes "too-deep"
 ending_text too_wide = codes "too-wide"
-ending_text (bound found) = found_text found
+ending_text (bound found) = picked_text (first_leaf found)
 
 -- the reply line of a pick
 abbrev pub pick_reply : List Rule → Labels → List ℕ

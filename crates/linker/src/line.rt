@@ -1,11 +1,10 @@
 //! The lines of a script.
 ghost use Rattle.std.specs.Prelude.{◌≡◌, ◌≤◌, ◌<◌, ◌∷◌, ℕ, length, take, drop, slice_range, slice_index, MatchResult};
-ghost use Rattle.name_tree.specs.Text.{is_blank, drop_blanks};
-ghost use Rattle.linker.specs.Line.{lines_of, line_value, command_value, pick_value, bad, is_gap, drop_gaps, word_of, behind_word, is_empty};
+ghost use Rattle.linker.specs.Line.{drop_blanks, lines_of, line_value, command_value, pick_value, bad, is_gap, drop_gaps, word_of, behind_word, is_empty};
 ghost use Rattle.linker.specs.Told.{said_of};
 
 use dtab_table::{Dtab, DtabFault, read_dtab};
-use name_tree::{Path, TextFault, read_path};
+use name_tree::{Path, TextFault, is_blank_byte, read_path};
 use std::alloc::Global;
 
 /// What a line of a script says.
@@ -33,13 +32,6 @@ fn is_gap_byte(byte: u8) -> bool
     ensures { result ≡ is_gap byte }
 {
     byte == b' ' || byte == b'\t'
-}
-
-/// A space, a tab, a CR or an LF.
-fn is_blank_byte(byte: u8) -> bool
-    ensures { result ≡ is_blank byte }
-{
-    byte == b' ' || byte == b'\t' || byte == b'\r' || byte == b'\n'
 }
 
 /// Whether a line has nothing but blanks.
@@ -108,8 +100,8 @@ fn read_pick(alloc: Global, text: &[u8]) -> Result<Line, LineFault>
     }
     match read_path(alloc, word) {
         Ok(path) => Ok(Line::Pick(path)),
-        Err(TextFault::Refused) => Err(LineFault::Bad),
         Err(TextFault::OutOfMemory) => Err(LineFault::OutOfMemory),
+        Err(_) => Err(LineFault::Bad),
     }
 }
 
@@ -121,8 +113,8 @@ fn read_command(alloc: Global, text: &[u8]) -> Result<Line, LineFault>
     if word == b"dtab".as_slice() {
         return match read_dtab(alloc, rest) {
             Ok(table) => Ok(Line::Table(table)),
-            Err(DtabFault::Refused) => Err(LineFault::Bad),
             Err(DtabFault::OutOfMemory) => Err(LineFault::OutOfMemory),
+            Err(_) => Err(LineFault::Bad),
         };
     }
     if word == b"pick".as_slice() {

@@ -1,8 +1,10 @@
 //! The replies to a script's lines.
 ghost use Rattle.std.specs.Prelude.{◌≡◌, ◌++◌, length, take, OnOk, OnErr};
 ghost use Rattle.dtab_table.specs.Dtab.{rules_of};
+ghost use Rattle.bind_core.specs.Found.{first_leaf};
+ghost use Rattle.bind_core.specs.Bound.{found_of};
 ghost use Rattle.bind_core.specs.Outcome.{ending_of};
-ghost use Rattle.linker.specs.Replay.{leaf_text, ending_text, pick_reply, bad_line};
+ghost use Rattle.linker.specs.Replay.{leaf_text, picked_text, ending_text, pick_reply, bad_line};
 
 use bind_core::{Bound, Bytes, Cluster, Leaf, Mem, Outcome, append_addr, bind};
 use dtab_table::Dtab;
@@ -25,6 +27,17 @@ fn append_leaf(leaf: &Leaf, out: &mut Bytes) -> Mem<()>
     append_path(&leaf.residual, out)
 }
 
+/// Puts what a pick of a bound path answers behind some bytes: its first leaf in order.
+fn append_first(bound: &Bound, out: &mut Bytes) -> Mem<()>
+    ensures ok { OnOk result (out.new.items ≡ out.old.items ++ picked_text (first_leaf (found_of bound.now))) }
+    ensures err { OnErr result (take (length out.old.items) out.new.items ≡ out.old.items) }
+{
+    match bound.first_leaf() {
+        Some(leaf) => append_leaf(leaf, out),
+        None => out.extend_from_slice(b"empty"),
+    }
+}
+
 /// Puts what a pick came to behind some bytes.
 fn append_outcome(outcome: &Outcome, out: &mut Bytes) -> Mem<()>
     ensures ok { OnOk result (out.new.items ≡ out.old.items ++ ending_text (ending_of outcome.now)) }
@@ -36,7 +49,7 @@ fn append_outcome(outcome: &Outcome, out: &mut Bytes) -> Mem<()>
         Outcome::Empty => out.extend_from_slice(b"empty"),
         Outcome::TooDeep => out.extend_from_slice(b"too-deep"),
         Outcome::TooWide => out.extend_from_slice(b"too-wide"),
-        Outcome::Bound(Bound::One(leaf)) => append_leaf(leaf, out),
+        Outcome::Bound(bound) => append_first(bound, out),
     }
 }
 

@@ -116,6 +116,25 @@ fn scripts_and_replies(rt: HostRuntime) -> Result<(), Fail> {
             "ok\n127.0.0.1:80 /$/inet/localhost/80 /x/y\n",
             0,
         ),
+        (
+            "dtab /s/*/x => /$/inet/127.0.0.1/9\npick /s/a/x/y\npick /s/x\npick /s/a/b/x",
+            "ok\n127.0.0.1:9 /$/inet/127.0.0.1/9 /y\nnegative\nnegative\n",
+            0,
+        ),
+        // A union answers its first leaf in order. What comes to nothing, and what has no weight, is passed over.
+        (
+            "dtab /s => ~ & 0*/$/inet/127.0.0.1/1 & ! & .5*/$/inet/127.0.0.1/2 & /$/inet/127.0.0.1/3\npick /s/a",
+            "ok\n127.0.0.1:2 /$/inet/127.0.0.1/2 /a\n",
+            0,
+        ),
+        // An escape is the byte that it stands for, and is written only where it is needed.
+        (
+            "dtab /\\x41 => (/$/inet/127.0.0.1/1)\npick /A/\\x42\\x2F",
+            "ok\n127.0.0.1:1 /$/inet/127.0.0.1/1 /B\\x2f\n",
+            0,
+        ),
+        ("dtab /a => /b & ", "error line 1\n", 3),
+        ("pick /*", "error line 1\n", 3),
     ];
     for (script, written, status) in rows {
         let (text, ended) = replayed(&rt, script)?;
@@ -152,6 +171,17 @@ fn doubling(alloc: Global, levels: u32) -> Result<String, AllocError> {
     Ok(script)
 }
 
+/// `/a0 => /a1 & /a1` and so on, and the last to an address.
+fn unions(alloc: Global, levels: u32) -> Result<String, AllocError> {
+    let mut script = String::from_str(alloc, "dtab ")?;
+    for level in 0..levels {
+        let next = level + 1;
+        write!(script, "/a{level} => /a{next} & /a{next};")?;
+    }
+    write!(script, "/a{levels} => /$/inet/127.0.0.1/80\npick /a0")?;
+    Ok(script)
+}
+
 /// `pick` of one label of so many bytes.
 fn long_label(alloc: Global, bytes: usize) -> Result<String, AllocError> {
     let mut script = String::from_str(alloc, "pick /")?;
@@ -182,6 +212,12 @@ fn limits(rt: HostRuntime) -> Result<(), Fail> {
         (chain(alloc, 99)?, "ok\ntoo-deep\n", 0),
         (doubling(alloc, 12)?, "ok\nnegative\n", 0),
         (doubling(alloc, 13)?, "ok\ntoo-wide\n", 0),
+        (
+            unions(alloc, 11)?,
+            "ok\n127.0.0.1:80 /$/inet/127.0.0.1/80 /\n",
+            0,
+        ),
+        (unions(alloc, 12)?, "ok\ntoo-wide\n", 0),
         (long_label(alloc, 2047)?, "negative\n", 0),
         (long_label(alloc, 2048)?, "too-deep\n", 0),
         (long_label(alloc, 65_535)?, "too-deep\n", 0),

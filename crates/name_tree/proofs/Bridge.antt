@@ -1,12 +1,14 @@
--- What a choice between trees says, in terms of the list of its alternatives.
-use Rattle.std.proofs.Common.{◌≡◌, ℕ, ◌+◌, ◌<◌, List, [], ◌∷◌, ◌++◌, length, take, get_or, map, refl, sym, ap, ◌∙◌}
-use Rattle.std.proofs.lemmas.List.{take_more, map-append, length-map}
+-- What trees of the code say, in terms of the lists that they hold.
+use Rattle.std.proofs.Common.{◌≡◌, List, [], ◌∷◌, length, map, Vec, Global, refl, sym, ap, ◌∙◌}
+use Rattle.std.proofs.lemmas.List.{length-map}
 use mathlib.Core.Former.{Count}
 use Rattle.name_tree.specs.declared.tree.Tree.{Tree, Alt, Alt', Row_of-Tree, end_of-Tree, more_of-Tree, items-the_row-Tree, items_hidden-the_row-Tree-0}
 use Rattle.name_tree.specs.declared.tree.Trees.{Trees}
-use Rattle.name_tree.specs.Path.{Labels}
-use Rattle.name_tree.specs.Text.{one_or_alt}
-use Rattle.name_tree.specs.Tree.{Name, alt, names, more, name_of, row_names, append_rest, append_rest_all}
+use Rattle.name_tree.specs.declared.tree.Branch.{Branch}
+use Rattle.name_tree.specs.declared.tree.Branches.{Branches as BranchList, Branches', out-Branches, roll-Branches, rolls-Branches', roll-out-Branches, Row_of-Branch, end_of-Branch, more_of-Branch, items-the_row-Branch, items_hidden-the_row-Branch-1}
+use Rattle.name_tree.specs.declared.tree.Tree.TheBlock.{shape-the_row-Branch-1, hidden-the_row-Branch-1}
+use Rattle.name_tree.specs.Value.{Name, alt, names, more, branch, one_or_alt}
+use Rattle.name_tree.specs.Tree.{name_of, branches_of, row_names, row_branches, listed}
 
 abbrev row_in : Tree → (n : Count) × Row_of-Tree n
 row_in (Alt' _ row) = (_, row)
@@ -20,22 +22,9 @@ row_is n (more_of-Tree t ts) = ap (more (name_of t)) (row_is _ ts)
 pub name_of-Alt : (trees : Trees) → name_of (Alt trees) ≡ alt (names (map name_of trees.items.items))
 name_of-Alt trees = let row = row_in (Alt trees) in ap alt (row_is row.0 row.1 ∙ ap (λ (ts : List Tree). names (map name_of ts)) (items_hidden-the_row-Tree-0 trees.items))
 
-append_rest-names : (ts : List Tree) (rest : Labels) → append_rest_all (names (map name_of ts)) rest ≡ names (map (λ t. append_rest (name_of t) rest) ts)
-append_rest-names [] rest = refl
-append_rest-names (t ∷ ts) rest = ap (more (append_rest (name_of t) rest)) (append_rest-names ts rest)
-
--- where each alternative has the rest behind its leaves, so has the choice
-pub alt_with_rest : (tree : Tree) (new old : Trees) (rest : Labels) → tree ≡ Alt old → map name_of new.items.items ≡ map (λ t. append_rest (name_of t) rest) old.items.items
-    → name_of (Alt new) ≡ append_rest (name_of tree) rest
-alt_with_rest tree new old rest is each =
-    name_of-Alt new ∙ (ap (λ (ns : List Name). alt (names ns)) each ∙ sym (ap (λ (t : Tree). append_rest (name_of t) rest) is ∙ (ap (λ (n : Name). append_rest n rest) (name_of-Alt old) ∙ ap alt (append_rest-names old.items.items rest))))
-
--- one tree more has the rest behind its leaves
-pub rest_more : (old : List Tree) (k : ℕ) (t : Tree) (new : Tree) (made grown : List Tree) (rest : Labels) → k < length old → t ≡ get_or old k t
-    → name_of new ≡ append_rest (name_of t) rest → grown ≡ made ++ new ∷ [] → map name_of made ≡ map (λ t. append_rest (name_of t) rest) (take k old)
-    → map name_of grown ≡ map (λ t. append_rest (name_of t) rest) (take (k + 1) old)
-rest_more old k t new made grown rest less at is pushed stands =
-    rw (pushed, take_more old k t less, ← at, map-append, map-append, stands) (ap (λ (n : Name). map (λ t. append_rest (name_of t) rest) (take k old) ++ n ∷ []) is)
+branch_row_is : (n : Count) (row : Row_of-Branch n) → row_branches row ≡ listed (items-the_row-Branch n row)
+branch_row_is n end_of-Branch = refl
+branch_row_is n (more_of-Branch weight t bs) = ap (branch weight (name_of t)) (branch_row_is _ bs)
 
 choice_of : (ts : List Name) → (length ts ≡ 1 → ⊥) → one_or_alt ts ≡ alt (names ts)
 choice_of [] not_one = refl
@@ -45,3 +34,18 @@ choice_of (t ∷ u ∷ ts) not_one = refl
 -- where there is not exactly one tree, they are a choice
 pub choice_is : (ts : List Tree) (trees : Trees) → (length ts ≡ 1 → ⊥) → trees.items.items ≡ ts → name_of (Alt trees) ≡ one_or_alt (map name_of ts)
 choice_is ts trees not_one is = name_of-Alt trees ∙ (rw is (sym (choice_of (map name_of ts) (λ one. not_one (sym (length-map ts name_of) ∙ one)))))
+
+abbrev branch_row_in : BranchList → (n : Count) × Row_of-Branch n
+branch_row_in (Branches' _ row) = (_, row)
+
+branches_of-row : (bs : BranchList) → branches_of bs ≡ row_branches (branch_row_in bs).1
+branches_of-row (Branches' shape row) = refl
+
+-- branches say what those of their list say, in its order
+pub branches_of-roll : (items : Vec Branch Global) → branches_of (roll-Branches (record { items = items })) ≡ listed items.items
+branches_of-roll items =
+    let row = hidden-the_row-Branch-1 items in
+    rw rolls-Branches' (branches_of-row (Branches' (shape-the_row-Branch-1 items) row) ∙ (branch_row_is _ row ∙ ap listed (items_hidden-the_row-Branch-1 items)))
+
+pub branches_of-out : (bs : BranchList) → branches_of bs ≡ listed (out-Branches bs).items.items
+branches_of-out bs = ap branches_of (sym (roll-out-Branches bs)) ∙ branches_of-roll (out-Branches bs).items

@@ -1,93 +1,141 @@
--- Labels have a byte, and parts and joins of labels are labels.
-use Rattle.std.proofs.Common.{◌≡◌, ℕ, zero, suc, ◌+◌, ◌<◌, ◌≤◌, ◌-◌, List, [], ◌∷◌, ◌++◌, length, map, take, drop, get_or, Vec, Global, refl, sym, ap, ◌∙◌, arith, append_assoc, length-append, length-drop, IsTrue, true, false}
-use Rattle.std.proofs.lemmas.List.{take_more, take_all, flat_map_more, get_or-map, map-append, take-map, drop-map, length-map}
-use Rattle.std.proofs.lemmas.List.Concat.{flat_map-cons, flat_map-append}
-use Rattle.std.proofs.lemmas.List.Folds.{length-flat_map-take}
-use Rattle.std.proofs.lemmas.Option.{get_or_from_slice_get}
-use Rattle.std.specs.List.{flat_map}
-use Rattle.std.specs.Prelude.{slice_get, Some}
-use Rattle.name_tree.specs.Path.{Label, Labels, AreLabels, canon_byte, canon_label, canon_path}
+-- A label is read as it is spelled, and what was read spells it.
+use Rattle.std.proofs.Common.{◌≡◌, ℕ, ◌+◌, ◌*◌, List, [], ◌∷◌, ◌++◌, true, false, Some, refl, sym, ap, subst, ◌∙◌, append_assoc}
+use Rattle.std.specs.Prelude.{◌==◌, IfSome}
+use Rattle.std.proofs.lemmas.Bool.{eqb-true}
+use Rattle.std.proofs.lemmas.List.{append-nil}
+use Rattle.std.proofs.lemmas.Option.{none-some, same_Some}
+use Rattle.name_tree.specs.Path.{Label, is_plain}
+use Rattle.name_tree.specs.Grammar.{hex_value, SpellsByte, plain, escape, SpellsLabel, byte, bytes}
+use Rattle.name_tree.specs.Recogniser.{run}
+use Rattle.name_tree.specs.LabelReading.{Spelling, next_spelling, whole_label, end_spelling, is_path_byte}
+use Rattle.name_tree.proofs.Bytes.{plain-path, plain-slash, plain-star, hex-path, hex-slash, hex-star}
+use Rattle.name_tree.proofs.Answered.{if_test, if_mapped}
 
-pub AreLabels-snoc : (ls : Labels) (l : Label) → AreLabels ls → 0 < length l → AreLabels (ls ++ l ∷ [])
-AreLabels-snoc [] l all more = (more, tt)
-AreLabels-snoc (m ∷ ls) l all more = (all.0, AreLabels-snoc ls l all.1 more)
+-- from the spelling to the reading
 
-pub AreLabels-at : (vs : List (Vec ℕ Global)) (k : ℕ) (v : Vec ℕ Global) → AreLabels (map (λ l. l.items) vs) → k < length vs → 0 < length (get_or vs k v).items
-AreLabels-at [] k v all less = absurd (omega arith)
-AreLabels-at (w ∷ vs) zero v all less = all.0
-AreLabels-at (w ∷ vs) (suc k) v all less = AreLabels-at vs k v all.1 (omega arith)
+escape_run : (i j m n : ℕ) → hex_value i ≡ Some m → hex_value j ≡ Some n → (l : Label) (more : List ℕ)
+    → run next_spelling (Spelling.bytes l) (92 ∷ 120 ∷ i ∷ j ∷ more) ≡ run next_spelling (Spelling.bytes (l ++ (16 * m + n) ∷ [])) more
+unfolding is_plain
+escape_run i j m n p q l more = rw (p, q) refl
 
-pub AreLabels-drop : (k : ℕ) (vs : List (Vec ℕ Global)) → AreLabels (map (λ l. l.items) vs) → AreLabels (map (λ l. l.items) (drop k vs))
-AreLabels-drop zero vs all = all
-AreLabels-drop (suc k) [] all = all
-AreLabels-drop (suc k) (v ∷ vs) all = AreLabels-drop k vs all.1
+byte_run : {s : List ℕ} {b : ℕ} → SpellsByte s b → (l : Label) (more : List ℕ)
+    → run next_spelling (Spelling.bytes l) (s ++ more) ≡ run next_spelling (Spelling.bytes (l ++ b ∷ [])) more
+byte_run (plain h) l more = rw h refl
+byte_run (escape {h = i} {l = j} {m = m} {n = n} p q) l more = escape_run i j m n p q l more
 
-pub AreLabels-take : (k : ℕ) (vs : List (Vec ℕ Global)) → AreLabels (map (λ l. l.items) vs) → AreLabels (map (λ l. l.items) (take k vs))
-AreLabels-take zero vs all = tt
-AreLabels-take (suc k) [] all = all
-AreLabels-take (suc k) (v ∷ vs) all = (all.0, AreLabels-take k vs all.1)
+label_run : {s : List ℕ} {l : Label} → SpellsLabel s l → (m : Label) (more : List ℕ)
+    → run next_spelling (Spelling.bytes m) (s ++ more) ≡ run next_spelling (Spelling.bytes (m ++ l)) more
+label_run (byte r) m more = byte_run r m more
+label_run (bytes {s = s} {t = t} {b = b} {l = l} r rs) m more =
+    rw append_assoc (byte_run r m (t ++ more) ∙ (label_run rs (m ++ b ∷ []) more ∙ ap (λ k. run next_spelling (Spelling.bytes k) more) (append_assoc m (b ∷ []) l)))
 
--- one label more is copied
-pub copied_more : (new old before : Labels) (vs : List (Vec ℕ Global)) (k : ℕ) (v : Vec ℕ Global) (copy : Label) → k < length vs
-    → v ≡ get_or vs k v → copy ≡ v.items → old ≡ before ++ map (λ l. l.items) (take k vs) → new ≡ old ++ copy ∷ []
-    → new ≡ before ++ map (λ l. l.items) (take (k + 1) vs)
-copied_more new old before vs k v copy less is same stands pushed =
-    rw (pushed, stands, same, take_more vs k v less, ← is) (simp (map-append, append_assoc))
+pub label_read : {s : List ℕ} {l : Label} → SpellsLabel s l → run next_spelling (Spelling.bytes []) s ≡ Some (Spelling.bytes l)
+label_read {s} {l} r = ap (run next_spelling (Spelling.bytes [])) (sym (append-nil s)) ∙ label_run r [] []
 
-pub part_is : (ls : Labels) (vs : List (Vec ℕ Global)) (from to : ℕ) → ls ≡ map (λ l. l.items) vs → [] ++ map (λ l. l.items) (take (to - from) (drop from vs)) ≡ take (to - from) (drop from ls)
-part_is ls vs from to is = rw is (sym (ap (take (to - from)) (drop-map (λ l. l.items) from vs) ∙ take-map (λ l. l.items) (to - from) (drop from vs)))
+pub label_ends : {s : List ℕ} {l : Label} → SpellsLabel s l → end_spelling (Spelling.bytes l) ≡ Some l
+label_ends (byte r) = refl
+label_ends (bytes r rs) = refl
 
--- the length of a text that is made piece by piece
-module _ {A : Type 0} (f : A → List ℕ) where
-  pub length_more : (xs : List A) (k : ℕ) (x : A) → k < length xs → length (flat_map f (take (k + 1) xs)) ≡ length (flat_map f (take k xs)) + length (f (get_or xs k x))
-  length_more xs k x less = rw (take_more xs k x less, flat_map-append, length-append, flat_map-cons) (simp length-append (omega arith))
+-- the bytes that a label's spelling has
 
-pub label_too_long : (label : Label) (k left most : ℕ) → k < length label → left + (1 + length (flat_map canon_byte (take k label))) ≡ most
-    → left < length (canon_byte (get_or label k 0)) → most < length (canon_label label)
-label_too_long label k left most less stands few = omega (arith, length-flat_map-take canon_byte label k 0 less)
+pub record InLabels (b : ℕ) : Type 0 where
+  pub path : is_path_byte b ≡ true
+  pub slash : (b == 47) ≡ false
+  pub star : (b == 42) ≡ false
 
-pub path_is : (ls : Labels) → 0 < length ls → canon_path ls ≡ flat_map canon_label ls
-path_is [] some = absurd (omega arith)
-path_is (l ∷ ls) some = refl
+backslash_in : InLabels 92
+unfolding is_plain
+backslash_in = record { path = refl; slash = refl; star = refl }
 
--- a label of the list is that of the vector
-pub label_at : (ls : Labels) (vs : List (Vec ℕ Global)) (k : ℕ) (v : Vec ℕ Global) → map (λ l. l.items) vs ≡ ls → k < length vs → v ≡ get_or vs k v
-    → (k < length ls) × (get_or ls k [] ≡ v.items)
-label_at ls vs k v is less at = rw (← is) (omega (arith, length-map vs (λ l. l.items)), get_or-map (λ l. l.items) vs k v [] less ∙ sym (ap (λ l. l.items) at))
+letter_in : InLabels 120
+unfolding is_plain
+letter_in = record { path = refl; slash = refl; star = refl }
 
-nonempty : (ls : Labels) → (ls ≡ [] → IsTrue false) → 0 < length ls
-nonempty [] full = absurd (let no : IsTrue false = full refl in cc)
-nonempty (l ∷ ls) full = omega arith
+plain_in : (b : ℕ) → is_plain b ≡ true → InLabels b
+plain_in b h = record { path = plain-path b h; slash = plain-slash b h; star = plain-star b h }
 
-module _ (ls : Labels) (k left most : ℕ) (stands : left + length (flat_map canon_label (take k ls)) ≡ most) where
-  pub path_too_long : (l : Label) → k < length ls → get_or ls k [] ≡ l → left < length (canon_label l) → (IsTrue false → length (canon_path ls) ≤ most) × (length (canon_path ls) ≤ most → IsTrue false)
-  path_too_long l less at few =
-      let here : length (canon_label (get_or ls k [])) ≡ length (canon_label l) = ap (λ (x : Label). length (canon_label x)) at in
-      (λ no. absurd (cc), λ fits. absurd (omega (arith, length-flat_map-take canon_label ls k [] less, ap length (path_is ls (omega arith)))))
+hex_in : (b m : ℕ) → hex_value b ≡ Some m → InLabels b
+hex_in b m h = record { path = hex-path b m h; slash = hex-slash b m h; star = hex-star b m h }
 
-  pub path_fits : (vs : List (Vec ℕ Global)) → map (λ l. l.items) vs ≡ ls → (ls ≡ [] → IsTrue false) → length vs ≤ k → (IsTrue true → length (canon_path ls) ≤ most) × (length (canon_path ls) ≤ most → IsTrue true)
-  path_fits vs is full past =
-      let some : 0 < length ls = nonempty ls full in
-      let past_all : length ls ≤ k = rw (← is) (rw length-map past) in
-      let all : left + length (flat_map canon_label ls) ≡ most = rw (take_all k ls past_all) at stands in
-      (λ _. omega (arith, ap length (path_is ls some)), λ _. refl)
+pub spelling_in : (at : Spelling) (b : ℕ) → IfSome (next_spelling at b) (λ _. InLabels b)
+spelling_in (Spelling.bytes l) b =
+    if_test (λ _. InLabels b) (is_plain b) _ _ (λ h. plain_in b h)
+    (λ _. if_test (λ _. InLabels b) (b == 92) _ _ (λ h. subst InLabels (sym (eqb-true b 92 h)) backslash_in) (λ _. tt))
+spelling_in (Spelling.escape l) b = if_test (λ _. InLabels b) (b == 120) _ _ (λ h. subst InLabels (sym (eqb-true b 120 h)) letter_in) (λ _. tt)
+spelling_in (Spelling.hex l) b = if_mapped (λ _. InLabels b) (λ m. Spelling.digit l m) (hex_value b) (λ m e. hex_in b m e)
+spelling_in (Spelling.digit l m) b = if_mapped (λ _. InLabels b) (λ n. Spelling.bytes (l ++ (16 * m + n) ∷ [])) (hex_value b) (λ n e. hex_in b n e)
 
-  pub path_more : (more : ℕ) (l : Label) → k < length ls → get_or ls k [] ≡ l → more + length (canon_label l) ≡ left → more + length (flat_map canon_label (take (k + 1) ls)) ≡ most
-  path_more more l less at fits =
-      let here : length (canon_label (get_or ls k [])) ≡ length (canon_label l) = ap (λ (x : Label). length (canon_label x)) at in
-      omega (arith, length_more canon_label ls k [] less)
+-- each place in a label can be completed
+pub record CanEnd (at : Spelling) : Type 0 where
+  pub more : List ℕ
+  pub label : Label
+  pub reads : run next_spelling at more ≡ Some (Spelling.bytes label)
+  pub ends : whole_label label ≡ Some label
 
--- the labels of one path, and then those of another from a place on
-pub tail_of : {A : Type 0} (from : ℕ) (xs : List A) → take (length xs - from) (drop from xs) ≡ drop from xs
-tail_of from xs = take_all (length xs - from) (drop from xs) (rw length-drop (omega arith))
+whole_behind : (l : Label) (b : ℕ) → whole_label (l ++ b ∷ []) ≡ Some (l ++ b ∷ [])
+whole_behind [] b = refl
+whole_behind (c ∷ cs) b = refl
 
-pub joined_is : (new middle ls rest : Labels) (vs ws : List (Vec ℕ Global)) (from : ℕ) → new ≡ middle ++ map (λ l. l.items) (take (length ws - from) (drop from ws))
-    → middle ≡ [] ++ map (λ l. l.items) vs → map (λ l. l.items) vs ≡ ls → map (λ l. l.items) ws ≡ rest → new ≡ ls ++ drop from rest
-joined_is new middle ls rest vs ws from grown begun front back = rw (grown, begun, tail_of, ← front, ← back, drop-map) refl
+pub spelling_can_end : (at : Spelling) → CanEnd at
+unfolding is_plain
+spelling_can_end (Spelling.bytes l) = record { more = 97 ∷ []; label = l ++ 97 ∷ []; reads = refl; ends = whole_behind l 97 }
+spelling_can_end (Spelling.escape l) = record { more = 120 ∷ 48 ∷ 48 ∷ []; label = l ++ 0 ∷ []; reads = refl; ends = whole_behind l 0 }
+spelling_can_end (Spelling.hex l) = record { more = 48 ∷ 48 ∷ []; label = l ++ 0 ∷ []; reads = refl; ends = whole_behind l 0 }
+spelling_can_end (Spelling.digit l m) = record { more = 48 ∷ []; label = l ++ (16 * m + 0) ∷ []; reads = refl; ends = whole_behind l (16 * m + 0) }
 
--- the text of one label more
-pub put_more : (new old text : List ℕ) (ls : Labels) (k : ℕ) (l : Label) → k < length ls → slice_get ls k ≡ Some l → old ≡ text ++ flat_map canon_label (take k ls)
-    → new ≡ old ++ canon_label l → new ≡ text ++ flat_map canon_label (take (k + 1) ls)
-put_more new old text ls k l less at stands put =
-    let here : get_or ls k l ≡ l = get_or_from_slice_get ls k l l at in
-    rw (put, stands, take_more ls k l less, here) (flat_map_more canon_label text (take k ls) l)
+-- from the reading to the spelling
+
+label_snoc : {s t : List ℕ} {l : Label} {b : ℕ} → SpellsLabel s l → SpellsByte t b → SpellsLabel (s ++ t) (l ++ b ∷ [])
+label_snoc (byte r) q = bytes r (byte q)
+label_snoc (bytes r rs) q = rw append_assoc (bytes r (label_snoc rs q))
+
+-- bytes that spell these, of which there may be none
+abbrev pub Spells : Label → List ℕ → Type 0
+Spells [] s = s ≡ []
+Spells (b ∷ bs) s = SpellsLabel s (b ∷ bs)
+
+-- these bytes begin the spelling of a label
+record BytesFront (s : List ℕ) (l : Label) : Type 0 where
+  extend : {t : List ℕ} {b : ℕ} → SpellsByte t b → SpellsLabel (s ++ t) (l ++ b ∷ [])
+
+front_of : (l : Label) (s : List ℕ) → Spells l s → BytesFront s l
+front_of [] s e = subst (λ (t : List ℕ). BytesFront t []) (sym e) (record { extend = λ q. byte q })
+front_of (b ∷ bs) s r = record { extend = λ q. label_snoc r q }
+
+spells_more : (l : Label) (b : ℕ) (s : List ℕ) → SpellsLabel s (l ++ b ∷ []) → Spells (l ++ b ∷ []) s
+spells_more [] b s r = r
+spells_more (c ∷ cs) b s r = r
+
+-- the bytes of a label up to here
+abbrev pub SpellingFront : Spelling → List ℕ → Type 0
+SpellingFront (Spelling.bytes l) s = Spells l s
+SpellingFront (Spelling.escape l) s = (x : List ℕ) × Spells l x × (s ≡ x ++ 92 ∷ [])
+SpellingFront (Spelling.hex l) s = (x : List ℕ) × Spells l x × (s ≡ x ++ 92 ∷ 120 ∷ [])
+SpellingFront (Spelling.digit l m) s = (x : List ℕ) × (h : ℕ) × Spells l x × (hex_value h ≡ Some m) × (s ≡ x ++ 92 ∷ 120 ∷ h ∷ [])
+
+pub spelling_step : (at : Spelling) (s : List ℕ) → SpellingFront at s → (b : ℕ) → IfSome (next_spelling at b) (λ to. SpellingFront to (s ++ b ∷ []))
+spelling_step (Spelling.bytes l) s f b =
+    if_test (λ to. SpellingFront to (s ++ b ∷ [])) (is_plain b) _ _ (λ h. let front = front_of l s f in spells_more l b (s ++ b ∷ []) (front.extend (plain h)))
+    (λ _. if_test (λ to. SpellingFront to (s ++ b ∷ [])) (b == 92) _ _ (λ h. (s, f, ap (λ c. s ++ c ∷ []) (eqb-true b 92 h))) (λ _. tt))
+spelling_step (Spelling.escape l) s f b =
+    if_test (λ to. SpellingFront to (s ++ b ∷ [])) (b == 120) _ _
+    (λ h. (f.0, f.1, ap (λ u. u ++ b ∷ []) f.2 ∙ (append_assoc f.0 (92 ∷ []) (b ∷ []) ∙ ap (λ c. f.0 ++ 92 ∷ c ∷ []) (eqb-true b 120 h)))) (λ _. tt)
+spelling_step (Spelling.hex l) s f b =
+    if_mapped (λ to. SpellingFront to (s ++ b ∷ [])) (λ m. Spelling.digit l m) (hex_value b)
+    (λ m e. (f.0, b, f.1, e, ap (λ u. u ++ b ∷ []) f.2 ∙ append_assoc f.0 (92 ∷ 120 ∷ []) (b ∷ [])))
+spelling_step (Spelling.digit l m) s f b =
+    if_mapped (λ to. SpellingFront to (s ++ b ∷ [])) (λ n. Spelling.bytes (l ++ (16 * m + n) ∷ [])) (hex_value b)
+    (λ n e.
+    let whole : s ++ b ∷ [] ≡ f.0 ++ 92 ∷ 120 ∷ f.1 ∷ b ∷ [] = ap (λ u. u ++ b ∷ []) f.4 ∙ append_assoc f.0 (92 ∷ 120 ∷ f.1 ∷ []) (b ∷ []) in
+    let front = front_of l f.0 f.2 in
+    spells_more l (16 * m + n) (s ++ b ∷ []) (subst (λ (u : List ℕ). SpellsLabel u (l ++ (16 * m + n) ∷ [])) (sym whole) (front.extend (escape f.3 e))))
+
+whole_spells : (l k : Label) (s : List ℕ) → Spells l s → whole_label l ≡ Some k → SpellsLabel s k
+whole_spells [] k s r e = absurd (none-some k e)
+whole_spells (b ∷ bs) k s r e = subst (λ (m : Label). SpellsLabel s m) (same_Some (b ∷ bs) k e) r
+
+pub spelling_end : (at : Spelling) (s : List ℕ) (l : Label) → SpellingFront at s → end_spelling at ≡ Some l → SpellsLabel s l
+spelling_end (Spelling.bytes k) s l f e = whole_spells k l s f e
+spelling_end (Spelling.escape k) s l f e = absurd (none-some l e)
+spelling_end (Spelling.hex k) s l f e = absurd (none-some l e)
+spelling_end (Spelling.digit k m) s l f e = absurd (none-some l e)

@@ -1,26 +1,9 @@
--- Trees as values.
-use Rattle.std.specs.Prelude.{List, [], ◌∷◌, ◌++◌}
-use Rattle.name_tree.specs.Path.{Labels}
-use Rattle.name_tree.specs.declared.tree.Tree.{Tree, Leaf, Neg, Fail, Empty, Alt', Row_of-Tree, end_of-Tree, more_of-Tree}
-
-mutual
-  -- a tree of paths: what a leaf, a mark or a choice between trees says, and nothing of how it lies in memory
-  pub data Name : Type 0 where
-    leaf : Labels → Name
-    neg : Name
-    fail : Name
-    empty : Name
-    alt : Names → Name
-
-  -- some trees in order
-  pub data Names : Type 0 where
-    none : Names
-    more : Name → Names → Names
-
--- a list of trees, in its order
-abbrev pub names : List Name → Names
-names [] = none
-names (t ∷ ts) = more t (names ts)
+-- What the code's trees say.
+use Rattle.std.specs.Prelude.{List, [], ◌∷◌}
+use Rattle.name_tree.specs.declared.tree.Tree.{Tree, Leaf, Neg, Fail, Empty, Alt', Union, Row_of-Tree, end_of-Tree, more_of-Tree}
+use Rattle.name_tree.specs.declared.tree.Branch.{Branch}
+use Rattle.name_tree.specs.declared.tree.Branches.{Branches as BranchList, Branches', Row_of-Branch, end_of-Branch, more_of-Branch}
+use Rattle.name_tree.specs.Value.{Name, leaf, neg, fail, empty, alt, union, Names, none, more, Branches, no_branch, branch}
 
 abbrev mutual
   -- what a tree of the code says
@@ -30,20 +13,21 @@ abbrev mutual
   name_of Fail = fail
   name_of Empty = empty
   name_of (Alt' shape row) = alt (row_names row)
+  name_of (Union bs) = union (branches_of bs)
+
+  -- what the branches of a union of the code say
+  pub branches_of : BranchList → Branches
+  branches_of (Branches' shape row) = row_branches row
 
   pub row_names : {m : _} → Row_of-Tree m → Names
   row_names end_of-Tree = none
   row_names (more_of-Tree t ts) = more (name_of t) (row_names ts)
 
-abbrev mutual
-  -- a tree with these labels put behind every leaf
-  pub append_rest : Name → Labels → Name
-  append_rest (leaf path) rest = leaf (path ++ rest)
-  append_rest neg rest = neg
-  append_rest fail rest = fail
-  append_rest empty rest = empty
-  append_rest (alt ts) rest = alt (append_rest_all ts rest)
+  pub row_branches : {m : _} → Row_of-Branch m → Branches
+  row_branches end_of-Branch = no_branch
+  row_branches (more_of-Branch weight t bs) = branch weight (name_of t) (row_branches bs)
 
-  pub append_rest_all : Names → Labels → Names
-  append_rest_all none rest = none
-  append_rest_all (more t ts) rest = more (append_rest t rest) (append_rest_all ts rest)
+-- branches, in the order of a list
+abbrev pub listed : List Branch → Branches
+listed [] = no_branch
+listed (b ∷ bs) = branch b.weight (name_of b.tree) (listed bs)

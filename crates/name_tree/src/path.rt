@@ -1,8 +1,9 @@
 //! A path, which contracts see as the list of its labels.
 ghost use Rattle.std.specs.Prelude.{◌≡◌, ◌<◌, ◌≤◌, ◌-◌, ◌+◌, ◌↔◌, [], ◌∷◌, ◌++◌, length, map, take, drop, IsTrue, IfOk, OnOk, OnErr, Some, slice_get, MatchOption};
-ghost use Rattle.name_tree.specs.Path.{AreLabels, is_plain, canon_byte, canon_label, canon_path};
+ghost use Rattle.name_tree.specs.Path.{AreLabels, canon_byte, canon_label, canon_path};
 
 use crate::Mem;
+use crate::label::is_plain_byte;
 use std::alloc::{AllocError, Global};
 use std::marker::Model;
 
@@ -145,21 +146,6 @@ impl Path {
         }
         true
     }
-}
-
-/// Whether the byte stands for itself in a text: a letter, a digit, or one of `_ : . # $ % -`.
-#[tactic(auto, unfolding(crate::specs::Path::is_plain))]
-pub(crate) fn is_plain_byte(byte: u8) -> bool
-    ensures { result ≡ is_plain byte }
-{
-    byte.is_ascii_alphanumeric()
-        || byte == b'_'
-        || byte == b':'
-        || byte == b'.'
-        || byte == b'#'
-        || byte == b'$'
-        || byte == b'%'
-        || byte == b'-'
 }
 
 /// How many bytes a byte of a label has in a canonical text: 1, or 4 for an escape.

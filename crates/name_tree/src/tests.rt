@@ -1,61 +1,103 @@
-//! Texts with the values that the grammar gives them, each allocating call once, and the limits.
+//! Texts with their values and their places of refusal, each allocating call once, and the limits.
 use super::*;
-use std::alloc::Global;
 use std::test::Fail;
 
-const REFUSED: TextFault = TextFault::Refused;
+/// Places at which texts of paths leave the grammar.
+const PATH_FAULTS: [(&[u8], usize); 23] = [
+    (b"", 0),
+    (b" ", 1),
+    (b"/a/", 3),
+    (b"//", 1),
+    (b"a", 0),
+    (b"/a b", 3),
+    (b"/ a", 2),
+    (b"/a*b", 2),
+    (b"/*", 1),
+    (b"/a@b", 2),
+    (b"/\\", 2),
+    (b"/\\x", 3),
+    (b"/\\x4", 4),
+    (b"/\\xg1", 3),
+    (b"/\\x4g", 4),
+    (b"/\\X41", 2),
+    (b"/a\\x2F/", 7),
+    (b"/\\x2F\\", 6),
+    (b"/a|/b", 2),
+    (b"(/a)", 0),
+    (b"/a\0", 2),
+    (b"/\xc3\xa9", 1),
+    (b"\x0b/a", 0),
+];
 
-/// What a tree has at its top, and, of a choice, at the top of each alternative.
-fn sketch(alloc: Global, tree: &Tree) -> Mem<Bytes> {
-    let mut out = Vec::new(alloc);
-    match tree {
-        Tree::Alt(trees) => {
-            for tree in trees.items() {
-                out.push(b'(')?;
-                sketch_top(tree, &mut out)?;
-                out.push(b')')?;
-            }
-        }
-        _ => sketch_top(tree, &mut out)?,
-    }
-    Ok(out)
-}
+/// Places at which texts of trees leave the grammar.
+const TREE_FAULTS: [(&[u8], usize); 51] = [
+    (b"", 0),
+    (b"   ", 3),
+    (b"/a &", 4),
+    (b"/a & ", 5),
+    (b"/a |", 4),
+    (b"| /a", 0),
+    (b"& /a", 0),
+    (b"/a || /b", 4),
+    (b"/a && /b", 4),
+    (b"/a & | /b", 5),
+    (b"()", 1),
+    (b"(", 1),
+    (b"(/a", 3),
+    (b"/a)", 2),
+    (b"(/a))", 4),
+    (b"( )", 2),
+    (b"(/a | )", 6),
+    (b"1", 1),
+    (b"1 *", 3),
+    (b"1 * ", 4),
+    (b"1234567", 6),
+    (b"1234567*/a", 6),
+    (b"1.", 2),
+    (b".", 1),
+    (b"1.*/a", 2),
+    (b".5", 2),
+    (b"1 2*/a", 2),
+    (b"1.5.5*/a", 3),
+    (b"1/a", 1),
+    (b"1 /a", 2),
+    (b"1*1*/a", 2),
+    (b"*/a", 0),
+    (b"-1*/a", 0),
+    (b"1e3*/a", 1),
+    (b"1* & /b", 3),
+    (b"!!", 1),
+    (b"~a", 1),
+    (b"$ $", 2),
+    (b"$a", 1),
+    (b"/a $", 3),
+    (b"/a;/b", 2),
+    (b"/a => /b", 3),
+    (b"/a/*", 3),
+    (b"/a\\x", 4),
+    (b"/a /b", 3),
+    (b"(/a)(/b)", 4),
+    (b"(/a)/b", 4),
+    (b"1*(2*(/a)", 9),
+    (b"/a/ | /b", 3),
+    (b"(/\\x4)", 5),
+    (b".5*.5", 3),
+];
 
-fn sketch_top(tree: &Tree, out: &mut Bytes) -> Mem<()> {
-    match tree {
-        Tree::Leaf(path) => append_path(path, out)?,
-        Tree::Neg => out.push(b'~')?,
-        Tree::Fail => out.push(b'!')?,
-        Tree::Empty => out.push(b'$')?,
-        Tree::Alt(_) => out.push(b'|')?,
-    }
-    Ok(())
-}
-
+/// Each text is refused at its place, which follows from the grammar alone.
 #[test]
-fn reads_paths(rt: HostRuntime) -> Result<(), Fail> {
-    let rows: [(&[u8], Result<usize, TextFault>); 16] = [
-        (b"/svc/web", Ok(2)),
-        (b"/", Ok(0)),
-        (b" \t\r\n/a ", Ok(1)),
-        (b"/_:.#$%-/0/Z", Ok(3)),
-        (b"", Err(REFUSED)),
-        (b" ", Err(REFUSED)),
-        (b"//", Err(REFUSED)),
-        (b"/a/", Err(REFUSED)),
-        (b"/a//b", Err(REFUSED)),
-        (b"a", Err(REFUSED)),
-        (b"/a*b", Err(REFUSED)),
-        (b"/a b", Err(REFUSED)),
-        (b"/ a", Err(REFUSED)),
-        (b"/a\\x2f", Err(REFUSED)),
-        (b"/a@b", Err(REFUSED)),
-        (b"/a\x0b", Err(REFUSED)),
-    ];
-    for (text, want) in rows {
+fn refuses_texts_at_their_places(rt: HostRuntime) -> Result<(), Fail> {
+    for (text, at) in PATH_FAULTS {
         assert_eq!(rt;
-            read_path(rt.alloc(), text).map(|path| path.len()),
-            want,
+            read_path(rt.alloc(), text).err(),
+            Some(TextFault::Syntax(at)),
+            "{text:?}"
+        );
+    }
+    for (text, at) in TREE_FAULTS {
+        assert_eq!(rt;
+            read_tree(rt.alloc(), text).err(),
+            Some(TextFault::Syntax(at)),
             "{text:?}"
         );
     }
@@ -63,46 +105,84 @@ fn reads_paths(rt: HostRuntime) -> Result<(), Fail> {
 }
 
 #[test]
-fn reads_trees(rt: HostRuntime) -> Result<(), Fail> {
-    let rows: [(&[u8], &[u8]); 8] = [
-        (b"/a/b", b"/a/b"),
-        (b" ~ ", b"~"),
-        (b"!", b"!"),
-        (b"$", b"$"),
-        (b"/$", b"/$"),
-        (b"!|/a", b"(!)(/a)"),
-        (b"/a |/b| ~", b"(/a)(/b)(~)"),
-        (b"$\t|\r\n/", b"($)(/)"),
+fn reads_paths(rt: HostRuntime) -> Result<(), Fail> {
+    let path = read_path(rt.alloc(), b" /a\\x2Fb ").map_err(|_| "refused")?;
+    assert_eq!(rt; path.len(), 1);
+    assert_eq!(rt; path.label(0), b"a/b".as_slice());
+    Ok(())
+}
+
+#[test]
+fn writes_what_was_read(rt: HostRuntime) -> Result<(), Fail> {
+    let rows: [(&[u8], &[u8]); 14] = [
+        (b"/a|/b&.50*(~)", b"/a | 1 * /b & 0.5 * ~"),
+        (b"/\\x41", b"/A"),
+        (b"/a\\x2Fb", b"/a\\x2fb"),
+        (b"( ( /a|/b )|$ )", b"(/a | /b) | $"),
+        (b"/a|(/b|/c)", b"/a | (/b | /c)"),
+        (b"2*/a", b"2 * /a"),
+        (b"000001*!", b"1 * !"),
+        (b"0*~", b"0 * ~"),
+        (b"999999.9999999*~", b"999999.999999 * ~"),
+        (b".0000019*~", b"0.000001 * ~"),
+        (b"1.500*/", b"1.5 * /"),
+        (b"(1*/a&2*/b)&3*/c", b"1 * (1 * /a & 2 * /b) & 3 * /c"),
+        (b"1*(/a|/b)", b"1 * (/a | /b)"),
+        (b"/_:.#$%-/0/Z", b"/_:.#$%-/0/Z"),
     ];
     for (text, want) in rows {
-        let tree = read_tree(rt.alloc(), text).ok().ok_or("refused")?;
-        assert_eq!(rt; sketch(rt.alloc(), &tree)?.as_slice(), want, "{text:?}");
-    }
-    let refused: [&[u8]; 10] = [
-        b"", b"|", b"/a|", b"|/a", b"/a||/b", b"(/a)", b"~~", b"! !", b"$a", b"/a & /b",
-    ];
-    for text in refused {
-        let fault = read_tree(rt.alloc(), text).err();
-        assert_eq!(rt; fault, Some(REFUSED), "{text:?}");
+        let tree = read_tree(rt.alloc(), text).map_err(|_| "refused")?;
+        assert_eq!(rt; write_tree(rt.alloc(), &tree)?.as_slice(), want, "{text:?}");
     }
     Ok(())
 }
 
 #[test]
-fn limits_the_bytes_of_a_text(rt: HostRuntime) -> Result<(), Fail> {
-    let mut text = Vec::from_elem(rt.alloc(), b'a', 65_536)?;
-    text[0] = b'/';
+fn nests_so_deep_and_no_deeper(rt: HostRuntime) -> Result<(), Fail> {
+    let mut text = vec![in rt.alloc(); b'('; 65]?;
     assert_eq!(rt;
-        read_path(rt.alloc(), text.as_slice()).map(|path| path.len()),
-        Ok(1)
+        read_tree(rt.alloc(), text.as_slice()).err(),
+        Some(TextFault::TooNested(64))
     );
+    text.push(b'|')?;
+    assert_eq!(rt;
+        read_tree(rt.alloc(), text.as_slice()).err(),
+        Some(TextFault::TooNested(64))
+    );
+    text.truncate(64);
+    text.extend_from_slice(b"~ (")?;
+    assert_eq!(rt;
+        read_tree(rt.alloc(), text.as_slice()).err(),
+        Some(TextFault::Syntax(66))
+    );
+    text.truncate(65);
+    for _ in 0..64 {
+        text.push(b')')?;
+    }
     assert!(rt; read_tree(rt.alloc(), text.as_slice()).is_ok());
-    text.push(b'a')?;
+    Ok(())
+}
+
+#[test]
+fn reads_so_long_and_no_longer(rt: HostRuntime) -> Result<(), Fail> {
+    let mut text = vec![in rt.alloc(); b'('; 65_537]?;
     assert_eq!(rt;
-        read_path(rt.alloc(), text.as_slice()).map(|path| path.len()),
-        Err(REFUSED)
+        read_tree(rt.alloc(), text.as_slice()).err(),
+        Some(TextFault::TooLong(65_536))
     );
-    assert_eq!(rt; read_tree(rt.alloc(), text.as_slice()).err(), Some(REFUSED));
+    assert_eq!(rt;
+        read_path(rt.alloc(), text.as_slice()).err(),
+        Some(TextFault::TooLong(65_536))
+    );
+    text.truncate(65_536);
+    assert_eq!(rt;
+        read_path(rt.alloc(), text.as_slice()).err(),
+        Some(TextFault::Syntax(0))
+    );
+    let mut long = vec![in rt.alloc(); b'a'; 65_536]?;
+    assert_eq!(rt; long.len(), 65_536);
+    long[0] = b'/';
+    assert!(rt; read_path(rt.alloc(), long.as_slice()).is_ok());
     Ok(())
 }
 
@@ -121,13 +201,17 @@ fn writes_paths(rt: HostRuntime) -> Result<(), Fail> {
     assert!(rt; !path.text_fits(text.len() - 1));
     let mut line = Vec::from_slice(rt.alloc(), b"leaf ")?;
     append_path(&path, &mut line)?;
-    assert_eq!(rt; line.as_slice(), b"leaf /a\\x2fb/\\xffz\\x7e".as_slice());
+    append_label(b"=", &mut line)?;
+    assert_eq!(rt;
+        line.as_slice(),
+        b"leaf /a\\x2fb/\\xffz\\x7e/\\x3d".as_slice()
+    );
     Ok(())
 }
 
 #[test]
 fn takes_and_joins_labels(rt: HostRuntime) -> Result<(), Fail> {
-    let path = read_path(rt.alloc(), b"/a/b")?;
+    let path = read_path(rt.alloc(), b"/a/b").map_err(|_| "refused")?;
     assert_eq!(rt; path.len(), 2);
     let part = path.part(rt.alloc(), 1, 2)?;
     let joined = part.joined(rt.alloc(), &path)?;
@@ -142,13 +226,13 @@ fn takes_and_joins_labels(rt: HostRuntime) -> Result<(), Fail> {
 
 #[test]
 fn puts_the_rest_behind_every_leaf(rt: HostRuntime) -> Result<(), Fail> {
-    let tree = read_tree(rt.alloc(), b"/a | ~ | ! | $ | /")?;
-    let path = read_path(rt.alloc(), b"/x/y/z")?;
+    let tree = read_tree(rt.alloc(), b"/a | ~ | 2*(! | /b) & 0*/c | $ | /").map_err(|_| "refused")?;
+    let path = read_path(rt.alloc(), b"/x/y/z").map_err(|_| "refused")?;
     assert_eq!(rt; path.len(), 3);
     let rewritten = tree.with_rest(rt.alloc(), &path, 1)?;
     assert_eq!(rt;
-        sketch(rt.alloc(), &rewritten)?.as_slice(),
-        b"(/a/y/z)(~)(!)($)(/y/z)".as_slice()
+        write_tree(rt.alloc(), &rewritten)?.as_slice(),
+        b"/a/y/z | ~ | 2 * (! | /b/y/z) & 0 * /c/y/z | $ | /y/z".as_slice()
     );
     Ok(())
 }

@@ -1,37 +1,59 @@
 //! Trees of paths.
-ghost use Rattle.std.specs.Prelude.{◌≡◌, ◌≤◌, length, drop, IfOk};
+ghost use Rattle.std.specs.Prelude.{◌≡◌, ◌≤◌, ◌||◌, length, drop, map, IfOk};
 
 use crate::Mem;
 use crate::path::Path;
-use std::alloc::{AllocError, Global};
+use std::alloc::Global;
 
-/// What a name stands for: a path, a mark, or alternatives, as in the name trees of the Finagle user guide.
+/// What a name stands for: a path, a mark, alternatives or a union, as in the name trees of the Finagle user guide.
 #[cycle(tree)]
 #[derive(Debug, Drop)]
 pub enum Tree {
     /// A path, which is looked up.
     Leaf(Path),
-    /// `~`: there is nothing here, and the next alternative is tried.
+    /// `~`: there is nothing here, so the next alternative is tried.
     Neg,
-    /// `!`: the request fails, and the next alternative isn't tried.
+    /// `!`: the request fails.
     Fail,
     /// `$`: there is no replica, and the next alternative isn't tried.
     Empty,
-    /// The first of two or more alternatives that isn't negative.
+    /// The first alternative that isn't negative, of two or more.
     Alt(Trees),
+    /// One of its branches, chosen by their weights.
+    Union(Branches),
 }
 
-/// Some trees, in order. It is made from a `Vec` and gives it back without taking memory.
+/// Some trees, in order.
 #[cycle(tree)]
 #[derive(Debug, Drop)]
 pub struct Trees {
-    items: Vec<Tree>,
+    pub(crate) items: Vec<Tree>,
+}
+
+/// A branch of a union.
+#[cycle(tree)]
+#[derive(Debug, Drop)]
+pub struct Branch {
+    /// Its weight, in millionths.
+    pub weight: u64,
+    /// Its tree.
+    pub tree: Tree,
+}
+
+/// Some branches, in order.
+#[cycle(tree)]
+#[derive(Debug, Drop)]
+pub struct Branches {
+    pub(crate) items: Vec<Branch>,
 }
 
 impl Tree {
-    ghost use Rattle.name_tree.specs.Tree.{name_of, append_rest};
+    ghost use Rattle.name_tree.specs.Canon.{is_alt, is_union};
+    ghost use Rattle.name_tree.specs.Value.{append_rest};
+    ghost use Rattle.name_tree.specs.Tree.{name_of};
 
-    /// This tree with the labels of a path from a place on, counted from 0, behind every leaf. Marks stay as they are.
+    /// This tree with the labels of a path from a place on, counted from 0, behind every leaf of every alternative and branch. Marks and
+    /// weights stay as they are.
     ///
     /// It copies the tree and, for each leaf, those labels.
     #[cycle(with_rest)]
@@ -45,13 +67,42 @@ impl Tree {
             Tree::Fail => Ok(Tree::Fail),
             Tree::Empty => Ok(Tree::Empty),
             Tree::Alt(trees) => Ok(Tree::Alt(trees.with_rest(alloc, path, from)?)),
+            Tree::Union(branches) => Ok(Tree::Union(branches.with_rest(alloc, path, from)?)),
+        }
+    }
+
+    /// Whether this is a choice.
+    pub(crate) fn is_alt(&self) -> bool
+        ensures { result ≡ is_alt (name_of self.now) }
+    {
+        match self {
+            Tree::Alt(_) => true,
+            Tree::Leaf(_) => false,
+            Tree::Neg => false,
+            Tree::Fail => false,
+            Tree::Empty => false,
+            Tree::Union(_) => false,
+        }
+    }
+
+    /// Whether this is a choice or a union.
+    pub(crate) fn is_compound(&self) -> bool
+        ensures { result ≡ (is_alt (name_of self.now) || is_union (name_of self.now)) }
+    {
+        match self {
+            Tree::Alt(_) => true,
+            Tree::Union(_) => true,
+            Tree::Leaf(_) => false,
+            Tree::Neg => false,
+            Tree::Fail => false,
+            Tree::Empty => false,
         }
     }
 }
 
 impl Trees {
-    ghost use Rattle.std.specs.Prelude.{map};
-    ghost use Rattle.name_tree.specs.Tree.{name_of, append_rest};
+    ghost use Rattle.name_tree.specs.Value.{append_rest};
+    ghost use Rattle.name_tree.specs.Tree.{name_of};
 
     /// These trees with the labels of a path from a place on, counted from 0, behind every leaf.
     #[cycle(with_rest)]
@@ -66,6 +117,13 @@ impl Trees {
         Ok(Trees { items })
     }
 
+    /// The trees, in order.
+    pub fn items(&self) -> &[Tree]
+        ensures { result.now ≡ self.now.items.items }
+    {
+        self.items.as_slice()
+    }
+
     /// These trees, in their order.
     pub fn of(items: Vec<Tree>) -> Trees
         ensures { result.items ≡ items }
@@ -74,15 +132,66 @@ impl Trees {
     }
 
     /// The trees, in order.
-    pub fn items(&self) -> &[Tree]
-        ensures { result.now ≡ self.now.items.items }
+    pub fn into_items(self) -> Vec<Tree>
+        ensures { result ≡ self.items }
+    {
+        self.items
+    }
+}
+
+impl Branch {
+    ghost use Rattle.name_tree.specs.Value.{append_rest};
+    ghost use Rattle.name_tree.specs.Tree.{name_of};
+
+    /// This branch with the labels of a path from a place on, counted from 0, behind every leaf.
+    #[cycle(with_rest)]
+    fn with_rest(&self, alloc: Global, path: &Path, from: usize) -> Mem<Branch>
+        requires { from ≤ length path.now }
+        ensures weight { IfOk result (λ branch. branch.weight ≡ self.now.weight) }
+        ensures tree { IfOk result (λ branch. name_of branch.tree ≡ append_rest (name_of self.now.tree) (drop from path.now)) }
+    {
+        let tree = self.tree.with_rest(alloc, path, from)?;
+        Ok(Branch {
+            weight: self.weight,
+            tree,
+        })
+    }
+}
+
+impl Branches {
+    ghost use Rattle.name_tree.specs.Value.{append_rest_branches};
+    ghost use Rattle.name_tree.specs.Tree.{branches_of, listed};
+
+    /// These branches with the labels of a path from a place on, counted from 0, behind every leaf.
+    #[cycle(with_rest)]
+    fn with_rest(&self, alloc: Global, path: &Path, from: usize) -> Mem<Branches>
+        requires { from ≤ length path.now }
+        ensures { IfOk result (λ branches. branches_of branches ≡ append_rest_branches (branches_of self.now) (drop from path.now)) }
+    {
+        let mut items = Vec::with_capacity(alloc, self.items.len())?;
+        for branch in &self.items {
+            items.push(branch.with_rest(alloc, path, from)?)?;
+        }
+        Ok(Branches { items })
+    }
+
+    /// The branches, in order.
+    pub fn items(&self) -> &[Branch]
+        ensures { branches_of self.now ≡ listed result.now }
     {
         self.items.as_slice()
     }
 
-    /// The trees, in order.
-    pub fn into_items(self) -> Vec<Tree>
-        ensures { result ≡ self.items }
+    /// These branches, in their order.
+    pub fn of(items: Vec<Branch>) -> Branches
+        ensures { branches_of result ≡ listed items.items }
+    {
+        Branches { items }
+    }
+
+    /// The branches, in order.
+    pub fn into_items(self) -> Vec<Branch>
+        ensures { listed result.items ≡ branches_of self }
     {
         self.items
     }

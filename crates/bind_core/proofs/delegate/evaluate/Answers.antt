@@ -1,35 +1,22 @@
-use Rattle.std.proofs.Common.{refl, ap, map}
-use Rattle.name_tree.specs.Tree.{name_of}
-use Rattle.bind_core.proofs.Turns.{passed, emptied, less, stepped, less_on, counted_on}
+use Rattle.std.proofs.Common.{sym, ◌∙◌, ◌≤◌, arith}
+use Rattle.bind_core.specs.Dtab.{rules_of}
+use Rattle.bind_core.specs.Delegation.{lookup, most_wide}
+use Rattle.bind_core.proofs.Turns.{ends_at_once, few_of, turned, fewer}
 use Rattle.bind_core.proofs.delegate.evaluate.Goals as goal
 
-pub loop-frame-smaller-in_default-outcome : goal.loop-frame-smaller-in_default-outcome
-loop-frame-smaller-in_default-outcome g c = less _ _ _ _ c.in-Some.ensures.items
-
-pub loop-frame-preserved-in_default-outcome : goal.loop-frame-preserved-in_default-outcome
-loop-frame-preserved-in_default-outcome g c = record {
-  leads = passed _ _ _ _ c.in-Some.ensures.items _ _ c.loop-frame.invariant.leads c.in_default-outcome.not-Neg;
-  counted = c.loop-frame.invariant.counted;
-}
-
-pub loop-frame-smaller-in_default-next : goal.loop-frame-smaller-in_default-next
-loop-frame-smaller-in_default-next g c = less _ _ _ _ c.in-Some.ensures.items
-
-pub loop-frame-preserved-in_default-next : goal.loop-frame-preserved-in_default-next
-loop-frame-preserved-in_default-next g c = record {
-  leads = emptied _ _ _ _ c.in-Some.ensures.items _ _ _ c.loop-frame.invariant.leads c.in-Neg.is c.in_default-next.ensures.cases.0 c.named_outcome-told.ensures refl;
-  counted = c.loop-frame.invariant.counted;
-}
+pub returns-then-ends_all-clause-delegated : goal.returns-then-ends_all-clause-delegated
+returns-then-ends_all-clause-delegated g c = ends_at_once _ _ _ _ c.loop-frame.invariant.leads (sym c.ends_all.ensures ∙ c.if-ends_all.true)
 
 pub loop-frame-smaller : goal.loop-frame-smaller
 loop-frame-smaller g c =
-    less_on _ _ _ _ c.in-Some.ensures.items (record { trees = c.next.new.self; named = c.in-Some.frame.named; left = c.in-Some.frame.left }) (name_of c.in-Some-next.tree) _
-    (ap (map name_of) c.in-Some-next.ensures.items) refl refl refl _ _ c.in_ok-push.ensures.items _ _ _ c.in_ok-told-2.ensures.step
+    fewer (rules_of c.args.table.now) (lookup (rules_of c.args.table.now) c.args.left c.args.path.now) _ _ _ _ c.in-Some.ensures.items c.loop-frame.told c.in_ok-told-2.told c.in_ok-told-2.ensures.step
 
 pub loop-frame-preserved : goal.loop-frame-preserved
 loop-frame-preserved g c = record {
   leads =
-      stepped _ _ _ _ c.in-Some.ensures.items (record { trees = c.next.new.self; named = c.in-Some.frame.named; left = c.in-Some.frame.left }) (name_of c.in-Some-next.tree) _
-      (ap (map name_of) c.in-Some-next.ensures.items) refl refl refl _ _ c.in_ok-push.ensures.items _ _ _ _ c.loop-frame.invariant.leads c.in-Neg.is c.in_ok-told-2.ensures.step;
-  counted = counted_on _ _ _ _ c.in_ok-told-2.told _ _ _ c.loop-frame.invariant.leads c.in-Neg.is c.loop-frame.invariant.counted c.in_ok-told-2.ensures.counted;
+      turned (rules_of c.args.table.now) (lookup (rules_of c.args.table.now) c.args.left c.args.path.now) _ _ _ _ c.in-Some.ensures.items c.loop-frame.told c.in_ok-told-2.told c.in_ok-told-2.ensures.step
+      c.loop-frame.invariant.leads (sym c.ends_all.ensures ∙ c.if-ends_all.false);
+  counted =
+      let few : c.loop-frame.told.cost ≤ most_wide = few_of _ _ _ _ c.loop-frame.invariant.leads (sym c.ends_all.ensures ∙ c.if-ends_all.false) in
+      omega (arith, c.loop-frame.invariant.counted, c.in_ok-told-2.ensures.counted);
 }

@@ -8,14 +8,14 @@ use Rattle.bind_core.proofs.delegate.look_up.Goals.{then-left-eq0-via-then-left-
 pub returns-then-left-eq0-clause-step : goal.returns-then-left-eq0-clause-step
 returns-then-left-eq0-clause-step g c =
     elim c.then-left-eq0.branch [
-      | then-left-eq0-via-then-left-eq0 w ↦ deep_step _ _ _ _ _ _ _ c.requires (lookup-zero _ _ _ w.if-left-eq0.true) c.of.ensures.outcome c.of.ensures.cost
+      | then-left-eq0-via-then-left-eq0 w ↦ deep_step _ _ _ _ _ _ c.requires (lookup-zero _ _ _ w.if-left-eq0.true) c.of.ensures.outcome c.of.ensures.cost
       | then-left-eq0-via-else-left-eq0+then-not-text_fits w ↦
-          deep_step _ _ _ _ _ _ _ c.requires (lookup-long _ _ _ (longer w.text_fits.result _ _ w.text_fits.ensures w.if-not-text_fits.true)) c.of.ensures.outcome c.of.ensures.cost
+          deep_step _ _ _ _ _ _ c.requires (lookup-long _ _ _ (longer w.text_fits.result _ _ w.text_fits.ensures w.if-not-text_fits.true)) c.of.ensures.outcome c.of.ensures.cost
     ]
 
 pub returns-then-count-eq-MOST_WIDE-clause-step : goal.returns-then-count-eq-MOST_WIDE-clause-step
 returns-then-count-eq-MOST_WIDE-clause-step g c =
-    wide_step _ _ _ _ _ _ _ c.if-count-eq-MOST_WIDE.true (omega arith) (c.if-not-text_fits.ensures.0 refl) c.of-then-count-eq-MOST_WIDE.ensures.outcome c.of-then-count-eq-MOST_WIDE.ensures.cost
+    wide_step _ _ _ _ _ _ c.if-count-eq-MOST_WIDE.true (omega arith) (c.if-not-text_fits.ensures.0 refl) c.of-then-count-eq-MOST_WIDE.ensures.outcome c.of-then-count-eq-MOST_WIDE.ensures.cost
 
 pub returns-clause-step : goal.returns-clause-step
 returns-clause-step g c =

@@ -1,5 +1,5 @@
 use Rattle.std.proofs.Common.{◌≡◌, drop}
-use Rattle.name_tree.specs.Text.{drop_blanks}
+use Rattle.linker.specs.Line.{drop_blanks}
 use Rattle.linker.proofs.line.is_blank_line.Given as goal
 
 abbrev pub invariant-loop-byte : goal.invariant-loop-byte

@@ -1,5 +1,5 @@
 use Rattle.std.proofs.Common.{arith}
-use Rattle.name_tree.proofs.Labels.{label_too_long}
+use Rattle.name_tree.proofs.LabelLists.{label_too_long}
 use Rattle.name_tree.proofs.path.left_after.Goals as goal
 
 pub returns-then-left-len : goal.returns-then-left-len

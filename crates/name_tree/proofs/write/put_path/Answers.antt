@@ -1,5 +1,5 @@
 use Rattle.std.proofs.Common.{arith}
-use Rattle.name_tree.proofs.Labels.{put_more}
+use Rattle.name_tree.proofs.LabelLists.{put_more}
 use Rattle.name_tree.proofs.write.put_path.Goals as goal
 
 pub loop-at-preserved : goal.loop-at-preserved

@@ -1,5 +1,5 @@
 use Rattle.std.proofs.Common.{◌≡◌, ◌∙◌}
-use Rattle.name_tree.proofs.Labels.{AreLabels-at, copied_more}
+use Rattle.name_tree.proofs.LabelLists.{AreLabels-at, copied_more}
 use Rattle.name_tree.proofs.path.Path.append.Goals as goal
 
 pub push-requires : goal.push-requires

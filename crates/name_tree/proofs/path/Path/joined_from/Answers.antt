@@ -1,5 +1,5 @@
 use Rattle.std.proofs.Common.{◌∙◌, ap, map, ◌++◌}
-use Rattle.name_tree.proofs.Labels.{AreLabels-drop, AreLabels-take, joined_is}
+use Rattle.name_tree.proofs.LabelLists.{AreLabels-drop, AreLabels-take, joined_is}
 use Rattle.name_tree.proofs.path.Path.joined_from.Goals as goal
 
 pub append-requires-2 : goal.append-requires-2

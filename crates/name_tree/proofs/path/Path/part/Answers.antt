@@ -1,5 +1,5 @@
 use Rattle.std.proofs.Common.{◌∙◌, sym}
-use Rattle.name_tree.proofs.Labels.{AreLabels-take, AreLabels-drop, part_is}
+use Rattle.name_tree.proofs.LabelLists.{AreLabels-take, AreLabels-drop, part_is}
 use Rattle.name_tree.proofs.path.Path.part.Goals as goal
 
 pub append-requires : goal.append-requires

@@ -1,5 +1,5 @@
 use Rattle.std.proofs.lemmas.List.{map-append}
-use Rattle.name_tree.proofs.Labels.{AreLabels-snoc}
+use Rattle.name_tree.proofs.LabelLists.{AreLabels-snoc}
 use Rattle.name_tree.proofs.path.Path.push.Goals as goal
 
 pub invariant_of-self-2 : goal.invariant_of-self-2

@@ -1,5 +1,5 @@
 use Rattle.std.proofs.Common.{◌∙◌, sym}
-use Rattle.name_tree.proofs.Labels.{label_at, path_too_long, path_fits, path_more}
+use Rattle.name_tree.proofs.LabelLists.{label_at, path_too_long, path_fits, path_more}
 use Rattle.name_tree.proofs.path.Path.text_fits.Goals as goal
 
 pub returns-in-None : goal.returns-in-None

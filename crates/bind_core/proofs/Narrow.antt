@@ -1,0 +1,78 @@
+-- Trees and lookups are never too wide: that is for the whole delegation to say.
+use Rattle.std.proofs.Common.{◌≡◌, ℕ, zero, suc, Bool, true, false, List, [], ◌∷◌, Option, Some, None, length}
+use Rattle.std.specs.Prelude.{nat_lt, ◌==◌, if◌then◌else◌}
+use Rattle.dtab_table.specs.Path.{Labels, canon_path}
+use Rattle.dtab_table.specs.Value.{Name, Names, Branches, leaf, neg, fail, empty, alt, union, none, more, no_branch, branch}
+use Rattle.dtab_table.specs.Dtab.{Rule, rewrites}
+use Rattle.bind_core.specs.declared.leaf.Leaf.{Leaf}
+use Rattle.bind_core.specs.Addr.{named_leaf}
+use Rattle.bind_core.specs.Found.{Found}
+use Rattle.bind_core.specs.Delegation.{Told, Evaluated, negative, failing, no_replica, too_deep, too_wide, bound, or_else, is_too_deep, is_failing, is_empty, some_end, found_in, kept, together, walk, walk_all, walk_each, first_of, named_ending, counted, lookup, most_path_bytes}
+
+abbrev pub IsNarrow : Told → Type 0
+IsNarrow told = told.0 ≡ too_wide → ⊥
+
+abbrev pub AreNarrow : List Evaluated → Type 0
+AreNarrow [] = Unit {0}
+AreNarrow (b ∷ bs) = IsNarrow b.told × AreNarrow bs
+
+or_else-IsNarrow : (a b : Told) → IsNarrow a → IsNarrow b → IsNarrow (or_else a b)
+or_else-IsNarrow (negative, n) b ha hb = hb
+or_else-IsNarrow (failing, n) b ha hb = ha
+or_else-IsNarrow (no_replica, n) b ha hb = ha
+or_else-IsNarrow (too_deep, n) b ha hb = ha
+or_else-IsNarrow (too_wide, n) b ha hb = ha
+or_else-IsNarrow (bound x, n) b ha hb = ha
+
+kept-narrow : (found : List (ℕ × Found)) (fails lacks : Bool) → kept found fails lacks ≡ too_wide → ⊥
+kept-narrow [] true lacks h = cc
+kept-narrow [] false true h = cc
+kept-narrow [] false false h = cc
+kept-narrow (m ∷ ms) fails lacks h = cc
+
+together-IsNarrow : (bs : List Evaluated) → IsNarrow (together bs)
+together-IsNarrow bs =
+    elim (some_end is_too_deep bs) as (λ b. (if b then too_deep else kept (found_in bs) (some_end is_failing bs) (some_end is_empty bs)) ≡ too_wide → ⊥) [
+      | true ↦ (λ h. cc)
+      | false ↦ kept-narrow (found_in bs) (some_end is_failing bs) (some_end is_empty bs)
+    ]
+
+module _ (look : Labels → Told) (narrow : (path : Labels) → IsNarrow (look path)) where
+  mutual
+    pub walk-IsNarrow : (t : Name) → IsNarrow (walk look t)
+    walk-IsNarrow (leaf path) = narrow path
+    walk-IsNarrow neg = λ h. cc
+    walk-IsNarrow fail = λ h. cc
+    walk-IsNarrow empty = λ h. cc
+    walk-IsNarrow (alt ts) = walk_all-IsNarrow ts
+    walk-IsNarrow (union bs) = together-IsNarrow (walk_each look bs)
+
+    walk_all-IsNarrow : (ts : Names) → IsNarrow (walk_all look ts)
+    walk_all-IsNarrow none = λ h. cc
+    walk_all-IsNarrow (more t ts) = or_else-IsNarrow (walk look t) (walk_all look ts) (walk-IsNarrow t) (walk_all-IsNarrow ts)
+
+  pub walk_each-AreNarrow : (bs : Branches) → AreNarrow (walk_each look bs)
+  walk_each-AreNarrow no_branch = tt
+  walk_each-AreNarrow (branch n t bs) =
+      elim (n == 0) as (λ b. AreNarrow (if b then walk_each look bs else record { weight = n; told = walk look t } ∷ walk_each look bs)) [
+        | true ↦ walk_each-AreNarrow bs
+        | false ↦ (walk-IsNarrow t, walk_each-AreNarrow bs)
+      ]
+
+  first_of-IsNarrow : (ts : List Name) → IsNarrow (first_of look ts)
+  first_of-IsNarrow [] = λ h. cc
+  first_of-IsNarrow (t ∷ ts) = or_else-IsNarrow (walk look t) (first_of look ts) (walk-IsNarrow t) (first_of-IsNarrow ts)
+
+named_ending-IsNarrow : (found : Option Leaf) (n : ℕ) → IsNarrow (named_ending found, n)
+named_ending-IsNarrow None n = λ h. cc
+named_ending-IsNarrow (Some found) n = λ h. cc
+
+pub lookup-IsNarrow : (rules : List Rule) (left : ℕ) (path : Labels) → IsNarrow (lookup rules left path)
+unfolding lookup
+lookup-IsNarrow rules zero path = λ h. cc
+lookup-IsNarrow rules (suc left) path =
+    let within =
+    or_else-IsNarrow (first_of (lookup rules left) (rewrites rules path)) (named_ending (named_leaf path), 0) (first_of-IsNarrow (lookup rules left) (lookup-IsNarrow rules left) (rewrites rules path))
+    (named_ending-IsNarrow (named_leaf path) 0) in
+    elim (nat_lt most_path_bytes (length (canon_path path))) as (λ b.
+    IsNarrow (if b then (too_deep, 0) else counted (or_else (first_of (lookup rules left) (rewrites rules path)) (named_ending (named_leaf path), 0)))) [ true ↦ (λ h. cc) | false ↦ within ]

@@ -1,0 +1,6 @@
+use Rattle.bind_core.specs.Bound.{found_of}
+use Rattle.bind_core.proofs.Bounds.{found_size}
+use Rattle.bind_core.proofs.tests.+put_bound.Given as goal
+
+abbrev pub decreases-put_bound : goal.decreases-put_bound
+decreases-put_bound l = found_size (found_of l.bound.now)

@@ -1,0 +1,87 @@
+//! The reader of a prefix.
+ghost use Rattle.std.specs.Prelude.{◌≡◌, None, Some, option_map};
+ghost use Rattle.name_tree.specs.Taken.{Takes, Ends};
+
+use crate::prefix::{Prefix, PrefixLabel};
+use name_tree::{LabelReader, Refused};
+use std::alloc::Global;
+use std::mem::replace;
+
+/// A prefix that was read in part, from behind its first `/` on.
+#[derive(Debug, Drop)]
+pub(crate) struct PrefixReader {
+    labels: Vec<PrefixLabel>,
+    label: LabelReader,
+    is_star: bool,
+}
+
+impl PrefixReader {
+    ghost use Rattle.dtab_table.specs.Rules.{pattern_of, patterns_of};
+    ghost use Rattle.dtab_table.specs.PrefixReading.{walk_start, next_walk, end_part, end_walk};
+    ghost use Rattle.dtab_table.specs.Readers.{walk_of};
+
+    /// The reader behind the first `/`.
+    pub(crate) fn new(alloc: Global) -> PrefixReader
+        ensures { walk_of result ≡ walk_start }
+    {
+        PrefixReader {
+            labels: Vec::new(alloc),
+            label: LabelReader::new(alloc),
+            is_star: false,
+        }
+    }
+
+    /// Takes the next byte in. After an `Err` the reader is of no use.
+    pub(crate) fn take(&mut self, alloc: Global, byte: u8) -> Result<(), Refused>
+        ensures { Takes (next_walk (walk_of self.old) byte) (walk_of self.new) result }
+    {
+        if byte == b'/' {
+            let Some(label) = self.end_label(alloc) else {
+                return Err(Refused::Byte);
+            };
+            self.labels.push(label)?;
+            return Ok(());
+        }
+        if byte == b'*' {
+            if self.is_star || !self.label.is_new() {
+                return Err(Refused::Byte);
+            }
+            self.is_star = true;
+            return Ok(());
+        }
+        if self.is_star {
+            return Err(Refused::Byte);
+        }
+        self.label.take(byte)
+    }
+
+    /// The label that is read, if it may end here. It is gone then.
+    fn end_label(&mut self, alloc: Global) -> Option<PrefixLabel>
+        ensures label { option_map pattern_of result ≡ end_part (walk_of self.old).part }
+        ensures rest { walk_of self.new ≡ record walk_start { before = (walk_of self.old).before } }
+    {
+        let label = replace(&mut self.label, LabelReader::new(alloc));
+        if self.is_star {
+            self.is_star = false;
+            return Some(PrefixLabel::Star);
+        }
+        match label.end() {
+            Some(bytes) => Some(PrefixLabel::Label(bytes)),
+            None => None,
+        }
+    }
+
+    /// The prefix, if it may end here.
+    pub(crate) fn end(mut self, alloc: Global) -> Result<Prefix, Refused>
+        ensures { Ends patterns_of (end_walk (walk_of self)) result }
+    {
+        if self.labels.is_empty() && !self.is_star && self.label.is_new() {
+            return Ok(Prefix::of(self.labels));
+        }
+        let Some(label) = self.end_label(alloc) else {
+            return Err(Refused::Byte);
+        };
+        self.labels.push(label)?;
+        Ok(Prefix::of(self.labels))
+    }
+}

@@ -1,0 +1,100 @@
+//! The reader of a prefix's text, which has blanks at both ends.
+ghost use Rattle.std.specs.Prelude.{◌≡◌};
+ghost use Rattle.dtab_table.specs.PrefixReading.{is_prefix_byte};
+ghost use Rattle.name_tree.specs.Taken.{Takes, Ends};
+
+use crate::prefix::Prefix;
+use crate::prefix_reader::PrefixReader;
+use name_tree::{Refused, is_blank_byte, is_in_paths};
+use std::alloc::Global;
+use std::mem::replace;
+
+/// Where in a prefix's text a reader stands.
+#[derive(Clone, Copy, Debug, PartialEq, Eq)]
+pub(crate) enum PrefixPlace {
+    /// In the blanks before it.
+    Before,
+    /// In it.
+    Inside,
+    /// In the blanks behind it.
+    Behind,
+}
+
+/// A prefix's text that was read in part.
+#[derive(Debug, Drop)]
+pub(crate) struct PrefixTextReader {
+    place: PrefixPlace,
+    reader: PrefixReader,
+    prefix: Prefix,
+}
+
+/// Whether the byte may stand in a prefix.
+pub(crate) fn is_in_prefixes(byte: u8) -> bool
+    ensures { result ≡ is_prefix_byte byte }
+{
+    is_in_paths(byte) || byte == b'*'
+}
+
+impl PrefixTextReader {
+    ghost use Rattle.dtab_table.specs.PrefixReading.{before, next_prefix, end_prefix};
+    ghost use Rattle.dtab_table.specs.Rules.{patterns_of};
+    ghost use Rattle.dtab_table.specs.Readers.{prefix_at_of};
+
+    /// The reader before a text.
+    pub(crate) fn new(alloc: Global) -> PrefixTextReader
+        ensures { prefix_at_of result ≡ before }
+    {
+        PrefixTextReader {
+            place: PrefixPlace::Before,
+            reader: PrefixReader::new(alloc),
+            prefix: Prefix::root(alloc),
+        }
+    }
+
+    /// Takes the next byte in. After an `Err` the reader is of no use.
+    pub(crate) fn take(&mut self, alloc: Global, byte: u8) -> Result<(), Refused>
+        ensures { Takes (next_prefix (prefix_at_of self.old) byte) (prefix_at_of self.new) result }
+    {
+        match self.place {
+            PrefixPlace::Before => {
+                if is_blank_byte(byte) {
+                    return Ok(());
+                }
+                if byte != b'/' {
+                    return Err(Refused::Byte);
+                }
+                self.reader = PrefixReader::new(alloc);
+                self.place = PrefixPlace::Inside;
+                Ok(())
+            }
+            PrefixPlace::Inside => {
+                if is_in_prefixes(byte) {
+                    return self.reader.take(alloc, byte);
+                }
+                if !is_blank_byte(byte) {
+                    return Err(Refused::Byte);
+                }
+                self.prefix = replace(&mut self.reader, PrefixReader::new(alloc)).end(alloc)?;
+                self.place = PrefixPlace::Behind;
+                Ok(())
+            }
+            PrefixPlace::Behind => {
+                if !is_blank_byte(byte) {
+                    return Err(Refused::Byte);
+                }
+                Ok(())
+            }
+        }
+    }
+
+    /// The prefix, if its text may end here.
+    pub(crate) fn end(self, alloc: Global) -> Result<Prefix, Refused>
+        ensures { Ends patterns_of (end_prefix (prefix_at_of self)) result }
+    {
+        match self.place {
+            PrefixPlace::Before => Err(Refused::Byte),
+            PrefixPlace::Inside => self.reader.end(alloc),
+            PrefixPlace::Behind => Ok(self.prefix),
+        }
+    }
+}

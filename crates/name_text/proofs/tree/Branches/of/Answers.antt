@@ -1,5 +1,0 @@
-use Rattle.name_text.proofs.Bridge.{branches_of-roll}
-use Rattle.name_text.proofs.tree.Branches.of.Goals as goal
-
-pub returns : goal.returns
-returns c = branches_of-roll c.args.items

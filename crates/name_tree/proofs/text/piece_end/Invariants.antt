@@ -1,7 +1,0 @@
-use Rattle.std.proofs.Common.{◌≡◌, ◌+◌, drop}
-use Rattle.std.specs.Prelude.{◌==◌}
-use Rattle.std.specs.List.{position_or_len}
-use Rattle.name_tree.proofs.text.piece_end.Given as goal
-
-abbrev pub invariant-loop-at : goal.invariant-loop-at
-invariant-loop-at l = position_or_len (λ b. b == l.mark) l.text ≡ l.at + position_or_len (λ b. b == l.mark) (drop l.at l.text)

@@ -1,0 +1,73 @@
+-- Trees as values.
+use Rattle.std.specs.Prelude.{ℕ, List, [], ◌∷◌, ◌++◌, Option, Some, None, unwrap_or}
+use Rattle.name_tree.specs.Path.{Labels}
+
+mutual
+  -- a tree of paths: what a leaf, a mark, a choice or a union says, and nothing of how it lies in memory
+  pub data Name : Type 0 where
+    leaf : Labels → Name
+    neg : Name
+    fail : Name
+    empty : Name
+    alt : Names → Name
+    union : Branches → Name
+
+  -- some trees in order
+  pub data Names : Type 0 where
+    none : Names
+    more : Name → Names → Names
+
+  -- some trees in order, each with its weight in millionths
+  pub data Branches : Type 0 where
+    no_branch : Branches
+    branch : ℕ → Name → Branches → Branches
+
+-- a list of trees, in its order
+abbrev pub names : List Name → Names
+names [] = none
+names (t ∷ ts) = more t (names ts)
+
+-- one tree is itself, several are a choice between them
+abbrev pub one_or_alt : List Name → Name
+one_or_alt (t ∷ []) = t
+one_or_alt ts = alt (names ts)
+
+-- a branch of a union as it is written: its weight in millionths, if one is written, and its tree
+abbrev pub Part : Type 0
+Part = Option ℕ × Name
+
+-- the weight of a branch without one
+abbrev pub one_whole : ℕ
+one_whole = 1000000
+
+abbrev pub branches : List Part → Branches
+branches [] = no_branch
+branches (p ∷ ps) = branch (unwrap_or p.0 one_whole) p.1 (branches ps)
+
+-- one branch without a weight is its tree, and any other branch is a union of one
+abbrev pub lone : Option ℕ → Name → Name
+lone None v = v
+lone (Some n) v = union (branch n v no_branch)
+
+-- what some branches with `&` between them stand for
+abbrev pub union_of : List Part → Name
+union_of (p ∷ []) = lone p.0 p.1
+union_of ps = union (branches ps)
+
+abbrev mutual
+  -- a tree with these labels put behind every leaf
+  pub append_rest : Name → Labels → Name
+  append_rest (leaf path) rest = leaf (path ++ rest)
+  append_rest neg rest = neg
+  append_rest fail rest = fail
+  append_rest empty rest = empty
+  append_rest (alt ts) rest = alt (append_rest_all ts rest)
+  append_rest (union bs) rest = union (append_rest_branches bs rest)
+
+  pub append_rest_all : Names → Labels → Names
+  append_rest_all none rest = none
+  append_rest_all (more t ts) rest = more (append_rest t rest) (append_rest_all ts rest)
+
+  pub append_rest_branches : Branches → Labels → Branches
+  append_rest_branches no_branch rest = no_branch
+  append_rest_branches (branch n t bs) rest = branch n (append_rest t rest) (append_rest_branches bs rest)

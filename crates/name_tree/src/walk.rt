@@ -1,0 +1,59 @@
+//! The reader of a path.
+ghost use Rattle.std.specs.Prelude.{◌≡◌, Some};
+ghost use Rattle.name_tree.specs.Taken.{Takes, Ends};
+
+use crate::label::{LabelReader, Refused};
+use crate::path::Path;
+use std::alloc::Global;
+use std::mem::replace;
+
+/// A path that was read in part, from behind its first `/` on.
+#[derive(Debug, Drop)]
+pub(crate) struct PathReader {
+    path: Path,
+    label: LabelReader,
+}
+
+impl PathReader {
+    ghost use Rattle.name_tree.specs.PathReading.{walk_start, next_walk, end_walk};
+    ghost use Rattle.name_tree.specs.Readers.{walk_of};
+
+    /// The reader behind the first `/`.
+    pub(crate) fn new(alloc: Global) -> PathReader
+        ensures { walk_of result ≡ walk_start }
+    {
+        PathReader {
+            path: Path::new(alloc),
+            label: LabelReader::new(alloc),
+        }
+    }
+
+    /// Takes the next byte in. After an `Err` the reader is of no use.
+    pub(crate) fn take(&mut self, alloc: Global, byte: u8) -> Result<(), Refused>
+        ensures { Takes (next_walk (walk_of self.old) byte) (walk_of self.new) result }
+    {
+        if byte != b'/' {
+            return self.label.take(byte);
+        }
+        let Some(label) = replace(&mut self.label, LabelReader::new(alloc)).end() else {
+            return Err(Refused::Byte);
+        };
+        self.path.push(label)?;
+        Ok(())
+    }
+
+    /// The path, if it may end here.
+    pub(crate) fn end(self) -> Result<Path, Refused>
+        ensures { Ends (λ path. path) (end_walk (walk_of self)) result }
+    {
+        let PathReader { mut path, label } = self;
+        if path.is_empty() && label.is_new() {
+            return Ok(path);
+        }
+        let Some(label) = label.end() else {
+            return Err(Refused::Byte);
+        };
+        path.push(label)?;
+        Ok(path)
+    }
+}

@@ -1,8 +1,0 @@
-use Rattle.std.proofs.Common.{◌≡◌, ◌++◌, map, take}
-use Rattle.std.specs.List.{flat_map}
-use Rattle.table_text.specs.Prefixes.{pattern_of}
-use Rattle.table_text.specs.TableCanon.{canon_pattern}
-use Rattle.table_text.proofs.write.put_prefix.Given as goal
-
-abbrev pub invariant-loop-label : goal.invariant-loop-label
-invariant-loop-label l = l.out.items ≡ l.fn.out.items ++ flat_map canon_pattern (map pattern_of (take l.label-index l.label-items))

@@ -1,7 +1,0 @@
-use Rattle.std.proofs.Common.{◌≡◌, ◌++◌, map, take}
-use Rattle.table_text.specs.Tables.{rule_of}
-use Rattle.table_text.specs.TableCanon.{canon_more}
-use Rattle.table_text.proofs.write.put_rest.Given as goal
-
-abbrev pub invariant-loop-entry : goal.invariant-loop-entry
-invariant-loop-entry l = l.out.items ≡ l.fn.out.items ++ canon_more (map rule_of (take l.entry-index l.entries))
