@@ -20,7 +20,7 @@ use Rattle.bind_core.specs.declared.outcome.Delegated.{Delegated}
 use Rattle.bind_core.specs.Outcome.{ending_of}
 use Rattle.bind_core.specs.Delegation.{negative, Told, or_else, walk, walk_each, first_of, lookup, named_ending, most_wide}
 use Rattle.bind_core.specs.Kept.{Kept, kept_of, kept_with, kept_ending}
-use Rattle.bind_core.specs.Stack.{ends_all, behind, tree_work, list_work, each_work, path_work, choice_work, union_work, frame_work, stack_work, choice_names, union_branches, choice_told, union_on, frame_on, resume, told_of, weighted, LeadsTo, IsStep, IsAnswer}
+use Rattle.bind_core.specs.Stack.{ends_all, behind, tree_work, list_work, each_work, path_work, choice_work, union_work, frame_work, stack_work, choice_names, union_branches, choice_told, union_on, frame_on, resume, told_of, weighted, PassesOn, LeadsTo, IsStep, IsAnswer}
 use Rattle.bind_core.proofs.Trees.{walk_each-weighted, each_work-weighted, walk_each-some}
 use Rattle.bind_core.proofs.Stacks.{or_else-assoc, resume-append, resume-ended, resume-more, stack_work-append, told_step, under}
 
@@ -111,6 +111,20 @@ pub passed : (rules : List Rule) (f : Choice) (fs : List Frame) (told : Delegate
 passed rules f fs told few other =
     told_step rules (or_else (told_of told) (choice_told rules f)) (choice_work rules f) fs told (some_work (path_work rules f.left) (choice_names f)) few
     (sym (keeps told.outcome told.cost (choice_told rules f) other))
+
+not_negative : (f : Choice) (o : Outcome) → PassesOn (frame.Choice f) o → o ≡ outcome.Neg → ⊥
+not_negative f outcome.Neg passes is = passes
+not_negative f outcome.Fail passes is = cc
+not_negative f outcome.Empty passes is = cc
+not_negative f outcome.TooDeep passes is = cc
+not_negative f outcome.TooWide passes is = cc
+not_negative f (outcome.Bound found) passes is = cc
+
+-- so a frame that passes it on is let go
+pub let_go : (rules : List Rule) (f : Frame) (fs : List Frame) (told : Delegated) → told.cost ≤ most_wide → PassesOn f told.outcome
+    → IsStep rules (frame_on rules f (told_of told)) (frame_work rules f) fs fs told
+let_go rules (frame.Choice f) fs told few passes = passed rules f fs told few (not_negative f told.outcome passes)
+let_go rules (frame.Union f) fs told few passes = absurd passes
 
 -- and where no tree is left, it comes to what its path names
 pub emptied : (rules : List Rule) (f : Choice) (fs : List Frame) (told new : Delegated) → told.cost ≤ most_wide → told.outcome ≡ outcome.Neg → into_iter_len f.trees ≡ 0

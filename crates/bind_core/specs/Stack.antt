@@ -10,6 +10,7 @@ use Rattle.bind_core.specs.declared.frame.Choice.{Choice}
 use Rattle.bind_core.specs.declared.frame.Union.{Union}
 use Rattle.bind_core.specs.declared.frame.Frame.{Frame}
 use Rattle.bind_core.specs.declared.frame.Frame.TheVariants as frame
+use Rattle.bind_core.specs.declared.outcome.Outcome.{Outcome}
 use Rattle.bind_core.specs.declared.outcome.Outcome.TheVariants as outcome
 use Rattle.bind_core.specs.declared.outcome.Delegated.{Delegated}
 use Rattle.bind_core.specs.Delegation.{Ending, negative, too_deep, too_wide, Told, or_else, Evaluated, walk_each, first_of, named_ending, lookup, within_width, most_wide}
@@ -91,6 +92,12 @@ pub record IsTooWide (whole : Told) (d : Delegated) : Type 0 where
 pub record IsAnswer (told : Told) (d : Delegated) : Type 0 where
   pub outcome : ending_of d.outcome ≡ within_width told
   pub cost : d.cost ≡ min told.1 (most_wide + 1)
+
+-- a lookup or an alternation, to which anything but negative was told
+abbrev pub PassesOn : Frame → Outcome → Type 0
+PassesOn (frame.Choice c) outcome.Neg = ⊥
+PassesOn (frame.Choice c) _ = Unit {0}
+PassesOn (frame.Union u) _ = ⊥
 
 module _ (rules : List Rule) where
   -- the turns that a path takes, with so many lookups left in its chain

@@ -72,7 +72,8 @@ pub fn bind<L: Ledger>(
 
 /// What a path comes to in a table, with so many lookups left in its chain.
 ///
-/// Each turn gives the last frame what was told. Where that ends all, the frames that are left are let go.
+/// Each turn gives the last frame what was told. Where that ends all, the frames that are left are let go, and where the frame passes it
+/// on as it is, that frame alone.
 fn evaluate<L: Ledger>(
     alloc: Global,
     table: &Dtab,
@@ -88,6 +89,9 @@ fn evaluate<L: Ledger>(
     while let Some(frame) = stack.pop() {
         if told.outcome.ends_all() {
             return Ok(told);
+        }
+        if frame.passes(&told.outcome) {
+            continue;
         }
         told = turn(alloc, table, &mut stack, frame, told, steps)?;
     }

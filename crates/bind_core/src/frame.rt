@@ -6,6 +6,7 @@ ghost use Rattle.bind_core.specs.Stack.{IsNextWeighted};
 
 use crate::gathered::Gathered;
 use crate::leaf::Leaf;
+use crate::outcome::Outcome;
 use name_tree::{Branch, Tree};
 use std::alloc::Global;
 use std::vec::IntoIter;
@@ -17,6 +18,22 @@ pub(crate) enum Frame {
     Choice(Choice),
     /// A union.
     Union(Union),
+}
+
+impl Frame {
+    ghost use Rattle.std.specs.Prelude.{IsTrue};
+    ghost use Rattle.bind_core.specs.Stack.{PassesOn};
+
+    /// Whether it passes what was told on as it is: a lookup and an alternation do, but for negative.
+    pub(crate) fn passes(&self, outcome: &Outcome) -> bool
+        ensures { IsTrue result → PassesOn self.now outcome.now }
+    {
+        match (self, outcome) {
+            (Frame::Choice(_), Outcome::Neg) => false,
+            (Frame::Choice(_), _) => true,
+            (Frame::Union(_), _) => false,
+        }
+    }
 }
 
 /// What is left of a lookup or of an alternation, where all that was tried of it came to nothing.
