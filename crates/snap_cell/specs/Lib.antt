@@ -1,0 +1,9 @@
+pub mod History
+pub mod Items
+pub mod Kept
+pub mod Legal
+pub mod Rule
+pub mod Views
+pub mod Guards
+pub mod Writers
+pub mod Origins

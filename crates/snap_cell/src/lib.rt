@@ -1,0 +1,45 @@
+//! A value that many readers enter without a lock, and one writer changes by published operations.
+//!
+//! The value is kept twice: readers are in one copy while the writer brings the other one up, and then the two change places. A
+//! [`Writer`] publishes operations ([`Writer::publish`]); a [`Reader`] enters the value ([`Reader::enter`]) and gets it lent by a [`Guard`].
+//! What was published reaches a reader by a [`Note`] ([`Writer::tell`], [`Reader::learn`]), by [`Reader::catch_up`], or when it enters.
+//! Any value that absorbs operations by reference will do ([`Published`]), and any kind of item: a reader notes at which point of the
+//! list its items stand. The lists of operations and items exist in proofs alone.
+//!
+//! # What is proved
+//! There is one list of published operations, and each publish adds one at its end. What a reader enters is the opening value with
+//! the operations of a beginning of that list applied, in order; each of them fitted the state that those before it left. That beginning
+//! has all that the reader had seen or learnt of, so it never goes back. [`Writer::value`] has all of the list, and
+//! [`Writer::close`] shows that what each reader has seen begins it.
+//!
+//! # Example
+//! ```text
+//! let (mut writer, mut readers) = start(&rt, alloc, Sum(0), Sum(0), 2)?;
+//! writer.publish(&rt, Add { by: 0, digit: 5 })?;
+//! readers[1].learn(writer.tell(), None);
+//! if let Some(guard) = readers[1].enter(None) { /* guard.get() is Sum(5) */ }
+//! writer.close(&rt, readers)
+//! ```
+#![tactic(auto)]
+
+mod begin;
+mod guard;
+mod history;
+mod kept;
+mod operation;
+mod reader;
+mod rule;
+#[cfg(test)]
+mod tests;
+mod trail;
+mod writer;
+
+pub use begin::start;
+pub use guard::{Guard, Stay};
+pub use operation::{Operation, Published};
+pub use reader::{Entered, Reader};
+use std::alloc::AllocError;
+pub use writer::{Note, Whole, Writer};
+
+/// A value, unless there was no memory for it.
+pub type Mem<T> = Result<T, AllocError>;

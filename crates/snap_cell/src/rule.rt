@@ -1,0 +1,123 @@
+//! The rule over the copies, as `left_right` keeps it, and an entry under it.
+ghost use Rattle.std.specs.Prelude.{◌≡◌, ◌≤◌, None, Some, IfOk, MatchResult, length};
+ghost use Rattle.left_right.specs.Sides.{view};
+ghost use Rattle.snap_cell.specs.Rule.{Holds, Sound, Enters, Shows};
+
+use crate::history::Prefix;
+use crate::kept::{Entry, Kept, Origin};
+use crate::{Operation, Published};
+use atomic_table::{Join, Split};
+use crossbeam_utils::rule::{Outcome, Protocol};
+use left_right::{reader, writer};
+
+/// What a handle knows: of which cell it is. No value of it is made.
+pub type View<V, O> = Option<Origin<V, O>>;
+
+pub struct OneList;
+
+impl<V: Published<O>, O: Operation> Protocol<Kept<V, O>, View<V, O>> for OneList {
+    ghost holds = { Holds V.state V.applied V.fits O.caller };
+
+    ghost first = { None };
+}
+
+pub(crate) struct Enter;
+
+impl<V: Published<O>, O: Operation> Outcome<Kept<V, O>, View<V, O>> for Enter {
+    ghost then = { Enters V.state V.applied V.fits O.caller };
+}
+
+pub(crate) struct Show;
+
+impl<V: Published<O>, O: Operation> Outcome<Kept<V, O>, View<V, O>> for Show {
+    ghost then = { Shows V.state V.applied V.fits O.caller };
+}
+
+pub(crate) type Desk<V, O> = writer::Writer<Kept<V, O>, Entry<O>, View<V, O>, OneList>;
+
+/// How the writer names the cell to a new reader.
+pub(crate) struct Names;
+
+impl<V, O> Split<View<V, O>> for Names {
+    ghost left = { λ v. v };
+
+    ghost right = { λ v. v };
+}
+
+impl<V, O> Join<View<V, O>> for Names {
+    ghost both = { λ v w. w };
+
+    ghost spent = { None };
+}
+
+/// A reader's place, outside.
+#[derive(Drop)]
+pub struct Door<V: Published<O>, O: Operation> {
+    pub(crate) reader: reader::Reader<Kept<V, O>, View<V, O>, OneList>,
+}
+
+/// A reader's place, with the copy that it reads. It is not `Drop`: end it by `leave`.
+pub struct Reading<V: Published<O>, O: Operation> {
+    pub(crate) reading: reader::Reading<Kept<V, O>, View<V, O>, OneList>,
+}
+
+impl<V: Published<O>, O: Operation> Door<V, O> {
+    /// Takes the copy that was published last, if it has at least so many operations.
+    pub(crate) fn enter(self, least: u64) -> Result<Reading<V, O>, Door<V, O>>
+        ensures { MatchResult result
+            (λ r. Enters V.state V.applied V.fits O.caller (view self.reader.place) r.reading.part.value r.reading.part.value (view r.reading.place) × (least ≤ length r.reading.part.value.known.seen.log))
+            (λ d. view d.reader.place ≡ view self.reader.place) }
+    {
+        let Door { reader } = self;
+        match reader.enter_as::<Enter>() {
+            Err(reader) => Err(Door { reader }),
+            Ok(reading) => {
+                if reading.get().known.count < least {
+                    return Err(Door {
+                        reader: reading.leave(),
+                    });
+                }
+                Ok(Reading { reading })
+            }
+        }
+    }
+}
+
+impl<V: Published<O>, O: Operation> Door<V, O> {
+    /// Takes the copy that was published last, if it has just these operations.
+    pub(crate) fn enter_exactly(
+        self,
+        origin: &Origin<V, O>,
+        known: &Prefix<O>,
+    ) -> Result<Reading<V, O>, Door<V, O>>
+        requires cell { view self.reader.place ≡ Some origin.now }
+        requires list { known.now.seen.book ≡ origin.now.empty.book }
+        ensures entered { IfOk result (λ r. Sound V.state V.applied V.fits O.caller r.reading.part.value
+            × (r.reading.part.value.origin ≡ origin.now) × (r.reading.part.value.known.seen.log ≡ known.now.seen.log)) }
+        ensures cell { MatchResult result (λ r. view r.reading.place ≡ Some origin.now) (λ d. view d.reader.place ≡ Some origin.now) }
+    {
+        let reading = self.enter(known.count)?;
+        if reading.get().known.count > known.count {
+            return Err(reading.leave());
+        }
+        known.newer(&reading.get().known);
+        Ok(reading)
+    }
+}
+
+impl<V: Published<O>, O: Operation> Reading<V, O> {
+    pub(crate) fn get(&self) -> &Kept<V, O>
+        ensures { result.now ≡ self.now.reading.part.value }
+    {
+        self.reading.get()
+    }
+
+    pub(crate) fn leave(self) -> Door<V, O>
+        ensures { view result.reader.place ≡ view self.reading.place }
+    {
+        let Reading { reading } = self;
+        Door {
+            reader: reading.leave(),
+        }
+    }
+}

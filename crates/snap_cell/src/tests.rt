@@ -1,0 +1,248 @@
+//! Cells over a sum: that calls succeed, and what readers see of what was published.
+ghost use Rattle.std.specs.Prelude.{◌≡◌, ◌+◌, ◌<◌, ◌≤◌, ◌%◌, ◌^◌, ◌++◌, [], ◌∷◌, length, fold, OnOk, IfSome, IfNone};
+ghost use mathlib.Core.List.{IsPrefix};
+ghost use Rattle.snap_cell.specs.Views.{seen_of, items_of, cell_of, opening_of, EachOf, Refused};
+ghost use Rattle.snap_cell.specs.Writers.{published_by, cell_written, opening_written, reader_count};
+
+use super::*;
+use left_right::Absorb;
+use std::snapshot::Snapshot;
+use std::sync::Wait;
+use std::test::Fail;
+use std::thread::{Threads, join_mut};
+
+/// A sum, which has no memory for a 7.
+#[derive(Drop, Debug, PartialEq, Clone, Copy)]
+struct Sum(u64);
+
+/// A digit to be added, by the caller with this number.
+#[derive(Drop)]
+struct Add {
+    by: u32,
+    serial: u64,
+    digit: u64,
+}
+
+impl Operation for Add {
+    ghost caller = { λ a. a.by };
+
+    ghost serial = { λ a. a.serial };
+}
+
+impl Absorb<Add> for Sum {
+    type State = u64;
+
+    ghost state = { λ s. s.0 };
+
+    ghost applied = { λ n a. (n + a.digit) % 2 ^ 64 };
+
+    fn absorb_first(&mut self, add: &Add, _other: &Sum) -> Result<(), AllocError> {
+        if add.digit == 7 {
+            return Err(AllocError);
+        }
+        self.0 = self.0.wrapping_add(add.digit);
+        Ok(())
+    }
+}
+
+impl Published<Add> for Sum {
+    ghost fits = { λ n a. a.digit < 10 };
+}
+
+/// The sum after what the reader then has seen, and an item at that point.
+fn read(reader: &mut Reader<Sum, Add, u64>, item: u64) -> Option<u64>
+    ensures sum { IfSome result (λ n. n ≡ fold ⟦<Sum as Absorb<Add>>⟧.applied (opening_of reader.old).0 (seen_of reader.new)) }
+    ensures before { IfSome result (λ n. IsPrefix (seen_of reader.old) (seen_of reader.new)) }
+    ensures item { IfSome result (λ n. items_of reader.new ≡ items_of reader.old ++ (item, length (seen_of reader.new)) ∷ []) }
+    ensures cell { cell_of reader.new ≡ cell_of reader.old }
+    ensures none { IfNone result (Refused reader.old reader.new) }
+{
+    let guard = reader.enter(Some(Snapshot::of(&item)))?;
+    Some(guard.get().0)
+}
+
+/// A publish of the reader's own, which it then has seen: its item stands at the operation's place.
+fn publish_own<R: Wait>(
+    rt: &R,
+    writer: &mut Writer<Sum, Add>,
+    reader: &mut Reader<Sum, Add, u64>,
+    add: Add,
+) -> Mem<()>
+    requires own { cell_of reader.old ≡ cell_written writer.old }
+    requires fits { add.digit < 10 }
+    requires caller { add.by < reader_count writer.old }
+    ensures cells { (cell_of reader.new ≡ cell_of reader.old) × (cell_written writer.new ≡ cell_written writer.old) }
+    ensures published { OnOk result (published_by writer.new ≡ published_by writer.old ++ add ∷ []) }
+    ensures seen { OnOk result (seen_of reader.new ≡ published_by writer.new) }
+    ensures before { OnOk result (IsPrefix (seen_of reader.old) (seen_of reader.new)) }
+    ensures item { OnOk result (items_of reader.new ≡ items_of reader.old ++ (add.serial, length (published_by writer.old)) ∷ []) }
+{
+    let item = Snapshot::of(&add.serial);
+    reader.catch_up(rt, writer);
+    writer.publish(rt, add)?;
+    reader.learn(writer.tell(), Some(item));
+    Ok(())
+}
+
+fn digit_of(by: u32, serial: u64, digit: u64) -> Add
+    ensures { (result.by ≡ by) × (result.serial ≡ serial) × (result.digit ≡ digit) }
+{
+    Add { by, serial, digit }
+}
+
+/// The sum of all that was published.
+fn latest<R: Wait>(rt: &R, writer: &mut Writer<Sum, Add>) -> u64
+    ensures sum { result ≡ fold ⟦<Sum as Absorb<Add>>⟧.applied (opening_written writer.old).0 (published_by writer.old) }
+    ensures same { (published_by writer.new ≡ published_by writer.old) × (cell_written writer.new ≡ cell_written writer.old) }
+{
+    let whole = writer.value(rt);
+    let sum = whole.get().0;
+    writer.put_back(whole);
+    sum
+}
+
+/// Ends a cell with all its readers.
+fn end<R: Wait>(rt: &R, writer: Writer<Sum, Add>, readers: Vec<Reader<Sum, Add, u64>>)
+    requires own { EachOf (cell_written writer) readers.items }
+    requires all { reader_count writer ≤ length readers.items }
+{
+    match writer.close(rt, readers) {
+        Ok(()) => {}
+        Err(_back) => unreachable!(),
+    }
+}
+
+// What was seen before and after a publish, by the second reader, which learnt of it, and by the first, which entered later.
+fn publish_one<R: Wait>(
+    rt: &R,
+    writer: &mut Writer<Sum, Add>,
+    readers: &mut Vec<Reader<Sum, Add, u64>>,
+) -> Option<[u64; 4]>
+    requires own { EachOf (cell_written writer.old) readers.old.items }
+    requires two { (length readers.old.items ≡ 2) × (reader_count writer.old ≡ 2) }
+    ensures own { EachOf (cell_written writer.new) readers.new.items }
+    ensures two { (length readers.new.items ≡ 2) × (reader_count writer.new ≡ 2) }
+{
+    let before = read(&mut readers[0], 1);
+    let published = publish_own(rt, writer, &mut readers[1], digit_of(1, 0, 5));
+    let learnt = read(&mut readers[1], 2);
+    let entered = read(&mut readers[0], 3);
+    published.ok()?;
+    Some([before?, learnt?, entered?, latest(rt, writer)])
+}
+
+#[test]
+fn what_was_published_is_seen(rt: HostRuntime) -> Result<(), Fail> {
+    let (mut writer, mut readers) = start::<Sum, Add, u64, _>(&rt, rt.alloc(), Sum(0), Sum(0), 2)?;
+    let numbers = (readers[0].number(), readers[1].number());
+    let seen = publish_one(&rt, &mut writer, &mut readers);
+    let refused = (readers[0].refused(), readers[1].refused());
+    end(&rt, writer, readers);
+    assert_eq!(rt; numbers, (0, 1));
+    assert_eq!(rt; seen, Some([0, 5, 5, 5]));
+    assert_eq!(rt; refused, (0, 0));
+    Ok(())
+}
+
+#[test]
+fn fewer_readers_are_handed_back(rt: HostRuntime) -> Result<(), Fail> {
+    let (writer, readers) = start::<Sum, Add, u64, _>(&rt, rt.alloc(), Sum(0), Sum(0), 2)?;
+    let none: Vec<Reader<Sum, Add, u64>> = Vec::new(rt.alloc());
+    match writer.close(&rt, none) {
+        Ok(()) => {
+            assert!(rt; false);
+            Ok(())
+        }
+        Err((writer, none)) => {
+            end(&rt, writer, readers);
+            assert_eq!(rt; none.len(), 0);
+            Ok(())
+        }
+    }
+}
+
+// A copy has no memory for the second operation, after which nothing is published.
+fn publish_three<R: Wait>(
+    rt: &R,
+    writer: &mut Writer<Sum, Add>,
+    readers: &mut Vec<Reader<Sum, Add, u64>>,
+) -> ([bool; 3], Option<u64>, u64)
+    requires own { EachOf (cell_written writer.old) readers.old.items }
+    requires one { (length readers.old.items ≡ 1) × (reader_count writer.old ≡ 1) }
+    ensures own { EachOf (cell_written writer.new) readers.new.items }
+    ensures one { (length readers.new.items ≡ 1) × (reader_count writer.new ≡ 1) }
+{
+    let first = writer.publish(rt, digit_of(0, 0, 3)).is_ok();
+    let second = writer.publish(rt, digit_of(0, 1, 7)).is_ok();
+    let third = writer.publish(rt, digit_of(0, 2, 1)).is_ok();
+    let seen = read(&mut readers[0], 0);
+    ([first, second, third], seen, latest(rt, writer))
+}
+
+#[test]
+fn want_of_memory_publishes_nothing(rt: HostRuntime) -> Result<(), Fail> {
+    let (mut writer, mut readers) = start::<Sum, Add, u64, _>(&rt, rt.alloc(), Sum(0), Sum(0), 1)?;
+    let told = publish_three(&rt, &mut writer, &mut readers);
+    end(&rt, writer, readers);
+    assert_eq!(rt; told, ([true, false, false], Some(3), 3));
+    Ok(())
+}
+
+/// Publishes so many ones.
+fn publish_ones<R: Wait>(rt: &R, writer: &mut Writer<Sum, Add>, count: u64) -> bool
+    requires { 0 < reader_count writer.old }
+    ensures { cell_written writer.new ≡ cell_written writer.old }
+{
+    for serial in 0..count {
+        if writer.publish(rt, digit_of(0, serial, 1)).is_err() {
+            return false;
+        }
+    }
+    true
+}
+
+/// Whether the sum never fell, in so many entries.
+fn watch(reader: &mut Reader<Sum, Add, u64>, turns: u64) -> bool
+    ensures { cell_of reader.new ≡ cell_of reader.old }
+{
+    let mut last = 0;
+    for turn in 0..turns {
+        let Some(sum) = read(reader, turn) else {
+            return false;
+        };
+        if sum < last {
+            return false;
+        }
+        last = sum;
+    }
+    true
+}
+
+// One thread publishes, and another reads.
+fn race<R: Wait + Threads + Sync>(
+    rt: &R,
+    writer: &mut Writer<Sum, Add>,
+    readers: &mut Vec<Reader<Sum, Add, u64>>,
+) -> (bool, bool, Option<u64>)
+    requires own { EachOf (cell_written writer.old) readers.old.items }
+    requires one { (length readers.old.items ≡ 1) × (reader_count writer.old ≡ 1) }
+    ensures own { EachOf (cell_written writer.new) readers.new.items }
+    ensures one { (length readers.new.items ≡ 1) × (reader_count writer.new ≡ 1) }
+{
+    let reader = &mut readers[0];
+    let (rose, published) = join_mut(
+        rt,
+        &mut || watch(reader, 20_000),
+        &mut || publish_ones(rt, writer, 10_000),
+    );
+    (published, rose, read(&mut readers[0], 0))
+}
+
+#[test]
+fn what_is_entered_never_falls_back(rt: HostRuntime) -> Result<(), Fail> {
+    let (mut writer, mut readers) = start::<Sum, Add, u64, _>(&rt, rt.alloc(), Sum(0), Sum(0), 1)?;
+    let told = race(&rt, &mut writer, &mut readers);
+    end(&rt, writer, readers);
+    assert_eq!(rt; told, (true, true, Some(10_000)));
+    Ok(())
+}
