@@ -1,0 +1,129 @@
+-- The lines of a head, added one by one.
+use Rattle.std.proofs.Common.{◌≡◌, ℕ, ◌+◌, ◌<◌, Bool, true, false, cond, List, [], ◌∷◌, ◌++◌, length, map, filter, take, get_or, codes, refl, sym, ap, ◌∙◌, append_assoc}
+use Rattle.std.proofs.lemmas.List.{take_more, map-append, append-nil}
+use Rattle.std.proofs.lemmas.List.Elements.{filter-append}
+use Rattle.name_tree.specs.Path.{canon_path}
+use Rattle.dtab_table.specs.Dtab.{rules_of}
+use Rattle.http_wire.specs.declared.head.Field.{Field}
+use Rattle.http_wire.specs.declared.head.Head.{Head}
+use Rattle.forward.specs.declared.going.Going.{Going}
+use Rattle.forward.specs.Lines.{crlf, ended, line_of}
+use Rattle.forward.specs.Dropped.{goes_on, kept_beside, named_in_connection}
+use Rattle.forward.specs.Forwarded.{request_line, field_line, framing_lines, via, table_lines, residual_lines, forwarded}
+
+ended-append : (xs ys : List (List ℕ)) → ended (xs ++ ys) ≡ ended xs ++ ended ys
+ended-append [] ys = refl
+ended-append (x ∷ xs) ys = ap (λ t. x ++ crlf ++ t) (ended-append xs ys) ∙ sym (append_assoc (x ++ crlf) (ended xs) (ended ys))
+
+-- a name, a value and the end of a line are one line
+pub line_put : (r0 r1 r2 r3 name value end : List ℕ) → r1 ≡ r0 ++ name → r2 ≡ r1 ++ value → r3 ≡ r2 ++ end → r3 ≡ r0 ++ (name ++ value ++ end ++ [])
+line_put r0 r1 r2 r3 name value end e1 e2 e3 =
+    e3 ∙ ap (λ r. r ++ end) (e2 ∙ ap (λ r. r ++ value) e1 ∙ append_assoc r0 name value) ∙ append_assoc r0 (name ++ value) end
+    ∙ ap (λ t. r0 ++ t) (sym (append-nil (name ++ value ++ end)))
+
+-- the lines of the fields that go on
+abbrev kept_lines : List (List ℕ) → List Field → List ℕ
+kept_lines listed fields = ended (map field_line (kept_beside listed fields))
+
+-- a field that goes on is one line
+pub kept_line : (listed : List (List ℕ)) (field : Field) → goes_on listed field ≡ true → kept_lines listed (field ∷ []) ≡ ended (field_line field ∷ [])
+unfolding kept_beside
+kept_line listed field holds = ap (λ (b : Bool). ended (map field_line (cond b (field ∷ []) []))) holds
+
+-- one that does not is none
+pub no_line : (listed : List (List ℕ)) (field : Field) → goes_on listed field ≡ false → kept_lines listed (field ∷ []) ≡ []
+unfolding kept_beside
+no_line listed field fails = ap (λ (b : Bool). ended (map field_line (cond b (field ∷ []) []))) fails
+
+-- no fields are no lines
+pub nothing_kept : (listed : List (List ℕ)) (bytes : List ℕ) → bytes ≡ bytes ++ kept_lines listed []
+unfolding kept_beside
+nothing_kept listed bytes = sym (append-nil bytes)
+
+kept-append : (listed : List (List ℕ)) (xs ys : List Field) → kept_lines listed (xs ++ ys) ≡ kept_lines listed xs ++ kept_lines listed ys
+unfolding kept_beside
+kept-append listed xs ys =
+    ap (λ fs. ended (map field_line fs)) (filter-append (goes_on listed) xs ys)
+    ∙ ap ended (map-append field_line (filter (goes_on listed) xs) (filter (goes_on listed) ys))
+    ∙ ended-append (map field_line (filter (goes_on listed) xs)) (map field_line (filter (goes_on listed) ys))
+
+-- one field more
+pub kept_more : (listed : List (List ℕ)) (fields : List Field) (k : ℕ) (field : Field) (r0 r1 r2 : List ℕ) → k < length fields
+    → field ≡ get_or fields k field → r1 ≡ r0 ++ kept_lines listed (take k fields) → r2 ≡ r1 ++ kept_lines listed (field ∷ [])
+    → r2 ≡ r0 ++ kept_lines listed (take (k + 1) fields)
+kept_more listed fields k field r0 r1 r2 less at before put =
+    let step : kept_lines listed (take (k + 1) fields) ≡ kept_lines listed (take k fields) ++ kept_lines listed (field ∷ [])
+    = ap (kept_lines listed) (take_more fields k field less)
+    ∙ ap (λ (f : Field). kept_lines listed (take k fields ++ f ∷ [])) (sym at)
+    ∙ kept-append listed (take k fields) (field ∷ []) in
+    rw (put, before, step) (append_assoc r0 (kept_lines listed (take k fields)) (kept_lines listed (field ∷ [])))
+
+-- more lines behind those that stand
+grown : (lines more : List (List ℕ)) (before after : List ℕ) → before ≡ ended lines → after ≡ before ++ ended more → after ≡ ended (lines ++ more)
+grown lines more before after stand put = put ∙ ap (λ b. b ++ ended more) stand ∙ sym (ended-append lines more)
+
+regrouped : (q h v s c e : List ℕ) (ks fs ts rs : List (List ℕ))
+    → ((((((q ∷ h ∷ ks) ++ fs) ++ v ∷ []) ++ ts) ++ s ∷ []) ++ c ∷ []) ++ rs ++ e ∷ []
+    ≡ q ∷ h ∷ ks ++ fs ++ v ∷ ts ++ s ∷ c ∷ rs ++ e ∷ []
+regrouped q h v s c e ks fs ts rs = simp append_assoc
+
+all_joined : (q h v s c e : List ℕ) (ks fs ts rs : List (List ℕ)) (r0 r1 r2 r3 r4 r5 r6 r7 r8 r9 r10 : List ℕ)
+    → r0 ≡ []
+    → r1 ≡ r0 ++ ended (q ∷ [])
+    → r2 ≡ r1 ++ ended (h ∷ [])
+    → r3 ≡ r2 ++ ended ks
+    → r4 ≡ r3 ++ ended fs
+    → r5 ≡ r4 ++ ended (v ∷ [])
+    → r6 ≡ r5 ++ ended ts
+    → r7 ≡ r6 ++ ended (s ∷ [])
+    → r8 ≡ r7 ++ ended (c ∷ [])
+    → r9 ≡ r8 ++ ended rs
+    → r10 ≡ r9 ++ ended (e ∷ [])
+    → r10 ≡ ended (q ∷ h ∷ ks ++ fs ++ v ∷ ts ++ s ∷ c ∷ rs ++ e ∷ [])
+all_joined q h v s c e ks fs ts rs r0 r1 r2 r3 r4 r5 r6 r7 r8 r9 r10 e0 e1 e2 e3 e4 e5 e6 e7 e8 e9 e10 =
+    let l3 = q ∷ h ∷ ks in
+    let l4 = l3 ++ fs in
+    let l5 = l4 ++ v ∷ [] in
+    let l6 = l5 ++ ts in
+    let l7 = l6 ++ s ∷ [] in
+    let l8 = l7 ++ c ∷ [] in
+    let g1 : r1 ≡ ended (q ∷ []) = e1 ∙ ap (λ r. r ++ ended (q ∷ [])) e0 in
+    let g2 : r2 ≡ ended (q ∷ h ∷ []) = grown (q ∷ []) (h ∷ []) r1 r2 g1 e2 in
+    let g3 : r3 ≡ ended l3 = grown (q ∷ h ∷ []) ks r2 r3 g2 e3 in
+    let g5 : r5 ≡ ended l5 = grown l4 (v ∷ []) r4 r5 (grown l3 fs r3 r4 g3 e4) e5 in
+    let g7 : r7 ≡ ended l7 = grown l6 (s ∷ []) r6 r7 (grown l5 ts r5 r6 g5 e6) e7 in
+    let g9 : r9 ≡ ended (l8 ++ rs) = grown l8 rs r8 r9 (grown l7 (c ∷ []) r7 r8 g7 e8) e9 in
+    grown (l8 ++ rs) (e ∷ []) r9 r10 g9 e10 ∙ ap ended (regrouped q h v s c e ks fs ts rs)
+
+-- the bytes behind all lines are the head
+pub head_joined : (head : Head) (to : Going) (method said : List ℕ) (fields : List Field) (listed : List (List ℕ))
+    (r0 r1 r2 r3 r4 r5 r6 r7 r8 r9 r10 r11 : List ℕ)
+    → method ≡ head.method
+    → said ≡ via head.version
+    → fields ≡ head.fields
+    → listed ≡ named_in_connection head.fields
+    → r0 ≡ []
+    → r1 ≡ r0 ++ ended (request_line method to.target.now ∷ [])
+    → r2 ≡ r1 ++ ended (line_of (codes "Host") to.host.now ∷ [])
+    → r3 ≡ r2 ++ kept_lines listed fields
+    → r4 ≡ r3 ++ ended (framing_lines to.framing)
+    → r5 ≡ r4 ++ ended (line_of (codes "Via") said ∷ [])
+    → r6 ≡ r5 ++ ended (table_lines (rules_of to.local.now))
+    → r7 ≡ r6 ++ ended (line_of (codes "l5d-dst-service") (canon_path to.service.now) ∷ [])
+    → r8 ≡ r7 ++ ended (line_of (codes "l5d-dst-client") to.client.now ∷ [])
+    → r9 ≡ r8 ++ ended (residual_lines to.residual.now)
+    → r10 ≡ r9 ++ ended (line_of (codes "Connection") (codes "close") ∷ [])
+    → r11 ≡ r10 ++ crlf
+    → r11 ≡ forwarded head to
+unfolding forwarded
+head_joined head to method said fields listed r0 r1 r2 r3 r4 r5 r6 r7 r8 r9 r10 r11 m v f l e0 e1 e2 e3 e4 e5 e6 e7 e8 e9 e10 e11 =
+    let first : r1 ≡ r0 ++ ended (request_line head.method to.target.now ∷ [])
+    = e1 ∙ ap (λ t. r0 ++ ended (request_line t to.target.now ∷ [])) m in
+    let third : r3 ≡ r2 ++ kept_lines (named_in_connection head.fields) head.fields = e3 ∙ (λ k. r2 ++ kept_lines (l k) (f k)) in
+    let fifth : r5 ≡ r4 ++ ended (line_of (codes "Via") (via head.version) ∷ []) = e5 ∙ ap (λ t. r4 ++ ended (line_of (codes "Via") t ∷ [])) v in
+    e11
+    ∙ ap (λ b. b ++ crlf)
+    (all_joined (request_line head.method to.target.now) (line_of (codes "Host") to.host.now) (line_of (codes "Via") (via head.version))
+    (line_of (codes "l5d-dst-service") (canon_path to.service.now)) (line_of (codes "l5d-dst-client") to.client.now)
+    (line_of (codes "Connection") (codes "close")) (map field_line (kept_beside (named_in_connection head.fields) head.fields)) (framing_lines to.framing)
+    (table_lines (rules_of to.local.now)) (residual_lines to.residual.now) r0 r1 r2 r3 r4 r5 r6 r7 r8 r9 r10 e0 first e2 third e4 fifth e6 e7 e8 e9 e10)

@@ -1,0 +1,130 @@
+//! The whole head, line by line.
+ghost use Rattle.std.specs.Prelude.{◌≡◌, ◌++◌, [], ◌∷◌, codes, IfOk, OnOk};
+ghost use Rattle.name_tree.specs.Path.{canon_path};
+ghost use Rattle.dtab_table.specs.Dtab.{rules_of};
+ghost use Rattle.forward.specs.Lines.{ended, line_of};
+ghost use Rattle.forward.specs.Forwarded.{forwarded, framing_lines, request_line, residual_lines, table_lines, via};
+
+use crate::dropped::push_kept;
+use crate::line::{end_line, push_field, push_line};
+use crate::names::named_in_connection;
+use crate::{Bytes, Mem};
+use dtab_table::{Dtab, write_dtab};
+use http_wire::{Framing, Head};
+use itoa::Buffer;
+use name_tree::{Path, append_path};
+use std::alloc::Global;
+
+/// What the head has on its way to a replica, beside what was received. Each text stands in the head as it is given here, so the caller
+/// sees to it that none has a CR or an LF.
+#[derive(Clone, Copy, Debug)]
+pub struct Going<'a> {
+    /// The value of the Host field: whom the request asks, or the address that is dialled where it names nobody.
+    pub host: &'a [u8],
+    /// The target of the request line, as [`read_target`](http_wire::read_target) gives it: a path with its query, or `*`.
+    pub target: &'a [u8],
+    /// How the body behind the head is framed. `ToEnd`, which no request has, writes what `Nothing` does.
+    pub framing: Framing,
+    /// The table that the request brought along.
+    pub local: &'a Dtab,
+    /// The path that the request was identified as.
+    pub service: &'a Path,
+    /// The canonical text of the path of the replica set that was picked.
+    pub client: &'a [u8],
+    /// The canonical text of the path that was left over. `/`, the text of the path with no label, and no bytes at all both say
+    /// that nothing was.
+    pub residual: &'a [u8],
+}
+
+/// How many bytes a head has room for from the start. It grows where it needs more.
+const ROOM: usize = 1024;
+
+/// The head of the request as it goes on to a replica: `docs/HTTP.md` has its lines in order.
+///
+/// It takes time for the bytes of both heads, and compares each field's name with each name that the Connection fields list. It takes
+/// memory for the bytes that it gives, for a reference to each listed name, and for the text of the table, if that has an entry.
+pub fn forward_head(alloc: Global, head: &Head, to: &Going<'_>) -> Mem<Bytes>
+    ensures { IfOk result (λ bytes. bytes.items ≡ forwarded head.now to.now) }
+{
+    let mut bytes = Vec::with_capacity(alloc, ROOM)?;
+    let listed = named_in_connection(alloc, head.fields.items())?;
+    push_request_line(&mut bytes, head.method.as_str(), to.target)?;
+    push_line(&mut bytes, "Host", to.host)?;
+    push_kept(&mut bytes, head.fields.items(), listed.as_slice())?;
+    push_framing(&mut bytes, to.framing)?;
+    push_line(&mut bytes, "Via", via(head.version).as_bytes())?;
+    push_table(alloc, &mut bytes, to.local)?;
+    push_service(&mut bytes, to.service)?;
+    push_line(&mut bytes, "l5d-dst-client", to.client)?;
+    push_residual(&mut bytes, to.residual)?;
+    push_line(&mut bytes, "Connection", b"close")?;
+    end_line(&mut bytes)?;
+    Ok(bytes)
+}
+
+/// Adds the request line.
+fn push_request_line(head: &mut Bytes, method: &str, target: &[u8]) -> Mem<()>
+    ensures { OnOk result (head.new.items ≡ head.old.items ++ ended (request_line method.now target.now ∷ [])) }
+{
+    head.extend_from_slice(method.as_bytes())?;
+    head.extend_from_slice(b" ")?;
+    head.extend_from_slice(target)?;
+    head.extend_from_slice(b" HTTP/1.1")?;
+    end_line(head)
+}
+
+/// Adds the field that frames the body, if one does.
+fn push_framing(head: &mut Bytes, framing: Framing) -> Mem<()>
+    ensures { OnOk result (head.new.items ≡ head.old.items ++ ended (framing_lines framing)) }
+{
+    match framing {
+        Framing::Nothing | Framing::ToEnd => Ok(()),
+        Framing::Length(length) => {
+            let mut digits = Buffer::new();
+            push_line(head, "Content-Length", digits.format(length).as_bytes())
+        }
+        Framing::Chunked => push_line(head, "Transfer-Encoding", b"chunked"),
+    }
+}
+
+/// The value of the Via field that is added, by the minor version of the request.
+fn via(minor: u8) -> &'static str
+    ensures { result.now ≡ via minor }
+{
+    if minor == 0 {
+        "1.0 linkerd"
+    } else {
+        "1.1 linkerd"
+    }
+}
+
+/// Adds the request's own table, unless it has no entry.
+fn push_table(alloc: Global, head: &mut Bytes, table: &Dtab) -> Mem<()>
+    ensures { OnOk result (head.new.items ≡ head.old.items ++ ended (table_lines (rules_of table.now))) }
+{
+    if table.len() == 0 {
+        return Ok(());
+    }
+    let text = write_dtab(alloc, table)?;
+    push_line(head, "l5d-ctx-dtab", text.as_slice())
+}
+
+/// Adds the path that the request was identified as.
+fn push_service(head: &mut Bytes, service: &Path) -> Mem<()>
+    ensures { OnOk result (head.new.items ≡ head.old.items ++ ended (line_of (codes "l5d-dst-service") (canon_path service.now) ∷ [])) }
+{
+    head.extend_from_slice(b"l5d-dst-service: ")?;
+    append_path(service, head)?;
+    end_line(head)?;
+    Ok(())
+}
+
+/// Adds the residual path, unless it has no label.
+fn push_residual(head: &mut Bytes, residual: &[u8]) -> Mem<()>
+    ensures { OnOk result (head.new.items ≡ head.old.items ++ ended (residual_lines residual.now)) }
+{
+    if residual.is_empty() || residual == b"/".as_slice() {
+        return Ok(());
+    }
+    push_line(head, "l5d-dst-residual", residual)
+}

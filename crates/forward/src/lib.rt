@@ -1,0 +1,47 @@
+//! The head of a request as it goes on to a replica.
+//!
+//! [`forward_head`] writes it from the [`Head`](http_wire::Head) that was received and from what [`Going`] says of the way that the
+//! request takes. It names the host once, leaves out the fields that speak of one connection and those that a Connection field
+//! lists, frames the body anew, and adds the router's own fields. `docs/HTTP.md` states each line.
+//!
+//! # What is proved
+//! [`forward_head`] gives exactly the bytes of `forwarded` of `specs/Forwarded.antt`, for every head and every way. `kept` of
+//! `specs/Dropped.antt` says which fields are among them.
+//!
+//! # Example
+//! ```
+//! // `GET / HTTP/1.1`, `Host: web`, `Connection: x-gone`, `X-Gone: 1`, `X-Kept: 2`
+//! let head = read_request_head(alloc, &mut peer, &mut rest)?;
+//! let to = Going {
+//!     host: b"web",
+//!     target: b"/",
+//!     framing: Framing::Nothing,
+//!     local: &Dtab::empty(alloc),
+//!     service: &read_path(alloc, b"/svc/web")?,
+//!     client: b"/$/inet/127.0.0.1/9001",
+//!     residual: b"/",
+//! };
+//! assert_eq!(
+//!     forward_head(alloc, &head, &to)?.as_slice(),
+//!     b"GET / HTTP/1.1\r\nHost: web\r\nX-Kept: 2\r\nVia: 1.1 linkerd\r\nl5d-dst-service: /svc/web\r\nl5d-dst-client: /$/inet/127.0.0.1/9001\r\nConnection: close\r\n\r\n"
+//! );
+//! ```
+#![tactic(auto)]
+
+use std::alloc::AllocError;
+
+mod dropped;
+mod going;
+mod line;
+mod names;
+
+pub use going::{Going, forward_head};
+
+/// A value, unless there was no memory for it.
+pub type Mem<T> = Result<T, AllocError>;
+
+/// Bytes of a text.
+pub type Bytes = Vec<u8>;
+
+#[cfg(test)]
+mod tests;

@@ -1,0 +1,4 @@
+pub mod Forms
+pub mod Pieces
+pub mod Sounds
+pub mod Tables
