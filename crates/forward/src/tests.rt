@@ -50,16 +50,15 @@ fn read_head(alloc: Global, request: &str) -> Result<Head, Fail> {
 fn forwarded(alloc: Global, row: &Row) -> Result<Bytes, Fail> {
     let head = read_head(alloc, row.request)?;
     let target = read_target(alloc, &head).map_err(|fault| Fail::from(fault))?;
-    let host = read_host(alloc, &head, &target).map_err(|fault| Fail::from(fault))?;
+    let mut host = read_host(alloc, &head, &target).map_err(|fault| Fail::from(fault))?;
+    if host.is_empty() {
+        host.extend_from_slice(ADDRESS.as_bytes())?;
+    }
     let framing = framing(&head).map_err(|fault| Fail::from(fault))?;
     let local = read_dtab(alloc, row.table.as_bytes()).map_err(|fault| Fail::from(fault))?;
     let service = read_path(alloc, row.service.as_bytes()).map_err(|fault| Fail::from(fault))?;
     let to = Going {
-        host: if host.is_empty() {
-            ADDRESS.as_bytes()
-        } else {
-            host.as_slice()
-        },
+        host: host.as_slice(),
         target: target.line.as_slice(),
         framing,
         local: &local,

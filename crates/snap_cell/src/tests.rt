@@ -1,5 +1,6 @@
 //! Cells over a sum: that calls succeed, and what readers see of what was published.
 ghost use Rattle.std.specs.Prelude.{◌≡◌, ◌+◌, ◌<◌, ◌≤◌, ◌%◌, ◌^◌, ◌++◌, [], ◌∷◌, length, fold, OnOk, IfSome, IfNone};
+ghost use Rattle.std.specs.Thread.{IsSync};
 ghost use mathlib.Core.List.{IsPrefix};
 ghost use Rattle.snap_cell.specs.Views.{seen_of, items_of, cell_of, opening_of, EachOf, Refused};
 ghost use Rattle.snap_cell.specs.Writers.{published_by, cell_written, opening_written, reader_count};
@@ -218,31 +219,79 @@ fn watch(reader: &mut Reader<Sum, Add, u64>, turns: u64) -> bool
     true
 }
 
-// One thread publishes, and another reads.
-fn race<R: Wait + Threads + Sync>(
+/// One thread reads while this one publishes: whether the reader never saw the sum fall, and whether all was published.
+fn publish_beside<R: Wait + Threads + Sync>(
     rt: &R,
     writer: &mut Writer<Sum, Add>,
-    readers: &mut Vec<Reader<Sum, Add, u64>>,
-) -> (bool, bool, Option<u64>)
-    requires own { EachOf (cell_written writer.old) readers.old.items }
-    requires one { (length readers.old.items ≡ 1) × (reader_count writer.old ≡ 1) }
-    ensures own { EachOf (cell_written writer.new) readers.new.items }
-    ensures one { (length readers.new.items ≡ 1) × (reader_count writer.new ≡ 1) }
+    reader: &mut Reader<Sum, Add, u64>,
+) -> (bool, bool)
+    requires { 0 < reader_count writer.old }
+    ensures writer { cell_written writer.new ≡ cell_written writer.old }
+    ensures reader { cell_of reader.new ≡ cell_of reader.old }
 {
-    let reader = &mut readers[0];
-    let (rose, published) = join_mut(
+    join_mut(
         rt,
         &mut || watch(reader, 20_000),
         &mut || publish_ones(rt, writer, 10_000),
-    );
-    (published, rose, read(&mut readers[0], 0))
+    )
+}
+
+/// Two threads read while this one publishes.
+fn race<R: Wait + Threads + Sync>(
+    rt: &R,
+    writer: &mut Writer<Sum, Add>,
+    first: &mut Reader<Sum, Add, u64>,
+    second: &mut Reader<Sum, Add, u64>,
+) -> (bool, (bool, bool))
+    requires { 0 < reader_count writer.old }
+    ensures writer { cell_written writer.new ≡ cell_written writer.old }
+    ensures first { cell_of first.new ≡ cell_of first.old }
+    ensures second { cell_of second.new ≡ cell_of second.old }
+{
+    join_mut(
+        rt,
+        &mut || watch(first, 20_000),
+        &mut || -> (bool, bool)
+            requires { IsSync R.row × (0 < reader_count writer.now) }
+        { publish_beside(rt, writer, second) },
+    )
+}
+
+/// The race of a cell's two readers.
+fn race_of_two<R: Wait + Threads + Sync>(
+    rt: &R,
+    writer: &mut Writer<Sum, Add>,
+    readers: &mut Vec<Reader<Sum, Add, u64>>,
+) -> (bool, (bool, bool))
+    requires own { EachOf (cell_written writer.old) readers.old.items }
+    requires two { (length readers.old.items ≡ 2) × (reader_count writer.old ≡ 2) }
+    ensures own { EachOf (cell_written writer.new) readers.new.items }
+    ensures two { (length readers.new.items ≡ 2) × (reader_count writer.new ≡ 2) }
+{
+    let (front, back) = readers.split_at_mut(1);
+    race(rt, writer, &mut front[0], &mut back[0])
+}
+
+/// The race, and what both readers see in the end.
+fn race_and_read<R: Wait + Threads + Sync>(
+    rt: &R,
+    writer: &mut Writer<Sum, Add>,
+    readers: &mut Vec<Reader<Sum, Add, u64>>,
+) -> ((bool, (bool, bool)), Option<u64>, Option<u64>)
+    requires own { EachOf (cell_written writer.old) readers.old.items }
+    requires two { (length readers.old.items ≡ 2) × (reader_count writer.old ≡ 2) }
+    ensures own { EachOf (cell_written writer.new) readers.new.items }
+    ensures two { (length readers.new.items ≡ 2) × (reader_count writer.new ≡ 2) }
+{
+    let told = race_of_two(rt, writer, readers);
+    (told, read(&mut readers[0], 0), read(&mut readers[1], 0))
 }
 
 #[test]
 fn what_is_entered_never_falls_back(rt: HostRuntime) -> Result<(), Fail> {
-    let (mut writer, mut readers) = start::<Sum, Add, u64, _>(&rt, rt.alloc(), Sum(0), Sum(0), 1)?;
-    let told = race(&rt, &mut writer, &mut readers);
+    let (mut writer, mut readers) = start::<Sum, Add, u64, _>(&rt, rt.alloc(), Sum(0), Sum(0), 2)?;
+    let told = race_and_read(&rt, &mut writer, &mut readers);
     end(&rt, writer, readers);
-    assert_eq!(rt; told, (true, true, Some(10_000)));
+    assert_eq!(rt; told, ((true, (true, true)), Some(10_000), Some(10_000)));
     Ok(())
 }
