@@ -2,8 +2,8 @@
 use Rattle.std.proofs.Common.{◌≡◌, ℕ, zero, suc, ◌+◌, ◌<◌, ◌≤◌, Bool, true, false, List, [], ◌∷◌, ◌++◌, Option, Some, None, length, refl, sym, ap, subst, arith}
 use Rattle.std.specs.Prelude.{nat_lt, ◌==◌, if◌then◌else◌, option_map, Result, Ok, Err, IfOk}
 use Rattle.std.specs.Option.{option_to_list}
-use Rattle.dtab_table.specs.Path.{Labels, canon_path}
-use Rattle.dtab_table.specs.Value.{Name, Names, Branches, leaf, neg, fail, empty, alt, union, none, more, no_branch, branch, append_rest, append_rest_all, append_rest_branches}
+use Rattle.name_tree.specs.Path.{Labels, canon_path}
+use Rattle.name_tree.specs.Value.{TreeValue, TreeValues, Branches, leaf, neg, fail, empty, alt, union, none, more, no_branch, branch, append_rest, append_rest_all, append_rest_branches}
 use Rattle.dtab_table.specs.Dtab.{Rule, rest_behind, rewrites}
 use Rattle.dtab_table.specs.TableCanon.{AreSoundRules}
 use Rattle.name_tree.specs.Canon.{IsSound, AreSound, AreSoundBranches, count_names, count_branches, most_members, weight_bound}
@@ -15,7 +15,7 @@ use Rattle.bind_core.specs.Delegation.{Ending, Told, Evaluated, negative, failin
 use Rattle.bind_core.specs.Outcome.{ending_of}
 use Rattle.bind_core.specs.Stack.{IsAnswer}
 
-count_names-rest : (ts : Names) (rest : Labels) → count_names (append_rest_all ts rest) ≡ count_names ts
+count_names-rest : (ts : TreeValues) (rest : Labels) → count_names (append_rest_all ts rest) ≡ count_names ts
 count_names-rest none rest = refl
 count_names-rest (more t ts) rest = ap (λ (n : ℕ). 1 + n) (count_names-rest ts rest)
 
@@ -25,7 +25,7 @@ count_branches-rest (branch n t bs) rest = ap (λ (n : ℕ). 1 + n) (count_branc
 
 mutual
   -- labels behind the leaves leave a tree sound
-  rest-sound : (t : Name) (rest : Labels) → IsSound t → IsSound (append_rest t rest)
+  rest-sound : (t : TreeValue) (rest : Labels) → IsSound t → IsSound (append_rest t rest)
   rest-sound (leaf path) rest h = tt
   rest-sound neg rest h = tt
   rest-sound fail rest h = tt
@@ -33,7 +33,7 @@ mutual
   rest-sound (alt ts) rest h = (omega (arith, h.0, count_names-rest ts rest), omega (arith, h.1, count_names-rest ts rest), rest_all-sound ts rest h.2)
   rest-sound (union bs) rest h = (omega (arith, h.0, count_branches-rest bs rest), omega (arith, h.1, count_branches-rest bs rest), rest_branches-sound bs rest h.2)
 
-  rest_all-sound : (ts : Names) (rest : Labels) → AreSound ts → AreSound (append_rest_all ts rest)
+  rest_all-sound : (ts : TreeValues) (rest : Labels) → AreSound ts → AreSound (append_rest_all ts rest)
   rest_all-sound none rest h = tt
   rest_all-sound (more t ts) rest h = (rest-sound t rest h.0, rest_all-sound ts rest h.1)
 
@@ -41,11 +41,11 @@ mutual
   rest_branches-sound no_branch rest h = tt
   rest_branches-sound (branch n t bs) rest h = (h.0, rest-sound t rest h.1, rest_branches-sound bs rest h.2)
 
-abbrev AllSound : List Name → Type 0
+abbrev AllSound : List TreeValue → Type 0
 AllSound [] = Unit {0}
 AllSound (t ∷ ts) = IsSound t × AllSound ts
 
-AllSound-append : (ts us : List Name) → AllSound ts → AllSound us → AllSound (ts ++ us)
+AllSound-append : (ts us : List TreeValue) → AllSound ts → AllSound us → AllSound (ts ++ us)
 AllSound-append [] us h k = k
 AllSound-append (t ∷ ts) us h k = (h.0, AllSound-append ts us h.1 k)
 
@@ -120,7 +120,7 @@ module _ (look : Labels → Told) (bounded : (path : Labels) → EndsBounded (lo
       ]
 
   mutual
-    walk-bounded : (t : Name) → IsSound t → EndsBounded (walk look t)
+    walk-bounded : (t : TreeValue) → IsSound t → EndsBounded (walk look t)
     walk-bounded (leaf path) h = bounded path
     walk-bounded neg h = tt
     walk-bounded fail h = tt
@@ -128,7 +128,7 @@ module _ (look : Labels → Told) (bounded : (path : Labels) → EndsBounded (lo
     walk-bounded (alt ts) h = walk_all-bounded ts h.2
     walk-bounded (union bs) h = together-bounded (walk_each look bs) (omega (arith, walk_each-count bs, h.1)) (walk_each-bounded bs h.2)
 
-    walk_all-bounded : (ts : Names) → AreSound ts → EndsBounded (walk_all look ts)
+    walk_all-bounded : (ts : TreeValues) → AreSound ts → EndsBounded (walk_all look ts)
     walk_all-bounded none h = tt
     walk_all-bounded (more t ts) h = or_else-bounded (walk look t) (walk_all look ts) (walk-bounded t h.0) (walk_all-bounded ts h.1)
 
@@ -140,7 +140,7 @@ module _ (look : Labels → Told) (bounded : (path : Labels) → EndsBounded (lo
           | false ↦ (h.0, walk-bounded t h.1, walk_each-bounded bs h.2)
         ]
 
-  first_of-bounded : (ts : List Name) → AllSound ts → EndsBounded (first_of look ts)
+  first_of-bounded : (ts : List TreeValue) → AllSound ts → EndsBounded (first_of look ts)
   first_of-bounded [] h = tt
   first_of-bounded (t ∷ ts) h = or_else-bounded (walk look t) (first_of look ts) (walk-bounded t h.0) (first_of-bounded ts h.1)
 

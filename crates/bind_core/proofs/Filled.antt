@@ -2,8 +2,8 @@
 use Rattle.std.proofs.Common.{ℕ, zero, suc, ◌<◌, Bool, true, false, List, [], ◌∷◌, ◌++◌, Option, Some, None, length, inl, inr, refl, sym, subst, arith}
 use Rattle.std.specs.Prelude.{nat_lt, if◌then◌else◌, Result, Ok, Err, IfOk, IsSome}
 use Rattle.std.proofs.lemmas.Bool.Decides.{nat_tests}
-use Rattle.dtab_table.specs.Path.{Labels, canon_path}
-use Rattle.dtab_table.specs.Value.{Name, Names, Branches, leaf, neg, fail, empty, alt, union, none, more, no_branch, branch}
+use Rattle.name_tree.specs.Path.{Labels, canon_path}
+use Rattle.name_tree.specs.Value.{TreeValue, TreeValues, Branches, leaf, neg, fail, empty, alt, union, none, more, no_branch, branch}
 use Rattle.dtab_table.specs.Dtab.{Rule, rewrites}
 use Rattle.bind_core.specs.declared.leaf.Leaf.{Leaf}
 use Rattle.bind_core.specs.declared.outcome.Delegated.{Delegated}
@@ -56,7 +56,7 @@ together-filled bs h =
 
 module _ (look : Labels → Told) (filled : (path : Labels) → EndsFilled (look path)) where
   mutual
-    walk-filled : (t : Name) → EndsFilled (walk look t)
+    walk-filled : (t : TreeValue) → EndsFilled (walk look t)
     walk-filled (leaf path) = filled path
     walk-filled neg = tt
     walk-filled fail = tt
@@ -64,7 +64,7 @@ module _ (look : Labels → Told) (filled : (path : Labels) → EndsFilled (look
     walk-filled (alt ts) = walk_all-filled ts
     walk-filled (union bs) = together-filled (walk_each look bs) (walk_each-filled bs)
 
-    walk_all-filled : (ts : Names) → EndsFilled (walk_all look ts)
+    walk_all-filled : (ts : TreeValues) → EndsFilled (walk_all look ts)
     walk_all-filled none = tt
     walk_all-filled (more t ts) = or_else-filled (walk look t) (walk_all look ts) (walk-filled t) (walk_all-filled ts)
 
@@ -75,7 +75,7 @@ module _ (look : Labels → Told) (filled : (path : Labels) → EndsFilled (look
       | inr some ↦ (let above : 0 < n = grind (arith, nat_tests) in rw some (above, walk-filled t, walk_each-filled bs))
     ]
 
-  first_of-filled : (ts : List Name) → EndsFilled (first_of look ts)
+  first_of-filled : (ts : List TreeValue) → EndsFilled (first_of look ts)
   first_of-filled [] = tt
   first_of-filled (t ∷ ts) = or_else-filled (walk look t) (first_of look ts) (walk-filled t) (first_of-filled ts)
 

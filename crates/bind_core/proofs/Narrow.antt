@@ -1,8 +1,8 @@
 -- Trees and lookups are never too wide: that is for the whole delegation to say.
 use Rattle.std.proofs.Common.{◌≡◌, ℕ, zero, suc, Bool, true, false, List, [], ◌∷◌, Option, Some, None, length}
 use Rattle.std.specs.Prelude.{nat_lt, ◌==◌, if◌then◌else◌}
-use Rattle.dtab_table.specs.Path.{Labels, canon_path}
-use Rattle.dtab_table.specs.Value.{Name, Names, Branches, leaf, neg, fail, empty, alt, union, none, more, no_branch, branch}
+use Rattle.name_tree.specs.Path.{Labels, canon_path}
+use Rattle.name_tree.specs.Value.{TreeValue, TreeValues, Branches, leaf, neg, fail, empty, alt, union, none, more, no_branch, branch}
 use Rattle.dtab_table.specs.Dtab.{Rule, rewrites}
 use Rattle.bind_core.specs.declared.leaf.Leaf.{Leaf}
 use Rattle.bind_core.specs.Addr.{named_leaf}
@@ -39,7 +39,7 @@ together-IsNarrow bs =
 
 module _ (look : Labels → Told) (narrow : (path : Labels) → IsNarrow (look path)) where
   mutual
-    pub walk-IsNarrow : (t : Name) → IsNarrow (walk look t)
+    pub walk-IsNarrow : (t : TreeValue) → IsNarrow (walk look t)
     walk-IsNarrow (leaf path) = narrow path
     walk-IsNarrow neg = λ h. cc
     walk-IsNarrow fail = λ h. cc
@@ -47,7 +47,7 @@ module _ (look : Labels → Told) (narrow : (path : Labels) → IsNarrow (look p
     walk-IsNarrow (alt ts) = walk_all-IsNarrow ts
     walk-IsNarrow (union bs) = together-IsNarrow (walk_each look bs)
 
-    walk_all-IsNarrow : (ts : Names) → IsNarrow (walk_all look ts)
+    walk_all-IsNarrow : (ts : TreeValues) → IsNarrow (walk_all look ts)
     walk_all-IsNarrow none = λ h. cc
     walk_all-IsNarrow (more t ts) = or_else-IsNarrow (walk look t) (walk_all look ts) (walk-IsNarrow t) (walk_all-IsNarrow ts)
 
@@ -59,7 +59,7 @@ module _ (look : Labels → Told) (narrow : (path : Labels) → IsNarrow (look p
         | false ↦ (walk-IsNarrow t, walk_each-AreNarrow bs)
       ]
 
-  first_of-IsNarrow : (ts : List Name) → IsNarrow (first_of look ts)
+  first_of-IsNarrow : (ts : List TreeValue) → IsNarrow (first_of look ts)
   first_of-IsNarrow [] = λ h. cc
   first_of-IsNarrow (t ∷ ts) = or_else-IsNarrow (walk look t) (first_of look ts) (walk-IsNarrow t) (first_of-IsNarrow ts)
 

@@ -5,8 +5,8 @@ use Rattle.std.proofs.lemmas.Bool.{cases_lt}
 use Rattle.std.proofs.lemmas.Bool.Decides.{nat_tests}
 use Rattle.std.proofs.lemmas.List.{append-nil}
 use Rattle.dtab_table.specs.Dtab.{Rule, rewrites}
-use Rattle.dtab_table.specs.Path.{Labels, canon_path}
-use Rattle.dtab_table.specs.Value.{Name, alt, names, Branches, union}
+use Rattle.name_tree.specs.Path.{Labels, canon_path}
+use Rattle.name_tree.specs.Value.{TreeValue, alt, tree_values, Branches, union}
 use Rattle.bind_core.specs.declared.frame.Choice.{Choice}
 use Rattle.bind_core.specs.declared.frame.Union.{Union}
 use Rattle.bind_core.specs.declared.frame.Frame.{Frame}
@@ -17,7 +17,7 @@ use Rattle.bind_core.specs.Addr.{named_leaf}
 use Rattle.bind_core.specs.Delegation.{Told, first_of, counted, lookup, named_ending, walk, walk_each, most_wide, most_path_bytes, negative, failing, no_replica, too_deep, too_wide, bound, or_else}
 use Rattle.bind_core.specs.Kept.{kept_of, nothing_kept}
 use Rattle.bind_core.specs.Stack.{ends_all, behind, tree_work, list_work, path_work, stack_work, frame_work, choice_names, union_branches, choice_told, frame_on, resume, told_of, IsTooWide, IsStep}
-use Rattle.bind_core.proofs.Trees.{walk_all-names, all_work-names}
+use Rattle.bind_core.proofs.Trees.{walk_all-tree_values, all_work-tree_values}
 use Rattle.bind_core.proofs.Narrow.{walk_each-AreNarrow, lookup-IsNarrow}
 use Rattle.bind_core.proofs.Unions.{union_told-together, union_told-more, union_told-ended}
 
@@ -177,20 +177,20 @@ module _ (rules : List Rule) (path : Labels) where
             });
       }
 
-module _ (rules : List Rule) (tree : Name) (left count : ℕ) (old new : List Frame) (few : count ≤ most_wide) (d : Delegated) (outcome_is : d.outcome ≡ outcome.Neg) (cost_is : d.cost ≡ count) where
+module _ (rules : List Rule) (tree : TreeValue) (left count : ℕ) (old new : List Frame) (few : count ≤ most_wide) (d : Delegated) (outcome_is : d.outcome ≡ outcome.Neg) (cost_is : d.cost ≡ count) where
   -- an alternation puts one frame on the stack
-  pub alt_step : (ts : List Name) (f : Choice) → tree ≡ alt (names ts) → new ≡ old ++ frame.Choice f ∷ [] → f.left ≡ left → choice_names f ≡ ts → f.named ≡ None
+  pub alt_step : (ts : List TreeValue) (f : Choice) → tree ≡ alt (tree_values ts) → new ≡ old ++ frame.Choice f ∷ [] → f.left ≡ left → choice_names f ≡ ts → f.named ≡ None
       → IsStep rules (behind count (walk (lookup rules left) tree)) (tree_work (path_work rules left) tree) old new d
   alt_step ts f is pushed left_is trees_are named_is = record {
     more = frame.Choice f ∷ [];
     pushed = pushed;
-    less = rw (is, left_is, trees_are) (omega (arith, all_work-names (path_work rules left) ts));
+    less = rw (is, left_is, trees_are) (omega (arith, all_work-tree_values (path_work rules left) ts));
     leads =
         inl (record {
           few = omega arith;
           same =
               rw (is, left_is, trees_are, named_is, outcome_is, cost_is)
-              (ap (behind count) (ended (first_of (lookup rules left) ts) ∙ sym (walk_all-names (lookup rules left) ts)));
+              (ap (behind count) (ended (first_of (lookup rules left) ts) ∙ sym (walk_all-tree_values (lookup rules left) ts)));
         });
   }
 

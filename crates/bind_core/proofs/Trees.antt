@@ -3,17 +3,17 @@ use Rattle.std.proofs.Common.{◌≡◌, ℕ, ◌+◌, ◌<◌, ◌≤◌, List,
 use Rattle.std.specs.Prelude.{◌==◌}
 use Rattle.std.proofs.lemmas.Bool.Decides.{nat_tests}
 use Rattle.name_tree.specs.Path.{Labels}
-use Rattle.name_tree.specs.Value.{Name, names, Branches, no_branch, branch}
+use Rattle.name_tree.specs.Value.{TreeValue, tree_values, Branches, no_branch, branch}
 use Rattle.bind_core.specs.Delegation.{Told, or_else, walk, walk_all, walk_each, first_of}
 use Rattle.bind_core.specs.Stack.{tree_work, all_work, list_work, each_work, weighted}
 
-pub walk_all-names : (look : Labels → Told) (ts : List Name) → walk_all look (names ts) ≡ first_of look ts
-walk_all-names look [] = refl
-walk_all-names look (t ∷ ts) = ap (or_else (walk look t)) (walk_all-names look ts)
+pub walk_all-tree_values : (look : Labels → Told) (ts : List TreeValue) → walk_all look (tree_values ts) ≡ first_of look ts
+walk_all-tree_values look [] = refl
+walk_all-tree_values look (t ∷ ts) = ap (or_else (walk look t)) (walk_all-tree_values look ts)
 
-pub all_work-names : (work : Labels → ℕ) (ts : List Name) → all_work work (names ts) ≡ list_work work ts
-all_work-names work [] = refl
-all_work-names work (t ∷ ts) = ap (λ (k : ℕ). tree_work work t + k) (all_work-names work ts)
+pub all_work-tree_values : (work : Labels → ℕ) (ts : List TreeValue) → all_work work (tree_values ts) ≡ list_work work ts
+all_work-tree_values work [] = refl
+all_work-tree_values work (t ∷ ts) = ap (λ (k : ℕ). tree_work work t + k) (all_work-tree_values work ts)
 
 -- the weight of a branch is 0, or it is not
 pub zero_or : (n : ℕ) → ((n == 0) ≡ true) ⊎ ((n == 0) ≡ false)
@@ -28,5 +28,5 @@ pub each_work-weighted : (work : Labels → ℕ) (bs : Branches) → each_work w
 each_work-weighted work no_branch = omega arith
 each_work-weighted work (branch n t bs) = elim (zero_or n) [ inl zero ↦ rw zero (omega (arith, each_work-weighted work bs)) | inr some ↦ rw some (omega arith) ]
 
-pub walk_each-some : (look : Labels → Told) (n : ℕ) (t : Name) (bs : Branches) → 0 < n → walk_each look (branch n t bs) ≡ record { weight = n; told = walk look t } ∷ walk_each look bs
+pub walk_each-some : (look : Labels → Told) (n : ℕ) (t : TreeValue) (bs : Branches) → 0 < n → walk_each look (branch n t bs) ≡ record { weight = n; told = walk look t } ∷ walk_each look bs
 walk_each-some look n t bs some = let test : (n == 0) ≡ false = grind (arith, nat_tests) in rw test refl

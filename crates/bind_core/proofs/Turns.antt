@@ -6,9 +6,9 @@ use Rattle.std.specs.Vec.Iter.{into_iter_items, into_iter_len}
 use Rattle.std.proofs.lemmas.Bool.Decides.{nat_tests}
 use Rattle.name_tree.specs.declared.tree.Tree.{Tree}
 use Rattle.name_tree.specs.declared.tree.Branch.{Branch}
-use Rattle.dtab_table.specs.Path.{Labels}
-use Rattle.dtab_table.specs.Value.{Name, Branches, no_branch, branch}
-use Rattle.dtab_table.specs.Tree.{name_of}
+use Rattle.name_tree.specs.Path.{Labels}
+use Rattle.name_tree.specs.Value.{TreeValue, Branches, no_branch, branch}
+use Rattle.name_tree.specs.Tree.{value_of}
 use Rattle.dtab_table.specs.Dtab.{Rule}
 use Rattle.bind_core.specs.declared.frame.Choice.{Choice}
 use Rattle.bind_core.specs.declared.frame.Union.{Union}
@@ -37,7 +37,7 @@ keeps outcome.TooDeep n x other = refl
 keeps outcome.TooWide n x other = refl
 keeps (outcome.Bound found) n x other = refl
 
-some_work : (work : _) (ts : List Name) → 0 < list_work work ts
+some_work : (work : _) (ts : List TreeValue) → 0 < list_work work ts
 some_work work [] = omega arith
 some_work work (t ∷ ts) = omega (arith, some_work work ts)
 
@@ -130,13 +130,13 @@ let_go rules (frame.Union f) fs told few passes = absurd passes
 pub emptied : (rules : List Rule) (f : Choice) (fs : List Frame) (told new : Delegated) → told.cost ≤ most_wide → told.outcome ≡ outcome.Neg → into_iter_len f.trees ≡ 0
     → ending_of new.outcome ≡ named_ending f.named → new.cost ≡ told.cost → IsStep rules (or_else (told_of told) (choice_told rules f)) (choice_work rules f) fs fs new
 emptied rules f fs told new few is none end_is cost_is =
-    let names : choice_names f ≡ [] = ap (map name_of) (no_trees f.trees none) in
+    let tree_values : choice_names f ≡ [] = ap (map value_of) (no_trees f.trees none) in
     let sums : told.cost ≡ told.cost + (0 + 0) = omega arith in
     told_step rules (or_else (told_of told) (choice_told rules f)) (choice_work rules f) fs new (some_work (path_work rules f.left) (choice_names f)) (omega arith)
-    (rw (is, names, end_is, cost_is) (ap (λ (k : ℕ). (named_ending f.named, k)) sums))
+    (rw (is, tree_values, end_is, cost_is) (ap (λ (k : ℕ). (named_ending f.named, k)) sums))
 
 -- else it is left with the trees behind the next
-pub chosen : (rules : List Rule) (f g : Choice) (t : Name) (ts : List Name) (fs base new : List Frame) (told : Delegated) → choice_names f ≡ t ∷ ts → choice_names g ≡ ts → g.left ≡ f.left
+pub chosen : (rules : List Rule) (f g : Choice) (t : TreeValue) (ts : List TreeValue) (fs base new : List Frame) (told : Delegated) → choice_names f ≡ t ∷ ts → choice_names g ≡ ts → g.left ≡ f.left
     → g.named ≡ f.named → told.outcome ≡ outcome.Neg → base ≡ fs ++ frame.Choice g ∷ []
     → (next : Delegated) → IsStep rules (behind told.cost (walk (lookup rules f.left) t)) (tree_work (path_work rules f.left) t) base new next
     → IsStep rules (or_else (told_of told) (choice_told rules f)) (choice_work rules f) fs new next
@@ -167,17 +167,17 @@ module _ (rules : List Rule) (f : Union) (kept : Kept) (told : Delegated) (few :
       (rw (no_more, goes_on, end_is, cost_is, kept_is) refl)
 
   -- else it is left with the branches behind the next
-  pub branched : (g : Union) (b : Branch) (bs : Branches) (fs base new : List Frame) → weighted (union_branches f) ≡ branch b.weight (name_of b.tree) bs → 0 < b.weight
+  pub branched : (g : Union) (b : Branch) (bs : Branches) (fs base new : List Frame) → weighted (union_branches f) ≡ branch b.weight (value_of b.tree) bs → 0 < b.weight
       → union_branches g ≡ bs → g.left ≡ f.left → g.weight ≡ b.weight → kept_of g.gathered ≡ kept → base ≡ fs ++ frame.Union g ∷ []
-      → (next : Delegated) → IsStep rules (behind told.cost (walk look (name_of b.tree))) (tree_work (path_work rules f.left) (name_of b.tree)) base new next
+      → (next : Delegated) → IsStep rules (behind told.cost (walk look (value_of b.tree))) (tree_work (path_work rules f.left) (value_of b.tree)) base new next
       → IsStep rules (union_on rules f (told_of told)) (union_work rules f) fs new next
   branched g b bs fs base new cut some rest left weight kept_g pushed next step =
-      let each : walk_each look (union_branches f) ≡ record { weight = b.weight; told = walk look (name_of b.tree) } ∷ walk_each look bs =
-      sym (walk_each-weighted look (union_branches f)) ∙ (ap (walk_each look) cut ∙ walk_each-some look b.weight (name_of b.tree) bs some) in
+      let each : walk_each look (union_branches f) ≡ record { weight = b.weight; told = walk look (value_of b.tree) } ∷ walk_each look bs =
+      sym (walk_each-weighted look (union_branches f)) ∙ (ap (walk_each look) cut ∙ walk_each-some look b.weight (value_of b.tree) bs some) in
       let rest_work : union_work rules g ≡ each_work (path_work rules f.left) bs = rw (left, rest) refl in
-      let cut_work : each_work (path_work rules f.left) (weighted (union_branches f)) ≡ tree_work (path_work rules f.left) (name_of b.tree) + each_work (path_work rules f.left) bs =
+      let cut_work : each_work (path_work rules f.left) (weighted (union_branches f)) ≡ tree_work (path_work rules f.left) (value_of b.tree) + each_work (path_work rules f.left) bs =
       ap (each_work (path_work rules f.left)) cut in
-      under rules (frame.Union g) (behind told.cost (walk look (name_of b.tree))) (union_on rules f (told_of told)) (tree_work (path_work rules f.left) (name_of b.tree)) (union_work rules f) fs base new next
+      under rules (frame.Union g) (behind told.cost (walk look (value_of b.tree))) (union_on rules f (told_of told)) (tree_work (path_work rules f.left) (value_of b.tree)) (union_work rules f) fs base new next
       pushed step
       (rw (each, goes_on, left, rest, weight, kept_g, kept_is) refl)
       (omega (arith, each_work-weighted (path_work rules f.left) (union_branches f)))

@@ -5,7 +5,7 @@ use Rattle.std.specs.Char.{is_ascii_digit}
 use Rattle.std.specs.List.{slice_split}
 use Rattle.std.specs.Str.{bytes_eq}
 use Rattle.std.specs.Fmt.{decimal}
-use Rattle.dtab_table.specs.Path.{Labels}
+use Rattle.name_tree.specs.Path.{Labels}
 use Rattle.bind_core.specs.declared.addr.Addr.{Addr}
 use Rattle.bind_core.specs.declared.leaf.Leaf.{Leaf}
 use Rattle.bind_core.specs.declared.leaf.Cluster.TheVariants.{Inet}

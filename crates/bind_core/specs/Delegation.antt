@@ -1,7 +1,7 @@
 -- Delegation: what a path comes to in a table, and how many lookups that takes. A recursion over the table as a list.
 use Rattle.std.specs.Prelude.{ℕ, zero, suc, ◌+◌, nat_lt, min, ◌==◌, Bool, true, false, ◌||◌, if◌then◌else◌, List, [], ◌∷◌, ◌++◌, length, Option, Some, None}
-use Rattle.dtab_table.specs.Path.{Labels, canon_path}
-use Rattle.dtab_table.specs.Value.{Name, Names, Branches, leaf, neg, fail, empty, alt, union, none, more, no_branch, branch}
+use Rattle.name_tree.specs.Path.{Labels, canon_path}
+use Rattle.name_tree.specs.Value.{TreeValue, TreeValues, Branches, leaf, neg, fail, empty, alt, union, none, more, no_branch, branch}
 use Rattle.dtab_table.specs.Dtab.{Rule, rewrites}
 use Rattle.bind_core.specs.declared.leaf.Leaf.{Leaf}
 use Rattle.bind_core.specs.Addr.{named_leaf}
@@ -88,7 +88,7 @@ together bs = (joint bs, joint_cost bs)
 module _ (look : Labels → Told) where
   abbrev mutual
     -- a tree, whose leaves are looked up so
-    pub walk : Name → Told
+    pub walk : TreeValue → Told
     walk (leaf path) = look path
     walk neg = (negative, 0)
     walk fail = (failing, 0)
@@ -96,7 +96,7 @@ module _ (look : Labels → Told) where
     walk (alt ts) = walk_all ts
     walk (union bs) = together (walk_each bs)
 
-    pub walk_all : Names → Told
+    pub walk_all : TreeValues → Told
     walk_all none = (negative, 0)
     walk_all (more t ts) = or_else (walk t) (walk_all ts)
 
@@ -106,7 +106,7 @@ module _ (look : Labels → Told) where
     walk_each (branch n t bs) = if n == 0 then walk_each bs else record { weight = n; told = walk t } ∷ walk_each bs
 
   -- the first of some trees that is not negative
-  abbrev pub first_of : List Name → Told
+  abbrev pub first_of : List TreeValue → Told
   first_of [] = (negative, 0)
   first_of (t ∷ ts) = or_else (walk t) (first_of ts)
 

@@ -6,8 +6,3 @@ pub mod Kept
 pub mod Namer
 pub mod Outcome
 pub mod Stack
-pub use Rattle.dtab_table.specs.Dtab
-pub use Rattle.dtab_table.specs.Path
-pub use Rattle.dtab_table.specs.TableCanon
-pub use Rattle.dtab_table.specs.Value
-pub use Rattle.dtab_table.specs.Tree

@@ -1,5 +1,5 @@
 -- The leaf of an address.
-use Rattle.dtab_table.specs.Path.{Labels}
+use Rattle.name_tree.specs.Path.{Labels}
 use Rattle.bind_core.specs.declared.addr.Addr.{Addr}
 use Rattle.bind_core.specs.declared.leaf.Leaf.{Leaf}
 use Rattle.bind_core.specs.declared.leaf.Cluster.TheVariants.{Inet}

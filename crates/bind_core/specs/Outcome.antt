@@ -1,6 +1,6 @@
 -- What the outcomes of the code say.
 use Rattle.std.specs.Prelude.{◌≡◌, List}
-use Rattle.dtab_table.specs.Path.{Labels}
+use Rattle.name_tree.specs.Path.{Labels}
 use Rattle.dtab_table.specs.Dtab.{Rule}
 use Rattle.bind_core.specs.declared.outcome.Outcome.{Outcome}
 use Rattle.bind_core.specs.declared.outcome.Outcome.TheVariants as outcome

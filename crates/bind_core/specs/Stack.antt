@@ -1,9 +1,9 @@
 -- What a stack of frames makes of an ending, how many turns it takes, and what one step does to it.
 use Rattle.std.specs.Prelude.{◌≡◌, ℕ, zero, suc, ◌+◌, ◌<◌, ◌≤◌, ◌⊎◌, ◌==◌, Bool, true, false, if◌then◌else◌, min, List, [], ◌∷◌, ◌++◌, map, Option, Some, None}
 use Rattle.std.specs.Vec.Iter.{into_iter_items}
-use Rattle.dtab_table.specs.Path.{Labels}
-use Rattle.dtab_table.specs.Value.{Name, Names, Branches, leaf, neg, fail, empty, alt, union, none, more, no_branch, branch}
-use Rattle.dtab_table.specs.Tree.{name_of, listed}
+use Rattle.name_tree.specs.Path.{Labels}
+use Rattle.name_tree.specs.Value.{TreeValue, TreeValues, Branches, leaf, neg, fail, empty, alt, union, none, more, no_branch, branch}
+use Rattle.name_tree.specs.Tree.{value_of, listed}
 use Rattle.dtab_table.specs.Dtab.{Rule, rewrites}
 use Rattle.name_tree.specs.declared.tree.Branch.{Branch}
 use Rattle.bind_core.specs.declared.frame.Choice.{Choice}
@@ -35,12 +35,12 @@ weighted (branch n t bs) = if n == 0 then weighted bs else branch n t bs
 -- the next branch whose weight is not 0, and those behind it
 abbrev pub IsNextWeighted : Branches → Branches → Option Branch → Type 0
 IsNextWeighted old new None = weighted old ≡ no_branch
-IsNextWeighted old new (Some b) = (weighted old ≡ branch b.weight (name_of b.tree) new) × (0 < b.weight)
+IsNextWeighted old new (Some b) = (weighted old ≡ branch b.weight (value_of b.tree) new) × (0 < b.weight)
 
 module _ (work : Labels → ℕ) where
   abbrev mutual
     -- the turns that a tree takes, where a path takes so many
-    pub tree_work : Name → ℕ
+    pub tree_work : TreeValue → ℕ
     tree_work (leaf path) = work path
     tree_work neg = 1
     tree_work fail = 1
@@ -48,7 +48,7 @@ module _ (work : Labels → ℕ) where
     tree_work (alt ts) = 1 + all_work ts
     tree_work (union bs) = 1 + each_work bs
 
-    pub all_work : Names → ℕ
+    pub all_work : TreeValues → ℕ
     all_work none = 1
     all_work (more t ts) = tree_work t + all_work ts
 
@@ -57,13 +57,13 @@ module _ (work : Labels → ℕ) where
     each_work (branch n t bs) = tree_work t + each_work bs
 
   -- the turns of a frame with these trees
-  abbrev pub list_work : List Name → ℕ
+  abbrev pub list_work : List TreeValue → ℕ
   list_work [] = 1
   list_work (t ∷ ts) = tree_work t + list_work ts
 
 -- the trees that are left in a frame
-abbrev pub choice_names : Choice → List Name
-choice_names f = map name_of (into_iter_items f.trees)
+abbrev pub choice_names : Choice → List TreeValue
+choice_names f = map value_of (into_iter_items f.trees)
 
 -- the branches that are left in a frame
 abbrev pub union_branches : Union → Branches

@@ -1,12 +1,12 @@
 //! Delegation, with a stack of what is left to try in place of a recursion.
 ghost use Rattle.std.specs.Prelude.{◌≡◌, ◌+◌, ◌<◌, ◌≤◌, ◌↔◌, false, min, IfOk};
 ghost use Rattle.dtab_table.specs.TableCanon.{AreSoundRules};
-ghost use Rattle.bind_core.specs.Dtab.{rules_of};
+ghost use Rattle.dtab_table.specs.Dtab.{rules_of};
 ghost use Rattle.bind_core.specs.Found.{IsFilled, IsBounded};
 ghost use Rattle.bind_core.specs.Delegation.{lookup, walk, or_else, named_ending, IfBound};
 ghost use Rattle.bind_core.specs.Outcome.{IsDelegated, ending_of};
 ghost use Rattle.bind_core.specs.Stack.{IsStep, behind, ends_all, frame_on, frame_work, choice_told, choice_work, union_on, union_work, told_of, path_work, tree_work, IsAnswer};
-ghost use Rattle.name_tree.specs.Tree.{name_of};
+ghost use Rattle.name_tree.specs.Tree.{value_of};
 
 use crate::Mem;
 use crate::bound::Bound;
@@ -183,7 +183,7 @@ fn step<L: Ledger>(
     steps: &mut Steps<L>,
 ) -> Mem<Delegated>
     requires { count ≤ 10000 }
-    ensures step { IfOk result (IsStep (rules_of table.now) (behind count (walk (lookup (rules_of table.now) left) (name_of tree)))
+    ensures step { IfOk result (IsStep (rules_of table.now) (behind count (walk (lookup (rules_of table.now) left) (value_of tree)))
         (tree_work (path_work (rules_of table.now) left) (name_of tree)) stack.old.items stack.new.items) }
     ensures counted { IfOk result (λ told. steps.old + min told.cost 10000 ≤ steps.new + count) }
 {

@@ -9,8 +9,8 @@ use Rattle.std.proofs.lemmas.List.Concat.{flat_map-cons, flat_map-append}
 use Rattle.std.proofs.lemmas.Option.{slice_get_within, get_or_from_slice_get}
 use Rattle.name_tree.specs.Path.{Labels}
 use Rattle.name_tree.specs.declared.tree.Tree.{Tree}
-use Rattle.name_tree.specs.Value.{Name, append_rest}
-use Rattle.name_tree.specs.Tree.{name_of}
+use Rattle.name_tree.specs.Value.{TreeValue, append_rest}
+use Rattle.name_tree.specs.Tree.{value_of}
 use Rattle.dtab_index.specs.Index.{Placed, matches, matching}
 use Rattle.dtab_table.specs.declared.dtab.Entry.{Entry}
 use Rattle.dtab_table.specs.declared.prefix.Prefix.{Prefix}
@@ -19,12 +19,12 @@ use Rattle.dtab_table.specs.Rules.{Pattern, pattern_of, patterns_of, rule_of, pl
 use Rattle.dtab_table.specs.Dtab.{rest_behind, rewrite, rewrites}
 
 -- the tree of an entry that matches, with the rest of the path behind every leaf
-abbrev pub tree_of : Option Entry → Labels → List Name
+abbrev pub tree_of : Option Entry → Labels → List TreeValue
 tree_of None path = []
-tree_of (Some e) path = append_rest (name_of e.tree) (drop (length e.prefix.labels.items) path) ∷ []
+tree_of (Some e) path = append_rest (value_of e.tree) (drop (length e.prefix.labels.items) path) ∷ []
 
 -- the trees of the entries at some positions
-abbrev pub trees_at : List Entry → Labels → List ℕ → List Name
+abbrev pub trees_at : List Entry → Labels → List ℕ → List TreeValue
 trees_at all path places = flat_map (λ at. tree_of (slice_get all at) path) places
 
 rest_if : (b : Bool) (ps : List Pattern) (ls : Labels) → rest_behind ps ls ≡ (if matches ps ls then Some (drop (length ps) ls) else None)
@@ -110,7 +110,7 @@ module _ (all : List Entry) (path : Labels) where
     stand : StandFrom 0 all
     stand k = let same : 0 + k ≡ k = omega arith in rw same refl
 
-    pub begun : (trees : List Tree) → trees ≡ [] → map name_of trees ++ trees_at all path found ≡ rewrites (map rule_of all) path
+    pub begun : (trees : List Tree) → trees ≡ [] → map value_of trees ++ trees_at all path found ≡ rewrites (map rule_of all) path
     begun trees none = rw (none, found_is) (rewritten 0 all stand)
 
     usable_here : (i : ℕ) → i < length found → IsUsable all path (get_or found i 0)
@@ -125,13 +125,13 @@ module _ (all : List Entry) (path : Labels) where
         let same : entry ≡ here.0 = is ∙ get_or_from_slice_get all (get_or found i 0) here.0 entry here.1 in
         (here.1 ∙ ap Some (sym same), rw same here.2)
 
-  pub one_more : (found : List ℕ) (i rest : ℕ) (entry : Entry) (tree : Tree) (trees more : List Tree) (total : List Name) → i < length found → slice_get all (get_or found i 0) ≡ Some entry
-      → rest ≡ length entry.prefix.labels.items → name_of tree ≡ append_rest (name_of entry.tree) (drop rest path) → more ≡ trees ++ tree ∷ []
-      → map name_of trees ++ trees_at all path (drop i found) ≡ total → map name_of more ++ trees_at all path (drop (i + 1) found) ≡ total
+  pub one_more : (found : List ℕ) (i rest : ℕ) (entry : Entry) (tree : Tree) (trees more : List Tree) (total : List TreeValue) → i < length found → slice_get all (get_or found i 0) ≡ Some entry
+      → rest ≡ length entry.prefix.labels.items → value_of tree ≡ append_rest (value_of entry.tree) (drop rest path) → more ≡ trees ++ tree ∷ []
+      → map value_of trees ++ trees_at all path (drop i found) ≡ total → map value_of more ++ trees_at all path (drop (i + 1) found) ≡ total
   one_more found i rest entry tree trees more total within here many is pushed stands =
-      let first : trees_at all path (drop i found) ≡ name_of tree ∷ trees_at all path (drop (i + 1) found) = rw (drop-cons found i 0, add-one, flat_map-cons, here, is, many) refl in
+      let first : trees_at all path (drop i found) ≡ value_of tree ∷ trees_at all path (drop (i + 1) found) = rw (drop-cons found i 0, add-one, flat_map-cons, here, is, many) refl in
       rw (pushed, map-append, append_assoc) (rw first at stands)
 
-  pub done : (found : List ℕ) (i : ℕ) (trees kept : List Tree) (total : List Name) → length found ≤ i → kept ≡ trees → map name_of trees ++ trees_at all path (drop i found) ≡ total → map name_of kept ≡ total
+  pub done : (found : List ℕ) (i : ℕ) (trees kept : List Tree) (total : List TreeValue) → length found ≤ i → kept ≡ trees → map value_of trees ++ trees_at all path (drop i found) ≡ total → map value_of kept ≡ total
   done found i trees kept total past same stands =
-      let none : drop i found ≡ [] = drop_all i found past in rw same (sym (append-nil (map name_of trees)) ∙ (rw none at stands))
+      let none : drop i found ≡ [] = drop_all i found past in rw same (sym (append-nil (map value_of trees)) ∙ (rw none at stands))

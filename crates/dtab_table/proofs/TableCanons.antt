@@ -4,7 +4,7 @@ use Rattle.std.specs.Prelude.{codes}
 use Rattle.std.specs.List.{flat_map}
 use Rattle.std.proofs.lemmas.List.{append-nil}
 use Rattle.std.proofs.lemmas.List.Concat.{flat_map-cons}
-use Rattle.name_tree.specs.Value.{Name}
+use Rattle.name_tree.specs.Value.{TreeValue}
 use Rattle.name_tree.specs.Grammar.{AreBlanks, no_blank, TreeText, tree as tree_text}
 use Rattle.name_tree.proofs.CanonPaths.{is_label_spells}
 use Rattle.name_tree.proofs.Canons.{canon_stands}
@@ -37,7 +37,7 @@ record EntryText (s : List ℕ) (r : Rule) : Type 0 where
   spells : SpellsEntry text r
   are_after : AreBlanks after
 
-entry_text : (s : List ℕ) (ps : List Pattern) → SpellsPrefix s ps → {t : List ℕ} {v : Name} → TreeText t v → EntryText (s ++ codes "=>" ++ t) (record { prefix = ps; tree = v })
+entry_text : (s : List ℕ) (ps : List Pattern) → SpellsPrefix s ps → {t : List ℕ} {v : TreeValue} → TreeText t v → EntryText (s ++ codes "=>" ++ t) (record { prefix = ps; tree = v })
 entry_text s ps r (tree_text {a = a} {s = t} {b = b} x k y) = record {
   text = s ++ [] ++ codes "=>" ++ a ++ t;
   after = b;

@@ -5,7 +5,7 @@ use Rattle.std.specs.Option.{option_and_then}
 use Rattle.std.proofs.lemmas.Bool.{eqb-true, or_cases}
 use Rattle.std.proofs.lemmas.List.{append-nil}
 use Rattle.std.proofs.lemmas.Option.{none-some, same_Some, option_and_then_some}
-use Rattle.name_tree.specs.Value.{Name, leaf, Part}
+use Rattle.name_tree.specs.Value.{TreeValue, leaf, Part}
 use Rattle.name_tree.specs.Grammar.{is_blank, AreBlanks, no_blank, TreeText, tree as tree_text}
 use Rattle.name_tree.specs.Recogniser.{run, value_from}
 use Rattle.name_tree.specs.Faults.{open_after}
@@ -135,7 +135,7 @@ empty_place : {s : List ℕ} → AreBlanks s → WholePlace [] s
 empty_place {s} x = record { blanks = s; text = []; after = []; same = sym (append-nil s); are_blanks = x; spells = nothing; are_after = no_blank }
 
 -- a prefix, `=>` and a tree's text are an entry and blanks
-filled_place : {s text : List ℕ} {v : Name} (ps : List Pattern) (before : List ℕ) → s ≡ before ++ 61 ∷ 62 ∷ text → BehindPrefix ps before → TreeText text v
+filled_place : {s text : List ℕ} {v : TreeValue} (ps : List Pattern) (before : List ℕ) → s ≡ before ++ 61 ∷ 62 ∷ text → BehindPrefix ps before → TreeText text v
     → WholePlace (record { prefix = ps; tree = v } ∷ []) s
 filled_place {s} ps before same k (tree_text {a = a} {s = t} {b = b} {vs = vs} x r y) = record {
   blanks = k.blanks;
@@ -147,11 +147,11 @@ filled_place {s} ps before same k (tree_text {a = a} {s = t} {b = b} {vs = vs} x
   are_after = y;
 }
 
-tree_stands : (text : List ℕ) (q : TreeState) (v : Name) → run next_tree tree_start text ≡ Some q → ended_tree q ≡ Some v → TreeText text v
+tree_stands : (text : List ℕ) (q : TreeState) (v : TreeValue) → run next_tree tree_start text ≡ Some q → ended_tree q ≡ Some v → TreeText text v
 tree_stands text q v e i =
     tree_laws.gives text v (ap (value_from next_tree ended_tree tree_start) (sym (append-nil text)) ∙ (value-append next_tree ended_tree text [] tree_start ∙ (ap (option_and_then (λ to. ended_tree to)) e ∙ i)))
 
-tree_place : {s : List ℕ} {ps : List Pattern} {q : TreeState} → InTree ps q s → (v : Name) → ended_tree q ≡ Some v → WholePlace (record { prefix = ps; tree = v } ∷ []) s
+tree_place : {s : List ℕ} {ps : List Pattern} {q : TreeState} → InTree ps q s → (v : TreeValue) → ended_tree q ≡ Some v → WholePlace (record { prefix = ps; tree = v } ∷ []) s
 tree_place {s} {ps} {q} f v e = filled_place ps f.before f.same f.behind (tree_stands f.text q v f.reads e)
 
 -- steps
@@ -244,7 +244,7 @@ step rs (Mode.tree ps q) s f b = tree_step f b
 
 -- the end
 
-last_tree : (rs : List Rule) (ps : List Pattern) (q : TreeState) (s : List ℕ) → Front rs (Mode.tree ps q) s → (d : List Rule) (o : Option Name) → ended_tree q ≡ o
+last_tree : (rs : List Rule) (ps : List Pattern) (q : TreeState) (s : List ℕ) → Front rs (Mode.tree ps q) s → (d : List Rule) (o : Option TreeValue) → ended_tree q ≡ o
     → option_map (λ v. with_rule rs ps v) o ≡ Some d → DtabText s d
 last_tree rs ps q s f d None i e = absurd (none-some d e)
 last_tree rs ps q s f d (Some v) i e = subst₂ DtabText (sym f.same) (same_Some (with_rule rs ps v) d e) (front_last f.places (tree_place f.entry v i))
@@ -287,16 +287,16 @@ table_laws = record {
 
 -- the parentheses that are open
 
-flat_end : (fs : List Frame) (vs : List Name) (ps : List Part) (v : Name) → end_tree (record { outer = fs; alts = vs; parts = ps }) ≡ Some v → length fs ≡ 0
+flat_end : (fs : List Frame) (vs : List TreeValue) (ps : List Part) (v : TreeValue) → end_tree (record { outer = fs; alts = vs; parts = ps }) ≡ Some v → length fs ≡ 0
 flat_end [] vs ps v e = refl
 flat_end (f ∷ fs) vs ps v e = absurd (none-some v e)
 
-flat_path : (p : Place) (w : Option ℕ) (o : Option Labels) (v : Name) → ended_path p w o ≡ Some v → length p.outer ≡ 0
+flat_path : (p : Place) (w : Option ℕ) (o : Option Labels) (v : TreeValue) → ended_path p w o ≡ Some v → length p.outer ≡ 0
 flat_path p w None v e = absurd (none-some v e)
 flat_path p w (Some ls) v e = flat_end p.outer p.alts (p.parts ++ (w, leaf ls) ∷ []) v e
 
 -- no parenthesis is open where a tree may end
-flat : (p : Place) (m : TreeMode) (v : Name) → ended_in_tree p m ≡ Some v → length p.outer ≡ 0
+flat : (p : Place) (m : TreeMode) (v : TreeValue) → ended_in_tree p m ≡ Some v → length p.outer ≡ 0
 flat p TreeMode.start v e = absurd (none-some v e)
 flat p (TreeMode.whole n k) v e = absurd (none-some v e)
 flat p (TreeMode.point n) v e = absurd (none-some v e)

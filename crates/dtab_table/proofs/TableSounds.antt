@@ -2,7 +2,7 @@
 use Rattle.std.proofs.Common.{◌≡◌, ℕ, ◌+◌, ◌≤◌, arith, List, [], ◌∷◌, ◌++◌, length, Result, Ok, Err, refl, ap, subst, length-append}
 use Rattle.std.specs.Prelude.{codes, MatchResult, IfOk}
 use Rattle.std.proofs.lemmas.List.{append-nil}
-use Rattle.name_tree.specs.Value.{Name, one_or_alt}
+use Rattle.name_tree.specs.Value.{TreeValue, one_or_alt}
 use Rattle.name_tree.specs.Grammar.{no_blank, SpellsTree, TreeText, tree as tree_text}
 use Rattle.name_tree.specs.Canon.{most_members}
 use Rattle.name_tree.proofs.Sounds.{five, text_sound, text_labels}
@@ -15,7 +15,7 @@ use Rattle.dtab_table.specs.Answers.{IsTable, DtabFaultFits}
 use Rattle.dtab_table.proofs.TableLaws.{one_table}
 use Rattle.dtab_table.proofs.PrefixSounds.{prefix_patterns}
 
-alone : {s : List ℕ} {vs : List Name} → SpellsTree s vs → TreeText s (one_or_alt vs)
+alone : {s : List ℕ} {vs : List TreeValue} → SpellsTree s vs → TreeText s (one_or_alt vs)
 alone {s} {vs} r = subst (λ (x : List ℕ). TreeText x (one_or_alt vs)) (append-nil s) (tree_text no_blank r no_blank)
 
 entry_sound : {s : List ℕ} {r : Rule} → SpellsEntry s r → length s ≤ most_members → IsSoundRule r

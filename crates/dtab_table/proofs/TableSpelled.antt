@@ -6,7 +6,7 @@ use Rattle.std.proofs.lemmas.Bool.{eqb-true}
 use Rattle.std.proofs.lemmas.List.{append-nil}
 use Rattle.std.proofs.lemmas.Option.{none-some, same_Some, option_and_then_some, MatchOption-at_some}
 use Rattle.name_tree.specs.Path.{Labels, is_plain}
-use Rattle.name_tree.specs.Value.{Name}
+use Rattle.name_tree.specs.Value.{TreeValue}
 use Rattle.name_tree.specs.Grammar.{AreBlanks, no_blank, blank, TreeText, tree as tree_text}
 use Rattle.name_tree.specs.Recogniser.{run, value_from}
 use Rattle.name_tree.specs.LabelReading.{is_path_byte}
@@ -84,12 +84,12 @@ tree_in rs ps (b ∷ bs) q to e more =
     option_and_then_some (λ x. run next_tree x bs) (next_tree q b) to e
     (λ via i r. let test = tree_byte q via b i in rw (test, i) (tree_in rs ps bs via to r more))
 
-record TreeRead (s : List ℕ) (v : Name) : Type 0 where
+record TreeRead (s : List ℕ) (v : TreeValue) : Type 0 where
   state : TreeState
   reads : run next_tree tree_start s ≡ Some state
   ends : ended_tree state ≡ Some v
 
-tree_read : {s : List ℕ} {v : Name} → TreeText s v → TreeRead s v
+tree_read : {s : List ℕ} {v : TreeValue} → TreeText s v → TreeRead s v
 tree_read {s} {v} r =
     let whole : option_and_then (λ q. ended_tree q) (run next_tree tree_start s) ≡ Some v
     = sym (value-append next_tree ended_tree s [] tree_start) ∙ (ap (value_from next_tree ended_tree tree_start) (append-nil s) ∙ tree_laws.reads s v r) in
@@ -100,7 +100,7 @@ data Tail : List ℕ → Type 0 where
   at_end : Tail []
   before : {s : List ℕ} → Tail (59 ∷ s)
 
-tree_ends : (rs : List Rule) (ps : List Pattern) (q : TreeState) (v : Name) → ended_tree q ≡ Some v → {more : List ℕ} → Tail more
+tree_ends : (rs : List Rule) (ps : List Pattern) (q : TreeState) (v : TreeValue) → ended_tree q ≡ Some v → {more : List ℕ} → Tail more
     → from rs (Mode.tree ps q) more ≡ from (with_rule rs ps v) Mode.start more
 tree_ends rs ps q v e at_end = rw e refl
 tree_ends rs ps q v e before = rw e refl

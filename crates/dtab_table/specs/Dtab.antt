@@ -3,7 +3,7 @@ use Rattle.std.specs.Prelude.{if◌then◌else◌, List, [], ◌∷◌, ◌++◌
 use Rattle.std.specs.Option.{option_to_list}
 use Rattle.std.specs.Str.{bytes_eq}
 use Rattle.name_tree.specs.Path.{Labels}
-use Rattle.name_tree.specs.Value.{Name, append_rest}
+use Rattle.name_tree.specs.Value.{TreeValue, append_rest}
 pub use Rattle.dtab_table.specs.Rules.{Pattern, Rule, pattern_of, patterns_of, rule_of}
 use Rattle.dtab_table.specs.declared.dtab.Dtab.{Dtab}
 
@@ -19,10 +19,10 @@ rest_behind (None ∷ ps) (l ∷ ls) = rest_behind ps ls
 rest_behind (Some m ∷ ps) (l ∷ ls) = if bytes_eq m l then rest_behind ps ls else None
 
 -- the tree of a rule that matches, with the rest of the path behind every leaf
-abbrev pub rewrite : Rule → Labels → Option Name
+abbrev pub rewrite : Rule → Labels → Option TreeValue
 rewrite rule path = option_map (append_rest rule.tree) (rest_behind rule.prefix path)
 
 -- what a table rewrites a path to: the trees of all rules that match, the last rule first
-abbrev pub rewrites : List Rule → Labels → List Name
+abbrev pub rewrites : List Rule → Labels → List TreeValue
 rewrites [] path = []
 rewrites (r ∷ rs) path = rewrites rs path ++ option_to_list (rewrite r path)

@@ -1,6 +1,6 @@
 -- The texts that stand for prefixes and tables: a rule for each line of the grammar.
 use Rattle.std.specs.Prelude.{ℕ, List, [], ◌∷◌, ◌++◌, codes, Some, None}
-use Rattle.name_tree.specs.Value.{one_or_alt, Name}
+use Rattle.name_tree.specs.Value.{one_or_alt, TreeValue}
 use Rattle.name_tree.specs.Path.{Label}
 use Rattle.name_tree.specs.Grammar.{AreBlanks, SpellsLabel, SpellsTree}
 use Rattle.dtab_table.specs.Rules.{Pattern, Rule}
@@ -26,7 +26,7 @@ pub data PrefixText : List ℕ → List Pattern → Type 0 where
 
 -- an entry: a prefix, `=>` and a tree
 pub data SpellsEntry : List ℕ → Rule → Type 0 where
-  entry : {p a b t : List ℕ} {ps : List Pattern} {vs : List Name} → SpellsPrefix p ps → AreBlanks a → AreBlanks b → SpellsTree t vs
+  entry : {p a b t : List ℕ} {ps : List Pattern} {vs : List TreeValue} → SpellsPrefix p ps → AreBlanks a → AreBlanks b → SpellsTree t vs
       → SpellsEntry (p ++ a ++ codes "=>" ++ b ++ t) (record { prefix = ps; tree = one_or_alt vs })
 
 -- a place of a table: an entry or nothing

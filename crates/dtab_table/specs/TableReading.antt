@@ -1,6 +1,6 @@
 -- A table read byte by byte.
 use Rattle.std.specs.Prelude.{ℕ, ◌==◌, if◌then◌else◌, List, [], ◌∷◌, ◌++◌, length, Option, Some, None, option_map}
-use Rattle.name_tree.specs.Value.{Name}
+use Rattle.name_tree.specs.Value.{TreeValue}
 use Rattle.name_tree.specs.Grammar.{is_blank}
 use Rattle.name_tree.specs.TreeReading.{State as TreeState, before as before_tree, start as start_branch, next_state as next_tree, ended_state as ended_tree}
 use Rattle.dtab_table.specs.Rules.{Pattern, Rule}
@@ -31,11 +31,11 @@ behind_walk rs b None = None
 behind_walk rs b (Some ps) = behind_prefix rs ps b
 
 -- behind one rule more
-abbrev pub with_rule : List Rule → List Pattern → Name → List Rule
+abbrev pub with_rule : List Rule → List Pattern → TreeValue → List Rule
 with_rule rs ps v = rs ++ record { prefix = ps; tree = v } ∷ []
 
 -- behind a tree that may end, and its entry
-abbrev pub tree_behind : List Rule → List Pattern → Option Name → Option State
+abbrev pub tree_behind : List Rule → List Pattern → Option TreeValue → Option State
 tree_behind rs ps o = option_map (λ v. (with_rule rs ps v, start)) o
 
 -- what is read behind the next byte, if some table goes on with it

@@ -1,6 +1,6 @@
 //! Delegation tables.
 ghost use Rattle.std.specs.Prelude.{◌≡◌, ◌<◌, ◌^◌, [], length, map, slice_get, Some, IfOk};
-ghost use Rattle.name_tree.specs.Tree.{name_of};
+ghost use Rattle.name_tree.specs.Tree.{value_of};
 ghost use Rattle.dtab_table.specs.Rules.{placed_from};
 
 use crate::Mem;
@@ -123,7 +123,7 @@ impl Dtab {
         path: &Path,
         steps: &mut Steps<L>,
     ) -> Mem<TreeList>
-        ensures trees { IfOk result (λ trees. map name_of trees.items.items ≡ rewrites (rules_of self.now) path.now) }
+        ensures trees { IfOk result (λ trees. map value_of trees.items.items ≡ rewrites (rules_of self.now) path.now) }
         ensures ticks { steps.old < steps.new }
     {
         steps.tick();

@@ -7,33 +7,33 @@ use Rattle.name_tree.specs.declared.tree.Trees.{Trees}
 use Rattle.name_tree.specs.declared.tree.Branch.{Branch}
 use Rattle.name_tree.specs.declared.tree.Branches.{Branches as BranchList, Branches', out-Branches, roll-Branches, rolls-Branches', roll-out-Branches, Row_of-Branch, end_of-Branch, more_of-Branch, items-the_row-Branch, items_hidden-the_row-Branch-1}
 use Rattle.name_tree.specs.declared.tree.Tree.TheBlock.{shape-the_row-Branch-1, hidden-the_row-Branch-1}
-use Rattle.name_tree.specs.Value.{Name, alt, names, more, branch, one_or_alt}
-use Rattle.name_tree.specs.Tree.{name_of, branches_of, row_names, row_branches, listed}
+use Rattle.name_tree.specs.Value.{TreeValue, alt, tree_values, more, branch, one_or_alt}
+use Rattle.name_tree.specs.Tree.{value_of, branches_of, row_values, row_branches, listed}
 
 abbrev row_in : Tree → (n : Count) × Row_of-Tree n
 row_in (Alt' _ row) = (_, row)
 row_in _ = (_, end_of-Tree)
 
-row_is : (n : Count) (row : Row_of-Tree n) → row_names row ≡ names (map name_of (items-the_row-Tree n row))
+row_is : (n : Count) (row : Row_of-Tree n) → row_values row ≡ tree_values (map value_of (items-the_row-Tree n row))
 row_is n end_of-Tree = refl
-row_is n (more_of-Tree t ts) = ap (more (name_of t)) (row_is _ ts)
+row_is n (more_of-Tree t ts) = ap (more (value_of t)) (row_is _ ts)
 
 -- a choice says what its alternatives say, in their order
-pub name_of-Alt : (trees : Trees) → name_of (Alt trees) ≡ alt (names (map name_of trees.items.items))
-name_of-Alt trees = let row = row_in (Alt trees) in ap alt (row_is row.0 row.1 ∙ ap (λ (ts : List Tree). names (map name_of ts)) (items_hidden-the_row-Tree-0 trees.items))
+pub value_of-Alt : (trees : Trees) → value_of (Alt trees) ≡ alt (tree_values (map value_of trees.items.items))
+value_of-Alt trees = let row = row_in (Alt trees) in ap alt (row_is row.0 row.1 ∙ ap (λ (ts : List Tree). tree_values (map value_of ts)) (items_hidden-the_row-Tree-0 trees.items))
 
 branch_row_is : (n : Count) (row : Row_of-Branch n) → row_branches row ≡ listed (items-the_row-Branch n row)
 branch_row_is n end_of-Branch = refl
-branch_row_is n (more_of-Branch weight t bs) = ap (branch weight (name_of t)) (branch_row_is _ bs)
+branch_row_is n (more_of-Branch weight t bs) = ap (branch weight (value_of t)) (branch_row_is _ bs)
 
-choice_of : (ts : List Name) → (length ts ≡ 1 → ⊥) → one_or_alt ts ≡ alt (names ts)
+choice_of : (ts : List TreeValue) → (length ts ≡ 1 → ⊥) → one_or_alt ts ≡ alt (tree_values ts)
 choice_of [] not_one = refl
 choice_of (t ∷ []) not_one = absurd (not_one refl)
 choice_of (t ∷ u ∷ ts) not_one = refl
 
 -- where there is not exactly one tree, they are a choice
-pub choice_is : (ts : List Tree) (trees : Trees) → (length ts ≡ 1 → ⊥) → trees.items.items ≡ ts → name_of (Alt trees) ≡ one_or_alt (map name_of ts)
-choice_is ts trees not_one is = name_of-Alt trees ∙ (rw is (sym (choice_of (map name_of ts) (λ one. not_one (sym (length-map ts name_of) ∙ one)))))
+pub choice_is : (ts : List Tree) (trees : Trees) → (length ts ≡ 1 → ⊥) → trees.items.items ≡ ts → value_of (Alt trees) ≡ one_or_alt (map value_of ts)
+choice_is ts trees not_one is = value_of-Alt trees ∙ (rw is (sym (choice_of (map value_of ts) (λ one. not_one (sym (length-map ts value_of) ∙ one)))))
 
 abbrev branch_row_in : BranchList → (n : Count) × Row_of-Branch n
 branch_row_in (Branches' _ row) = (_, row)

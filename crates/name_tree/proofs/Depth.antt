@@ -3,7 +3,7 @@ use Rattle.std.proofs.Common.{◌≡◌, ℕ, arith, List, [], ◌∷◌, length
 use Rattle.std.specs.Prelude.{◌==◌, nat_lt, IfSome}
 use Rattle.std.proofs.lemmas.Bool.{eqb-true}
 use Rattle.name_tree.specs.Path.{Labels}
-use Rattle.name_tree.specs.Value.{Name, leaf}
+use Rattle.name_tree.specs.Value.{TreeValue, leaf}
 use Rattle.name_tree.specs.Grammar.{is_blank, is_digit}
 use Rattle.name_tree.specs.Faults.{open_after}
 use Rattle.name_tree.specs.LabelReading.{is_path_byte}
@@ -31,7 +31,7 @@ weight_depth p n b =
     if_test (Deep p b) (is_blank b) _ _ (λ h. sym (quiet_blank (length p.outer) b h))
     (λ _. if_test (Deep p b) (b == 42) _ _ (λ h. sym (quiet_at (length p.outer) b 42 (eqb-true b 42 h) refl)) (λ _. tt))
 
-close_depth : (p : Place) (b : ℕ) (fs : List Frame) (v : Name) → p.outer ≡ fs → b ≡ 41 → IfSome (closed fs v) (Deep p b)
+close_depth : (p : Place) (b : ℕ) (fs : List Frame) (v : TreeValue) → p.outer ≡ fs → b ≡ 41 → IfSome (closed fs v) (Deep p b)
 close_depth p b [] v e h = tt
 close_depth p b (f ∷ fs) v e h = rw (e, h) (omega arith)
 

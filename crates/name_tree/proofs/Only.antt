@@ -6,7 +6,7 @@ use Rattle.name_tree.specs.declared.read.TextFault.TheVariants.{TooLong, TooNest
 use Rattle.name_tree.specs.Faults.{IsValue}
 use Rattle.name_tree.specs.Answers.{FaultFits}
 use Rattle.name_tree.specs.Laws.{HasOneValue}
-use Rattle.name_tree.specs.Value.{Name}
+use Rattle.name_tree.specs.Value.{TreeValue}
 use Rattle.name_tree.specs.Grammar.{PathText, TreeText}
 use Rattle.name_tree.specs.Path.{Labels}
 use Rattle.name_tree.specs.Canon.{IsSound, HasLabels, AreByteLabels}
@@ -25,7 +25,7 @@ module _ {V : Type 0} (Text : List ℕ → V → Type 0) where
   only view one text (Err fault) h v k = no_fault text v k fault h
 
 -- a tree that was read is sound
-pub sound_tree : {X : Type 0} (view : X → Name) (text : List ℕ) (read : Result X TextFault) → MatchResult read (λ x. IsValue TreeText text (view x)) (FaultFits TreeText text)
+pub sound_tree : {X : Type 0} (view : X → TreeValue) (text : List ℕ) (read : Result X TextFault) → MatchResult read (λ x. IsValue TreeText text (view x)) (FaultFits TreeText text)
     → IfOk read (λ x. IsSound (view x) × HasLabels (view x))
 sound_tree view text (Ok x) h = (text_sound h.stands h.short, text_labels h.stands h.short)
 sound_tree view text (Err fault) h = tt

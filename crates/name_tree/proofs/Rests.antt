@@ -6,48 +6,48 @@ use Rattle.name_tree.specs.declared.tree.Trees.{Trees}
 use Rattle.name_tree.specs.declared.tree.Branch.{Branch}
 use Rattle.name_tree.specs.declared.tree.Branches.{Branches as BranchList, out-Branches, roll-Branches}
 use Rattle.name_tree.specs.Path.{Labels}
-use Rattle.name_tree.specs.Value.{Name, alt, names, more, Branches, no_branch, branch, union, append_rest, append_rest_all, append_rest_branches}
-use Rattle.name_tree.specs.Tree.{name_of, branches_of, listed}
-use Rattle.name_tree.proofs.Bridge.{name_of-Alt, branches_of-roll, branches_of-out}
+use Rattle.name_tree.specs.Value.{TreeValue, alt, tree_values, more, Branches, no_branch, branch, union, append_rest, append_rest_all, append_rest_branches}
+use Rattle.name_tree.specs.Tree.{value_of, branches_of, listed}
+use Rattle.name_tree.proofs.Bridge.{value_of-Alt, branches_of-roll, branches_of-out}
 
-append_rest-names : (ts : List Tree) (rest : Labels) → append_rest_all (names (map name_of ts)) rest ≡ names (map (λ t. append_rest (name_of t) rest) ts)
-append_rest-names [] rest = refl
-append_rest-names (t ∷ ts) rest = ap (more (append_rest (name_of t) rest)) (append_rest-names ts rest)
+append_rest-tree_values : (ts : List Tree) (rest : Labels) → append_rest_all (tree_values (map value_of ts)) rest ≡ tree_values (map (λ t. append_rest (value_of t) rest) ts)
+append_rest-tree_values [] rest = refl
+append_rest-tree_values (t ∷ ts) rest = ap (more (append_rest (value_of t) rest)) (append_rest-tree_values ts rest)
 
 -- where each alternative has the rest behind its leaves, so has the choice
-pub alt_with_rest : (tree : Tree) (new old : Trees) (rest : Labels) → tree ≡ Alt old → map name_of new.items.items ≡ map (λ t. append_rest (name_of t) rest) old.items.items
-    → name_of (Alt new) ≡ append_rest (name_of tree) rest
+pub alt_with_rest : (tree : Tree) (new old : Trees) (rest : Labels) → tree ≡ Alt old → map value_of new.items.items ≡ map (λ t. append_rest (value_of t) rest) old.items.items
+    → value_of (Alt new) ≡ append_rest (value_of tree) rest
 alt_with_rest tree new old rest is each =
-    name_of-Alt new ∙ (ap (λ (ns : List Name). alt (names ns)) each ∙ sym (ap (λ (t : Tree). append_rest (name_of t) rest) is ∙ (ap (λ (n : Name). append_rest n rest) (name_of-Alt old) ∙ ap alt (append_rest-names old.items.items rest))))
+    value_of-Alt new ∙ (ap (λ (ns : List TreeValue). alt (tree_values ns)) each ∙ sym (ap (λ (t : Tree). append_rest (value_of t) rest) is ∙ (ap (λ (n : TreeValue). append_rest n rest) (value_of-Alt old) ∙ ap alt (append_rest-tree_values old.items.items rest))))
 
 -- where each branch has, so has the union
 pub union_with_rest : (tree : Tree) (new old : BranchList) (rest : Labels) → tree ≡ Union old → branches_of new ≡ append_rest_branches (branches_of old) rest
-    → name_of (Union new) ≡ append_rest (name_of tree) rest
-union_with_rest tree new old rest is each = ap union each ∙ sym (ap (λ (t : Tree). append_rest (name_of t) rest) is)
+    → value_of (Union new) ≡ append_rest (value_of tree) rest
+union_with_rest tree new old rest is each = ap union each ∙ sym (ap (λ (t : Tree). append_rest (value_of t) rest) is)
 
 -- one tree more has the rest behind its leaves
 pub rest_more : (old : List Tree) (k : ℕ) (t : Tree) (new : Tree) (made grown : List Tree) (rest : Labels) → k < length old → t ≡ get_or old k t
-    → name_of new ≡ append_rest (name_of t) rest → grown ≡ made ++ new ∷ [] → map name_of made ≡ map (λ t. append_rest (name_of t) rest) (take k old)
-    → map name_of grown ≡ map (λ t. append_rest (name_of t) rest) (take (k + 1) old)
+    → value_of new ≡ append_rest (value_of t) rest → grown ≡ made ++ new ∷ [] → map value_of made ≡ map (λ t. append_rest (value_of t) rest) (take k old)
+    → map value_of grown ≡ map (λ t. append_rest (value_of t) rest) (take (k + 1) old)
 rest_more old k t new made grown rest less at is pushed stands =
-    rw (pushed, take_more old k t less, ← at, map-append, map-append, stands) (ap (λ (n : Name). map (λ t. append_rest (name_of t) rest) (take k old) ++ n ∷ []) is)
+    rw (pushed, take_more old k t less, ← at, map-append, map-append, stands) (ap (λ (n : TreeValue). map (λ t. append_rest (value_of t) rest) (take k old) ++ n ∷ []) is)
 
 -- branches, and one behind them
-abbrev and_branch : Branches → ℕ → Name → Branches
+abbrev and_branch : Branches → ℕ → TreeValue → Branches
 and_branch no_branch n t = branch n t no_branch
 and_branch (branch m u bs) n t = branch m u (and_branch bs n t)
 
-listed-snoc : (bs : List Branch) (b : Branch) → listed (bs ++ b ∷ []) ≡ and_branch (listed bs) b.weight (name_of b.tree)
+listed-snoc : (bs : List Branch) (b : Branch) → listed (bs ++ b ∷ []) ≡ and_branch (listed bs) b.weight (value_of b.tree)
 listed-snoc [] b = refl
-listed-snoc (x ∷ bs) b = ap (branch x.weight (name_of x.tree)) (listed-snoc bs b)
+listed-snoc (x ∷ bs) b = ap (branch x.weight (value_of x.tree)) (listed-snoc bs b)
 
-rest-and_branch : (bs : Branches) (n : ℕ) (t : Name) (rest : Labels) → append_rest_branches (and_branch bs n t) rest ≡ and_branch (append_rest_branches bs rest) n (append_rest t rest)
+rest-and_branch : (bs : Branches) (n : ℕ) (t : TreeValue) (rest : Labels) → append_rest_branches (and_branch bs n t) rest ≡ and_branch (append_rest_branches bs rest) n (append_rest t rest)
 rest-and_branch no_branch n t rest = refl
 rest-and_branch (branch m u bs) n t rest = ap (branch m (append_rest u rest)) (rest-and_branch bs n t rest)
 
 -- one branch more has the rest behind its leaves
 pub branch_more : (old : List Branch) (k : ℕ) (b new : Branch) (made grown : List Branch) (rest : Labels) → k < length old → b ≡ get_or old k b
-    → new.weight ≡ b.weight → name_of new.tree ≡ append_rest (name_of b.tree) rest → grown ≡ made ++ new ∷ [] → listed made ≡ append_rest_branches (listed (take k old)) rest
+    → new.weight ≡ b.weight → value_of new.tree ≡ append_rest (value_of b.tree) rest → grown ≡ made ++ new ∷ [] → listed made ≡ append_rest_branches (listed (take k old)) rest
     → listed grown ≡ append_rest_branches (listed (take (k + 1) old)) rest
 branch_more old k b new made grown rest less at weight is pushed stands =
     rw (pushed, take_more old k b less, ← at, listed-snoc, listed-snoc, rest-and_branch, stands, weight, is) refl

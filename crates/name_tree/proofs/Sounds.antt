@@ -8,7 +8,7 @@ use Rattle.std.proofs.lemmas.List.Elements.{All-cons, All-nil}
 use Rattle.std.proofs.lemmas.Option.{none-some, same_Some}
 use Rattle.std.proofs.Math.Nat.{mul-le-mul_right}
 use Rattle.name_tree.specs.Path.{Label, Labels, is_plain}
-use Rattle.name_tree.specs.Value.{Name, Part, names, branches, lone, one_or_alt, union_of, one_whole}
+use Rattle.name_tree.specs.Value.{TreeValue, Part, tree_values, branches, lone, one_or_alt, union_of, one_whole}
 use Rattle.name_tree.specs.Grammar.{hex_value, is_digit, AreDigits, no_digit, digit, number, fraction, SpellsByte, plain, escape, SpellsLabel, byte, bytes, SpellsLabels, label, labels, SpellsPath, root, under, SpellsWeight, whole, decimal, SpellsSimple, path, failing, negative, nothing, group, SpellsBranch, bare, weighed, SpellsUnion, branch as one_branch, branches as more_branches, SpellsTree, union as one_union, unions, TreeText, tree, PathText}
 use Rattle.name_tree.specs.Canon.{IsSound, AreSound, AreSoundBranches, IsByteLabel, AreByteLabels, HasLabels, HaveLabels, BranchesHaveLabels, count_names, count_branches, most_members}
 use Rattle.name_tree.proofs.Bytes.{chosen}
@@ -94,7 +94,7 @@ abbrev WeightIsSmall : Option ℕ → Type 0
 WeightIsSmall None = Unit {0}
 WeightIsSmall (Some n) = n < 10 ^ 12
 
-record SoundName (v : Name) : Type 0 where
+record SoundName (v : TreeValue) : Type 0 where
   sound : IsSound v
   labels : HasLabels v
 
@@ -106,7 +106,7 @@ abbrev SoundParts : List Part → Type 0
 SoundParts [] = Unit {0}
 SoundParts (p ∷ ps) = SoundPart p × SoundParts ps
 
-abbrev SoundNames : List Name → Type 0
+abbrev SoundNames : List TreeValue → Type 0
 SoundNames [] = Unit {0}
 SoundNames (v ∷ vs) = SoundName v × SoundNames vs
 
@@ -121,14 +121,14 @@ branches_sound (p ∷ ps) h =
     let count = k.2 in
     ((kept_small p.0 h.0.weight, h.0.tree.sound, k.0), (h.0.tree.labels, k.1), omega arith)
 
-names_sound : (vs : List Name) → SoundNames vs → AreSound (names vs) × HaveLabels (names vs) × (count_names (names vs) ≡ length vs)
+names_sound : (vs : List TreeValue) → SoundNames vs → AreSound (tree_values vs) × HaveLabels (tree_values vs) × (count_names (tree_values vs) ≡ length vs)
 names_sound [] h = (tt, tt, refl)
 names_sound (v ∷ vs) h =
     let k = names_sound vs h.1 in
     let count = k.2 in
     ((h.0.sound, k.0), (h.0.labels, k.1), omega arith)
 
-lone_sound : (w : Option ℕ) (v : Name) → WeightIsSmall w → SoundName v → SoundName (lone w v)
+lone_sound : (w : Option ℕ) (v : TreeValue) → WeightIsSmall w → SoundName v → SoundName (lone w v)
 lone_sound None v h k = k
 lone_sound (Some n) v h k = record { sound = (omega arith, omega arith, (h, k.sound, tt)); labels = (k.labels, tt) }
 
@@ -140,7 +140,7 @@ union_sound (p ∷ q ∷ ps) h some few =
     let count = k.2 in
     record { sound = (omega arith, omega arith, k.0); labels = k.1 }
 
-choice_sound : (vs : List Name) → SoundNames vs → 1 ≤ length vs → length vs ≤ most_members → SoundName (one_or_alt vs)
+choice_sound : (vs : List TreeValue) → SoundNames vs → 1 ≤ length vs → length vs ≤ most_members → SoundName (one_or_alt vs)
 choice_sound [] h some few = absurd (omega arith)
 choice_sound (v ∷ []) h some few = h.0
 choice_sound (v ∷ u ∷ vs) h some few =
@@ -150,7 +150,7 @@ choice_sound (v ∷ u ∷ vs) h some few =
 
 -- what a text that is not too long spells
 
-record SimpleIs (s : List ℕ) (v : Name) : Type 0 where
+record SimpleIs (s : List ℕ) (v : TreeValue) : Type 0 where
   some : 1 ≤ length s
   sound : length s ≤ most_members → SoundName v
 
@@ -163,12 +163,12 @@ record UnionIs (s : List ℕ) (ps : List Part) : Type 0 where
   few : length ps ≤ length s
   sound : length s ≤ most_members → SoundParts ps
 
-record TreeIs (s : List ℕ) (vs : List Name) : Type 0 where
+record TreeIs (s : List ℕ) (vs : List TreeValue) : Type 0 where
   some : 1 ≤ length vs
   few : length vs ≤ length s
   sound : length s ≤ most_members → SoundNames vs
 
-record TextIs (s : List ℕ) (v : Name) : Type 0 where
+record TextIs (s : List ℕ) (v : TreeValue) : Type 0 where
   sound : length s ≤ most_members → SoundName v
 
 -- the length of five pieces
@@ -181,7 +181,7 @@ path_some (under (label r)) = omega arith
 path_some (under (labels r rs)) = omega arith
 
 mutual
-  simple_is : {s : List ℕ} {v : Name} → SpellsSimple s v → SimpleIs s v
+  simple_is : {s : List ℕ} {v : TreeValue} → SpellsSimple s v → SimpleIs s v
   simple_is (path r) = record { some = path_some r; sound = λ _. record { sound = tt; labels = path_labels r } }
   simple_is failing = record { some = omega arith; sound = λ _. record { sound = tt; labels = tt } }
   simple_is negative = record { some = omega arith; sound = λ _. record { sound = tt; labels = tt } }
@@ -209,7 +209,7 @@ mutual
       let longer = five s a (codes "&") b t in
       record { some = omega arith; few = omega arith; sound = λ h. (k.sound (omega arith), ks.sound (omega arith)) }
 
-  tree_is : {s : List ℕ} {vs : List Name} → SpellsTree s vs → TreeIs s vs
+  tree_is : {s : List ℕ} {vs : List TreeValue} → SpellsTree s vs → TreeIs s vs
   tree_is (one_union {s = s} {ps = ps} r) =
       let k = union_is r in
       let some = k.some in
@@ -224,7 +224,7 @@ mutual
       let longer = five s a (codes "|") b t in
       record { some = omega arith; few = omega arith; sound = λ h. (union_sound ps (k.sound (omega arith)) k.some (omega arith), ks.sound (omega arith)) }
 
-  text_is : {s : List ℕ} {v : Name} → TreeText s v → TextIs s v
+  text_is : {s : List ℕ} {v : TreeValue} → TreeText s v → TextIs s v
   text_is (tree {a = a} {s = s} {b = b} {vs = vs} x r y) =
       let k = tree_is r in
       let few = k.few in
@@ -232,8 +232,8 @@ mutual
       record { sound = λ h. choice_sound vs (k.sound (omega arith)) k.some (omega arith) }
 
 -- what a text that is not too long stands for is sound, and its labels are labels
-pub text_sound : {s : List ℕ} {v : Name} → TreeText s v → length s ≤ most_members → IsSound v
+pub text_sound : {s : List ℕ} {v : TreeValue} → TreeText s v → length s ≤ most_members → IsSound v
 text_sound r h = ((text_is r).sound h).sound
 
-pub text_labels : {s : List ℕ} {v : Name} → TreeText s v → length s ≤ most_members → HasLabels v
+pub text_labels : {s : List ℕ} {v : TreeValue} → TreeText s v → length s ≤ most_members → HasLabels v
 text_labels r h = ((text_is r).sound h).labels

@@ -2,7 +2,7 @@
 use Rattle.std.proofs.Common.{◌≡◌, ℕ, false, List, [], ◌∷◌, ◌++◌, Option, Some, None, refl, sym, ap, ◌∙◌, append_assoc}
 use Rattle.std.proofs.lemmas.List.{append-nil}
 use Rattle.name_tree.specs.Path.{Labels, is_plain}
-use Rattle.name_tree.specs.Value.{Name, leaf, neg, fail, empty, Part, one_or_alt, union_of}
+use Rattle.name_tree.specs.Value.{TreeValue, leaf, neg, fail, empty, Part, one_or_alt, union_of}
 use Rattle.name_tree.specs.Grammar.{AreBlanks, SpellsPath, SpellsSimple, path, failing, negative, nothing, group, SpellsBranch, bare, weighed, SpellsUnion, branch, branches, SpellsTree, union, unions, TreeText, tree, SpellsWeight}
 use Rattle.name_tree.specs.LabelReading.{is_path_byte}
 use Rattle.name_tree.specs.PathReading.{walk_start}
@@ -15,7 +15,7 @@ data Begins : Option ℕ → Mode → Type 0 where
   starred : {n : ℕ} → Begins (Some n) (Mode.star n)
 
 -- a simple is read, and the branch ends
-record SimpleReads (s : List ℕ) (v : Name) : Type 0 where
+record SimpleReads (s : List ℕ) (v : TreeValue) : Type 0 where
   reads : {w : Option ℕ} {m : Mode} → Begins w m → (p : Place) {more : List ℕ} → Follows more → tree_from p m (s ++ more) ≡ tree_from (with_part p w v) Mode.behind more
 
 record BranchReads (s : List ℕ) (part : Part) : Type 0 where
@@ -25,18 +25,18 @@ record UnionReads (s : List ℕ) (ps : List Part) : Type 0 where
   reads : (p : Place) {more : List ℕ} → Follows more → tree_from p Mode.start (s ++ more) ≡ tree_from (record p { parts = p.parts ++ ps }) Mode.behind more
 
 -- behind these alternatives, and these branches of the last
-abbrev at : List Frame → List Name → List Part → Place
+abbrev at : List Frame → List TreeValue → List Part → Place
 at fs vs ps = record { outer = fs; alts = vs; parts = ps }
 
-record TreeReads (s : List ℕ) (vs : List Name) : Type 0 where
-  front : List Name
+record TreeReads (s : List ℕ) (vs : List TreeValue) : Type 0 where
+  front : List TreeValue
   last : List Part
   same : vs ≡ front ++ union_of last ∷ []
-  reads : (fs : List Frame) (us : List Name) {more : List ℕ} → Follows more
+  reads : (fs : List Frame) (us : List TreeValue) {more : List ℕ} → Follows more
       → tree_from (at fs us []) Mode.start (s ++ more) ≡ tree_from (at fs (us ++ front) last) Mode.behind more
 
-record TextReads (s : List ℕ) (v : Name) : Type 0 where
-  front : List Name
+record TextReads (s : List ℕ) (v : TreeValue) : Type 0 where
+  front : List TreeValue
   last : List Part
   same : v ≡ one_or_alt (front ++ union_of last ∷ [])
   reads : (fs : List Frame) {more : List ℕ} → Follows more → tree_from (before fs) Mode.start (s ++ more) ≡ tree_from (at fs front last) Mode.behind more
@@ -89,16 +89,16 @@ neg_reads = record { reads = λ b p f. rw (on_neg b p) refl }
 empty_reads : SimpleReads (36 ∷ []) empty
 empty_reads = record { reads = λ b p f. rw (on_empty b p) refl }
 
-group_reads : {s : List ℕ} {v : Name} → TextReads s v → SimpleReads (40 ∷ s ++ 41 ∷ []) v
+group_reads : {s : List ℕ} {v : TreeValue} → TextReads s v → SimpleReads (40 ∷ s ++ 41 ∷ []) v
 group_reads {s} {v} r = record {
   reads = λ {w} {m} b p {more} f.
       rw (on_open b p) (ap (λ u. tree_from (opened p w) Mode.start u) (append_assoc s (41 ∷ []) more) ∙ r.reads (opened p w).outer (other not_path_41) ∙ ap (λ x. tree_from (with_part p w x) Mode.behind more) (sym r.same));
 }
 
-bare_reads : {s : List ℕ} {v : Name} → SimpleReads s v → BranchReads s (None, v)
+bare_reads : {s : List ℕ} {v : TreeValue} → SimpleReads s v → BranchReads s (None, v)
 bare_reads r = record { reads = λ p f. r.reads first p f }
 
-weighed_reads : {w a b s : List ℕ} {n : ℕ} {v : Name} → SpellsWeight w n → AreBlanks a → AreBlanks b → SimpleReads s v → BranchReads (w ++ a ++ 42 ∷ [] ++ b ++ s) (Some n, v)
+weighed_reads : {w a b s : List ℕ} {n : ℕ} {v : TreeValue} → SpellsWeight w n → AreBlanks a → AreBlanks b → SimpleReads s v → BranchReads (w ++ a ++ 42 ∷ [] ++ b ++ s) (Some n, v)
 weighed_reads {w} {a} {b} {s} {n} {v} q x y r = record {
   reads = λ p {more} f.
       rw (append_assoc, append_assoc, append_assoc, append_assoc)
@@ -119,7 +119,7 @@ branches_read {s} {a} {b} {t} {q} {qs} r x y rs = record {
 union_reads : {s : List ℕ} {ps : List Part} → UnionReads s ps → TreeReads s (union_of ps ∷ [])
 union_reads {s} {ps} r = record { front = []; last = ps; same = refl; reads = λ fs us {more} f. r.reads (at fs us []) f ∙ ap (λ xs. tree_from (at fs xs ps) Mode.behind more) (sym (append-nil us)) }
 
-unions_read : {s a b t : List ℕ} {ps : List Part} {vs : List Name} → UnionReads s ps → AreBlanks a → AreBlanks b → TreeReads t vs → TreeReads (s ++ a ++ 124 ∷ [] ++ b ++ t) (union_of ps ∷ vs)
+unions_read : {s a b t : List ℕ} {ps : List Part} {vs : List TreeValue} → UnionReads s ps → AreBlanks a → AreBlanks b → TreeReads t vs → TreeReads (s ++ a ++ 124 ∷ [] ++ b ++ t) (union_of ps ∷ vs)
 unions_read {s} {a} {b} {t} {ps} {vs} r x y rs = record {
   front = union_of ps ∷ rs.front;
   last = rs.last;
@@ -130,7 +130,7 @@ unions_read {s} {a} {b} {t} {ps} {vs} r x y rs = record {
       ∙ (rs.reads fs (us ++ union_of ps ∷ []) f ∙ ap (λ xs. tree_from (at fs xs rs.last) Mode.behind more) (append_assoc us (union_of ps ∷ []) rs.front)))));
 }
 
-text_reads : {a s b : List ℕ} {vs : List Name} → AreBlanks a → TreeReads s vs → AreBlanks b → TextReads (a ++ s ++ b) (one_or_alt vs)
+text_reads : {a s b : List ℕ} {vs : List TreeValue} → AreBlanks a → TreeReads s vs → AreBlanks b → TextReads (a ++ s ++ b) (one_or_alt vs)
 text_reads {a} {s} {b} {vs} x r y = record {
   front = r.front;
   last = r.last;
@@ -139,7 +139,7 @@ text_reads {a} {s} {b} {vs} x r y = record {
 }
 
 mutual
-  simple_read : {s : List ℕ} {v : Name} → SpellsSimple s v → SimpleReads s v
+  simple_read : {s : List ℕ} {v : TreeValue} → SpellsSimple s v → SimpleReads s v
   simple_read (path r) = path_reads r
   simple_read failing = fail_reads
   simple_read negative = neg_reads
@@ -154,15 +154,15 @@ mutual
   union_read (branch r) = branch_reads (branch_read r)
   union_read (branches r x y rs) = branches_read (branch_read r) x y (union_read rs)
 
-  tree_spelled : {s : List ℕ} {vs : List Name} → SpellsTree s vs → TreeReads s vs
+  tree_spelled : {s : List ℕ} {vs : List TreeValue} → SpellsTree s vs → TreeReads s vs
   tree_spelled (union r) = union_reads (union_read r)
   tree_spelled (unions r x y rs) = unions_read (union_read r) x y (tree_spelled rs)
 
-  text_read : {s : List ℕ} {v : Name} → TreeText s v → TextReads s v
+  text_read : {s : List ℕ} {v : TreeValue} → TreeText s v → TextReads s v
   text_read (tree x r y) = text_reads x (tree_spelled r) y
 
 -- what a text stands for is what reading it gives
-pub spelled_is_read : {s : List ℕ} {v : Name} → TreeText s v → tree_read s ≡ Some v
+pub spelled_is_read : {s : List ℕ} {v : TreeValue} → TreeText s v → tree_read s ≡ Some v
 spelled_is_read {s} {v} r =
     let k = text_read r in
     ap tree_read (sym (append-nil s)) ∙ (k.reads [] at_end ∙ ap Some (sym k.same))

@@ -5,7 +5,7 @@ use Rattle.std.proofs.lemmas.Bool.{eqb-true, ltb-true}
 use Rattle.std.proofs.lemmas.List.{append-nil}
 use Rattle.std.proofs.lemmas.Option.{none-some, same_Some}
 use Rattle.name_tree.specs.Path.{Labels}
-use Rattle.name_tree.specs.Value.{Name, leaf, neg, fail, empty, Part, one_whole, one_or_alt, union_of}
+use Rattle.name_tree.specs.Value.{TreeValue, leaf, neg, fail, empty, Part, one_whole, one_or_alt, union_of}
 use Rattle.name_tree.specs.Grammar.{is_blank, is_digit, AreBlanks, no_blank, no_digit, digit, whole, decimal, SpellsSimple, path, failing, negative, nothing, group, SpellsBranch, bare, weighed, branch, TreeText}
 use Rattle.name_tree.specs.LabelReading.{is_path_byte}
 use Rattle.name_tree.specs.PathReading.{Walk, walk_start, next_walk, end_walk}
@@ -61,7 +61,7 @@ at_star {p} {n} {s} f =
       };
     }
 
-mark_step : {p : Place} {w : Option ℕ} {s : List ℕ} → AtSimple p w s → (b : ℕ) (v : Name) → SpellsSimple (b ∷ []) v → Next s b (with_part p w v, Mode.behind)
+mark_step : {p : Place} {w : Option ℕ} {s : List ℕ} → AtSimple p w s → (b : ℕ) (v : TreeValue) → SpellsSimple (b ∷ []) v → Next s b (with_part p w v, Mode.behind)
 mark_step {p} {w} {s} k b v r = record {
   front = k.front;
   rest = k.blanks ++ ((k.weight ++ b ∷ []) ++ []);
@@ -386,7 +386,7 @@ blank_behind {p} {s} k b h = record {
   };
 }
 
-close_step : (fs : List Frame) (vs : List Name) (ps : List Part) (s : List ℕ) → Behind (record { outer = fs; alts = vs; parts = ps }) s → (b : ℕ) → b ≡ 41
+close_step : (fs : List Frame) (vs : List TreeValue) (ps : List Part) (s : List ℕ) → Behind (record { outer = fs; alts = vs; parts = ps }) s → (b : ℕ) → b ≡ 41
     → IfSome (closed fs (one_or_alt (vs ++ union_of ps ∷ []))) (Next s b)
 close_step [] vs ps s k b e = tt
 close_step (f ∷ fs) vs ps s k b e =
@@ -481,7 +481,7 @@ step p Mode.behind s f b = behind_step f b
 
 -- the end
 
-behind_ends : (fs : List Frame) (vs : List Name) (ps : List Part) (s : List ℕ) → Behind (record { outer = fs; alts = vs; parts = ps }) s → (v : Name)
+behind_ends : (fs : List Frame) (vs : List TreeValue) (ps : List Part) (s : List ℕ) → Behind (record { outer = fs; alts = vs; parts = ps }) s → (v : TreeValue)
     → end_tree (record { outer = fs; alts = vs; parts = ps }) ≡ Some v → TreeText s v
 behind_ends [] vs ps s k v e =
     let text = padded_text (whole_tree k) in
@@ -489,11 +489,11 @@ behind_ends [] vs ps s k v e =
     subst₂ TreeText same (same_Some _ v e) text
 behind_ends (f ∷ fs) vs ps s k v e = absurd (none-some v e)
 
-walk_ends : (p : Place) (w : Option ℕ) (at : Walk) (s : List ℕ) → Inside p (Mode.walk w at) s → (v : Name) (o : Option Labels) → end_walk at ≡ o → ended_path p w o ≡ Some v → TreeText s v
+walk_ends : (p : Place) (w : Option ℕ) (at : Walk) (s : List ℕ) → Inside p (Mode.walk w at) s → (v : TreeValue) (o : Option Labels) → end_walk at ≡ o → ended_path p w o ≡ Some v → TreeText s v
 walk_ends p w at s f v None i e = absurd (none-some v e)
 walk_ends p w at s f v (Some ls) i e = behind_ends p.outer p.alts (p.parts ++ (w, leaf ls) ∷ []) s (path_ends f ls i) v e
 
-ends : (p : Place) (m : Mode) (s : List ℕ) → Front p m s → (v : Name) → ended p m ≡ Some v → TreeText s v
+ends : (p : Place) (m : Mode) (s : List ℕ) → Front p m s → (v : TreeValue) → ended p m ≡ Some v → TreeText s v
 ends p Mode.start s f v e = absurd (none-some v e)
 ends p (Mode.whole n k) s f v e = absurd (none-some v e)
 ends p (Mode.point n) s f v e = absurd (none-some v e)
@@ -513,6 +513,6 @@ at_start fs s o = record {
 }
 
 -- what reading a text gives is what the text stands for
-pub read_is_spelled : (s : List ℕ) (v : Name) → tree_read s ≡ Some v → TreeText s v
+pub read_is_spelled : (s : List ℕ) (v : TreeValue) → tree_read s ≡ Some v → TreeText s v
 read_is_spelled s v e =
     completes next_state ended_state (λ q t. Front q.0 q.1 t) TreeText (λ q t f b. step q.0 q.1 t f b) (λ q t f w i. ends q.0 q.1 t f w i) s (before [], Mode.start) [] (at_start [] [] refl) v e

@@ -1,7 +1,7 @@
 -- The laws of the recogniser of trees.
 use Rattle.std.proofs.Common.{◌≡◌, ℕ, ◌+◌, ◌*◌, List, [], ◌∷◌, ◌++◌, length, Option, Some, None, refl, ◌∙◌}
 use Rattle.name_tree.specs.Path.{is_plain}
-use Rattle.name_tree.specs.Value.{Name, leaf, neg, Part}
+use Rattle.name_tree.specs.Value.{TreeValue, leaf, neg, Part}
 use Rattle.name_tree.specs.Grammar.{TreeText}
 use Rattle.name_tree.specs.PathReading.{Walk}
 use Rattle.name_tree.proofs.Walks.{walk_can_end}
@@ -23,18 +23,18 @@ unfolding is_plain
 follows_closings [] = at_end
 follows_closings (f ∷ fs) = other refl
 
-behind_ends : (fs : List Frame) (vs : List Name) (ps : List Part) → (v : Name) × (tree_from (record { outer = fs; alts = vs; parts = ps }) Mode.behind (closings fs) ≡ Some v)
+behind_ends : (fs : List Frame) (vs : List TreeValue) (ps : List Part) → (v : TreeValue) × (tree_from (record { outer = fs; alts = vs; parts = ps }) Mode.behind (closings fs) ≡ Some v)
 behind_ends [] vs ps = (_, refl)
 behind_ends (f ∷ fs) vs ps = behind_ends fs f.alts _
 
-walk_ended : (p : Place) (w : Option ℕ) (at : Walk) → (more : List ℕ) × (v : Name) × (tree_from p (Mode.walk w at) more ≡ Some v)
+walk_ended : (p : Place) (w : Option ℕ) (at : Walk) → (more : List ℕ) × (v : TreeValue) × (tree_from p (Mode.walk w at) more ≡ Some v)
 walk_ended p w at =
     let k = walk_can_end at in
     let q = with_part p w (leaf k.labels) in
     let e = behind_ends q.outer q.alts q.parts in
     (k.more ++ closings p.outer, e.0, walk_in p w k.more at k.to k.reads (closings p.outer) ∙ (walk_ends p w k.to k.labels k.ends (follows_closings p.outer) ∙ e.1))
 
-can_end : (p : Place) (m : Mode) → (more : List ℕ) × (v : Name) × (tree_from p m more ≡ Some v)
+can_end : (p : Place) (m : Mode) → (more : List ℕ) × (v : TreeValue) × (tree_from p m more ≡ Some v)
 can_end p Mode.start = let e = behind_ends p.outer p.alts (p.parts ++ (None, neg) ∷ []) in (126 ∷ closings p.outer, e.0, e.1)
 can_end p (Mode.whole n k) = let e = behind_ends p.outer p.alts (p.parts ++ (Some (n * 1000000), neg) ∷ []) in (42 ∷ 126 ∷ closings p.outer, e.0, e.1)
 can_end p (Mode.point n) = let e = behind_ends p.outer p.alts (p.parts ++ (Some (n + 0 * 100000), neg) ∷ []) in (48 ∷ 42 ∷ 126 ∷ closings p.outer, e.0, e.1)

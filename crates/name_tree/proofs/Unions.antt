@@ -6,15 +6,15 @@ use Rattle.std.proofs.lemmas.List.Elements.{All-cons, All-nil}
 use Rattle.name_tree.specs.declared.union.Part.{Part as WrittenPart}
 use Rattle.name_tree.specs.declared.tree.Branch.{Branch}
 use Rattle.name_tree.specs.declared.tree.Branches.{Branches as BranchList}
-use Rattle.name_tree.specs.Value.{Name, union, branch, branches, one_whole, lone, union_of}
-use Rattle.name_tree.specs.Tree.{name_of, branches_of, listed}
+use Rattle.name_tree.specs.Value.{TreeValue, union, branch, branches, one_whole, lone, union_of}
+use Rattle.name_tree.specs.Tree.{value_of, branches_of, listed}
 use Rattle.name_tree.specs.Parts.{part_of, branch_in}
 
 listed-map : (ps : List WrittenPart) → listed (map branch_in ps) ≡ branches (map part_of ps)
 listed-map [] = refl
-listed-map (p ∷ ps) = ap (branch (unwrap_or p.weight one_whole) (name_of p.tree)) (listed-map ps)
+listed-map (p ∷ ps) = ap (branch (unwrap_or p.weight one_whole) (value_of p.tree)) (listed-map ps)
 
-lone_is : (w : Option ℕ) (v : Name) → (IsNone w → ⊥) → lone w v ≡ union (branches ((w, v) ∷ []))
+lone_is : (w : Option ℕ) (v : TreeValue) → (IsNone w → ⊥) → lone w v ≡ union (branches ((w, v) ∷ []))
 lone_is None v weighed = absurd (weighed refl)
 lone_is (Some n) v weighed = refl
 
@@ -23,7 +23,7 @@ AreUnweighed ps = All (λ part. IsNone part.weight) ps
 
 union_of-map : (ps : List WrittenPart) → ((length ps ≡ 1) × AreUnweighed ps → ⊥) → union_of (map part_of ps) ≡ union (branches (map part_of ps))
 union_of-map [] other = refl
-union_of-map (p ∷ []) other = lone_is p.weight (name_of p.tree) (λ none. other (refl, All-cons (λ part. IsNone part.weight) p [] none (All-nil (λ part. IsNone part.weight))))
+union_of-map (p ∷ []) other = lone_is p.weight (value_of p.tree) (λ none. other (refl, All-cons (λ part. IsNone part.weight) p [] none (All-nil (λ part. IsNone part.weight))))
 union_of-map (p ∷ q ∷ ps) other = refl
 
 pub union_is : (ps shown : List WrittenPart) (bs : List Branch) (made : BranchList) → shown ≡ ps → ((length shown ≡ 1) × AreUnweighed shown → false ≡ true) → bs ≡ map branch_in ps

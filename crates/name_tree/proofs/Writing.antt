@@ -6,28 +6,28 @@ use Rattle.name_tree.specs.declared.tree.Tree.{Tree, Alt}
 use Rattle.name_tree.specs.declared.tree.Trees.{Trees}
 use Rattle.name_tree.specs.declared.tree.Branch.{Branch}
 use Rattle.name_tree.specs.declared.tree.Branches.{Branches as BranchList, out-Branches}
-use Rattle.name_tree.specs.Value.{Name, names}
+use Rattle.name_tree.specs.Value.{TreeValue, tree_values}
 use Rattle.name_tree.specs.Canon.{is_alt, grouped, canon, canon_alts, canon_more_alts, branch_text, canon_branches, canon_more_branches}
 use Rattle.name_tree.specs.Separated.{separated}
-use Rattle.name_tree.specs.Tree.{name_of, branches_of, listed}
-use Rattle.name_tree.proofs.Bridge.{name_of-Alt, branches_of-out}
+use Rattle.name_tree.specs.Tree.{value_of, branches_of, listed}
+use Rattle.name_tree.proofs.Bridge.{value_of-Alt, branches_of-out}
 
 length-take-le : {A : Type 0} (k : ℕ) (xs : List A) → k < length xs → length (take k xs) ≡ k
 length-take-le k xs h = omega (arith, length-take k xs)
 
-abbrev alt_text : Name → List ℕ
+abbrev alt_text : TreeValue → List ℕ
 alt_text t = grouped (is_alt t) (canon t)
 
-more_alts-snoc : (ts : List Name) (t : Name) → canon_more_alts (names (ts ++ t ∷ [])) ≡ canon_more_alts (names ts) ++ (codes " | " ++ alt_text t)
+more_alts-snoc : (ts : List TreeValue) (t : TreeValue) → canon_more_alts (tree_values (ts ++ t ∷ [])) ≡ canon_more_alts (tree_values ts) ++ (codes " | " ++ alt_text t)
 more_alts-snoc [] t = simp append-nil
-more_alts-snoc (u ∷ us) t = ap (λ x. codes " | " ++ alt_text u ++ x) (more_alts-snoc us t) ∙ sym (append_assoc (codes " | " ++ alt_text u) (canon_more_alts (names us)) (codes " | " ++ alt_text t))
+more_alts-snoc (u ∷ us) t = ap (λ x. codes " | " ++ alt_text u ++ x) (more_alts-snoc us t) ∙ sym (append_assoc (codes " | " ++ alt_text u) (canon_more_alts (tree_values us)) (codes " | " ++ alt_text t))
 
-alts-snoc : (ts : List Name) (t : Name) → canon_alts (names (ts ++ t ∷ [])) ≡ canon_alts (names ts) ++ (separated (length ts) (codes " | ") ++ alt_text t)
+alts-snoc : (ts : List TreeValue) (t : TreeValue) → canon_alts (tree_values (ts ++ t ∷ [])) ≡ canon_alts (tree_values ts) ++ (separated (length ts) (codes " | ") ++ alt_text t)
 alts-snoc [] t = append-nil (alt_text t)
-alts-snoc (u ∷ us) t = ap (λ x. alt_text u ++ x) (more_alts-snoc us t) ∙ sym (append_assoc (alt_text u) (canon_more_alts (names us)) (codes " | " ++ alt_text t))
+alts-snoc (u ∷ us) t = ap (λ x. alt_text u ++ x) (more_alts-snoc us t) ∙ sym (append_assoc (alt_text u) (canon_more_alts (tree_values us)) (codes " | " ++ alt_text t))
 
 abbrev text_of : Branch → List ℕ
-text_of b = branch_text b.weight (name_of b.tree)
+text_of b = branch_text b.weight (value_of b.tree)
 
 more_branches-snoc : (bs : List Branch) (b : Branch) → canon_more_branches (listed (bs ++ b ∷ [])) ≡ canon_more_branches (listed bs) ++ (codes " & " ++ text_of b)
 more_branches-snoc [] b = append-nil (codes " & " ++ text_of b)
@@ -40,19 +40,19 @@ branches-snoc (c ∷ cs) b = ap (λ x. text_of c ++ x) (more_branches-snoc cs b)
 
 -- the bytes behind one alternative more
 pub alts_grown : (ts : List Tree) (k : ℕ) (t : Tree) (group : Bool) (old one two three : List ℕ) → k < length ts → t ≡ get_or ts k t
-    → one ≡ old ++ canon_alts (names (map name_of (take k ts))) → two ≡ one ++ separated k (codes " | ") → group ≡ is_alt (name_of t) → three ≡ two ++ grouped group (canon (name_of t))
-    → three ≡ old ++ canon_alts (names (map name_of (take (k + 1) ts)))
+    → one ≡ old ++ canon_alts (tree_values (map value_of (take k ts))) → two ≡ one ++ separated k (codes " | ") → group ≡ is_alt (value_of t) → three ≡ two ++ grouped group (canon (value_of t))
+    → three ≡ old ++ canon_alts (tree_values (map value_of (take (k + 1) ts)))
 alts_grown ts k t group old one two three less at e f is g =
-    let count : length (map name_of (take k ts)) ≡ k = length-map (take k ts) name_of ∙ length-take-le k ts less in
-    let step : canon_alts (names (map name_of (take (k + 1) ts))) ≡ canon_alts (names (map name_of (take k ts))) ++ (separated k (codes " | ") ++ alt_text (name_of t))
-    = ap (λ xs. canon_alts (names (map name_of xs))) (take_more ts k t less)
-    ∙ (ap (λ u. canon_alts (names (map name_of (take k ts ++ u ∷ [])))) (sym at)
-    ∙ (ap (λ xs. canon_alts (names xs)) (map-append name_of (take k ts) (t ∷ []))
-    ∙ (alts-snoc (map name_of (take k ts)) (name_of t) ∙ ap (λ n. canon_alts (names (map name_of (take k ts))) ++ (separated n (codes " | ") ++ alt_text (name_of t))) count))) in
+    let count : length (map value_of (take k ts)) ≡ k = length-map (take k ts) value_of ∙ length-take-le k ts less in
+    let step : canon_alts (tree_values (map value_of (take (k + 1) ts))) ≡ canon_alts (tree_values (map value_of (take k ts))) ++ (separated k (codes " | ") ++ alt_text (value_of t))
+    = ap (λ xs. canon_alts (tree_values (map value_of xs))) (take_more ts k t less)
+    ∙ (ap (λ u. canon_alts (tree_values (map value_of (take k ts ++ u ∷ [])))) (sym at)
+    ∙ (ap (λ xs. canon_alts (tree_values xs)) (map-append value_of (take k ts) (t ∷ []))
+    ∙ (alts-snoc (map value_of (take k ts)) (value_of t) ∙ ap (λ n. canon_alts (tree_values (map value_of (take k ts))) ++ (separated n (codes " | ") ++ alt_text (value_of t))) count))) in
     rw (g, is, f, e, step) (simp append_assoc)
 
 pub branches_grown : (bs : List Branch) (k : ℕ) (b : Branch) (old one two three : List ℕ) → k < length bs → b ≡ get_or bs k b
-    → one ≡ old ++ canon_branches (listed (take k bs)) → two ≡ one ++ separated k (codes " & ") → three ≡ two ++ branch_text b.weight (name_of b.tree)
+    → one ≡ old ++ canon_branches (listed (take k bs)) → two ≡ one ++ separated k (codes " & ") → three ≡ two ++ branch_text b.weight (value_of b.tree)
     → three ≡ old ++ canon_branches (listed (take (k + 1) bs))
 branches_grown bs k b old one two three less at e f g =
     let step : canon_branches (listed (take (k + 1) bs)) ≡ canon_branches (listed (take k bs)) ++ (separated k (codes " & ") ++ text_of b)
@@ -66,5 +66,5 @@ pub branches_written : (branches : BranchList) (items : List Branch) (k : ℕ) (
 branches_written branches items k old out all seen e =
     e ∙ ap (λ x. old ++ canon_branches x) (ap listed (take_all k items all ∙ seen) ∙ sym (branches_of-out branches))
 
-pub alts_written : (tree : Tree) (trees : Trees) (old out : List ℕ) → tree ≡ Alt trees → out ≡ old ++ canon_alts (names (map name_of trees.items.items)) → out ≡ old ++ canon (name_of tree)
-alts_written tree trees old out is e = e ∙ ap (λ x. old ++ canon x) (sym (ap name_of is ∙ name_of-Alt trees))
+pub alts_written : (tree : Tree) (trees : Trees) (old out : List ℕ) → tree ≡ Alt trees → out ≡ old ++ canon_alts (tree_values (map value_of trees.items.items)) → out ≡ old ++ canon (value_of tree)
+alts_written tree trees old out is e = e ∙ ap (λ x. old ++ canon x) (sym (ap value_of is ∙ value_of-Alt trees))

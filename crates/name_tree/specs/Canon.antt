@@ -2,7 +2,7 @@
 use Rattle.std.specs.Prelude.{ℕ, zero, suc, ◌+◌, ◌/◌, ◌%◌, ◌^◌, ◌<◌, ◌≤◌, ◌==◌, Bool, true, false, ◌||◌, if◌then◌else◌, List, [], ◌∷◌, ◌++◌, length, codes, All}
 use Rattle.std.specs.Fmt.{decimal}
 use Rattle.name_tree.specs.Path.{Label, Labels, canon_path}
-use Rattle.name_tree.specs.Value.{Name, leaf, neg, fail, empty, alt, union, Names, none, more, Branches, no_branch, branch, one_whole}
+use Rattle.name_tree.specs.Value.{TreeValue, leaf, neg, fail, empty, alt, union, TreeValues, none, more, Branches, no_branch, branch, one_whole}
 
 -- the last so many decimals, which are worth so much, without the zeros at their end
 abbrev pub decimals_text : ℕ → ℕ → List ℕ
@@ -17,11 +17,11 @@ point_text rest = if rest == 0 then [] else codes "." ++ decimals_text 6 rest
 abbrev pub canon_weight : ℕ → List ℕ
 canon_weight n = decimal (n / one_whole) ++ point_text (n % one_whole)
 
-abbrev pub is_alt : Name → Bool
+abbrev pub is_alt : TreeValue → Bool
 is_alt (alt ts) = true
 is_alt _ = false
 
-abbrev pub is_union : Name → Bool
+abbrev pub is_union : TreeValue → Bool
 is_union (union bs) = true
 is_union _ = false
 
@@ -32,7 +32,7 @@ grouped false text = text
 
 abbrev mutual
   -- the canonical text of a tree
-  pub canon : Name → List ℕ
+  pub canon : TreeValue → List ℕ
   canon (leaf ls) = canon_path ls
   canon neg = codes "~"
   canon fail = codes "!"
@@ -41,11 +41,11 @@ abbrev mutual
   canon (union bs) = canon_branches bs
 
   -- alternatives with ` | ` between them: a choice stands in parentheses
-  pub canon_alts : Names → List ℕ
+  pub canon_alts : TreeValues → List ℕ
   canon_alts none = []
   canon_alts (more t ts) = grouped (is_alt t) (canon t) ++ canon_more_alts ts
 
-  pub canon_more_alts : Names → List ℕ
+  pub canon_more_alts : TreeValues → List ℕ
   canon_more_alts none = []
   canon_more_alts (more t ts) = codes " | " ++ grouped (is_alt t) (canon t) ++ canon_more_alts ts
 
@@ -60,10 +60,10 @@ abbrev mutual
       codes " & " ++ canon_weight n ++ codes " * " ++ grouped (is_alt t || is_union t) (canon t) ++ canon_more_branches bs
 
 -- a branch in a union's text
-abbrev pub branch_text : ℕ → Name → List ℕ
+abbrev pub branch_text : ℕ → TreeValue → List ℕ
 branch_text n t = canon_weight n ++ codes " * " ++ grouped (is_alt t || is_union t) (canon t)
 
-abbrev pub count_names : Names → ℕ
+abbrev pub count_names : TreeValues → ℕ
 count_names none = 0
 count_names (more t ts) = 1 + count_names ts
 
@@ -81,7 +81,7 @@ weight_bound = 10 ^ 12
 
 abbrev mutual
   -- a tree has two alternatives or more in each choice, a branch or more in each union, not too many of either, and no weight that is too large
-  pub IsSound : Name → Type 0
+  pub IsSound : TreeValue → Type 0
   IsSound (leaf ls) = Unit {0}
   IsSound neg = Unit {0}
   IsSound fail = Unit {0}
@@ -89,7 +89,7 @@ abbrev mutual
   IsSound (alt ts) = (2 ≤ count_names ts) × (count_names ts ≤ most_members) × AreSound ts
   IsSound (union bs) = (1 ≤ count_branches bs) × (count_branches bs ≤ most_members) × AreSoundBranches bs
 
-  pub AreSound : Names → Type 0
+  pub AreSound : TreeValues → Type 0
   AreSound none = Unit {0}
   AreSound (more t ts) = IsSound t × AreSound ts
 
@@ -107,7 +107,7 @@ AreByteLabels (l ∷ ls) = IsByteLabel l × AreByteLabels ls
 
 abbrev mutual
   -- each label of the tree is one
-  pub HasLabels : Name → Type 0
+  pub HasLabels : TreeValue → Type 0
   HasLabels (leaf ls) = AreByteLabels ls
   HasLabels neg = Unit {0}
   HasLabels fail = Unit {0}
@@ -115,7 +115,7 @@ abbrev mutual
   HasLabels (alt ts) = HaveLabels ts
   HasLabels (union bs) = BranchesHaveLabels bs
 
-  pub HaveLabels : Names → Type 0
+  pub HaveLabels : TreeValues → Type 0
   HaveLabels none = Unit {0}
   HaveLabels (more t ts) = HasLabels t × HaveLabels ts
 

@@ -1,7 +1,7 @@
 -- The values of texts within the limits, computed byte by byte. A law says that they are those of the grammar.
 use Rattle.std.specs.Prelude.{◌≡◌, ◌↔◌, ℕ, Bool, true, false, ◌&&◌, ◌==◌, nat_le, if◌then◌else◌, List, [], ◌∷◌, length, Option, Some, None}
 use Rattle.name_tree.specs.Path.{Labels}
-use Rattle.name_tree.specs.Value.{Name}
+use Rattle.name_tree.specs.Value.{TreeValue}
 use Rattle.name_tree.specs.Faults.{most_bytes, most_open, open_after, IsValue}
 use Rattle.name_tree.specs.Recogniser.{value_from}
 use Rattle.name_tree.specs.PathReading.{before as before_path, next_path, end_path}
@@ -21,7 +21,7 @@ unfoldable pub path_of : List ℕ → Option Labels
 path_of text = in_limits (value_from next_path end_path before_path) text
 
 -- the tree that a text stands for
-unfoldable pub tree_of : List ℕ → Option Name
+unfoldable pub tree_of : List ℕ → Option TreeValue
 tree_of text = in_limits (value_from next_state ended_state (before [], start)) text
 
 -- a function gives the values of a grammar's texts within the limits, and nothing else

@@ -2,7 +2,7 @@
 use Rattle.std.specs.Prelude.{◌≡◌, ℕ, ◌+◌, ◌-◌, ◌*◌, ◌/◌, ◌≤◌, Bool, ◌||◌, ◌&&◌, ◌==◌, nat_le, if◌then◌else◌, List, [], ◌∷◌, ◌++◌, length, codes, IsTrue, Option, Some, None}
 use Rattle.std.specs.Char.{is_ascii_digit}
 use Rattle.name_tree.specs.Path.{Label, Labels, is_plain}
-use Rattle.name_tree.specs.Value.{Name, leaf, neg, fail, empty, Part, one_whole, one_or_alt, union_of}
+use Rattle.name_tree.specs.Value.{TreeValue, leaf, neg, fail, empty, Part, one_whole, one_or_alt, union_of}
 
 -- a space, a tab, a CR or an LF
 abbrev pub is_blank : ℕ → Bool
@@ -67,17 +67,17 @@ pub data SpellsWeight : List ℕ → ℕ → Type 0 where
 
 mutual
   -- a path, a mark, or a tree in parentheses
-  pub data SpellsSimple : List ℕ → Name → Type 0 where
+  pub data SpellsSimple : List ℕ → TreeValue → Type 0 where
     path : {s : List ℕ} {ls : Labels} → SpellsPath s ls → SpellsSimple s (leaf ls)
     failing : SpellsSimple (codes "!") fail
     negative : SpellsSimple (codes "~") neg
     nothing : SpellsSimple (codes "$") empty
-    group : {s : List ℕ} {v : Name} → TreeText s v → SpellsSimple (codes "(" ++ s ++ codes ")") v
+    group : {s : List ℕ} {v : TreeValue} → TreeText s v → SpellsSimple (codes "(" ++ s ++ codes ")") v
 
   -- a simple, or a weight, `*` and a simple
   pub data SpellsBranch : List ℕ → Part → Type 0 where
-    bare : {s : List ℕ} {v : Name} → SpellsSimple s v → SpellsBranch s (None, v)
-    weighed : {w a b s : List ℕ} {n : ℕ} {v : Name} → SpellsWeight w n → AreBlanks a → AreBlanks b → SpellsSimple s v
+    bare : {s : List ℕ} {v : TreeValue} → SpellsSimple s v → SpellsBranch s (None, v)
+    weighed : {w a b s : List ℕ} {n : ℕ} {v : TreeValue} → SpellsWeight w n → AreBlanks a → AreBlanks b → SpellsSimple s v
         → SpellsBranch (w ++ a ++ codes "*" ++ b ++ s) (Some n, v)
 
   -- one or more branches with `&` between them
@@ -87,14 +87,14 @@ mutual
         → SpellsUnion (s ++ a ++ codes "&" ++ b ++ t) (p ∷ ps)
 
   -- one or more unions with `|` between them
-  pub data SpellsTree : List ℕ → List Name → Type 0 where
+  pub data SpellsTree : List ℕ → List TreeValue → Type 0 where
     union : {s : List ℕ} {ps : List Part} → SpellsUnion s ps → SpellsTree s (union_of ps ∷ [])
-    unions : {s a b t : List ℕ} {ps : List Part} {vs : List Name} → SpellsUnion s ps → AreBlanks a → AreBlanks b → SpellsTree t vs
+    unions : {s a b t : List ℕ} {ps : List Part} {vs : List TreeValue} → SpellsUnion s ps → AreBlanks a → AreBlanks b → SpellsTree t vs
         → SpellsTree (s ++ a ++ codes "|" ++ b ++ t) (union_of ps ∷ vs)
 
   -- the text of a tree: blanks, a tree, blanks
-  pub data TreeText : List ℕ → Name → Type 0 where
-    tree : {a s b : List ℕ} {vs : List Name} → AreBlanks a → SpellsTree s vs → AreBlanks b → TreeText (a ++ s ++ b) (one_or_alt vs)
+  pub data TreeText : List ℕ → TreeValue → Type 0 where
+    tree : {a s b : List ℕ} {vs : List TreeValue} → AreBlanks a → SpellsTree s vs → AreBlanks b → TreeText (a ++ s ++ b) (one_or_alt vs)
 
 -- the text of a path: blanks, a path, blanks
 pub data PathText : List ℕ → Labels → Type 0 where

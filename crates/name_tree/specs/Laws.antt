@@ -1,7 +1,7 @@
 -- What holds of all texts and values.
 use Rattle.std.specs.Prelude.{◌≡◌, ℕ, List}
 use Rattle.name_tree.specs.Path.{Labels, canon_path}
-use Rattle.name_tree.specs.Value.{Name}
+use Rattle.name_tree.specs.Value.{TreeValue}
 use Rattle.name_tree.specs.Grammar.{PathText, TreeText}
 use Rattle.name_tree.specs.Canon.{canon, IsSound, AreByteLabels, HasLabels}
 
@@ -15,4 +15,4 @@ PathsReadBack = (path : Labels) → AreByteLabels path → PathText (canon_path 
 
 -- the canonical text of a sound tree stands for it, where its labels are labels
 abbrev pub TreesReadBack : Type 0
-TreesReadBack = (tree : Name) → IsSound tree → HasLabels tree → TreeText (canon tree) tree
+TreesReadBack = (tree : TreeValue) → IsSound tree → HasLabels tree → TreeText (canon tree) tree

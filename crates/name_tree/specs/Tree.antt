@@ -3,31 +3,31 @@ use Rattle.std.specs.Prelude.{List, [], ◌∷◌}
 use Rattle.name_tree.specs.declared.tree.Tree.{Tree, Leaf, Neg, Fail, Empty, Alt', Union, Row_of-Tree, end_of-Tree, more_of-Tree}
 use Rattle.name_tree.specs.declared.tree.Branch.{Branch}
 use Rattle.name_tree.specs.declared.tree.Branches.{Branches as BranchList, Branches', Row_of-Branch, end_of-Branch, more_of-Branch}
-use Rattle.name_tree.specs.Value.{Name, leaf, neg, fail, empty, alt, union, Names, none, more, Branches, no_branch, branch}
+use Rattle.name_tree.specs.Value.{TreeValue, leaf, neg, fail, empty, alt, union, TreeValues, none, more, Branches, no_branch, branch}
 
 abbrev mutual
   -- what a tree of the code says
-  pub name_of : Tree → Name
-  name_of (Leaf path) = leaf path
-  name_of Neg = neg
-  name_of Fail = fail
-  name_of Empty = empty
-  name_of (Alt' shape row) = alt (row_names row)
-  name_of (Union bs) = union (branches_of bs)
+  pub value_of : Tree → TreeValue
+  value_of (Leaf path) = leaf path
+  value_of Neg = neg
+  value_of Fail = fail
+  value_of Empty = empty
+  value_of (Alt' shape row) = alt (row_values row)
+  value_of (Union bs) = union (branches_of bs)
 
   -- what the branches of a union of the code say
   pub branches_of : BranchList → Branches
   branches_of (Branches' shape row) = row_branches row
 
-  pub row_names : {m : _} → Row_of-Tree m → Names
-  row_names end_of-Tree = none
-  row_names (more_of-Tree t ts) = more (name_of t) (row_names ts)
+  pub row_values : {m : _} → Row_of-Tree m → TreeValues
+  row_values end_of-Tree = none
+  row_values (more_of-Tree t ts) = more (value_of t) (row_values ts)
 
   pub row_branches : {m : _} → Row_of-Branch m → Branches
   row_branches end_of-Branch = no_branch
-  row_branches (more_of-Branch weight t bs) = branch weight (name_of t) (row_branches bs)
+  row_branches (more_of-Branch weight t bs) = branch weight (value_of t) (row_branches bs)
 
 -- branches, in the order of a list
 abbrev pub listed : List Branch → Branches
 listed [] = no_branch
-listed (b ∷ bs) = branch b.weight (name_of b.tree) (listed bs)
+listed (b ∷ bs) = branch b.weight (value_of b.tree) (listed bs)

@@ -4,14 +4,14 @@ use Rattle.name_tree.specs.declared.tree_text.Frame.{Frame as OpenFrame}
 use Rattle.name_tree.specs.declared.tree_text.Mode.{Mode as ReaderMode}
 use Rattle.name_tree.specs.declared.tree_text.Mode.TheVariants as reader
 use Rattle.name_tree.specs.declared.tree_text.TreeReader.{TreeReader}
-use Rattle.name_tree.specs.Tree.{name_of}
+use Rattle.name_tree.specs.Tree.{value_of}
 use Rattle.name_tree.specs.Parts.{part_of}
 use Rattle.name_tree.specs.PathReading.{Walk}
 use Rattle.name_tree.specs.TreeReading.{Frame, Place, Mode, State}
 use Rattle.name_tree.specs.Readers.{walk_of}
 
 abbrev pub frame_of : OpenFrame → Frame
-frame_of f = record { alts = map name_of f.alts.items; parts = map part_of f.parts.items; weight = f.weight }
+frame_of f = record { alts = map value_of f.alts.items; parts = map part_of f.parts.items; weight = f.weight }
 
 -- the last parenthesis is the innermost
 abbrev pub frames_of : List OpenFrame → List Frame
@@ -19,7 +19,7 @@ frames_of [] = []
 frames_of (f ∷ fs) = frames_of fs ++ frame_of f ∷ []
 
 abbrev pub place_of : TreeReader → Place
-place_of r = record { outer = frames_of r.outer.items; alts = map name_of r.alts.items; parts = map part_of r.parts.items }
+place_of r = record { outer = frames_of r.outer.items; alts = map value_of r.alts.items; parts = map part_of r.parts.items }
 
 abbrev pub mode_of : ReaderMode → Walk → Mode
 mode_of reader.Start at = Mode.start

@@ -1,7 +1,7 @@
 -- A tree read byte by byte, with the parentheses that are open on a stack.
 use Rattle.std.specs.Prelude.{ℕ, ◌+◌, ◌-◌, ◌*◌, ◌/◌, ◌==◌, nat_lt, if◌then◌else◌, List, [], ◌∷◌, ◌++◌, Option, Some, None, option_map}
 use Rattle.name_tree.specs.Path.{Labels}
-use Rattle.name_tree.specs.Value.{Name, leaf, neg, fail, empty, Part, one_whole, one_or_alt, union_of}
+use Rattle.name_tree.specs.Value.{TreeValue, leaf, neg, fail, empty, Part, one_whole, one_or_alt, union_of}
 use Rattle.name_tree.specs.Grammar.{is_blank, is_digit}
 use Rattle.name_tree.specs.Recogniser.{value_from}
 use Rattle.name_tree.specs.LabelReading.{is_path_byte}
@@ -9,7 +9,7 @@ use Rattle.name_tree.specs.PathReading.{Walk, walk_start, next_walk, end_walk}
 
 -- an open parenthesis: the alternatives before it, the branches before it in its union, and the weight before it
 pub record Frame : Type 0 where
-  pub alts : List Name
+  pub alts : List TreeValue
   pub parts : List Part
   pub weight : Option ℕ
 
@@ -17,7 +17,7 @@ pub record Frame : Type 0 where
 -- and behind which branches of the union
 pub record Place : Type 0 where
   pub outer : List Frame
-  pub alts : List Name
+  pub alts : List TreeValue
   pub parts : List Part
 
 -- and where in a branch
@@ -43,7 +43,7 @@ abbrev pub State : Type 0
 State = Place × Mode
 
 -- behind one branch more
-abbrev pub with_part : Place → Option ℕ → Name → Place
+abbrev pub with_part : Place → Option ℕ → TreeValue → Place
 with_part p w v = record p { parts = p.parts ++ (w, v) ∷ [] }
 
 -- behind one alternative more
@@ -55,11 +55,11 @@ abbrev pub opened : Place → Option ℕ → Place
 opened p w = record { outer = record { alts = p.alts; parts = p.parts; weight = w } ∷ p.outer; alts = []; parts = [] }
 
 -- the tree that was read inside the parentheses
-abbrev pub inner : Place → Name
+abbrev pub inner : Place → TreeValue
 inner p = one_or_alt (p.alts ++ union_of p.parts ∷ [])
 
 -- behind the innermost parenthesis, which held the tree
-abbrev pub closed : List Frame → Name → Option State
+abbrev pub closed : List Frame → TreeValue → Option State
 closed [] v = None
 closed (f ∷ fs) v = Some (record { outer = fs; alts = f.alts; parts = f.parts ++ (f.weight, v) ∷ [] }, behind)
 
@@ -110,14 +110,14 @@ next p (walk w at) b =
 next p behind b = behind_branch p b
 
 -- the tree that ends here
-abbrev pub end_tree : Place → Option Name
+abbrev pub end_tree : Place → Option TreeValue
 end_tree p = elim p.outer [ [] ↦ Some (inner p) | _ ∷ _ ↦ None ]
 
-abbrev pub ended_path : Place → Option ℕ → Option Labels → Option Name
+abbrev pub ended_path : Place → Option ℕ → Option Labels → Option TreeValue
 ended_path p w None = None
 ended_path p w (Some ls) = end_tree (with_part p w (leaf ls))
 
-abbrev pub ended : Place → Mode → Option Name
+abbrev pub ended : Place → Mode → Option TreeValue
 ended p (walk w at) = ended_path p w (end_walk at)
 ended p behind = end_tree p
 ended p _ = None
@@ -125,11 +125,11 @@ ended p _ = None
 abbrev pub next_state : State → ℕ → Option State
 next_state q b = next q.0 q.1 b
 
-abbrev pub ended_state : State → Option Name
+abbrev pub ended_state : State → Option TreeValue
 ended_state q = ended q.0 q.1
 
 -- the tree of a text whose last bytes are these
-abbrev pub tree_from : Place → Mode → List ℕ → Option Name
+abbrev pub tree_from : Place → Mode → List ℕ → Option TreeValue
 tree_from p m s = value_from next_state ended_state (p, m) s
 
 -- before a tree in these parentheses
@@ -137,5 +137,5 @@ abbrev pub before : List Frame → Place
 before fs = record { outer = fs; alts = []; parts = [] }
 
 -- the tree that a text stands for, by reading it
-abbrev pub tree_read : List ℕ → Option Name
+abbrev pub tree_read : List ℕ → Option TreeValue
 tree_read text = tree_from (before []) start text

@@ -1,13 +1,13 @@
 //! The readers of texts.
 ghost use Rattle.std.specs.Prelude.{◌≡◌, ◌⊎◌, Some, None, IfOk, MatchResult};
 ghost use Rattle.name_tree.specs.Path.{Labels};
-ghost use Rattle.name_tree.specs.Value.{Name};
+ghost use Rattle.name_tree.specs.Value.{TreeValue};
 ghost use Rattle.name_tree.specs.Canon.{IsSound, HasLabels, AreByteLabels};
 ghost use Rattle.name_tree.specs.Grammar.{PathText, TreeText};
 ghost use Rattle.name_tree.specs.Faults.{IsValue};
 ghost use Rattle.name_tree.specs.Computed.{path_of, tree_of};
 ghost use Rattle.name_tree.specs.Answers.{FaultFits};
-ghost use Rattle.name_tree.specs.Tree.{name_of};
+ghost use Rattle.name_tree.specs.Tree.{value_of};
 
 use crate::label::Refused;
 use crate::path::Path;
@@ -78,17 +78,17 @@ fn path_in(alloc: Global, text: &[u8]) -> Result<Path, TextFault>
 ///
 /// It takes time linear in the text.
 pub fn read_tree(alloc: Global, text: &[u8]) -> Result<Tree, TextFault>
-    ensures exact { MatchResult result (λ tree. IsValue TreeText text.now (name_of tree)) (FaultFits TreeText text.now) }
-    ensures only { (name : Name) → IsValue TreeText text.now name → MatchResult result (λ tree. name_of tree ≡ name) (λ fault. fault ≡ TextFault.OutOfMemory) }
-    ensures computed { MatchResult result (λ tree. tree_of text.now ≡ Some (name_of tree)) (λ fault. (fault ≡ TextFault.OutOfMemory) ⊎ (tree_of text.now ≡ None)) }
-    ensures sound { IfOk result (λ tree. IsSound (name_of tree) × HasLabels (name_of tree)) }
+    ensures exact { MatchResult result (λ tree. IsValue TreeText text.now (value_of tree)) (FaultFits TreeText text.now) }
+    ensures only { (name : TreeValue) → IsValue TreeText text.now name → MatchResult result (λ tree. value_of tree ≡ name) (λ fault. fault ≡ TextFault.OutOfMemory) }
+    ensures computed { MatchResult result (λ tree. tree_of text.now ≡ Some (value_of tree)) (λ fault. (fault ≡ TextFault.OutOfMemory) ⊎ (tree_of text.now ≡ None)) }
+    ensures sound { IfOk result (λ tree. IsSound (value_of tree) × HasLabels (value_of tree)) }
 {
     tree_in(alloc, text)
 }
 
 /// The tree that a text stands for.
 fn tree_in(alloc: Global, text: &[u8]) -> Result<Tree, TextFault>
-    ensures { MatchResult result (λ tree. IsValue TreeText text.now (name_of tree)) (FaultFits TreeText text.now) }
+    ensures { MatchResult result (λ tree. IsValue TreeText text.now (value_of tree)) (FaultFits TreeText text.now) }
 {
     if text.len() > MOST_BYTES {
         return Err(TextFault::TooLong(MOST_BYTES));

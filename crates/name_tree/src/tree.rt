@@ -50,7 +50,7 @@ pub struct Branches {
 impl Tree {
     ghost use Rattle.name_tree.specs.Canon.{is_alt, is_union};
     ghost use Rattle.name_tree.specs.Value.{append_rest};
-    ghost use Rattle.name_tree.specs.Tree.{name_of};
+    ghost use Rattle.name_tree.specs.Tree.{value_of};
 
     /// This tree with the labels of a path from a place on, counted from 0, behind every leaf of every alternative and branch. Marks and
     /// weights stay as they are.
@@ -59,7 +59,7 @@ impl Tree {
     #[cycle(with_rest)]
     pub fn with_rest(&self, alloc: Global, path: &Path, from: usize) -> Mem<Tree>
         requires { from ≤ length path.now }
-        ensures { IfOk result (λ tree. name_of tree ≡ append_rest (name_of self.now) (drop from path.now)) }
+        ensures { IfOk result (λ tree. value_of tree ≡ append_rest (value_of self.now) (drop from path.now)) }
     {
         match self {
             Tree::Leaf(front) => Ok(Tree::Leaf(front.joined_from(alloc, path, from)?)),
@@ -73,7 +73,7 @@ impl Tree {
 
     /// Whether this is a choice.
     pub(crate) fn is_alt(&self) -> bool
-        ensures { result ≡ is_alt (name_of self.now) }
+        ensures { result ≡ is_alt (value_of self.now) }
     {
         match self {
             Tree::Alt(_) => true,
@@ -87,7 +87,7 @@ impl Tree {
 
     /// Whether this is a choice or a union.
     pub(crate) fn is_compound(&self) -> bool
-        ensures { result ≡ (is_alt (name_of self.now) || is_union (name_of self.now)) }
+        ensures { result ≡ (is_alt (value_of self.now) || is_union (value_of self.now)) }
     {
         match self {
             Tree::Alt(_) => true,
@@ -102,13 +102,13 @@ impl Tree {
 
 impl Trees {
     ghost use Rattle.name_tree.specs.Value.{append_rest};
-    ghost use Rattle.name_tree.specs.Tree.{name_of};
+    ghost use Rattle.name_tree.specs.Tree.{value_of};
 
     /// These trees with the labels of a path from a place on, counted from 0, behind every leaf.
     #[cycle(with_rest)]
     fn with_rest(&self, alloc: Global, path: &Path, from: usize) -> Mem<Trees>
         requires { from ≤ length path.now }
-        ensures { IfOk result (λ trees. map name_of trees.items.items ≡ map (λ tree. append_rest (name_of tree) (drop from path.now)) self.now.items.items) }
+        ensures { IfOk result (λ trees. map value_of trees.items.items ≡ map (λ tree. append_rest (value_of tree) (drop from path.now)) self.now.items.items) }
     {
         let mut items = Vec::with_capacity(alloc, self.items.len())?;
         for tree in &self.items {
@@ -141,14 +141,14 @@ impl Trees {
 
 impl Branch {
     ghost use Rattle.name_tree.specs.Value.{append_rest};
-    ghost use Rattle.name_tree.specs.Tree.{name_of};
+    ghost use Rattle.name_tree.specs.Tree.{value_of};
 
     /// This branch with the labels of a path from a place on, counted from 0, behind every leaf.
     #[cycle(with_rest)]
     fn with_rest(&self, alloc: Global, path: &Path, from: usize) -> Mem<Branch>
         requires { from ≤ length path.now }
         ensures weight { IfOk result (λ branch. branch.weight ≡ self.now.weight) }
-        ensures tree { IfOk result (λ branch. name_of branch.tree ≡ append_rest (name_of self.now.tree) (drop from path.now)) }
+        ensures tree { IfOk result (λ branch. value_of branch.tree ≡ append_rest (value_of self.now.tree) (drop from path.now)) }
     {
         let tree = self.tree.with_rest(alloc, path, from)?;
         Ok(Branch {

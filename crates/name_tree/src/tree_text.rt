@@ -1,7 +1,7 @@
 //! The reader of a tree's text.
 ghost use Rattle.std.specs.Prelude.{◌≡◌, ◌*◌, [], length, None, Some, IfOk, OnOk, MatchResult};
 ghost use Rattle.name_tree.specs.Value.{union_of};
-ghost use Rattle.name_tree.specs.Tree.{name_of};
+ghost use Rattle.name_tree.specs.Tree.{value_of};
 ghost use Rattle.name_tree.specs.PathReading.{end_walk};
 ghost use Rattle.name_tree.specs.TreeReading.{start, whole as at_whole, point as at_point, decimals as at_decimals, star as at_star, walk as at_walk, behind, before, with_part, opened, inner, closed, begin_simple, behind_weight, behind_branch, path_behind, next, next_state, end_tree, ended_state};
 ghost use Rattle.name_tree.specs.Taken.{Takes, Ends};
@@ -80,7 +80,7 @@ impl TreeReader {
 
     /// Ends a branch with its tree.
     fn end_branch(&mut self, weight: Option<u64>, tree: Tree) -> Mem<()>
-        ensures { OnOk result (state_of self.new ≡ (with_part (place_of self.old) weight (name_of tree), behind)) }
+        ensures { OnOk result (state_of self.new ≡ (with_part (place_of self.old) weight (value_of tree), behind)) }
     {
         self.parts.push(Part { weight, tree })?;
         self.mode = Mode::Behind;
@@ -213,7 +213,7 @@ impl TreeReader {
 
     /// The tree of the union that was read, whose branches are gone then.
     fn end_union(&mut self, alloc: Global) -> Mem<Tree>
-        ensures tree { IfOk result (λ tree. name_of tree ≡ union_of (place_of self.old).parts) }
+        ensures tree { IfOk result (λ tree. value_of tree ≡ union_of (place_of self.old).parts) }
         ensures rest { OnOk result (self.new ≡ record self.old { parts = self.new.parts }) }
         ensures none { OnOk result (self.new.parts.items ≡ []) }
     {
@@ -222,7 +222,7 @@ impl TreeReader {
 
     /// The tree inside the parentheses, whose alternatives are gone then.
     fn end_tree(&mut self, alloc: Global) -> Mem<Tree>
-        ensures tree { IfOk result (λ tree. name_of tree ≡ inner (place_of self.old)) }
+        ensures tree { IfOk result (λ tree. value_of tree ≡ inner (place_of self.old)) }
         ensures rest { OnOk result (self.new ≡ record self.old { alts = self.new.alts; parts = self.new.parts }) }
     {
         let last = self.end_union(alloc)?;
@@ -320,7 +320,7 @@ impl TreeReader {
 
     /// The tree, if its text may end here.
     pub fn end(mut self, alloc: Global) -> Result<Tree, Refused>
-        ensures { Ends name_of (ended_state (state_of self)) result }
+        ensures { Ends value_of (ended_state (state_of self)) result }
     {
         self.end_last(alloc)?;
         if self.depth() > 0 {

@@ -1,7 +1,7 @@
 //! The trees that several parts make.
 ghost use Rattle.std.specs.Prelude.{◌≡◌, length, map, All, IfOk, IsNone, IsTrue, ◌↔◌};
 ghost use Rattle.name_tree.specs.Value.{one_or_alt, union_of};
-ghost use Rattle.name_tree.specs.Tree.{name_of};
+ghost use Rattle.name_tree.specs.Tree.{value_of};
 ghost use Rattle.name_tree.specs.Parts.{branch_in, part_of};
 
 use crate::Mem;
@@ -39,7 +39,7 @@ fn is_bare(parts: &[Part]) -> bool
 
 /// The tree that some branches with `&` between them stand for: one without a weight is itself, and any others are a union.
 pub(crate) fn union_of_parts(alloc: Global, mut parts: Vec<Part>) -> Mem<Tree>
-    ensures { IfOk result (λ tree. name_of tree ≡ union_of (map part_of parts.items)) }
+    ensures { IfOk result (λ tree. value_of tree ≡ union_of (map part_of parts.items)) }
 {
     if is_bare(parts.as_slice()) {
         return Ok(parts.remove(0).tree);
@@ -50,7 +50,7 @@ pub(crate) fn union_of_parts(alloc: Global, mut parts: Vec<Part>) -> Mem<Tree>
 
 /// The tree that some unions with `|` between them stand for: one is itself, several are a choice.
 pub(crate) fn choice_of(mut trees: Vec<Tree>) -> Tree
-    ensures { name_of result ≡ one_or_alt (map name_of trees.items) }
+    ensures { value_of result ≡ one_or_alt (map value_of trees.items) }
 {
     if trees.len() == 1 {
         trees.remove(0)

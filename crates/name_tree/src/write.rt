@@ -3,10 +3,10 @@ ghost use Rattle.std.specs.Prelude.{◌≡◌, ◌+◌, ◌*◌, ◌<◌, ◌++�
 ghost use Rattle.std.specs.Fmt.{decimal};
 ghost use Rattle.name_tree.specs.Path.{hex_digit, canon_byte, canon_label, canon_path};
 ghost use Rattle.name_tree.specs.Growth.{Grows};
-ghost use Rattle.name_tree.specs.Value.{names};
+ghost use Rattle.name_tree.specs.Value.{tree_values};
 ghost use Rattle.name_tree.specs.Canon.{decimals_text, canon_weight, grouped, is_alt, canon, canon_alts, branch_text, canon_branches};
 ghost use Rattle.name_tree.specs.Separated.{separated};
-ghost use Rattle.name_tree.specs.Tree.{name_of, branches_of};
+ghost use Rattle.name_tree.specs.Tree.{value_of, branches_of};
 
 use crate::label::is_plain_byte;
 use crate::path::Path;
@@ -162,7 +162,7 @@ fn put_separator(at: usize, separator: &[u8], out: &mut Bytes) -> Mem<()>
 /// Puts the canonical text of a tree behind some bytes, in parentheses or not. An `Err` may leave a part of it there.
 #[cycle(put)]
 fn put_grouped(is_group: bool, tree: &Tree, out: &mut Bytes) -> Mem<()>
-    ensures ok { OnOk result (out.new.items ≡ out.old.items ++ grouped is_group (canon (name_of tree.now))) }
+    ensures ok { OnOk result (out.new.items ≡ out.old.items ++ grouped is_group (canon (value_of tree.now))) }
     ensures grows { Grows out.old.items out.new.items }
 {
     if !is_group {
@@ -177,7 +177,7 @@ fn put_grouped(is_group: bool, tree: &Tree, out: &mut Bytes) -> Mem<()>
 /// Puts the canonical text of a tree behind some bytes. An `Err` may leave a part of it there.
 #[cycle(put)]
 fn put_tree(tree: &Tree, out: &mut Bytes) -> Mem<()>
-    ensures ok { OnOk result (out.new.items ≡ out.old.items ++ canon (name_of tree.now)) }
+    ensures ok { OnOk result (out.new.items ≡ out.old.items ++ canon (value_of tree.now)) }
     ensures grows { Grows out.old.items out.new.items }
 {
     match tree {
@@ -194,7 +194,7 @@ fn put_tree(tree: &Tree, out: &mut Bytes) -> Mem<()>
 /// Puts the alternatives of a choice behind some bytes. An `Err` may leave a part of them there.
 #[cycle(put)]
 fn put_alts(trees: &Trees, out: &mut Bytes) -> Mem<()>
-    ensures ok { OnOk result (out.new.items ≡ out.old.items ++ canon_alts (names (map name_of trees.now.items.items))) }
+    ensures ok { OnOk result (out.new.items ≡ out.old.items ++ canon_alts (tree_values (map value_of trees.now.items.items))) }
     ensures grows { Grows out.old.items out.new.items }
 {
     for (at, tree) in trees.items.iter().enumerate() {
@@ -207,7 +207,7 @@ fn put_alts(trees: &Trees, out: &mut Bytes) -> Mem<()>
 /// Puts a branch behind some bytes. An `Err` may leave a part of it there.
 #[cycle(put)]
 fn put_branch(branch: &Branch, out: &mut Bytes) -> Mem<()>
-    ensures ok { OnOk result (out.new.items ≡ out.old.items ++ branch_text branch.now.weight (name_of branch.now.tree)) }
+    ensures ok { OnOk result (out.new.items ≡ out.old.items ++ branch_text branch.now.weight (value_of branch.now.tree)) }
     ensures grows { Grows out.old.items out.new.items }
 {
     put_weight(branch.weight, out)?;
@@ -233,7 +233,7 @@ fn put_branches(branches: &Branches, out: &mut Bytes) -> Mem<()>
 /// It is the text with the fewest parentheses, with ` | `, ` & ` and ` * ` between its parts; each branch has its weight, with no more
 /// decimals than it needs.
 pub fn append_tree(tree: &Tree, out: &mut Bytes) -> Mem<()>
-    ensures ok { OnOk result (out.new.items ≡ out.old.items ++ canon (name_of tree.now)) }
+    ensures ok { OnOk result (out.new.items ≡ out.old.items ++ canon (value_of tree.now)) }
     ensures err { OnErr result (out.new.items ≡ out.old.items) }
 {
     let before = out.len();
@@ -246,7 +246,7 @@ pub fn append_tree(tree: &Tree, out: &mut Bytes) -> Mem<()>
 
 /// The canonical text of a tree, as [`append_tree`] writes it.
 pub fn write_tree(alloc: Global, tree: &Tree) -> Mem<Bytes>
-    ensures { IfOk result (λ text. text.items ≡ canon (name_of tree.now)) }
+    ensures { IfOk result (λ text. text.items ≡ canon (value_of tree.now)) }
 {
     let mut text = Vec::new(alloc);
     put_tree(tree, &mut text)?;

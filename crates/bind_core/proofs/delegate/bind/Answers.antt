@@ -1,4 +1,4 @@
-use Rattle.bind_core.specs.Dtab.{rules_of}
+use Rattle.dtab_table.specs.Dtab.{rules_of}
 use Rattle.bind_core.proofs.Bounded.{bounded_outcome}
 use Rattle.bind_core.proofs.Filled.{filled_outcome}
 use Rattle.bind_core.proofs.Widths.{width_of}

@@ -1,5 +1,5 @@
 use Rattle.std.proofs.Common.{refl, sym, ◌∙◌, ◌≤◌, arith}
-use Rattle.bind_core.specs.Dtab.{rules_of}
+use Rattle.dtab_table.specs.Dtab.{rules_of}
 use Rattle.bind_core.specs.Delegation.{lookup, most_wide}
 use Rattle.bind_core.proofs.Turns.{ends_at_once, few_of, turned, fewer, let_go}
 use Rattle.bind_core.proofs.delegate.evaluate.Goals as goal

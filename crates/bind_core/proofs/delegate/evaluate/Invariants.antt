@@ -1,5 +1,5 @@
 use Rattle.std.proofs.Common.{◌+◌, ◌≤◌, min}
-use Rattle.bind_core.specs.Dtab.{rules_of}
+use Rattle.dtab_table.specs.Dtab.{rules_of}
 use Rattle.bind_core.specs.Delegation.{lookup}
 use Rattle.bind_core.specs.Stack.{LeadsTo, stack_work}
 use Rattle.bind_core.proofs.delegate.evaluate.Given as goal

@@ -1,5 +1,5 @@
 use Rattle.std.proofs.Common.{refl, ap, ◌∙◌}
-use Rattle.bind_core.specs.Dtab.{rules_of}
+use Rattle.dtab_table.specs.Dtab.{rules_of}
 use Rattle.bind_core.specs.Outcome.{ending_of}
 use Rattle.bind_core.specs.Kept.{kept_of}
 use Rattle.bind_core.proofs.Turns.{on_ok, gathered, branched}

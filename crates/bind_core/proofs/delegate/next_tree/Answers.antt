@@ -1,6 +1,6 @@
 use Rattle.std.proofs.Common.{arith, refl, ap, map, ◌∙◌}
-use Rattle.name_tree.specs.Tree.{name_of}
-use Rattle.bind_core.specs.Dtab.{rules_of}
+use Rattle.name_tree.specs.Tree.{value_of}
+use Rattle.dtab_table.specs.Dtab.{rules_of}
 use Rattle.bind_core.specs.Outcome.{ending_of}
 use Rattle.bind_core.proofs.Turns.{on_ok, passed, emptied, chosen}
 use Rattle.bind_core.proofs.delegate.next_tree.Goals as goal
@@ -16,6 +16,6 @@ returns-in_default-next-clause-step g c =
 pub returns-clause-step : goal.returns-clause-step
 returns-clause-step g c =
     on_ok c.step.result
-    (chosen (rules_of c.args.table.now) c.args.choice (record { trees = c.next.new.self; named = c.args.choice.named; left = c.args.choice.left }) (name_of c.in-Some.tree) _ _ _ _ c.args.told
-    (ap (map name_of) c.in-Some.ensures.items) refl refl refl c.in-Neg.is c.in_ok-push.ensures.items)
+    (chosen (rules_of c.args.table.now) c.args.choice (record { trees = c.next.new.self; named = c.args.choice.named; left = c.args.choice.left }) (value_of c.in-Some.tree) _ _ _ _ c.args.told
+    (ap (map value_of) c.in-Some.ensures.items) refl refl refl c.in-Neg.is c.in_ok-push.ensures.items)
     c.step.ensures.step

@@ -1,6 +1,6 @@
 use Rattle.name_tree.specs.Grammar.{TreeText}
 use Rattle.name_tree.specs.TreeReading.{next_state, ended_state}
-use Rattle.name_tree.specs.Tree.{name_of}
+use Rattle.name_tree.specs.Tree.{value_of}
 use Rattle.name_tree.specs.Computed.{tree_of}
 use Rattle.name_tree.proofs.Computing.{computes_trees, computed}
 use Rattle.name_tree.proofs.Only.{only, sound_tree}
@@ -10,10 +10,10 @@ use Rattle.name_tree.proofs.read.read_tree.Goals as goal
 
 pub returns-clause-only : goal.returns-clause-only
 returns-clause-only c name is =
-    only TreeText name_of (λ text v w p q. one_value next_state ended_state tree_start TreeText tree_laws text v w p q) c.args.text.now _ c.tree_in.ensures name is
+    only TreeText value_of (λ text v w p q. one_value next_state ended_state tree_start TreeText tree_laws text v w p q) c.args.text.now _ c.tree_in.ensures name is
 
 pub returns-clause-sound : goal.returns-clause-sound
-returns-clause-sound c = sound_tree name_of c.args.text.now _ c.tree_in.ensures
+returns-clause-sound c = sound_tree value_of c.args.text.now _ c.tree_in.ensures
 
 pub returns-clause-computed : goal.returns-clause-computed
-returns-clause-computed c = computed tree_of TreeText computes_trees name_of c.args.text.now _ c.tree_in.ensures
+returns-clause-computed c = computed tree_of TreeText computes_trees value_of c.args.text.now _ c.tree_in.ensures
