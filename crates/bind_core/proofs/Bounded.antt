@@ -4,7 +4,8 @@ use Rattle.std.specs.Prelude.{nat_lt, ◌==◌, if◌then◌else◌, option_map,
 use Rattle.std.specs.Option.{option_to_list}
 use Rattle.name_tree.specs.Path.{Labels, canon_path}
 use Rattle.name_tree.specs.Value.{TreeValue, TreeValues, Branches, leaf, neg, fail, empty, alt, union, none, more, no_branch, branch, append_rest, append_rest_all, append_rest_branches}
-use Rattle.dtab_table.specs.Dtab.{Rule, rest_behind, rewrites}
+use Rattle.dtab_table.specs.Dtab.{rest_behind, rewrites}
+use Rattle.dtab_table.specs.Rules.{Rule}
 use Rattle.dtab_table.specs.TableCanon.{AreSoundRules}
 use Rattle.name_tree.specs.Canon.{IsSound, AreSound, AreSoundBranches, count_names, count_branches, most_members, weight_bound}
 use Rattle.bind_core.specs.declared.leaf.Leaf.{Leaf}

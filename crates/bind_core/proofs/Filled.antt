@@ -4,7 +4,8 @@ use Rattle.std.specs.Prelude.{nat_lt, if◌then◌else◌, Result, Ok, Err, IfOk
 use Rattle.std.proofs.lemmas.Bool.Decides.{nat_tests}
 use Rattle.name_tree.specs.Path.{Labels, canon_path}
 use Rattle.name_tree.specs.Value.{TreeValue, TreeValues, Branches, leaf, neg, fail, empty, alt, union, none, more, no_branch, branch}
-use Rattle.dtab_table.specs.Dtab.{Rule, rewrites}
+use Rattle.dtab_table.specs.Dtab.{rewrites}
+use Rattle.dtab_table.specs.Rules.{Rule}
 use Rattle.bind_core.specs.declared.leaf.Leaf.{Leaf}
 use Rattle.bind_core.specs.declared.outcome.Delegated.{Delegated}
 use Rattle.bind_core.specs.Addr.{named_leaf}

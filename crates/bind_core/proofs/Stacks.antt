@@ -4,7 +4,8 @@ use Rattle.std.specs.Prelude.{nat_lt, IsTrue}
 use Rattle.std.proofs.lemmas.Bool.{cases_lt}
 use Rattle.std.proofs.lemmas.Bool.Decides.{nat_tests}
 use Rattle.std.proofs.lemmas.List.{append-nil}
-use Rattle.dtab_table.specs.Dtab.{Rule, rewrites}
+use Rattle.dtab_table.specs.Dtab.{rewrites}
+use Rattle.dtab_table.specs.Rules.{Rule}
 use Rattle.name_tree.specs.Path.{Labels, canon_path}
 use Rattle.name_tree.specs.Value.{TreeValue, alt, tree_values, Branches, union}
 use Rattle.bind_core.specs.declared.frame.Choice.{Choice}

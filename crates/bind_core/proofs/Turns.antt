@@ -9,7 +9,7 @@ use Rattle.name_tree.specs.declared.tree.Branch.{Branch}
 use Rattle.name_tree.specs.Path.{Labels}
 use Rattle.name_tree.specs.Value.{TreeValue, Branches, no_branch, branch}
 use Rattle.name_tree.specs.Tree.{value_of}
-use Rattle.dtab_table.specs.Dtab.{Rule}
+use Rattle.dtab_table.specs.Rules.{Rule}
 use Rattle.bind_core.specs.declared.frame.Choice.{Choice}
 use Rattle.bind_core.specs.declared.frame.Union.{Union}
 use Rattle.bind_core.specs.declared.frame.Frame.{Frame}

@@ -2,7 +2,8 @@
 use Rattle.std.specs.Prelude.{ℕ, zero, suc, ◌+◌, nat_lt, min, ◌==◌, Bool, true, false, ◌||◌, if◌then◌else◌, List, [], ◌∷◌, ◌++◌, length, Option, Some, None}
 use Rattle.name_tree.specs.Path.{Labels, canon_path}
 use Rattle.name_tree.specs.Value.{TreeValue, TreeValues, Branches, leaf, neg, fail, empty, alt, union, none, more, no_branch, branch}
-use Rattle.dtab_table.specs.Dtab.{Rule, rewrites}
+use Rattle.dtab_table.specs.Dtab.{rewrites}
+use Rattle.dtab_table.specs.Rules.{Rule}
 use Rattle.bind_core.specs.declared.leaf.Leaf.{Leaf}
 use Rattle.bind_core.specs.Addr.{named_leaf}
 use Rattle.bind_core.specs.Found.{Found, one, many, members}

@@ -1,7 +1,7 @@
 -- What the outcomes of the code say.
 use Rattle.std.specs.Prelude.{◌≡◌, List}
 use Rattle.name_tree.specs.Path.{Labels}
-use Rattle.dtab_table.specs.Dtab.{Rule}
+use Rattle.dtab_table.specs.Rules.{Rule}
 use Rattle.bind_core.specs.declared.outcome.Outcome.{Outcome}
 use Rattle.bind_core.specs.declared.outcome.Outcome.TheVariants as outcome
 use Rattle.bind_core.specs.declared.outcome.Delegated.{Delegated}

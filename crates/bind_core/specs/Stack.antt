@@ -4,7 +4,8 @@ use Rattle.std.specs.Vec.Iter.{into_iter_items}
 use Rattle.name_tree.specs.Path.{Labels}
 use Rattle.name_tree.specs.Value.{TreeValue, TreeValues, Branches, leaf, neg, fail, empty, alt, union, none, more, no_branch, branch}
 use Rattle.name_tree.specs.Tree.{value_of, listed}
-use Rattle.dtab_table.specs.Dtab.{Rule, rewrites}
+use Rattle.dtab_table.specs.Dtab.{rewrites}
+use Rattle.dtab_table.specs.Rules.{Rule}
 use Rattle.name_tree.specs.declared.tree.Branch.{Branch}
 use Rattle.bind_core.specs.declared.frame.Choice.{Choice}
 use Rattle.bind_core.specs.declared.frame.Union.{Union}

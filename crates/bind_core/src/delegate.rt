@@ -184,7 +184,7 @@ fn step<L: Ledger>(
 ) -> Mem<Delegated>
     requires { count ≤ 10000 }
     ensures step { IfOk result (IsStep (rules_of table.now) (behind count (walk (lookup (rules_of table.now) left) (value_of tree)))
-        (tree_work (path_work (rules_of table.now) left) (name_of tree)) stack.old.items stack.new.items) }
+        (tree_work (path_work (rules_of table.now) left) (value_of tree)) stack.old.items stack.new.items) }
     ensures counted { IfOk result (λ told. steps.old + min told.cost 10000 ≤ steps.new + count) }
 {
     match tree {

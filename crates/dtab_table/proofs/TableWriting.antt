@@ -3,8 +3,7 @@ use Rattle.std.proofs.Common.{◌≡◌, ℕ, ◌+◌, ◌<◌, List, [], ◌∷
 use Rattle.std.specs.Prelude.{codes}
 use Rattle.std.proofs.lemmas.List.{take_more, map-append, append-nil}
 use Rattle.dtab_table.specs.declared.dtab.Entry.{Entry}
-use Rattle.dtab_table.specs.Rules.{Rule}
-use Rattle.dtab_table.specs.Rules.{rule_of}
+use Rattle.dtab_table.specs.Rules.{Rule, rule_of}
 use Rattle.dtab_table.specs.TableCanon.{canon_rule, canon_more}
 
 more-snoc : (rs : List Rule) (r : Rule) → canon_more (rs ++ r ∷ []) ≡ canon_more rs ++ (codes ";" ++ canon_rule r)

@@ -4,7 +4,7 @@ use Rattle.std.specs.Option.{option_to_list}
 use Rattle.std.specs.Str.{bytes_eq}
 use Rattle.name_tree.specs.Path.{Labels}
 use Rattle.name_tree.specs.Value.{TreeValue, append_rest}
-pub use Rattle.dtab_table.specs.Rules.{Pattern, Rule, pattern_of, patterns_of, rule_of}
+use Rattle.dtab_table.specs.Rules.{Pattern, Rule, rule_of}
 use Rattle.dtab_table.specs.declared.dtab.Dtab.{Dtab}
 
 -- the rules of a table, in their order

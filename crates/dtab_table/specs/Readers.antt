@@ -2,8 +2,7 @@
 use Rattle.std.specs.Prelude.{List, map, if◌then◌else◌}
 use Rattle.name_tree.specs.Readers.{spelling_of}
 use Rattle.dtab_table.specs.declared.prefix_reader.PrefixReader.{PrefixReader}
-use Rattle.dtab_table.specs.Rules.{Pattern}
-use Rattle.dtab_table.specs.Rules.{pattern_of, patterns_of}
+use Rattle.dtab_table.specs.Rules.{Pattern, pattern_of, patterns_of}
 use Rattle.dtab_table.specs.declared.prefix_text.PrefixPlace.{PrefixPlace}
 use Rattle.dtab_table.specs.declared.prefix_text.PrefixPlace.TheVariants.{Before, Inside, Behind}
 use Rattle.dtab_table.specs.declared.prefix_text.PrefixTextReader.{PrefixTextReader}

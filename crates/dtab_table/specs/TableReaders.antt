@@ -5,10 +5,8 @@ use Rattle.name_tree.specs.TreeReaders.{state_of as tree_state_of}
 use Rattle.dtab_table.specs.declared.table_reader.Mode.{Mode as ReaderMode}
 use Rattle.dtab_table.specs.declared.table_reader.Mode.TheVariants as reader
 use Rattle.dtab_table.specs.declared.table_reader.TableReader.{TableReader}
-use Rattle.dtab_table.specs.Rules.{Pattern, Rule}
-use Rattle.dtab_table.specs.Rules.{patterns_of}
+use Rattle.dtab_table.specs.Rules.{Pattern, Rule, patterns_of, rule_of}
 use Rattle.dtab_table.specs.PrefixReading.{Walk}
-use Rattle.dtab_table.specs.Rules.{rule_of}
 use Rattle.dtab_table.specs.Readers.{walk_of}
 use Rattle.dtab_table.specs.TableReading.{Mode, State, table_depth}
 

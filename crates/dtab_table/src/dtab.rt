@@ -62,7 +62,8 @@ pub struct Dtab {
 }
 
 impl Dtab {
-    ghost use Rattle.dtab_table.specs.Dtab.{rule_of, rules_of, rewrites};
+    ghost use Rattle.dtab_table.specs.Dtab.{rules_of, rewrites};
+    ghost use Rattle.dtab_table.specs.Rules.{rule_of};
 
     /// The table with no entry. It takes no memory.
     pub fn empty(alloc: Global) -> Dtab

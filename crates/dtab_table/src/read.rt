@@ -1,8 +1,7 @@
 //! The readers of prefixes and tables.
 ghost use Rattle.std.specs.Prelude.{◌≡◌, ◌⊎◌, List, Some, None, IfOk, MatchResult};
-ghost use Rattle.dtab_table.specs.Rules.{Pattern, Rule};
+ghost use Rattle.dtab_table.specs.Rules.{Pattern, Rule, patterns_of};
 ghost use Rattle.dtab_table.specs.TableCanon.{ArePatterns, AreSoundRules};
-ghost use Rattle.dtab_table.specs.Rules.{patterns_of};
 ghost use Rattle.dtab_table.specs.Dtab.{rules_of};
 ghost use Rattle.dtab_table.specs.TableGrammar.{PrefixText};
 ghost use Rattle.dtab_table.specs.Computed.{table_of};

@@ -1,7 +1,7 @@
 //! The canonical texts of prefixes and tables.
 ghost use Rattle.std.specs.Prelude.{◌≡◌, ◌<◌, ◌++◌, IfOk, OnOk, map};
-ghost use Rattle.dtab_table.specs.Rules.{pattern_of, patterns_of};
-ghost use Rattle.dtab_table.specs.Dtab.{rule_of, rules_of};
+ghost use Rattle.dtab_table.specs.Rules.{pattern_of, patterns_of, rule_of};
+ghost use Rattle.dtab_table.specs.Dtab.{rules_of};
 ghost use Rattle.dtab_table.specs.TableCanon.{canon_pattern, canon_prefix, canon_rule, canon_more, canon_table};
 
 use crate::Mem;

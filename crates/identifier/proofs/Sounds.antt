@@ -2,7 +2,7 @@
 use Rattle.std.proofs.Common.{◌≡◌, ℕ, Bool, true, false, List, [], ◌∷◌, ◌++◌, length, cond, leb, refl, subst, Option, Some, None, Ok}
 use Rattle.std.specs.Option.{option_map, option_and_then}
 use Rattle.http_wire.specs.declared.head.Field.{Field}
-use Rattle.dtab_table.specs.Dtab.{Rule}
+use Rattle.dtab_table.specs.Rules.{Rule}
 use Rattle.dtab_table.specs.Answers.{most_entries}
 use Rattle.dtab_table.specs.Computed.{few_enough, table_of}
 use Rattle.dtab_table.specs.TableCanon.{AreSoundRules}

@@ -5,7 +5,8 @@ use Rattle.http_wire.specs.declared.head.Field.{Field}
 use Rattle.http_wire.specs.Fields.{values_of}
 use Rattle.dtab_table.specs.declared.dtab.Dtab.{Dtab}
 use Rattle.dtab_table.specs.declared.dtab.Entry.{Entry}
-use Rattle.dtab_table.specs.Dtab.{Rule, rule_of, rules_of}
+use Rattle.dtab_table.specs.Dtab.{rules_of}
+use Rattle.dtab_table.specs.Rules.{Rule, rule_of}
 use Rattle.dtab_table.specs.Computed.{few_enough, table_of}
 use Rattle.identifier.specs.declared.fault.LocalFault.{LocalFault}
 use Rattle.identifier.specs.declared.fault.LocalFault.TheVariants.{BadDtab, OutOfMemory}

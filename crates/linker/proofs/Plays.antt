@@ -5,7 +5,7 @@ use Rattle.std.proofs.lemmas.List.{append-nil}
 use Rattle.std.specs.Io.KnownBytes.{Appends}
 use Rattle.std.proofs.KnownBytes.{Appends-trans}
 use Rattle.line_base.specs.Counts.{Rose}
-use Rattle.dtab_table.specs.Dtab.{Rule}
+use Rattle.dtab_table.specs.Rules.{Rule}
 use Rattle.linker.specs.Line.{lines_of, line_value}
 use Rattle.linker.specs.Replay.{Played, before, played, line_played}
 use Rattle.linker.specs.Run.{AppendsFront}

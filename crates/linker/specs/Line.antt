@@ -4,7 +4,7 @@ use Rattle.std.specs.Str.{bytes_eq}
 use Rattle.name_tree.specs.Path.{Labels}
 use Rattle.name_tree.specs.Grammar.{is_blank}
 use Rattle.name_tree.specs.Computed.{path_of}
-use Rattle.dtab_table.specs.Dtab.{Rule}
+use Rattle.dtab_table.specs.Rules.{Rule}
 use Rattle.dtab_table.specs.Computed.{table_of}
 
 -- a byte at the front of the first line

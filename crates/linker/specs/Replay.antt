@@ -2,7 +2,7 @@
 use Rattle.std.specs.Prelude.{ℕ, ◌+◌, Bool, true, false, List, [], ◌∷◌, ◌++◌, codes, Option, Some, None}
 use Rattle.std.specs.Fmt.{decimal}
 use Rattle.name_tree.specs.Path.{Labels, canon_path}
-use Rattle.dtab_table.specs.Dtab.{Rule}
+use Rattle.dtab_table.specs.Rules.{Rule}
 use Rattle.bind_core.specs.declared.leaf.Leaf.{Leaf}
 use Rattle.bind_core.specs.declared.leaf.Cluster.{Cluster}
 use Rattle.bind_core.specs.declared.leaf.Cluster.TheVariants.{Inet}

@@ -2,7 +2,8 @@
 use Rattle.std.specs.Prelude.{◌≡◌, ◌⊎◌, ℕ, true, false, List, ◌++◌, Option}
 use Rattle.std.specs.Io.KnownBytes.{Appends}
 use Rattle.line_base.specs.Counts.{Rose}
-use Rattle.dtab_table.specs.Dtab.{Rule, rules_of}
+use Rattle.dtab_table.specs.Dtab.{rules_of}
+use Rattle.dtab_table.specs.Rules.{Rule}
 use Rattle.linker.specs.declared.line.Line as code
 use Rattle.linker.specs.declared.line.Line.TheVariants as line
 use Rattle.linker.specs.declared.player.Turn.{Turn}

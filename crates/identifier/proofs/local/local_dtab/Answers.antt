@@ -2,7 +2,8 @@ use Rattle.std.proofs.Common.{◌≡◌, ◌≤◌, ◌<◌, ◌∙◌, ap, sym,
 use Rattle.std.proofs.lemmas.Result.{err_from_is_err_and}
 use Rattle.http_wire.specs.declared.head.Field.{Field}
 use Rattle.dtab_table.specs.declared.dtab.Entry.{Entry}
-use Rattle.dtab_table.specs.Dtab.{rule_of, rules_of}
+use Rattle.dtab_table.specs.Dtab.{rules_of}
+use Rattle.dtab_table.specs.Rules.{rule_of}
 use Rattle.dtab_table.specs.Answers.{most_entries}
 use Rattle.identifier.specs.Local.{local_rules, Gives}
 use Rattle.identifier.proofs.Sounds.{sound_local}
