@@ -26,5 +26,6 @@ pub mod Steps
 pub mod TreeLaws
 pub mod Unions
 pub mod Walks
+pub mod WeightTexts
 pub mod Weights
 pub mod Writing

@@ -17,3 +17,4 @@ pub mod TreeReaders
 pub mod TreeReading
 pub mod Value
 pub mod Readers
+pub mod Weight

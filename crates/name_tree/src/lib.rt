@@ -44,6 +44,7 @@ mod tree_text;
 mod union;
 mod walk;
 mod weight;
+mod weight_text;
 mod write;
 
 pub use label::{LabelReader, Refused, is_blank_byte, is_plain_byte};
@@ -53,6 +54,7 @@ pub use path_text::is_in_paths;
 pub use read::{MOST_BYTES, MOST_OPEN, TextFault, read_path, read_tree};
 pub use tree::{Branch, Branches, Tree, Trees};
 pub use tree_text::TreeReader;
+pub use weight_text::{computed_weights_are_exact, read_weight};
 pub use write::{append_label, append_path, append_tree, write_path, write_tree};
 
 /// A value, unless there was no memory for it.

@@ -19,7 +19,8 @@ pub(crate) struct Whole {
 impl Whole {
     /// No digit.
     pub(crate) fn none() -> Whole
-        ensures { result.value ≡ 0 }
+        ensures value { result.value ≡ 0 }
+        ensures digits { result.digits ≡ 0 }
     {
         Whole {
             value: 0,

@@ -1,0 +1,12 @@
+pub mod AddrLists
+pub mod AddrMaps
+pub mod Bounds
+pub mod Counts
+pub mod Files
+pub mod Hosts
+pub mod Lines
+pub mod Maps
+pub mod SlotSteps
+pub mod Seating
+pub mod Sound
+pub mod Setting

@@ -1,0 +1,80 @@
+use Rattle.std.proofs.Common.{◌≤◌, length, arith, ap, sym, ◌∙◌, Some}
+use Rattle.std.specs.FinMap.{insert}
+use Rattle.addr_book.specs.declared.fault.BookFault.TheVariants.{BookFull}
+use Rattle.addr_book.specs.Parts.{contents_of}
+use Rattle.addr_book.specs.Book.{after_set, with_newcomers}
+use Rattle.addr_book.specs.BookFault.{set_refusal}
+use Rattle.addr_book.proofs.Sound.{few_counts}
+use Rattle.addr_book.proofs.Setting.{few_kept, few_news, refused_full, not_refused, set_contents, set_sound_book}
+use Rattle.addr_book.proofs.parts.Parts.with_service.Goals as goal
+
+pub moved-requires-clause-few : goal.moved-requires-clause-few
+moved-requires-clause-few c = few_counts _ _ _ c.requires
+
+pub overflow_add-count : goal.overflow_add-count
+overflow_add-count c =
+    let few : length c.items-addrs.result.now ≤ 1024 = omega (arith, ap length c.items-addrs.ensures.items, c.items-addrs.ensures.rule.few) in
+    omega (
+      arith,
+      c.len.ensures,
+      c.len-2.ensures,
+      c.in_ok-news.news.ok.0,
+      few_kept c.args.self.now.services c.args.self.now.seats.slots c.args.self.now.seats.uses c.requires c.args.service.now c.addrs.result.now c.addrs.ensures.addrs
+          c.in_ok-seats.seats.uses c.in_ok-seats.seats.slots c.in_ok-seats.ensures.slots c.items-addrs.result.now c.in_ok-seats.ensures.uses
+          (sym c.has_no_room.ensures ∙ c.if-has_no_room.false) c.in_ok-news.news.items c.in_ok-news.ensures,
+      few_news c.args.self.now.services c.args.self.now.seats.slots c.args.self.now.seats.uses c.requires c.args.service.now c.addrs.result.now c.addrs.ensures.addrs
+          c.in_ok-seats.seats.uses c.in_ok-seats.seats.slots c.in_ok-seats.ensures.slots c.items-addrs.result.now c.in_ok-seats.ensures.uses
+          (sym c.has_no_room.ensures ∙ c.if-has_no_room.false) c.in_ok-news.news.items c.in_ok-news.ensures few,
+    )
+
+pub overflow_cast-result : goal.overflow_cast-result
+overflow_cast-result c =
+    let few : length c.items-addrs.result.now ≤ 1024 = omega (arith, ap length c.items-addrs.ensures.items, c.items-addrs.ensures.rule.few) in
+    omega (
+      arith,
+      c.len.ensures,
+      c.len-2.ensures,
+      c.in_ok-news.news.ok.0,
+      few_kept c.args.self.now.services c.args.self.now.seats.slots c.args.self.now.seats.uses c.requires c.args.service.now c.addrs.result.now c.addrs.ensures.addrs
+          c.in_ok-seats.seats.uses c.in_ok-seats.seats.slots c.in_ok-seats.ensures.slots c.items-addrs.result.now c.in_ok-seats.ensures.uses
+          (sym c.has_no_room.ensures ∙ c.if-has_no_room.false) c.in_ok-news.news.items c.in_ok-news.ensures,
+      few_news c.args.self.now.services c.args.self.now.seats.slots c.args.self.now.seats.uses c.requires c.args.service.now c.addrs.result.now c.addrs.ensures.addrs
+          c.in_ok-seats.seats.uses c.in_ok-seats.seats.slots c.in_ok-seats.ensures.slots c.items-addrs.result.now c.in_ok-seats.ensures.uses
+          (sym c.has_no_room.ensures ∙ c.if-has_no_room.false) c.in_ok-news.news.items c.in_ok-news.ensures few,
+    )
+
+pub returns-then-count-gt-MOST_SLOTS-clause-refused : goal.returns-then-count-gt-MOST_SLOTS-clause-refused
+returns-then-count-gt-MOST_SLOTS-clause-refused c = λ _.
+    ap (set_refusal (contents_of c.args.self.now) c.args.service.now) (sym c.items-addrs.ensures.items)
+    ∙ (refused_full c.args.self.now.services c.args.self.now.seats.slots c.args.self.now.seats.uses c.requires c.args.service.now c.addrs.result.now c.addrs.ensures.addrs
+    c.in_ok-seats.seats.uses c.in_ok-seats.seats.slots c.in_ok-seats.ensures.slots c.items-addrs.result.now c.in_ok-seats.ensures.uses
+    (sym c.has_no_room.ensures ∙ c.if-has_no_room.false) c.in_ok-news.news.items c.in_ok-news.ensures
+    (omega (arith, c.len.ensures, c.len-2.ensures, c.in_ok-news.news.ok.0, c.if-count-gt-MOST_SLOTS.true))
+    ∙ ap (λ n. Some (BookFull n)) (omega (arith, c.len.ensures, c.len-2.ensures, c.in_ok-news.news.ok.0)))
+
+pub returns-clause-taken : goal.returns-clause-taken
+returns-clause-taken c =
+    ap (set_refusal (contents_of c.args.self.now) c.args.service.now) (sym c.items-addrs.ensures.items)
+    ∙ not_refused c.args.self.now.services c.args.self.now.seats.slots c.args.self.now.seats.uses c.requires c.args.service.now c.addrs.result.now c.addrs.ensures.addrs
+    c.in_ok-seats.seats.uses c.in_ok-seats.seats.slots c.in_ok-seats.ensures.slots c.items-addrs.result.now c.in_ok-seats.ensures.uses
+    (sym c.has_no_room.ensures ∙ c.if-has_no_room.false) c.in_ok-news.news.items c.in_ok-news.ensures
+    (omega (arith, c.len.ensures, c.len-2.ensures, c.in_ok-news.news.ok.0, c.if-count-gt-MOST_SLOTS.false))
+
+pub returns-clause-sound : goal.returns-clause-sound
+returns-clause-sound c =
+    set_sound_book c.args.self.now.services c.args.self.now.seats.slots c.args.self.now.seats.uses c.requires c.args.service.now c.addrs.result.now c.addrs.ensures.addrs
+    c.in_ok-seats.seats.uses c.in_ok-seats.seats.slots c.in_ok-seats.ensures.slots c.items-addrs.result.now c.in_ok-seats.ensures.uses
+    (sym c.has_no_room.ensures ∙ c.if-has_no_room.false) c.in_ok-news.news.items c.in_ok-news.ensures
+    (omega (arith, c.len.ensures, c.len-2.ensures, c.in_ok-news.news.ok.0, c.if-count-gt-MOST_SLOTS.false)) c.insert.new.self
+    (c.in_ok-insert.ensures.ok ∙ (λ i. insert (c.in_ok-services.ensures i) c.args.service.now (sym c.items-addrs.ensures.items i))) c.assign.new.slots
+    (c.in_ok-assign.ensures ∙ ap (with_newcomers c.in_ok-seats.seats.slots) c.as_slice.ensures.value)
+
+pub returns-clause-book : goal.returns-clause-book
+returns-clause-book c =
+    set_contents c.args.self.now.services c.args.self.now.seats.slots c.args.self.now.seats.uses c.requires c.args.service.now c.addrs.result.now c.addrs.ensures.addrs
+    c.in_ok-seats.seats.uses c.in_ok-seats.seats.slots c.in_ok-seats.ensures.slots c.items-addrs.result.now c.in_ok-seats.ensures.uses
+    (sym c.has_no_room.ensures ∙ c.if-has_no_room.false) c.in_ok-news.news.items c.in_ok-news.ensures
+    (omega (arith, c.len.ensures, c.len-2.ensures, c.in_ok-news.news.ok.0, c.if-count-gt-MOST_SLOTS.false)) c.insert.new.self
+    (c.in_ok-insert.ensures.ok ∙ (λ i. insert (c.in_ok-services.ensures i) c.args.service.now (sym c.items-addrs.ensures.items i))) c.assign.new.slots
+    (c.in_ok-assign.ensures ∙ ap (with_newcomers c.in_ok-seats.seats.slots) c.as_slice.ensures.value)
+    ∙ ap (after_set (contents_of c.args.self.now) c.args.service.now) c.items-addrs.ensures.items

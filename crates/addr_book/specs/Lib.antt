@@ -1,0 +1,11 @@
+pub mod Addr
+pub mod AddrFile
+pub mod AddrList
+pub mod Book
+pub mod BookFault
+pub mod Bound
+pub mod FileLine
+pub mod Found
+pub mod Name
+pub mod Parts
+pub mod Uses

@@ -1,0 +1,71 @@
+//! What a delegation binds a path to.
+ghost use Rattle.std.specs.Prelude.{◌≡◌, option_copied};
+
+use crate::leaf::Leaf;
+
+/// What a path is bound to.
+#[cycle(bound)]
+#[derive(Debug, Drop)]
+pub enum Bound {
+    /// One leaf.
+    One(Leaf),
+    /// The bound branches of a union, in their order: one of them is to be chosen by their weights.
+    Many(BoundList),
+}
+
+/// A bound branch of a union.
+#[cycle(bound)]
+#[derive(Debug, Drop)]
+pub struct BoundItem {
+    /// Its weight, in millionths.
+    pub weight: u64,
+    /// What its tree is bound to.
+    pub bound: Bound,
+}
+
+/// Some bound branches, in order.
+#[cycle(bound)]
+#[derive(Debug, Drop)]
+pub struct BoundList {
+    items: Vec<BoundItem>,
+}
+
+impl BoundList {
+    ghost use Rattle.addr_book.specs.Bound.{members_of, listed_items};
+
+    /// These branches, in their order.
+    pub fn of(items: Vec<BoundItem>) -> BoundList
+        ensures { members_of result ≡ listed_items items.items }
+    {
+        BoundList { items }
+    }
+
+    /// The branches, in order.
+    pub fn items(&self) -> &[BoundItem]
+        ensures { members_of self.now ≡ listed_items result.now }
+    {
+        self.items.as_slice()
+    }
+}
+
+impl Bound {
+    ghost use Rattle.addr_book.specs.Bound.{found_of};
+    ghost use Rattle.addr_book.specs.Found.{first_leaf};
+
+    /// The first leaf in order: that of a union is that of its first branch. `None` where that is a union without
+    /// branches, to which no delegation binds a path.
+    pub fn first_leaf(&self) -> Option<&Leaf>
+        ensures { option_copied result ≡ first_leaf (found_of self.now) }
+    {
+        let mut bound = self;
+        loop {
+            match bound {
+                Bound::One(leaf) => return Some(leaf),
+                Bound::Many(list) => match list.items().first() {
+                    None => return None,
+                    Some(item) => bound = &item.bound,
+                },
+            }
+        }
+    }
+}

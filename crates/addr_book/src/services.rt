@@ -1,0 +1,87 @@
+//! Services by their names.
+ghost use Rattle.std.specs.Prelude.{◌≡◌, ℕ, OnOk, OnErr, IfOk, option_map};
+ghost use Rattle.std.specs.FinMap as map;
+
+use crate::Mem;
+use crate::addr_list::AddrList;
+use crate::name::Name;
+use std::alloc::Global;
+use std::collections::BTreeMap;
+use std::marker::Model;
+use std::sync::Arc;
+
+/// Services, each with its addresses. Contracts see a finite map. Copies share the lists.
+///
+/// A look-up takes about `log n` comparisons of names.
+#[derive(Debug, Drop)]
+pub(crate) struct Services {
+    lists: BTreeMap<Name, Arc<AddrList>>,
+}
+
+impl Model for Services {
+    ghost use Rattle.std.specs.Prelude.{List, map};
+    ghost use Rattle.std.specs.Arc.{arc_value};
+    ghost use Rattle.addr_book.specs.Book.{Services as Value_of, services_code};
+
+    ghost Value = { Value_of };
+
+    ghost coded = { services_code };
+
+    ghost use Rattle.std.specs.FinMap.{from_entries};
+
+    ghost view = { λ s. from_entries (map (λ e. (e.0, arc_value e.1)) s.lists.entries) };
+}
+
+impl Services {
+    /// No services. It takes no memory.
+    pub(crate) fn new(alloc: Global) -> Services
+        ensures { result ≡ map.empty }
+    {
+        Services {
+            lists: BTreeMap::new(alloc),
+        }
+    }
+
+    /// How many there are.
+    pub(crate) fn len(&self) -> usize
+        ensures { result ≡ map.len self.now }
+    {
+        self.lists.len()
+    }
+
+    /// The addresses of a service, if it is there.
+    pub(crate) fn get(&self, service: &Name) -> Option<&AddrList>
+        ensures { option_map (λ list. list.now) result ≡ map.get self.now service.now }
+    {
+        match self.lists.get(service) {
+            Some(list) => Some(&**list),
+            None => None,
+        }
+    }
+
+    /// Puts a service with its addresses, in the place of its like. An `Err` changes nothing.
+    pub(crate) fn insert(&mut self, alloc: Global, service: &Name, list: &AddrList) -> Mem<()>
+        ensures ok { OnOk result (self.new ≡ map.insert self.old service.now list.now) }
+        ensures err { OnErr result (self.new ≡ self.old) }
+    {
+        let list = Arc::new(alloc, list.clone()?)?;
+        self.lists.insert(service.clone()?, list)?;
+        Ok(())
+    }
+
+    /// Takes a service away.
+    pub(crate) fn remove(&mut self, service: &Name)
+        ensures { self.new ≡ map.remove self.old service.now }
+    {
+        self.lists.remove(service);
+    }
+
+    /// Another map of these services, which shares their lists.
+    pub(crate) fn copied(&self) -> Mem<Services>
+        ensures { IfOk result (λ copy. copy ≡ self.now) }
+    {
+        Ok(Services {
+            lists: self.lists.clone()?,
+        })
+    }
+}
