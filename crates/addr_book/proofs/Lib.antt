@@ -5,6 +5,7 @@ pub mod Counts
 pub mod Files
 pub mod Hosts
 pub mod Lines
+pub mod Lookups
 pub mod Maps
 pub mod SlotSteps
 pub mod Seating

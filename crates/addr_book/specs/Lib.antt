@@ -7,5 +7,6 @@ pub mod Bound
 pub mod FileLine
 pub mod Found
 pub mod Name
+pub mod Namer
 pub mod Parts
 pub mod Uses

@@ -1,6 +1,7 @@
 //! The book: which services there are, which addresses each has, and which slot each address has.
-ghost use Rattle.std.specs.Prelude.{◌≡◌, ◌≤◌, ◌<◌, ℕ, IfOk, IfErr, IfSome, OnOk, OnErr, IsSome, option_map, is_some, None, Some, ◌≢◌};
+ghost use Rattle.std.specs.Prelude.{◌≡◌, ◌≤◌, ◌<◌, ℕ, IfOk, IfErr, IfSome, OnOk, OnErr, IsSome, MatchOption, option_map, is_some, None, Some, ◌≢◌, true, false};
 ghost use Rattle.std.specs.FinMap as map;
+ghost use Rattle.std.specs.FinMap.{contains_key};
 ghost use Rattle.addr_book.specs.declared.addr.Addr.{Addr};
 ghost use Rattle.addr_book.specs.AddrList.{IsAddrList};
 ghost use Rattle.addr_book.specs.Book.{after_set, after_drop, is_used};
@@ -88,6 +89,15 @@ impl Book {
             Some(list) => Some(list.items()),
             None => None,
         }
+    }
+
+    /// The service with this name's text. `None` where it is not there, as where the text is no name.
+    ///
+    /// It takes one look-up, and no memory.
+    pub(crate) fn service(&self, text: &[u8]) -> Option<&Name>
+        ensures { MatchOption result (contains_key self.now.services text.now ≡ false) (λ name. (name.now ≡ text.now) × (contains_key self.now.services text.now ≡ true)) }
+    {
+        self.parts.services.find(text)
     }
 
     /// The slot of an address. `None` where no service has it.

@@ -41,6 +41,7 @@ mod file_line;
 mod host;
 mod leaf;
 mod name;
+mod namer;
 mod parts;
 mod seats;
 mod services;
@@ -57,6 +58,7 @@ pub use fault::BookFault;
 pub use host::{read_host, read_port};
 pub use leaf::{Cluster, Leaf};
 pub use name::{MOST_NAME_BYTES, Name, NameFault};
+pub use namer::name_answer;
 pub use parts::{MOST_SERVICES, MOST_SLOTS};
 
 /// A value, unless there was no memory for it.

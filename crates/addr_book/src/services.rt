@@ -1,5 +1,5 @@
 //! Services by their names.
-ghost use Rattle.std.specs.Prelude.{◌≡◌, ℕ, OnOk, OnErr, IfOk, option_map};
+ghost use Rattle.std.specs.Prelude.{◌≡◌, ℕ, OnOk, OnErr, IfOk, MatchOption, option_map, true, false};
 ghost use Rattle.std.specs.FinMap as map;
 
 use crate::Mem;
@@ -57,6 +57,18 @@ impl Services {
             Some(list) => Some(&**list),
             None => None,
         }
+    }
+
+    /// The service with this name's text, if it is there.
+    pub(crate) fn find(&self, text: &[u8]) -> Option<&Name>
+        ensures { MatchOption result (map.contains_key self.now text.now ≡ false) (λ name. (name.now ≡ text.now) × (map.contains_key self.now text.now ≡ true)) }
+    {
+        for (name, _list) in self.lists.iter() {
+            if name.text() == text {
+                return Some(name);
+            }
+        }
+        None
     }
 
     /// Puts a service with its addresses, in the place of its like. An `Err` changes nothing.
