@@ -1,2 +1,5 @@
+pub mod Clocks
 pub mod Counts
+pub mod Dials
+pub mod Files
 pub mod Memory

@@ -1,19 +1,76 @@
--- What the sources and sinks in memory hold.
-use Rattle.std.specs.Prelude.{ℕ, List, drop, Contains}
-use Rattle.line_base.specs.declared.memory.MemSource.{MemSource}
-use Rattle.line_base.specs.declared.memory.MemSink.{MemSink}
+-- What the objects in memory hold.
+use Rattle.std.specs.Prelude.{◌≡◌, ℕ, ◌-◌, ◌^◌, ◌==◌, max, Bool, if◌then◌else◌, List, [], ◌∷◌, drop, Option, Contains, slice_index_or}
+use Rattle.line_base.specs.Counts.{raised}
+use Rattle.line_base.specs.Files.{File}
+use Rattle.line_base.specs.declared.dialer.DialEvent.{DialEvent}
 
--- the bytes that the source has yet to give
-abbrev pub left_of : MemSource → List ℕ
-left_of source = drop source.at source.bytes.items
+-- when calls are to fail, and how many bytes each may move: calls are numbered from 0, and `calls` is the number of the next one
+pub record Plan : Type 0 where
+  pub sizes : List ℕ
+  pub failing : List ℕ
+  pub calls : ℕ
 
--- the bytes that the sink has taken
-abbrev pub held_of : MemSink → List ℕ
-held_of sink = sink.held.items
+-- the next call is one of those that are to fail
+abbrev pub FailsNext : Plan → Type 0
+FailsNext plan = Contains plan.failing plan.calls
 
--- the number of the next call is one of those that are to fail
-abbrev pub SourceFailsNext : MemSource → Type 0
-SourceFailsNext source = Contains source.failing.items source.calls
+-- the most bytes that the next call moves: its size, and at least 1. Past the last size there is no bound
+abbrev pub piece_of : Plan → ℕ
+piece_of plan = max (slice_index_or plan.sizes plan.calls (2 ^ 64 - 1)) 1
 
-abbrev pub SinkFailsNext : MemSink → Type 0
-SinkFailsNext sink = Contains sink.failing.items sink.calls
+-- the plan behind one call more
+abbrev pub called : Plan → Plan
+called plan = record { sizes = plan.sizes; failing = plan.failing; calls = raised plan.calls }
+
+-- a call that asks for so many bytes is counted, unless they are none
+abbrev pub behind_call : ℕ → Plan → Plan
+behind_call asked plan = if asked == 0 then plan else called plan
+
+-- a source: the bytes that it has yet to give, its plan, its faults, and its reads that gave the end
+pub record Giving : Type 0 where
+  pub left : List ℕ
+  pub plan : Plan
+  pub faults : ℕ
+  pub ends : ℕ
+
+-- a sink: the bytes that it holds, for how many it has room before it asks for memory, its plan, and its faults
+pub record Taking : Type 0 where
+  pub held : List ℕ
+  pub room : ℕ
+  pub plan : Plan
+  pub faults : ℕ
+
+-- a peer: the source that it gives from, and the sink that it takes into
+pub record Meeting : Type 0 where
+  pub source : Giving
+  pub sink : Taking
+
+-- a dialer: its log, whether a connection is open, the bytes that its other end has yet to give, the replies of the dials to come, its plan, and its
+-- faults
+pub record Dialing : Type 0 where
+  pub log : List DialEvent
+  pub is_open : Bool
+  pub left : List ℕ
+  pub replies : List (List ℕ)
+  pub plan : Plan
+  pub faults : ℕ
+
+-- the reply that the next dial is given, and none past the last
+abbrev pub next_reply : List (List ℕ) → List ℕ
+next_reply [] = []
+next_reply (r ∷ rs) = r
+
+-- a dial that was answered has its reply ahead, and those behind it are left
+abbrev pub Answered : Dialing → Dialing → Type 0
+Answered old new = (new.left ≡ next_reply old.replies) × (new.replies ≡ drop 1 old.replies)
+
+-- a clock: the moments of a fork, and those to come
+pub record Timing : Type 0 where
+  pub all : Option (List ℕ)
+  pub to_come : Option (List ℕ)
+
+-- folders: their files, a plan of their calls, and their faults
+pub record Filing : Type 0 where
+  pub files : List File
+  pub plan : Plan
+  pub faults : ℕ

@@ -1,16 +1,18 @@
-//! The outside as traits: what a program reads from and writes to, with the counts that say why a call failed.
+//! The outside as traits: what a program reads from, writes to, dials and asks, with the counts that say why a call failed.
 //!
-//! A [`Source`] gives bytes, a [`Sink`] takes them, and a [`Peer`] does both. Each counts its faults, and each read
-//! that gave the end. A call answers [`Failed`] only where the count of faults rose, so code that is generic over
-//! these traits can't make a fault up: a clause such as "this status only where the source's count rose" refuses a
-//! body that gives up. Where an object tells its content, as those in memory do, clauses speak of its bytes too; a
-//! real file or socket tells none.
+//! A [`Source`] gives bytes, a [`Sink`] takes them, and a [`Peer`] does both. A [`Dialer`] opens connections of its own, a [`Folder`] has
+//! files, a [`Clock`] tells the moment, a [`Stop`] ends what listens, and a [`Gate`] is told of each request. Each object that can fail
+//! counts its faults: a call that fails raises the count by one, and no other call moves it. So code that is generic over these traits
+//! can't make a fault up: a clause such as "this status exactly where the source's count rose" refuses a body that gives up, and one
+//! that tries again and tells nobody. Where an object tells its content, as those in memory do, clauses speak of its bytes too; a real
+//! file or socket tells none.
 //!
-//! [`MemSource`], [`MemSink`] and [`MemPeer`] are the outside in memory, for tests: they give their bytes in pieces
-//! of stated sizes and fail at stated calls. [`Steps`] counts ticks and takes no memory.
+//! [`MemSource`], [`MemSink`], [`MemPeer`], [`MemDialer`], [`MemFolder`], [`MemClock`] and [`MemStop`] are the outside in memory, for
+//! tests: they give their bytes in pieces of stated sizes and fail at stated calls. [`Steps`] counts ticks and takes no memory.
 //!
 //! # What is proved
-//! The three objects in memory meet their traits, with their content told. [`Steps::tick`] adds one.
+//! The objects in memory meet their traits, with their content told; each call of theirs is counted, and fails where its number is
+//! listed. [`Steps::tick`] adds one.
 //!
 //! # Example
 //! ```
@@ -20,13 +22,31 @@
 //! ```
 #![tactic(auto)]
 
+use std::alloc::AllocError;
+
+mod clock;
+mod dialer;
+mod folder;
 mod memory;
 mod outside;
+mod piece;
+mod signals;
 mod steps;
 
-pub use memory::{MemPeer, MemSink, MemSource};
+pub use clock::Clock;
+pub use dialer::{DialEvent, Dialer};
+pub use folder::{Folder, FolderFault, Found, NameList};
+pub use memory::{MemClock, MemDialer, MemFile, MemFolder, MemPeer, MemSink, MemSource, MemStop};
 pub use outside::{Failed, Peer, Sink, Source};
+pub use piece::Piece;
+pub use signals::{Gate, Stop};
 pub use steps::Steps;
+
+/// A value, unless there was no memory for it.
+pub type Mem<T> = Result<T, AllocError>;
+
+/// Bytes of a file.
+pub type Bytes = Vec<u8>;
 
 #[cfg(test)]
 mod tests;

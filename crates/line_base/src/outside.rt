@@ -2,7 +2,7 @@
 ghost use Rattle.std.specs.Prelude.{◌≡◌, List, ℕ, ◌<◌, length, Option, IfOk};
 ghost use Rattle.std.specs.Io.{ReadsAtMost, WritesAtMost};
 ghost use Rattle.std.specs.Io.KnownBytes.{Keeps, ReadConsumes, WriteAppends};
-ghost use Rattle.line_base.specs.Counts.{HasCause, CountsEnds, ReadsNothing};
+ghost use Rattle.line_base.specs.Counts.{HasCause, CountsEnds, MovesNothing};
 
 /// A call on the outside failed, and raised that object's count of faults.
 #[derive(Clone, Copy, Debug, PartialEq, Eq)]
@@ -25,7 +25,7 @@ pub trait Source {
         ensures bytes { ReadConsumes (left self.old) (left self.new) result into.new }
         ensures cause { HasCause (faults self.old) (faults self.new) result }
         ensures end { CountsEnds (ends self.old) (ends self.new) result (length into.new) }
-        ensures nothing { ReadsNothing (faults self.old) (faults self.new) result (length into.new) };
+        ensures nothing { MovesNothing (faults self.old) (faults self.new) result (length into.new) };
 }
 
 /// What takes bytes: a file, a standard stream, or a list in memory.
@@ -41,7 +41,8 @@ pub trait Sink {
         ensures bound { WritesAtMost result bytes.now }
         ensures moves { IfOk result (λ n. 0 < length bytes.now → 0 < n) }
         ensures bytes { WriteAppends (held self.old) (held self.new) result bytes.now }
-        ensures cause { HasCause (faults self.old) (faults self.new) result };
+        ensures cause { HasCause (faults self.old) (faults self.new) result }
+        ensures nothing { MovesNothing (faults self.old) (faults self.new) result (length bytes.now) };
 }
 
 /// The other end of a connection, which gives bytes and takes them. It has a count of faults for each direction.
@@ -68,7 +69,7 @@ pub trait Peer {
         ensures others { (Keeps (given self.old) (given self.new)) × (write_faults self.new ≡ write_faults self.old) }
         ensures cause { HasCause (read_faults self.old) (read_faults self.new) result }
         ensures end { CountsEnds (ends self.old) (ends self.new) result (length into.new) }
-        ensures nothing { ReadsNothing (read_faults self.old) (read_faults self.new) result (length into.new) };
+        ensures nothing { MovesNothing (read_faults self.old) (read_faults self.new) result (length into.new) };
 
     /// Takes some bytes off the front of `bytes`, and gives their number: at least one, where there is one.
     fn write(&mut self, bytes: &[u8]) -> Result<usize, Failed>
@@ -76,5 +77,6 @@ pub trait Peer {
         ensures moves { IfOk result (λ n. 0 < length bytes.now → 0 < n) }
         ensures bytes { WriteAppends (given self.old) (given self.new) result bytes.now }
         ensures others { (Keeps (left self.old) (left self.new)) × (read_faults self.new ≡ read_faults self.old) × (ends self.new ≡ ends self.old) }
-        ensures cause { HasCause (write_faults self.old) (write_faults self.new) result };
+        ensures cause { HasCause (write_faults self.old) (write_faults self.new) result }
+        ensures nothing { MovesNothing (write_faults self.old) (write_faults self.new) result (length bytes.now) };
 }

@@ -1,7 +1,11 @@
 //! What the objects in memory give and take, call by call.
 ghost use Rattle.std.specs.Prelude.{◌≡◌, ◌<◌};
 
-use crate::{Failed, MemPeer, MemSink, MemSource, Peer, Sink, Source, Steps};
+use crate::{
+    Clock, DialEvent, Dialer, Failed, Folder, FolderFault, Found, Mem, MemClock, MemDialer,
+    MemFile, MemFolder, MemPeer, MemSink, MemSource, MemStop, NameList, Peer, Sink, Source, Steps,
+    Stop,
+};
 use std::alloc::Global;
 use std::marker::Brand;
 use std::sync::ledger::{Blank, Ledger};
@@ -109,4 +113,155 @@ fn tick_twice<L: Ledger>(blank: Blank)
 fn steps_take_no_memory(rt: HostRuntime) {
     tick_twice::<Brand>(Blank::new(1));
     assert_eq!(rt; size_of::<Steps<Brand>>(), 0);
+}
+
+/// One connection: a dial, a send, two receives and a hang.
+fn connect_once<D: Dialer>(
+    dialer: &mut D,
+    bytes: &[u8],
+    into: &mut [u8],
+) -> Result<[Result<usize, Failed>; 3], Failed> {
+    match dialer.dial(0x7f00_0001, 9001) {
+        Ok(()) => {
+            let calls = [dialer.send(bytes), dialer.recv(into), dialer.recv(into)];
+            dialer.hang();
+            Ok(calls)
+        }
+        Err(failed) => Err(failed),
+    }
+}
+
+/// A log as text: a letter for each event, with the bytes that it moved.
+fn log_text(alloc: Global, log: &[DialEvent]) -> Mem<Vec<u8>> {
+    let mut text = Vec::new(alloc);
+    for event in log {
+        match event {
+            DialEvent::Dialed(_, _) => text.push(b'D')?,
+            DialEvent::Sent(piece) => {
+                text.push(b'S')?;
+                text.extend_from_slice(piece.bytes())?;
+            }
+            DialEvent::Got(piece) => {
+                text.push(b'G')?;
+                text.extend_from_slice(piece.bytes())?;
+            }
+            DialEvent::Hung => text.push(b'H')?,
+        }
+    }
+    Ok(text)
+}
+
+/// Two bytes are sent at call 1 and two received at call 2; the send 5 and the dial 8 fail; a send of nothing is no call and stands in
+/// no log, and the end is got as no bytes.
+#[test]
+fn dialer_keeps_a_log(rt: HostRuntime) -> Result<(), Fail> {
+    let alloc = rt.alloc();
+    let replies = vec![in alloc; b"abc".to_vec(alloc)?, b"xyz".to_vec(alloc)?]?;
+    let sizes = vec![in alloc; 9, 2, 2]?;
+    let mut dialer = MemDialer::of(alloc, replies, sizes, vec![in alloc; 5, 8]?);
+    let mut into = [0u8; 4];
+    let rows: [(&[u8], _, u64); 4] = [
+        (b"hello", Ok([Ok(2), Ok(2), Ok(1)]), 0),
+        (b"hello", Ok([Err(Failed), Ok(3), Ok(0)]), 1),
+        (b"hello", Err(Failed), 2),
+        (b"", Ok([Ok(0), Ok(0), Ok(0)]), 2),
+    ];
+    for (bytes, gives, faults) in rows {
+        assert_eq!(rt; connect_once(&mut dialer, bytes, &mut into), gives);
+        assert_eq!(rt; (dialer.faults(), dialer.is_open()), (faults, false));
+    }
+    assert_eq!(rt;
+        log_text(alloc, dialer.log())?.as_slice(),
+        b"DSheGabGcHDGxyzGHDGGH".as_slice()
+    );
+    Ok(())
+}
+
+fn moment<C: Clock>(clock: &mut C) -> u64 {
+    clock.now()
+}
+
+/// The last moment stays, and a fork begins with the first.
+#[test]
+fn clock_and_fork(rt: HostRuntime) -> Result<(), Fail> {
+    let alloc = rt.alloc();
+    let mut clock = MemClock::of(alloc, vec![in alloc; 5, 3, 9]?)?;
+    let rows = [(5, 5), (3, 5), (9, 5), (9, 5)];
+    for (gives, forked) in rows {
+        assert_eq!(rt; moment(&mut clock), gives);
+        let mut fork = clock.fork();
+        assert_eq!(rt; moment(&mut fork), forked);
+    }
+    assert_eq!(rt; moment(&mut MemClock::of(alloc, Vec::new(alloc))?), 0);
+    Ok(())
+}
+
+fn stop_it<S: Stop>(stop: &mut S) {
+    stop.stop();
+}
+
+#[test]
+fn stop_is_counted(rt: HostRuntime) {
+    let mut stop = MemStop::new();
+    stop_it(&mut stop);
+    stop_it(&mut stop);
+    assert_eq!(rt; stop.calls(), 2);
+}
+
+fn size_at<F: Folder>(
+    folder: &mut F,
+    path: &str,
+    most: usize,
+) -> Result<Option<usize>, FolderFault> {
+    match folder.read(path, most) {
+        Ok(Found::Bytes(bytes)) => Ok(Some(bytes.len())),
+        Ok(Found::Longer) => Ok(Some(usize::MAX)),
+        Ok(Found::Absent) => Ok(None),
+        Err(fault) => Err(fault),
+    }
+}
+
+fn names_of<F: Folder>(folder: &mut F, name: &str) -> Result<NameList, FolderFault> {
+    folder.names(name)
+}
+
+/// Names come in the order of their bytes; a file of `most` bytes is found, and one of a byte more is longer; call 6 fails.
+#[test]
+fn folder_of_files(rt: HostRuntime) -> Result<(), Fail> {
+    let alloc = rt.alloc();
+    let mut files = Vec::new(alloc);
+    for (folder, name, size) in [
+        ("disco", "web", 3),
+        ("disco", "api", 0),
+        ("other", "web", 1234),
+        ("disco", "Web", 1),
+    ] {
+        let bytes = Vec::from_elem(alloc, b'x', size)?;
+        files.push(MemFile::of(
+            String::from_str(alloc, folder)?,
+            String::from_str(alloc, name)?,
+            bytes,
+        ))?;
+    }
+    let mut folder = MemFolder::of(alloc, files, vec![in alloc; 6]?);
+    let mut names = String::new(alloc);
+    for name in names_of(&mut folder, "disco")?.items() {
+        names.push_str(name.as_str())?;
+        names.push_str(" ")?;
+    }
+    assert_eq!(rt; names.as_str(), "Web api web ");
+    let rows = [
+        ("disco/web", 3, Ok(Some(3))),
+        ("disco/web", 2, Ok(Some(usize::MAX))),
+        ("disco/api", 0, Ok(Some(0))),
+        ("other/web", 1_048_576, Ok(Some(1234))),
+        ("disco/we", 9, Ok(None)),
+        ("disco/web", 3, Err(FolderFault::Failed)),
+        ("disco/web", 3, Ok(Some(3))),
+    ];
+    for (path, most, gives) in rows {
+        assert_eq!(rt; size_at(&mut folder, path, most), gives);
+    }
+    assert_eq!(rt; folder.faults(), 1);
+    Ok(())
 }

@@ -1,0 +1,260 @@
+//! Sources, sinks and peers in memory.
+ghost use Rattle.std.specs.Prelude.{◌≡◌, ◌≤◌, ◌<◌, ◌+◌, ◌↔◌, ◌⊎◌, [], length, min, Some, IsErr, IfOk, OnErr};
+ghost use Rattle.std.specs.Io.{ReadsAtMost, WritesAtMost};
+ghost use Rattle.std.specs.Io.KnownBytes.{ReadConsumes, WriteAppends};
+ghost use Rattle.line_base.specs.Counts.{HasCause, CountsEnds, MovesNothing};
+ghost use Rattle.line_base.specs.Memory.{FailsNext, piece_of, behind_call};
+
+use crate::memory::plan::CallPlan;
+use crate::memory::unread::Unread;
+use crate::outside::{Failed, Peer, Sink, Source};
+use std::alloc::Global;
+use std::marker::Model;
+
+/// Bytes in memory, given in pieces of stated sizes. Calls are counted from 0; a read into no room is no call.
+#[derive(Debug, Drop)]
+pub struct MemSource {
+    unread: Unread,
+    plan: CallPlan,
+    faults: u64,
+    ends: u64,
+}
+
+impl Model for MemSource {
+    ghost use Rattle.line_base.specs.Memory.{Giving};
+
+    ghost Value = { Giving };
+
+    ghost view = { λ s. record { left = s.unread; plan = s.plan; faults = s.faults; ends = s.ends } };
+}
+
+impl MemSource {
+    /// A source of these bytes. Call number `n` gives at most `sizes[n]` bytes, at least one where one is left, and
+    /// as many as there is room for past the last size. The calls whose numbers are in `failing` fail.
+    pub fn of(bytes: Vec<u8>, sizes: Vec<usize>, failing: Vec<u64>) -> MemSource
+        ensures left { result.left ≡ bytes.items }
+        ensures plan { result.plan ≡ record { sizes = sizes.items; failing = failing.items; calls = 0 } }
+        ensures counts { (result.faults ≡ 0) × (result.ends ≡ 0) }
+    {
+        MemSource {
+            unread: Unread::of(bytes),
+            plan: CallPlan::of(sizes, failing),
+            faults: 0,
+            ends: 0,
+        }
+    }
+
+    /// The bytes that are left to give.
+    pub fn left(&self) -> &[u8]
+        ensures { result.now ≡ self.now.left }
+    {
+        self.unread.left()
+    }
+
+    /// How many reads failed.
+    pub fn faults(&self) -> u64
+        ensures { result ≡ self.now.faults }
+    {
+        self.faults
+    }
+
+    /// How many reads gave the end.
+    pub fn ends(&self) -> u64
+        ensures { result ≡ self.now.ends }
+    {
+        self.ends
+    }
+}
+
+impl Source for MemSource {
+    ghost left = { λ s. Some s.left };
+
+    ghost faults = { λ s. s.faults };
+
+    ghost ends = { λ s. s.ends };
+
+    /// Fails exactly at the calls that are listed.
+    fn read(&mut self, into: &mut [u8]) -> Result<usize, Failed>
+        ensures bound { ReadsAtMost result into.new }
+        ensures bytes { ReadConsumes (Some self.old.left) (Some self.new.left) result into.new }
+        ensures cause { HasCause self.old.faults self.new.faults result }
+        ensures end { CountsEnds self.old.ends self.new.ends result (length into.new) }
+        ensures nothing { MovesNothing self.old.faults self.new.faults result (length into.new) }
+        ensures plan { self.new.plan ≡ behind_call (length into.new) self.old.plan }
+        ensures fails { 0 < length into.new → IsErr result ↔ FailsNext self.old.plan }
+        ensures size { IfOk result (λ n. n ≡ min (min (length into.new) (piece_of self.old.plan)) (length self.old.left)) }
+    {
+        if into.is_empty() {
+            return Ok(0);
+        }
+        let Ok(size) = self.plan.call() else {
+            self.faults = self.faults.saturating_add(1);
+            return Err(Failed);
+        };
+        let count = self.unread.give(into, size);
+        if count == 0 {
+            self.ends = self.ends.saturating_add(1);
+        }
+        Ok(count)
+    }
+}
+
+/// A list in memory that takes bytes in pieces of stated sizes. Calls are counted from 0; a write of nothing is no
+/// call.
+#[derive(Debug, Drop)]
+pub struct MemSink {
+    held: Vec<u8>,
+    plan: CallPlan,
+    faults: u64,
+}
+
+impl Model for MemSink {
+    ghost use Rattle.std.specs.Prelude.{vec_capacity};
+    ghost use Rattle.line_base.specs.Memory.{Taking};
+
+    ghost Value = { Taking };
+
+    ghost view = { λ s. record { held = s.held.items; room = vec_capacity s.held; plan = s.plan; faults = s.faults } };
+}
+
+impl MemSink {
+    /// A sink that holds nothing. Call number `n` takes at most `sizes[n]` bytes, at least one, and all past the last
+    /// size. The calls whose numbers are in `failing` fail.
+    pub fn of(alloc: Global, sizes: Vec<usize>, failing: Vec<u64>) -> MemSink
+        ensures held { result.held ≡ [] }
+        ensures plan { result.plan ≡ record { sizes = sizes.items; failing = failing.items; calls = 0 } }
+        ensures faults { result.faults ≡ 0 }
+    {
+        MemSink {
+            held: Vec::new(alloc),
+            plan: CallPlan::of(sizes, failing),
+            faults: 0,
+        }
+    }
+
+    /// The bytes that were taken.
+    pub fn held(&self) -> &[u8]
+        ensures { result.now ≡ self.now.held }
+    {
+        self.held.as_slice()
+    }
+
+    /// How many writes failed.
+    pub fn faults(&self) -> u64
+        ensures { result ≡ self.now.faults }
+    {
+        self.faults
+    }
+}
+
+impl Sink for MemSink {
+    ghost held = { λ s. Some s.held };
+
+    ghost faults = { λ s. s.faults };
+
+    /// Fails at the calls that are listed, and else only where there is no memory for what it holds.
+    fn write(&mut self, bytes: &[u8]) -> Result<usize, Failed>
+        ensures bound { WritesAtMost result bytes.now }
+        ensures moves { IfOk result (λ n. 0 < length bytes.now → 0 < n) }
+        ensures bytes { WriteAppends (Some self.old.held) (Some self.new.held) result bytes.now }
+        ensures cause { HasCause self.old.faults self.new.faults result }
+        ensures nothing { MovesNothing self.old.faults self.new.faults result (length bytes.now) }
+        ensures plan { self.new.plan ≡ behind_call (length bytes.now) self.old.plan }
+        ensures fails { 0 < length bytes.now → FailsNext self.old.plan → IsErr result }
+        ensures only { OnErr result (FailsNext self.old.plan ⊎ (self.old.room < length self.old.held + length bytes.now)) }
+        ensures size { IfOk result (λ n. n ≡ min (length bytes.now) (piece_of self.old.plan)) }
+    {
+        if bytes.is_empty() {
+            return Ok(0);
+        }
+        let Ok(size) = self.plan.call() else {
+            self.faults = self.faults.saturating_add(1);
+            return Err(Failed);
+        };
+        let count = bytes.len().min(size);
+        if self.held.extend_from_slice(&bytes[..count]).is_err() {
+            self.faults = self.faults.saturating_add(1);
+            return Err(Failed);
+        }
+        Ok(count)
+    }
+}
+
+/// A connection in memory: a source that it gives from and a sink that it takes into. Each has calls of its own.
+#[derive(Debug, Drop)]
+pub struct MemPeer {
+    source: MemSource,
+    sink: MemSink,
+}
+
+impl Model for MemPeer {
+    ghost use Rattle.line_base.specs.Memory.{Meeting};
+
+    ghost Value = { Meeting };
+
+    ghost view = { λ p. record { source = p.source; sink = p.sink } };
+}
+
+impl MemPeer {
+    /// A peer that gives from the one and takes into the other.
+    pub fn of(source: MemSource, sink: MemSink) -> MemPeer
+        ensures { result ≡ record { source = source; sink = sink } }
+    {
+        MemPeer { source, sink }
+    }
+
+    /// What it gives from.
+    pub fn source(&self) -> &MemSource
+        ensures { result.now ≡ self.now.source }
+    {
+        &self.source
+    }
+
+    /// What it takes into.
+    pub fn sink(&self) -> &MemSink
+        ensures { result.now ≡ self.now.sink }
+    {
+        &self.sink
+    }
+}
+
+impl Peer for MemPeer {
+    ghost left = { λ p. Some p.source.left };
+
+    ghost given = { λ p. Some p.sink.held };
+
+    ghost read_faults = { λ p. p.source.faults };
+
+    ghost write_faults = { λ p. p.sink.faults };
+
+    ghost ends = { λ p. p.source.ends };
+
+    /// A read of its source.
+    fn read(&mut self, into: &mut [u8]) -> Result<usize, Failed>
+        ensures bound { ReadsAtMost result into.new }
+        ensures bytes { ReadConsumes (Some self.old.source.left) (Some self.new.source.left) result into.new }
+        ensures others { self.new.sink ≡ self.old.sink }
+        ensures cause { HasCause self.old.source.faults self.new.source.faults result }
+        ensures end { CountsEnds self.old.source.ends self.new.source.ends result (length into.new) }
+        ensures nothing { MovesNothing self.old.source.faults self.new.source.faults result (length into.new) }
+        ensures plan { self.new.source.plan ≡ behind_call (length into.new) self.old.source.plan }
+        ensures fails { 0 < length into.new → IsErr result ↔ FailsNext self.old.source.plan }
+    {
+        self.source.read(into)
+    }
+
+    /// A write to its sink.
+    fn write(&mut self, bytes: &[u8]) -> Result<usize, Failed>
+        ensures bound { WritesAtMost result bytes.now }
+        ensures moves { IfOk result (λ n. 0 < length bytes.now → 0 < n) }
+        ensures bytes { WriteAppends (Some self.old.sink.held) (Some self.new.sink.held) result bytes.now }
+        ensures others { self.new.source ≡ self.old.source }
+        ensures cause { HasCause self.old.sink.faults self.new.sink.faults result }
+        ensures nothing { MovesNothing self.old.sink.faults self.new.sink.faults result (length bytes.now) }
+        ensures plan { self.new.sink.plan ≡ behind_call (length bytes.now) self.old.sink.plan }
+        ensures fails { 0 < length bytes.now → FailsNext self.old.sink.plan → IsErr result }
+        ensures only { OnErr result (FailsNext self.old.sink.plan ⊎ (self.old.sink.room < length self.old.sink.held + length bytes.now)) }
+    {
+        self.sink.write(bytes)
+    }
+}
