@@ -1,3 +1,4 @@
+pub mod Matches
 pub mod Placing
 pub mod PrefixLaws
 pub mod PrefixSounds

@@ -5,7 +5,7 @@ use Rattle.std.proofs.lemmas.Bool.{eqb-true}
 use Rattle.std.proofs.lemmas.List.{append-nil}
 use Rattle.std.proofs.lemmas.Option.{none-some, same_Some, option_and_then_some, MatchOption-at_some}
 use Rattle.name_tree.specs.Grammar.{is_blank, AreBlanks, no_blank, blank}
-use Rattle.dtab_table.specs.Rules.{Pattern}
+use Rattle.dtab_table.specs.Pattern.{Pattern}
 use Rattle.dtab_table.specs.TableGrammar.{SpellsPrefix, PrefixText, prefix}
 use Rattle.name_tree.specs.Path.{is_plain}
 use Rattle.name_tree.specs.Recogniser.{run, value_from}

@@ -3,7 +3,7 @@ use Rattle.std.proofs.Common.{◌≡◌, ℕ, List, Result, Ok, Err, refl}
 use Rattle.std.specs.Prelude.{MatchResult, IfOk}
 use Rattle.name_tree.proofs.Sounds.{label_is}
 use Rattle.name_tree.proofs.Recognisers.{one_value}
-use Rattle.dtab_table.specs.Rules.{Pattern}
+use Rattle.dtab_table.specs.Pattern.{Pattern}
 use Rattle.dtab_table.specs.TableGrammar.{SpellsPattern, star, named, SpellsPatterns, pattern, patterns, SpellsPrefix, root, under, PrefixText, prefix}
 use Rattle.dtab_table.specs.PrefixReading.{before, next_prefix, end_prefix}
 use Rattle.dtab_table.specs.TableCanon.{IsPattern, ArePatterns}

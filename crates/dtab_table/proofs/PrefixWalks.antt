@@ -11,41 +11,41 @@ use Rattle.name_tree.specs.Grammar.{SpellsLabel}
 use Rattle.name_tree.specs.LabelReading.{Spelling, next_spelling, end_spelling, is_path_byte}
 use Rattle.name_tree.proofs.Answered.{if_test, if_mapped, if_mapped_from}
 use Rattle.name_tree.proofs.Labels.{InLabels, label_read, label_ends, spelling_in, spelling_can_end, SpellingFront, spelling_step, spelling_end}
-use Rattle.dtab_table.specs.Rules.{Pattern}
+use Rattle.dtab_table.specs.Pattern.{Pattern}
 use Rattle.dtab_table.specs.TableGrammar.{SpellsPattern, star, named, SpellsPatterns, pattern, patterns, SpellsPrefix, root, under}
-use Rattle.dtab_table.specs.PrefixReading.{Part, Walk, walk_start, next_pattern, star_behind, next_part, end_part, next_walk, root_patterns, with_last, end_walk, is_prefix_byte}
+use Rattle.dtab_table.specs.PrefixReading.{PartialPattern, Walk, walk_start, next_pattern, star_behind, next_part, end_part, next_walk, root_patterns, with_last, end_walk, is_prefix_byte}
 
 -- from the spelling to the reading
 
-abbrev pub at_part : List Pattern → Part → Walk
+abbrev pub at_part : List Pattern → PartialPattern → Walk
 at_part ps at = record { before = ps; part = at }
 
 abbrev at_bytes : List Pattern → Label → Walk
-at_bytes ps l = at_part ps (Part.label (Spelling.bytes l))
+at_bytes ps l = at_part ps (PartialPattern.label (Spelling.bytes l))
 
 -- in a prefix a label is read as it is read alone
 spelling_walk : (s : List ℕ) (ps : List Pattern) (at to : Spelling) → run next_spelling at s ≡ Some to → (more : List ℕ)
-    → run next_walk (at_part ps (Part.label at)) (s ++ more) ≡ run next_walk (at_part ps (Part.label to)) more
-spelling_walk [] ps at to e more = ap (λ x. run next_walk (at_part ps (Part.label x)) more) (same_Some at to e)
+    → run next_walk (at_part ps (PartialPattern.label at)) (s ++ more) ≡ run next_walk (at_part ps (PartialPattern.label to)) more
+spelling_walk [] ps at to e more = ap (λ x. run next_walk (at_part ps (PartialPattern.label x)) more) (same_Some at to e)
 spelling_walk (b ∷ bs) ps at to e more =
     option_and_then_some (λ x. run next_spelling x bs) (next_spelling at b) to e
     (λ via i r. let k = MatchOption-at_some ⊤ (λ _. InLabels b) via i (spelling_in at b) in rw (k.slash, k.star, i) (spelling_walk bs ps via to r more))
 
 -- a label or a `*` is read up to its end
 record PatternWalked (s : List ℕ) (p : Pattern) : Type 0 where
-  part : Part
+  part : PartialPattern
   reads : (ps : List Pattern) (more : List ℕ) → run next_walk (at_bytes ps []) (s ++ more) ≡ run next_walk (at_part ps part) more
   ends : end_part part ≡ Some p
 
 pattern_walk : {s : List ℕ} {p : Pattern} → SpellsPattern s p → PatternWalked s p
-pattern_walk star = record { part = Part.star; reads = λ ps more. refl; ends = refl }
+pattern_walk star = record { part = PartialPattern.star; reads = λ ps more. refl; ends = refl }
 pattern_walk (named {s = s} {l = l} r) = record {
-  part = Part.label (Spelling.bytes l);
+  part = PartialPattern.label (Spelling.bytes l);
   reads = λ ps more. spelling_walk s ps (Spelling.bytes []) (Spelling.bytes l) (label_read r) more;
   ends = ap (option_map (λ k. Some k)) (label_ends r);
 }
 
-slash_walk : (part : Part) (p : Pattern) → end_part part ≡ Some p → (ps : List Pattern) (more : List ℕ)
+slash_walk : (part : PartialPattern) (p : Pattern) → end_part part ≡ Some p → (ps : List Pattern) (more : List ℕ)
     → run next_walk (at_part ps part) (47 ∷ more) ≡ run next_walk (at_bytes (ps ++ p ∷ []) []) more
 slash_walk part p e ps more = rw e refl
 
@@ -54,7 +54,7 @@ record Walked (s : List ℕ) (before ps : List Pattern) : Type 0 where
   tail : List ℕ
   head : s ≡ 47 ∷ tail
   front : List Pattern
-  part : Part
+  part : PartialPattern
   last : Pattern
   same : before ++ ps ≡ front ++ last ∷ []
   reads : (more : List ℕ) → run next_walk (at_bytes before []) (tail ++ more) ≡ run next_walk (at_part front part) more
@@ -111,14 +111,14 @@ star_byte = refl
 path_prefix : (b : ℕ) → is_path_byte b ≡ true → is_prefix_byte b ≡ true
 path_prefix b h = rw h (true-or (b == 42))
 
-part_byte : (at : Part) (b : ℕ) → IfSome (next_part at b) (λ _. is_prefix_byte b ≡ true)
-part_byte (Part.label at) b = if_mapped_from (λ _. is_prefix_byte b ≡ true) (λ _. InLabels b) (λ to. Part.label to) (next_spelling at b) (spelling_in at b) (λ to k. path_prefix b k.path)
-part_byte Part.star b = tt
+part_byte : (at : PartialPattern) (b : ℕ) → IfSome (next_part at b) (λ _. is_prefix_byte b ≡ true)
+part_byte (PartialPattern.label at) b = if_mapped_from (λ _. is_prefix_byte b ≡ true) (λ _. InLabels b) (λ to. PartialPattern.label to) (next_spelling at b) (spelling_in at b) (λ to k. path_prefix b k.path)
+part_byte PartialPattern.star b = tt
 
-star_part : (at : Part) (b : ℕ) → b ≡ 42 → IfSome (star_behind at) (λ _. is_prefix_byte b ≡ true)
+star_part : (at : PartialPattern) (b : ℕ) → b ≡ 42 → IfSome (star_behind at) (λ _. is_prefix_byte b ≡ true)
 star_part at b e = all (star_behind at)
   where
-    all : (o : Option Part) → IfSome o (λ _. is_prefix_byte b ≡ true)
+    all : (o : Option PartialPattern) → IfSome o (λ _. is_prefix_byte b ≡ true)
     all None = tt
     all (Some x) = rw e star_byte
 
@@ -140,17 +140,17 @@ pub record WalkCanEnd (at : Walk) : Type 0 where
 pub walk_can_end : (at : Walk) → WalkCanEnd at
 walk_can_end at = go at.before at.part
   where
-    go : (ps : List Pattern) (part : Part) → WalkCanEnd (at_part ps part)
-    go ps (Part.label sp) =
+    go : (ps : List Pattern) (part : PartialPattern) → WalkCanEnd (at_part ps part)
+    go ps (PartialPattern.label sp) =
         let k = spelling_can_end sp in
         record {
           more = k.more;
           to = at_bytes ps k.label;
           patterns = ps ++ Some k.label ∷ [];
-          reads = ap (run next_walk (at_part ps (Part.label sp))) (sym (append-nil k.more)) ∙ spelling_walk k.more ps sp (Spelling.bytes k.label) k.reads [];
+          reads = ap (run next_walk (at_part ps (PartialPattern.label sp))) (sym (append-nil k.more)) ∙ spelling_walk k.more ps sp (Spelling.bytes k.label) k.reads [];
           ends = rw k.ends refl;
         }
-    go ps Part.star = record { more = []; to = at_part ps Part.star; patterns = ps ++ None ∷ []; reads = refl; ends = refl }
+    go ps PartialPattern.star = record { more = []; to = at_part ps PartialPattern.star; patterns = ps ++ None ∷ []; reads = refl; ends = refl }
 
 -- from the reading to the spelling
 
@@ -163,9 +163,9 @@ pub record PatternsFront (s : List ℕ) (ps : List Pattern) : Type 0 where
   pub extend : {t : List ℕ} {p : Pattern} → SpellsPattern t p → SpellsPatterns (s ++ 47 ∷ t) (ps ++ p ∷ [])
   pub alone : ps ≡ [] → s ≡ []
 
-abbrev pub PartFront : Part → List ℕ → Type 0
-PartFront (Part.label at) s = SpellingFront at s
-PartFront Part.star s = s ≡ 42 ∷ []
+abbrev pub PartFront : PartialPattern → List ℕ → Type 0
+PartFront (PartialPattern.label at) s = SpellingFront at s
+PartFront PartialPattern.star s = s ≡ 42 ∷ []
 
 -- the bytes of a prefix up to here
 pub record WalkFront (at : Walk) (s : List ℕ) : Type 0 where
@@ -186,22 +186,22 @@ named_end : (s : List ℕ) (p : Pattern) (o : Option Label) → ((l : Label) →
 named_end s p None f e = absurd (none-some p e)
 named_end s p (Some l) f e = subst (λ (q : Pattern). SpellsPattern s q) (same_Some (Some l) p e) (named (f l refl))
 
-part_end : (at : Part) (s : List ℕ) (p : Pattern) → PartFront at s → end_part at ≡ Some p → SpellsPattern s p
-part_end (Part.label at) s p f e = named_end s p (end_spelling at) (λ l i. spelling_end at s l f i) e
-part_end Part.star s p f e = subst₂ SpellsPattern (sym f) (same_Some None p e) star
+part_end : (at : PartialPattern) (s : List ℕ) (p : Pattern) → PartFront at s → end_part at ≡ Some p → SpellsPattern s p
+part_end (PartialPattern.label at) s p f e = named_end s p (end_spelling at) (λ l i. spelling_end at s l f i) e
+part_end PartialPattern.star s p f e = subst₂ SpellsPattern (sym f) (same_Some None p e) star
 
-star_step : (at : Part) (s : List ℕ) → PartFront at s → (b : ℕ) → b ≡ 42 → IfSome (star_behind at) (λ to. PartFront to (s ++ b ∷ []))
-star_step (Part.label (Spelling.bytes [])) s f b e = rw (f, e) refl
-star_step (Part.label (Spelling.bytes (c ∷ cs))) s f b e = tt
-star_step (Part.label (Spelling.escape l)) s f b e = tt
-star_step (Part.label (Spelling.hex l)) s f b e = tt
-star_step (Part.label (Spelling.digit l m)) s f b e = tt
-star_step Part.star s f b e = tt
+star_step : (at : PartialPattern) (s : List ℕ) → PartFront at s → (b : ℕ) → b ≡ 42 → IfSome (star_behind at) (λ to. PartFront to (s ++ b ∷ []))
+star_step (PartialPattern.label (Spelling.bytes [])) s f b e = rw (f, e) refl
+star_step (PartialPattern.label (Spelling.bytes (c ∷ cs))) s f b e = tt
+star_step (PartialPattern.label (Spelling.escape l)) s f b e = tt
+star_step (PartialPattern.label (Spelling.hex l)) s f b e = tt
+star_step (PartialPattern.label (Spelling.digit l m)) s f b e = tt
+star_step PartialPattern.star s f b e = tt
 
-part_step : (at : Part) (s : List ℕ) → PartFront at s → (b : ℕ) → IfSome (next_part at b) (λ to. PartFront to (s ++ b ∷ []))
-part_step (Part.label at) s f b =
-    if_mapped_from (λ to. PartFront to (s ++ b ∷ [])) (λ to. SpellingFront to (s ++ b ∷ [])) (λ to. Part.label to) (next_spelling at b) (spelling_step at s f b) (λ to k. k)
-part_step Part.star s f b = tt
+part_step : (at : PartialPattern) (s : List ℕ) → PartFront at s → (b : ℕ) → IfSome (next_part at b) (λ to. PartFront to (s ++ b ∷ []))
+part_step (PartialPattern.label at) s f b =
+    if_mapped_from (λ to. PartFront to (s ++ b ∷ [])) (λ to. SpellingFront to (s ++ b ∷ [])) (λ to. PartialPattern.label to) (next_spelling at b) (spelling_step at s f b) (λ to k. k)
+part_step PartialPattern.star s f b = tt
 
 pub walk_step : (at : Walk) (s : List ℕ) → WalkFront at s → (b : ℕ) → IfSome (next_walk at b) (λ to. WalkFront to (s ++ b ∷ []))
 walk_step at s f b =
@@ -221,16 +221,16 @@ walk_step at s f b =
 pub walk_begun : WalkFront walk_start (47 ∷ [])
 walk_begun = record { front = []; last = []; same = refl; before = record { extend = λ q. pattern q; alone = λ _. refl }; part = refl }
 
-root_end : (before : List Pattern) (at : Part) (s front last : List ℕ) (ps : List Pattern) → s ≡ front ++ 47 ∷ last → PatternsFront front before → PartFront at last
+root_end : (before : List Pattern) (at : PartialPattern) (s front last : List ℕ) (ps : List Pattern) → s ≡ front ++ 47 ∷ last → PatternsFront front before → PartFront at last
     → root_patterns before at ≡ Some ps → SpellsPrefix s ps
-root_end [] (Part.label (Spelling.bytes [])) s front last ps same f g e =
+root_end [] (PartialPattern.label (Spelling.bytes [])) s front last ps same f g e =
     let whole : s ≡ 47 ∷ [] = rw (same, f.alone refl, g) refl in
     subst₂ SpellsPrefix (sym whole) (same_Some [] ps e) root
-root_end [] (Part.label (Spelling.bytes (b ∷ bs))) s front last ps same f g e = absurd (none-some ps e)
-root_end [] (Part.label (Spelling.escape l)) s front last ps same f g e = absurd (none-some ps e)
-root_end [] (Part.label (Spelling.hex l)) s front last ps same f g e = absurd (none-some ps e)
-root_end [] (Part.label (Spelling.digit l m)) s front last ps same f g e = absurd (none-some ps e)
-root_end [] Part.star s front last ps same f g e = absurd (none-some ps e)
+root_end [] (PartialPattern.label (Spelling.bytes (b ∷ bs))) s front last ps same f g e = absurd (none-some ps e)
+root_end [] (PartialPattern.label (Spelling.escape l)) s front last ps same f g e = absurd (none-some ps e)
+root_end [] (PartialPattern.label (Spelling.hex l)) s front last ps same f g e = absurd (none-some ps e)
+root_end [] (PartialPattern.label (Spelling.digit l m)) s front last ps same f g e = absurd (none-some ps e)
+root_end [] PartialPattern.star s front last ps same f g e = absurd (none-some ps e)
 root_end (k ∷ ks) at s front last ps same f g e = absurd (none-some ps e)
 
 walk_end_at : (at : Walk) (s : List ℕ) (ps : List Pattern) → WalkFront at s → (o : Option Pattern) → end_part at.part ≡ o → with_last at.before at.part o ≡ Some ps → SpellsPrefix s ps

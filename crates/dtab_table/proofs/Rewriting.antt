@@ -12,16 +12,16 @@ use Rattle.name_tree.specs.declared.tree.Tree.{Tree}
 use Rattle.name_tree.specs.Value.{TreeValue, append_rest}
 use Rattle.name_tree.specs.Tree.{value_of}
 use Rattle.dtab_index.specs.Index.{Placed, matches, matching}
-use Rattle.dtab_table.specs.declared.dtab.Entry.{Entry}
-use Rattle.dtab_table.specs.declared.prefix.Prefix.{Prefix}
+use Rattle.dtab_table.specs.declared.entry.Entry.{Entry}
 use Rattle.dtab_table.specs.declared.prefix.PrefixLabel.{PrefixLabel}
-use Rattle.dtab_table.specs.Rules.{Pattern, pattern_of, patterns_of, rule_of, placed_from}
+use Rattle.dtab_table.specs.Pattern.{Pattern, pattern_of}
+use Rattle.dtab_table.specs.Rules.{rule_of, placed_from}
 use Rattle.dtab_table.specs.Dtab.{rest_behind, rewrite, rewrites}
 
 -- the tree of an entry that matches, with the rest of the path behind every leaf
 abbrev pub tree_of : Option Entry → Labels → List TreeValue
 tree_of None path = []
-tree_of (Some e) path = append_rest (value_of e.tree) (drop (length e.prefix.labels.items) path) ∷ []
+tree_of (Some e) path = append_rest (value_of e.tree) (drop (length e.prefix) path) ∷ []
 
 -- the trees of the entries at some positions
 abbrev pub trees_at : List Entry → Labels → List ℕ → List TreeValue
@@ -33,7 +33,7 @@ rest_if true ps ls is = is
 rest_if false ps ls is = refl
 
 -- what follows a prefix that matches, by the number of its labels
-rest_is : (ps : List Pattern) (path : Labels) → rest_behind ps path ≡ (if matches ps path then Some (drop (length ps) path) else None)
+pub rest_is : (ps : List Pattern) (path : Labels) → rest_behind ps path ≡ (if matches ps path then Some (drop (length ps) path) else None)
 rest_is [] path = refl
 rest_is (p ∷ ps) [] = refl
 rest_is (None ∷ ps) (l ∷ ls) = rest_is ps ls
@@ -51,7 +51,7 @@ long_enough (Some m ∷ ps) (l ∷ ls) is = omega (arith, long_enough ps ls (lon
 
 -- a position is an entry's, whose prefix is no longer than the path
 abbrev pub IsUsable : List Entry → Labels → ℕ → Type 0
-IsUsable all path at = (e : Entry) × (slice_get all at ≡ Some e) × (length e.prefix.labels.items ≤ length path)
+IsUsable all path at = (e : Entry) × (slice_get all at ≡ Some e) × (length e.prefix ≤ length path)
 
 abbrev pub AreUsable : List Entry → Labels → List ℕ → Type 0
 AreUsable all path [] = Unit {0}
@@ -61,19 +61,17 @@ usable_append : (all : List Entry) (path : Labels) (xs ys : List ℕ) → AreUsa
 usable_append all path [] ys front back = back
 usable_append all path (x ∷ xs) ys front back = (front.0, usable_append all path xs ys front.1 back)
 
-pub as_many : (labels : List PrefixLabel) (prefix : Prefix) → map pattern_of labels ≡ patterns_of prefix → length labels ≡ length prefix.labels.items
-as_many labels prefix same = sym (length-map labels pattern_of) ∙ (ap length same ∙ length-map prefix.labels.items pattern_of)
+pub as_many : (labels : List PrefixLabel) (prefix : List Pattern) → map pattern_of labels ≡ prefix → length labels ≡ length prefix
+as_many labels prefix same = sym (length-map labels pattern_of) ∙ ap length same
 
 module _ (all : List Entry) (path : Labels) where
-  last_tree : (n : ℕ) (e : Entry) (b : Bool) → slice_get all n ≡ Some e → rest_behind (patterns_of e.prefix) path ≡ (if b then Some (drop (length (patterns_of e.prefix)) path) else None)
+  last_tree : (n : ℕ) (e : Entry) (b : Bool) → slice_get all n ≡ Some e → rest_behind e.prefix path ≡ (if b then Some (drop (length e.prefix) path) else None)
       → trees_at all path (if b then n ∷ [] else []) ≡ option_to_list (rewrite (rule_of e) path)
-  last_tree n e true here rest =
-      let many : length (patterns_of e.prefix) ≡ length e.prefix.labels.items = length-map e.prefix.labels.items pattern_of in
-      flat_map-cons (λ at. tree_of (slice_get all at) path) n [] ∙ (rw (here, rest, many) refl)
+  last_tree n e true here rest = flat_map-cons (λ at. tree_of (slice_get all at) path) n [] ∙ (rw (here, rest) refl)
   last_tree n e false here rest = rw rest refl
 
-  last_usable : (n : ℕ) (e : Entry) (b : Bool) → slice_get all n ≡ Some e → matches (patterns_of e.prefix) path ≡ b → AreUsable all path (if b then n ∷ [] else [])
-  last_usable n e true here fit = ((e, here, omega (arith, long_enough (patterns_of e.prefix) path fit, length-map e.prefix.labels.items pattern_of)), tt)
+  last_usable : (n : ℕ) (e : Entry) (b : Bool) → slice_get all n ≡ Some e → matches e.prefix path ≡ b → AreUsable all path (if b then n ∷ [] else [])
+  last_usable n e true here fit = ((e, here, long_enough e.prefix path fit), tt)
   last_usable n e false here fit = tt
 
   -- the entries stand in the whole list from n on
@@ -90,13 +88,13 @@ module _ (all : List Entry) (path : Labels) where
   rewritten n [] stand = refl
   rewritten n (e ∷ es) stand =
       let front = rewritten (n + 1) es (rest_stands n e es stand) in
-      let back = last_tree n e (matches (patterns_of e.prefix) path) (first_stands n e es stand) (rest_is (patterns_of e.prefix) path) in
+      let back = last_tree n e (matches e.prefix path) (first_stands n e es stand) (rest_is e.prefix path) in
       flat_map-append (λ at. tree_of (slice_get all at) path) (matching (placed_from (n + 1) es) path) _ ∙ (rw (front, back) refl)
 
   usable : (n : ℕ) (es : List Entry) → StandFrom n es → AreUsable all path (matching (placed_from n es) path)
   usable n [] stand = tt
   usable n (e ∷ es) stand =
-      usable_append all path (matching (placed_from (n + 1) es) path) _ (usable (n + 1) es (rest_stands n e es stand)) (last_usable n e (matches (patterns_of e.prefix) path) (first_stands n e es stand) refl)
+      usable_append all path (matching (placed_from (n + 1) es) path) _ (usable (n + 1) es (rest_stands n e es stand)) (last_usable n e (matches e.prefix path) (first_stands n e es stand) refl)
 
   usable_at : (found : List ℕ) (i : ℕ) → i < length found → AreUsable all path found → IsUsable all path (get_or found i 0)
   usable_at [] i within are = absurd (omega arith)
@@ -119,14 +117,14 @@ module _ (all : List Entry) (path : Labels) where
     pub in_bounds : (i : ℕ) → i < length found → get_or found i 0 < length all
     in_bounds i within = let here = usable_here i within in slice_get_within all (get_or found i 0) here.0 here.1
 
-    pub entry_here : (i : ℕ) (entry : Entry) → i < length found → entry ≡ get_or all (get_or found i 0) entry → (slice_get all (get_or found i 0) ≡ Some entry) × (length entry.prefix.labels.items ≤ length path)
+    pub entry_here : (i : ℕ) (entry : Entry) → i < length found → entry ≡ get_or all (get_or found i 0) entry → (slice_get all (get_or found i 0) ≡ Some entry) × (length entry.prefix ≤ length path)
     entry_here i entry within is =
         let here = usable_here i within in
         let same : entry ≡ here.0 = is ∙ get_or_from_slice_get all (get_or found i 0) here.0 entry here.1 in
         (here.1 ∙ ap Some (sym same), rw same here.2)
 
   pub one_more : (found : List ℕ) (i rest : ℕ) (entry : Entry) (tree : Tree) (trees more : List Tree) (total : List TreeValue) → i < length found → slice_get all (get_or found i 0) ≡ Some entry
-      → rest ≡ length entry.prefix.labels.items → value_of tree ≡ append_rest (value_of entry.tree) (drop rest path) → more ≡ trees ++ tree ∷ []
+      → rest ≡ length entry.prefix → value_of tree ≡ append_rest (value_of entry.tree) (drop rest path) → more ≡ trees ++ tree ∷ []
       → map value_of trees ++ trees_at all path (drop i found) ≡ total → map value_of more ++ trees_at all path (drop (i + 1) found) ≡ total
   one_more found i rest entry tree trees more total within here many is pushed stands =
       let first : trees_at all path (drop i found) ≡ value_of tree ∷ trees_at all path (drop (i + 1) found) = rw (drop-cons found i 0, add-one, flat_map-cons, here, is, many) refl in

@@ -8,7 +8,8 @@ use Rattle.name_tree.specs.Value.{TreeValue}
 use Rattle.name_tree.specs.Grammar.{AreBlanks, no_blank, TreeText, tree as tree_text}
 use Rattle.name_tree.proofs.CanonPaths.{is_label_spells}
 use Rattle.name_tree.proofs.Canons.{canon_stands}
-use Rattle.dtab_table.specs.Rules.{Pattern, Rule}
+use Rattle.dtab_table.specs.Pattern.{Pattern}
+use Rattle.dtab_table.specs.Rules.{Rule}
 use Rattle.dtab_table.specs.TableGrammar.{star, named, SpellsPatterns, pattern, patterns, SpellsPrefix, root, under, PrefixText, prefix as prefix_text, SpellsEntry, entry, nothing, filled, SpellsTable, place, places, DtabText, table}
 use Rattle.dtab_table.specs.TableCanon.{canon_pattern, canon_prefix, canon_rule, canon_more, canon_table, ArePatterns, IsSoundRule, AreSoundRules}
 

@@ -5,7 +5,7 @@ use Rattle.std.specs.Option.{option_and_then}
 use Rattle.std.proofs.lemmas.Bool.{eqb-true, or_cases}
 use Rattle.std.proofs.lemmas.List.{append-nil}
 use Rattle.std.proofs.lemmas.Option.{none-some, same_Some, option_and_then_some}
-use Rattle.name_tree.specs.Value.{TreeValue, leaf, Part}
+use Rattle.name_tree.specs.Value.{TreeValue, leaf, BranchValue}
 use Rattle.name_tree.specs.Grammar.{is_blank, AreBlanks, no_blank, TreeText, tree as tree_text}
 use Rattle.name_tree.specs.Recogniser.{run, value_from}
 use Rattle.name_tree.specs.Faults.{open_after}
@@ -19,7 +19,8 @@ use Rattle.name_tree.proofs.Quiet.{quiet_at, quiet_blank, quiet_path}
 use Rattle.name_tree.proofs.Recognisers.{Recognises, completes, run-append, value-append, one_value}
 use Rattle.name_tree.proofs.Places.{Counts}
 use Rattle.name_tree.proofs.TreeLaws.{tree_laws, tree_start, tree_counts, tree_depth}
-use Rattle.dtab_table.specs.Rules.{Pattern, Rule}
+use Rattle.dtab_table.specs.Pattern.{Pattern}
+use Rattle.dtab_table.specs.Rules.{Rule}
 use Rattle.dtab_table.specs.TableGrammar.{SpellsPrefix, entry, SpellsPlace, nothing, filled, SpellsTable, place, places, DtabText, table}
 use Rattle.dtab_table.specs.PrefixReading.{Walk, walk_start, next_walk, end_walk, is_prefix_byte}
 use Rattle.dtab_table.specs.TableReading.{Mode, State, with_rule, behind_prefix, behind_walk, next, next_state, ended, ended_state, table_start, depth_in, table_depth}
@@ -287,7 +288,7 @@ table_laws = record {
 
 -- the parentheses that are open
 
-flat_end : (fs : List Frame) (vs : List TreeValue) (ps : List Part) (v : TreeValue) → end_tree (record { outer = fs; alts = vs; parts = ps }) ≡ Some v → length fs ≡ 0
+flat_end : (fs : List Frame) (vs : List TreeValue) (ps : List BranchValue) (v : TreeValue) → end_tree (record { outer = fs; alts = vs; parts = ps }) ≡ Some v → length fs ≡ 0
 flat_end [] vs ps v e = refl
 flat_end (f ∷ fs) vs ps v e = absurd (none-some v e)
 

@@ -15,7 +15,8 @@ use Rattle.name_tree.specs.TreeReading.{State as TreeState, Place, Mode as TreeM
 use Rattle.name_tree.proofs.Bytes.{fails}
 use Rattle.name_tree.proofs.Recognisers.{value-append}
 use Rattle.name_tree.proofs.TreeLaws.{tree_laws, tree_start}
-use Rattle.dtab_table.specs.Rules.{Pattern, Rule}
+use Rattle.dtab_table.specs.Pattern.{Pattern}
+use Rattle.dtab_table.specs.Rules.{Rule}
 use Rattle.dtab_table.specs.TableGrammar.{SpellsEntry, entry, SpellsPlace, nothing, filled, SpellsTable, place, places, DtabText, table}
 use Rattle.dtab_table.specs.PrefixReading.{Walk, walk_start, next_walk, end_walk, is_prefix_byte}
 use Rattle.dtab_table.specs.TableReading.{Mode, with_rule, next_state, ended_state}

@@ -2,7 +2,7 @@
 use Rattle.std.proofs.Common.{◌≡◌, ℕ, ◌+◌, ◌<◌, List, [], ◌∷◌, ◌++◌, length, map, take, get_or, sym, ap, ◌∙◌, append_assoc}
 use Rattle.std.specs.Prelude.{codes}
 use Rattle.std.proofs.lemmas.List.{take_more, map-append, append-nil}
-use Rattle.dtab_table.specs.declared.dtab.Entry.{Entry}
+use Rattle.dtab_table.specs.declared.entry.Entry.{Entry}
 use Rattle.dtab_table.specs.Rules.{Rule, rule_of}
 use Rattle.dtab_table.specs.TableCanon.{canon_rule, canon_more}
 

@@ -5,7 +5,8 @@ use Rattle.dtab_table.specs.declared.read.PrefixFault.{PrefixFault}
 use Rattle.dtab_table.specs.declared.read.PrefixFault.TheVariants.{NotPrefix, OutOfMemory as NoMemory}
 use Rattle.dtab_table.specs.declared.read.DtabFault.{DtabFault}
 use Rattle.dtab_table.specs.declared.read.DtabFault.TheVariants.{TooLong, TooNested, Syntax, TooMany, OutOfMemory}
-use Rattle.dtab_table.specs.Rules.{Pattern, Rule}
+use Rattle.dtab_table.specs.Pattern.{Pattern}
+use Rattle.dtab_table.specs.Rules.{Rule}
 use Rattle.dtab_table.specs.TableGrammar.{PrefixText, DtabText}
 
 abbrev pub PrefixFaultFits : List ℕ → PrefixFault → Type 0

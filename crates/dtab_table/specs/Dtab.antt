@@ -1,10 +1,12 @@
 -- Delegation tables as values, and what they rewrite a path to.
-use Rattle.std.specs.Prelude.{if◌then◌else◌, List, [], ◌∷◌, ◌++◌, map, Option, Some, None, option_map}
+use Rattle.std.specs.Prelude.{Bool, false, ◌||◌, if◌then◌else◌, List, [], ◌∷◌, ◌++◌, map, Option, Some, None, option_map}
 use Rattle.std.specs.Option.{option_to_list}
 use Rattle.std.specs.Str.{bytes_eq}
 use Rattle.name_tree.specs.Path.{Labels}
 use Rattle.name_tree.specs.Value.{TreeValue, append_rest}
-use Rattle.dtab_table.specs.Rules.{Pattern, Rule, rule_of}
+use Rattle.dtab_index.specs.Index.{matches}
+use Rattle.dtab_table.specs.Pattern.{Pattern}
+use Rattle.dtab_table.specs.Rules.{Rule, rule_of}
 use Rattle.dtab_table.specs.declared.dtab.Dtab.{Dtab}
 
 -- the rules of a table, in their order
@@ -26,3 +28,8 @@ rewrite rule path = option_map (append_rest rule.tree) (rest_behind rule.prefix 
 abbrev pub rewrites : List Rule → Labels → List TreeValue
 rewrites [] path = []
 rewrites (r ∷ rs) path = rewrites rs path ++ option_to_list (rewrite r path)
+
+-- whether the prefix of some rule matches a path
+abbrev pub some_matches : List Rule → Labels → Bool
+some_matches [] path = false
+some_matches (r ∷ rs) path = matches r.prefix path || some_matches rs path

@@ -2,6 +2,7 @@ pub mod Answers
 pub mod Computed
 pub mod Dtab
 pub mod Laws
+pub mod Pattern
 pub mod PrefixReading
 pub mod Readers
 pub mod Rules

@@ -2,17 +2,17 @@
 use Rattle.std.specs.Prelude.{ℕ, Bool, ◌||◌, ◌==◌, if◌then◌else◌, List, [], ◌∷◌, ◌++◌, Option, Some, None, option_map}
 use Rattle.name_tree.specs.Grammar.{is_blank}
 use Rattle.name_tree.specs.LabelReading.{Spelling, bytes, next_spelling, end_spelling, is_path_byte}
-use Rattle.dtab_table.specs.Rules.{Pattern}
+use Rattle.dtab_table.specs.Pattern.{Pattern}
 
 -- a part of a label, or behind a `*`
-pub data Part : Type 0 where
-  label : Spelling → Part
-  star : Part
+pub data PartialPattern : Type 0 where
+  label : Spelling → PartialPattern
+  star : PartialPattern
 
 -- how far a prefix is read: behind these labels, a `/` and a part of a label or a `*`
 pub record Walk : Type 0 where
   pub before : List Pattern
-  pub part : Part
+  pub part : PartialPattern
 
 -- behind the first `/`
 abbrev pub walk_start : Walk
@@ -23,16 +23,16 @@ abbrev pub next_pattern : Walk → Pattern → Walk
 next_pattern at p = record { before = at.before ++ p ∷ []; part = label (bytes []) }
 
 -- a `*` stands where a label may begin
-abbrev pub star_behind : Part → Option Part
+abbrev pub star_behind : PartialPattern → Option PartialPattern
 star_behind (label (bytes [])) = Some star
 star_behind _ = None
 
-abbrev pub next_part : Part → ℕ → Option Part
+abbrev pub next_part : PartialPattern → ℕ → Option PartialPattern
 next_part (label at) b = option_map (λ to. label to) (next_spelling at b)
 next_part star b = None
 
 -- the label that may end here
-abbrev pub end_part : Part → Option Pattern
+abbrev pub end_part : PartialPattern → Option Pattern
 end_part (label at) = option_map (λ l. Some l) (end_spelling at)
 end_part star = Some None
 
@@ -42,11 +42,11 @@ next_walk at b =
     option_map (λ to. record at { part = to }) (if b == 42 then star_behind at.part else next_part at.part b)
 
 -- the empty prefix, where only its `/` was read
-abbrev pub root_patterns : List Pattern → Part → Option (List Pattern)
+abbrev pub root_patterns : List Pattern → PartialPattern → Option (List Pattern)
 root_patterns [] (label (bytes [])) = Some []
 root_patterns _ _ = None
 
-abbrev pub with_last : List Pattern → Part → Option Pattern → Option (List Pattern)
+abbrev pub with_last : List Pattern → PartialPattern → Option Pattern → Option (List Pattern)
 with_last ps at None = root_patterns ps at
 with_last ps at (Some p) = Some (ps ++ p ∷ [])
 

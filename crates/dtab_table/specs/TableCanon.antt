@@ -3,7 +3,8 @@ use Rattle.std.specs.Prelude.{ℕ, List, [], ◌∷◌, ◌++◌, codes, Some, N
 use Rattle.std.specs.List.{flat_map}
 use Rattle.name_tree.specs.Path.{canon_label}
 use Rattle.name_tree.specs.Canon.{canon, IsSound, HasLabels, IsByteLabel}
-use Rattle.dtab_table.specs.Rules.{Pattern, Rule}
+use Rattle.dtab_table.specs.Pattern.{Pattern}
+use Rattle.dtab_table.specs.Rules.{Rule}
 
 -- a label of a prefix behind its `/`
 abbrev pub canon_pattern : Pattern → List ℕ

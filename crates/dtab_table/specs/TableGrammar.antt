@@ -3,7 +3,8 @@ use Rattle.std.specs.Prelude.{ℕ, List, [], ◌∷◌, ◌++◌, codes, Some, N
 use Rattle.name_tree.specs.Value.{one_or_alt, TreeValue}
 use Rattle.name_tree.specs.Path.{Label}
 use Rattle.name_tree.specs.Grammar.{AreBlanks, SpellsLabel, SpellsTree}
-use Rattle.dtab_table.specs.Rules.{Pattern, Rule}
+use Rattle.dtab_table.specs.Pattern.{Pattern}
+use Rattle.dtab_table.specs.Rules.{Rule}
 
 -- a label or `*`
 pub data SpellsPattern : List ℕ → Pattern → Type 0 where

@@ -5,7 +5,8 @@ use Rattle.name_tree.specs.TreeReaders.{state_of as tree_state_of}
 use Rattle.dtab_table.specs.declared.table_reader.Mode.{Mode as ReaderMode}
 use Rattle.dtab_table.specs.declared.table_reader.Mode.TheVariants as reader
 use Rattle.dtab_table.specs.declared.table_reader.TableReader.{TableReader}
-use Rattle.dtab_table.specs.Rules.{Pattern, Rule, patterns_of, rule_of}
+use Rattle.dtab_table.specs.Pattern.{Pattern}
+use Rattle.dtab_table.specs.Rules.{Rule, rule_of}
 use Rattle.dtab_table.specs.PrefixReading.{Walk}
 use Rattle.dtab_table.specs.Readers.{walk_of}
 use Rattle.dtab_table.specs.TableReading.{Mode, State, table_depth}
@@ -17,7 +18,7 @@ abbrev pub walk_in : TableReader → Walk
 walk_in r = walk_of r.walk
 
 abbrev pub prefix_in : TableReader → List Pattern
-prefix_in r = patterns_of r.prefix
+prefix_in r = r.prefix
 
 abbrev pub tree_in : TableReader → TreeState
 tree_in r = tree_state_of r.tree

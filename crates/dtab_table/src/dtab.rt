@@ -1,54 +1,18 @@
 //! Delegation tables.
-ghost use Rattle.std.specs.Prelude.{◌≡◌, ◌<◌, ◌^◌, [], length, map, slice_get, Some, IfOk};
+ghost use Rattle.std.specs.Prelude.{◌≡◌, ◌-◌, ◌<◌, ◌≤◌, ◌^◌, [], length, map, take, drop, slice_get, Some, IfOk};
 ghost use Rattle.name_tree.specs.Tree.{value_of};
-ghost use Rattle.dtab_table.specs.Rules.{placed_from};
+ghost use Rattle.dtab_table.specs.Rules.{rule_of, placed_from};
 
 use crate::Mem;
-use crate::prefix::Prefix;
+use crate::entry::{Entry, EntryList};
+use crate::joining::put_copies;
+use crate::matching::some_entry_matches;
 use crate::tree_list::TreeList;
 use dtab_index::Index;
 use line_base::Steps;
-use name_tree::{Path, Tree};
+use name_tree::Path;
 use std::alloc::Global;
 use std::sync::ledger::Ledger;
-
-/// An entry of a table: a path that begins with the prefix is rewritten to the tree, with its rest behind every leaf.
-#[derive(Debug, Drop)]
-pub struct Entry {
-    /// What a path must begin with.
-    pub prefix: Prefix,
-    /// What it is rewritten to.
-    pub tree: Tree,
-}
-
-/// Some entries, in order. It is made from a `Vec` and gives it back without taking memory.
-#[derive(Debug, Drop)]
-pub struct EntryList {
-    items: Vec<Entry>,
-}
-
-impl EntryList {
-    /// These entries, in their order.
-    pub fn of(items: Vec<Entry>) -> EntryList
-        ensures { result.items ≡ items }
-    {
-        EntryList { items }
-    }
-
-    /// The entries, in order.
-    pub fn items(&self) -> &[Entry]
-        ensures { result.now ≡ self.now.items.items }
-    {
-        self.items.as_slice()
-    }
-
-    /// The entries, in order.
-    pub fn into_items(self) -> Vec<Entry>
-        ensures { result ≡ self.items }
-    {
-        self.items
-    }
-}
 
 /// A delegation table: a list of entries. Of two that match a path, the later one is tried first.
 ///
@@ -59,10 +23,11 @@ pub struct Dtab {
     entries: Vec<Entry>,
     index: Index,
     ghost indexed: { index ≡ placed_from 0 entries.items },
+    ghost few: { length entries.items < 2 ^ 32 },
 }
 
 impl Dtab {
-    ghost use Rattle.dtab_table.specs.Dtab.{rules_of, rewrites};
+    ghost use Rattle.dtab_table.specs.Dtab.{rules_of, rewrites, some_matches};
     ghost use Rattle.dtab_table.specs.Rules.{rule_of};
 
     /// The table with no entry. It takes no memory.
@@ -77,8 +42,8 @@ impl Dtab {
 
     /// The table of these entries, in their order. It copies their prefixes into an index.
     pub fn of(alloc: Global, entries: EntryList) -> Mem<Dtab>
-        requires { length entries.items.items < 2 ^ 32 }
-        ensures { IfOk result (λ dtab. rules_of dtab ≡ map rule_of entries.items.items) }
+        requires { length entries < 2 ^ 32 }
+        ensures { IfOk result (λ dtab. rules_of dtab ≡ map rule_of entries) }
     {
         let entries = entries.into_items();
         let index = index_of(alloc, entries.as_slice())?;
@@ -109,9 +74,30 @@ impl Dtab {
 
     /// Its entries, in order. It takes no memory.
     pub fn into_entries(self) -> EntryList
-        ensures { map rule_of result.items.items ≡ rules_of self }
+        ensures { map rule_of result ≡ rules_of self }
     {
         EntryList::of(self.entries)
+    }
+
+    /// A copy of it.
+    ///
+    /// The cost is that of its entries' labels and leaves, which are copied, the prefixes twice.
+    pub fn copied(&self, alloc: Global) -> Mem<Dtab>
+        ensures { IfOk result (λ dtab. rules_of dtab ≡ rules_of self.now) }
+    {
+        let mut entries = Vec::with_capacity(alloc, self.entries.len())?;
+        put_copies(alloc, self.entries(), &mut entries)?;
+        Dtab::of(alloc, EntryList::of(entries))
+    }
+
+    /// Whether the prefix of some entry, from one place to before another, counted from 0, matches a path. It takes no memory, and
+    /// compares the path with each of these prefixes.
+    pub fn matches_any(&self, from: usize, to: usize, path: &Path) -> bool
+        requires order { from ≤ to }
+        requires within { to ≤ length (rules_of self.now) }
+        ensures { result ≡ some_matches (take (to - from) (drop from (rules_of self.now))) path.now }
+    {
+        some_entry_matches(&self.entries[from..to], path)
     }
 
     /// What the table rewrites a path to: the trees of all entries whose prefix matches, the last entry first, each with the
@@ -124,7 +110,7 @@ impl Dtab {
         path: &Path,
         steps: &mut Steps<L>,
     ) -> Mem<TreeList>
-        ensures trees { IfOk result (λ trees. map value_of trees.items.items ≡ rewrites (rules_of self.now) path.now) }
+        ensures trees { IfOk result (λ trees. map value_of trees ≡ rewrites (rules_of self.now) path.now) }
         ensures ticks { steps.old < steps.new }
     {
         steps.tick();

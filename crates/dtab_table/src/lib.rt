@@ -30,7 +30,10 @@
 use std::alloc::AllocError;
 
 mod dtab;
+mod entry;
+mod joining;
 mod laws;
+mod matching;
 mod prefix;
 mod prefix_reader;
 mod prefix_text;
@@ -41,8 +44,13 @@ mod tests;
 mod tree_list;
 mod write;
 
-pub use dtab::{Dtab, Entry, EntryList};
-pub use laws::{canonical_texts_read_back, computed_values_are_exact, texts_have_one_value};
+pub use dtab::Dtab;
+pub use entry::{Entry, EntryList};
+pub use joining::joined;
+pub use laws::{
+    canonical_texts_read_back, computed_values_are_exact, only_matches_rewrite,
+    texts_have_one_value,
+};
 pub use prefix::{Prefix, PrefixLabel};
 pub use read::{DtabFault, MOST_ENTRIES, PrefixFault, read_dtab, read_prefix};
 pub use tree_list::TreeList;
@@ -50,3 +58,6 @@ pub use write::{write_dtab, write_prefix};
 
 /// A value, unless there was no memory for it.
 pub type Mem<T> = Result<T, AllocError>;
+
+/// Bytes of a text.
+pub type Bytes = Vec<u8>;

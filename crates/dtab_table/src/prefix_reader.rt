@@ -1,5 +1,5 @@
 //! The reader of a prefix.
-ghost use Rattle.std.specs.Prelude.{◌≡◌, None, Some, option_map};
+ghost use Rattle.std.specs.Prelude.{◌≡◌, None, Some, option_map, IfSome};
 ghost use Rattle.name_tree.specs.Taken.{Takes, Ends};
 
 use crate::prefix::{Prefix, PrefixLabel};
@@ -10,13 +10,13 @@ use std::mem::replace;
 /// A prefix that was read in part, from behind its first `/` on.
 #[derive(Debug, Drop)]
 pub(crate) struct PrefixReader {
-    labels: Vec<PrefixLabel>,
+    prefix: Prefix,
     label: LabelReader,
     is_star: bool,
 }
 
 impl PrefixReader {
-    ghost use Rattle.dtab_table.specs.Rules.{pattern_of, patterns_of};
+    ghost use Rattle.dtab_table.specs.Pattern.{pattern_of, IsFilled};
     ghost use Rattle.dtab_table.specs.PrefixReading.{walk_start, next_walk, end_part, end_walk};
     ghost use Rattle.dtab_table.specs.Readers.{walk_of};
 
@@ -25,7 +25,7 @@ impl PrefixReader {
         ensures { walk_of result ≡ walk_start }
     {
         PrefixReader {
-            labels: Vec::new(alloc),
+            prefix: Prefix::root(alloc),
             label: LabelReader::new(alloc),
             is_star: false,
         }
@@ -39,7 +39,7 @@ impl PrefixReader {
             let Some(label) = self.end_label(alloc) else {
                 return Err(Refused::Byte);
             };
-            self.labels.push(label)?;
+            self.prefix.push(label)?;
             return Ok(());
         }
         if byte == b'*' {
@@ -58,6 +58,7 @@ impl PrefixReader {
     /// The label that is read, if it may end here. It is gone then.
     fn end_label(&mut self, alloc: Global) -> Option<PrefixLabel>
         ensures label { option_map pattern_of result ≡ end_part (walk_of self.old).part }
+        ensures filled { IfSome result (λ label. IsFilled (pattern_of label)) }
         ensures rest { walk_of self.new ≡ record walk_start { before = (walk_of self.old).before } }
     {
         let label = replace(&mut self.label, LabelReader::new(alloc));
@@ -73,15 +74,15 @@ impl PrefixReader {
 
     /// The prefix, if it may end here.
     pub(crate) fn end(mut self, alloc: Global) -> Result<Prefix, Refused>
-        ensures { Ends patterns_of (end_walk (walk_of self)) result }
+        ensures { Ends (λ prefix. prefix) (end_walk (walk_of self)) result }
     {
-        if self.labels.is_empty() && !self.is_star && self.label.is_new() {
-            return Ok(Prefix::of(self.labels));
+        if self.prefix.is_empty() && !self.is_star && self.label.is_new() {
+            return Ok(self.prefix);
         }
         let Some(label) = self.end_label(alloc) else {
             return Err(Refused::Byte);
         };
-        self.labels.push(label)?;
-        Ok(Prefix::of(self.labels))
+        self.prefix.push(label)?;
+        Ok(self.prefix)
     }
 }

@@ -37,7 +37,6 @@ pub(crate) fn is_in_prefixes(byte: u8) -> bool
 
 impl PrefixTextReader {
     ghost use Rattle.dtab_table.specs.PrefixReading.{before, next_prefix, end_prefix};
-    ghost use Rattle.dtab_table.specs.Rules.{patterns_of};
     ghost use Rattle.dtab_table.specs.Readers.{prefix_at_of};
 
     /// The reader before a text.
@@ -89,7 +88,7 @@ impl PrefixTextReader {
 
     /// The prefix, if its text may end here.
     pub(crate) fn end(self, alloc: Global) -> Result<Prefix, Refused>
-        ensures { Ends patterns_of (end_prefix (prefix_at_of self)) result }
+        ensures { Ends (λ prefix. prefix) (end_prefix (prefix_at_of self)) result }
     {
         match self.place {
             PrefixPlace::Before => Err(Refused::Byte),

@@ -1,13 +1,15 @@
 //! The readers of prefixes and tables.
 ghost use Rattle.std.specs.Prelude.{◌≡◌, ◌⊎◌, List, Some, None, IfOk, MatchResult};
-ghost use Rattle.dtab_table.specs.Rules.{Pattern, Rule, patterns_of};
+ghost use Rattle.dtab_table.specs.Pattern.{Pattern};
+ghost use Rattle.dtab_table.specs.Rules.{Rule};
 ghost use Rattle.dtab_table.specs.TableCanon.{ArePatterns, AreSoundRules};
 ghost use Rattle.dtab_table.specs.Dtab.{rules_of};
 ghost use Rattle.dtab_table.specs.TableGrammar.{PrefixText};
 ghost use Rattle.dtab_table.specs.Computed.{table_of};
 ghost use Rattle.dtab_table.specs.Answers.{IsTable, DtabFaultFits, PrefixFaultFits};
 
-use crate::dtab::{Dtab, EntryList};
+use crate::dtab::Dtab;
+use crate::entry::EntryList;
 use crate::prefix::Prefix;
 use crate::prefix_text::PrefixTextReader;
 use crate::table_reader::TableReader;
@@ -45,16 +47,16 @@ pub enum DtabFault {
 ///
 /// It takes time linear in the text, of which any length is read.
 pub fn read_prefix(alloc: Global, text: &[u8]) -> Result<Prefix, PrefixFault>
-    ensures exact { MatchResult result (λ prefix. PrefixText text.now (patterns_of prefix)) (PrefixFaultFits text.now) }
-    ensures only { (labels : List Pattern) → PrefixText text.now labels → MatchResult result (λ prefix. patterns_of prefix ≡ labels) (λ fault. fault ≡ PrefixFault.OutOfMemory) }
-    ensures labels { IfOk result (λ prefix. ArePatterns (patterns_of prefix)) }
+    ensures exact { MatchResult result (λ prefix. PrefixText text.now prefix) (PrefixFaultFits text.now) }
+    ensures only { (labels : List Pattern) → PrefixText text.now labels → MatchResult result (λ prefix. prefix ≡ labels) (λ fault. fault ≡ PrefixFault.OutOfMemory) }
+    ensures labels { IfOk result (λ prefix. ArePatterns prefix) }
 {
     prefix_in(alloc, text)
 }
 
 /// The prefix that a text stands for.
 fn prefix_in(alloc: Global, text: &[u8]) -> Result<Prefix, PrefixFault>
-    ensures { MatchResult result (λ prefix. PrefixText text.now (patterns_of prefix)) (PrefixFaultFits text.now) }
+    ensures { MatchResult result (λ prefix. PrefixText text.now prefix) (PrefixFaultFits text.now) }
 {
     let mut reader = PrefixTextReader::new(alloc);
     for byte in text {

@@ -7,7 +7,7 @@ ghost use Rattle.dtab_table.specs.TableReading.{table_start, tree_behind, behind
 ghost use Rattle.dtab_table.specs.TableReaders.{rules_in, walk_in, tree_in, prefix_in, state_of, depth_of};
 ghost use Rattle.name_tree.specs.Taken.{Takes, Ends};
 
-use crate::dtab::Entry;
+use crate::entry::Entry;
 use crate::prefix::Prefix;
 use crate::prefix_reader::PrefixReader;
 use crate::prefix_text::is_in_prefixes;

@@ -1,13 +1,15 @@
 //! The canonical texts of prefixes and tables.
 ghost use Rattle.std.specs.Prelude.{◌≡◌, ◌<◌, ◌++◌, IfOk, OnOk, map};
-ghost use Rattle.dtab_table.specs.Rules.{pattern_of, patterns_of, rule_of};
+ghost use Rattle.dtab_table.specs.Pattern.{pattern_of};
+ghost use Rattle.dtab_table.specs.Rules.{rule_of};
 ghost use Rattle.dtab_table.specs.Dtab.{rules_of};
 ghost use Rattle.dtab_table.specs.TableCanon.{canon_pattern, canon_prefix, canon_rule, canon_more, canon_table};
 
-use crate::Mem;
-use crate::dtab::{Dtab, Entry};
+use crate::dtab::Dtab;
+use crate::entry::Entry;
 use crate::prefix::{Prefix, PrefixLabel};
-use name_tree::{Bytes, append_label, append_tree};
+use crate::{Bytes, Mem};
+use name_tree::{append_label, append_tree};
 use std::alloc::Global;
 
 /// Puts a label of a prefix behind some bytes.
@@ -22,7 +24,7 @@ fn put_pattern(label: &PrefixLabel, out: &mut Bytes) -> Mem<()>
 
 /// Puts the canonical text of a prefix behind some bytes. An `Err` may leave a part of it there.
 fn put_prefix(prefix: &Prefix, out: &mut Bytes) -> Mem<()>
-    ensures { OnOk result (out.new.items ≡ out.old.items ++ canon_prefix (patterns_of prefix.now)) }
+    ensures { OnOk result (out.new.items ≡ out.old.items ++ canon_prefix prefix.now) }
 {
     if prefix.labels().is_empty() {
         out.push(b'/')?;
@@ -45,7 +47,7 @@ fn put_entry(entry: &Entry, out: &mut Bytes) -> Mem<()>
 
 /// The canonical text of a prefix.
 pub fn write_prefix(alloc: Global, prefix: &Prefix) -> Mem<Bytes>
-    ensures { IfOk result (λ text. text.items ≡ canon_prefix (patterns_of prefix.now)) }
+    ensures { IfOk result (λ text. text.items ≡ canon_prefix prefix.now) }
 {
     let mut text = Vec::new(alloc);
     put_prefix(prefix, &mut text)?;

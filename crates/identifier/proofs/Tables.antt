@@ -3,7 +3,7 @@ use Rattle.std.proofs.Common.{◌≡◌, ◌<◌, ◌≤◌, ◌+◌, ℕ, suc, 
 use Rattle.std.specs.Option.{option_map, option_and_then}
 use Rattle.http_wire.specs.declared.head.Field.{Field}
 use Rattle.http_wire.specs.Fields.{is_named, values_of}
-use Rattle.dtab_table.specs.declared.dtab.Entry.{Entry}
+use Rattle.dtab_table.specs.declared.entry.Entry.{Entry}
 use Rattle.dtab_table.specs.Rules.{Rule, rule_of}
 use Rattle.dtab_table.specs.Computed.{few_enough, table_of}
 use Rattle.std.proofs.Math.Seq.{drop-cons}

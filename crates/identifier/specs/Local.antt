@@ -4,7 +4,7 @@ use Rattle.std.specs.Option.{option_and_then}
 use Rattle.http_wire.specs.declared.head.Field.{Field}
 use Rattle.http_wire.specs.Fields.{values_of}
 use Rattle.dtab_table.specs.declared.dtab.Dtab.{Dtab}
-use Rattle.dtab_table.specs.declared.dtab.Entry.{Entry}
+use Rattle.dtab_table.specs.declared.entry.Entry.{Entry}
 use Rattle.dtab_table.specs.Dtab.{rules_of}
 use Rattle.dtab_table.specs.Rules.{Rule, rule_of}
 use Rattle.dtab_table.specs.Computed.{few_enough, table_of}

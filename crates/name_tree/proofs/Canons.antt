@@ -3,7 +3,7 @@ use Rattle.std.proofs.Common.{◌≡◌, ℕ, ◌^◌, ◌<◌, ◌≤◌, arith
 use Rattle.std.specs.Prelude.{◌||◌, codes}
 use Rattle.std.proofs.lemmas.List.{append-nil}
 use Rattle.name_tree.specs.Path.{Labels, canon_path}
-use Rattle.name_tree.specs.Value.{TreeValue, leaf, neg, fail, empty, alt, union, TreeValues, none, more, Branches, no_branch, branch, Part, tree_values, branches, one_or_alt, union_of}
+use Rattle.name_tree.specs.Value.{TreeValue, leaf, neg, fail, empty, alt, union, TreeValues, none, more, Branches, no_branch, branch, BranchValue, tree_values, branches, one_or_alt, union_of}
 use Rattle.name_tree.specs.Grammar.{AreBlanks, no_blank, blank, SpellsSimple, path, failing, negative, nothing, group, SpellsBranch, bare, weighed, SpellsUnion, branch as one_branch, branches as more_branches, SpellsTree, union as one_union, unions, TreeText, tree, PathText, path as path_text}
 use Rattle.name_tree.specs.Canon.{canon_weight, is_alt, is_union, grouped, canon, canon_alts, canon_more_alts, canon_branches, canon_more_branches, count_names, count_branches, IsSound, AreSound, AreSoundBranches, AreByteLabels, HasLabels, HaveLabels, BranchesHaveLabels}
 use Rattle.name_tree.proofs.CanonPaths.{path_spells, weight_spells}
@@ -14,7 +14,7 @@ space = blank refl no_blank
 -- what a tree's canonical text spells: where a simple, a union or a tree may stand
 record Spelled (t : TreeValue) : Type 0 where
   simple : SpellsSimple (grouped (is_alt t || is_union t) (canon t)) t
-  parts : List Part
+  parts : List BranchValue
   union_text : SpellsUnion (grouped (is_alt t) (canon t)) parts
   union_is : union_of parts ≡ t
   text : TreeText (canon t) t
@@ -40,7 +40,7 @@ tree_values-list_of : (ts : TreeValues) → tree_values (list_of ts) ≡ ts
 tree_values-list_of none = refl
 tree_values-list_of (more t ts) = ap (more t) (tree_values-list_of ts)
 
-abbrev parts_of : Branches → List Part
+abbrev parts_of : Branches → List BranchValue
 parts_of no_branch = []
 parts_of (branch n t bs) = (Some n, t) ∷ parts_of bs
 
@@ -78,17 +78,17 @@ branch_spelled n t h r =
     subst (λ (x : List ℕ). SpellsBranch x (Some n, t)) same (weighed (weight_spells n h) space space r.simple)
 
 -- one alternative, and the rest
-more_alts : (s : List ℕ) (ps : List Part) (v : TreeValue) → SpellsUnion s ps → union_of ps ≡ v → (u : TreeValue) (us : TreeValues)
+more_alts : (s : List ℕ) (ps : List BranchValue) (v : TreeValue) → SpellsUnion s ps → union_of ps ≡ v → (u : TreeValue) (us : TreeValues)
     → SpellsTree (grouped (is_alt u) (canon u) ++ canon_more_alts us) (u ∷ list_of us) → SpellsTree (s ++ canon_more_alts (more u us)) (v ∷ u ∷ list_of us)
 more_alts s ps v r e u us rs =
     let g : List ℕ = grouped (is_alt u) (canon u) in
     let same : s ++ 32 ∷ [] ++ codes "|" ++ 32 ∷ [] ++ (g ++ canon_more_alts us) ≡ s ++ (codes " | " ++ g ++ canon_more_alts us) = simp append_assoc in
     subst₂ SpellsTree same (ap (λ x. x ∷ u ∷ list_of us) e) (unions r space space rs)
 
-one_alt : (s : List ℕ) (ps : List Part) (v : TreeValue) → SpellsUnion s ps → union_of ps ≡ v → SpellsTree (s ++ []) (v ∷ [])
+one_alt : (s : List ℕ) (ps : List BranchValue) (v : TreeValue) → SpellsUnion s ps → union_of ps ≡ v → SpellsTree (s ++ []) (v ∷ [])
 one_alt s ps v r e = subst₂ SpellsTree (sym (append-nil s)) (ap (λ x. x ∷ []) e) (one_union r)
 
-more_parts : (s : List ℕ) (p : Part) → SpellsBranch s p → (n : ℕ) (t : TreeValue) (bs : Branches)
+more_parts : (s : List ℕ) (p : BranchValue) → SpellsBranch s p → (n : ℕ) (t : TreeValue) (bs : Branches)
     → SpellsUnion ((canon_weight n ++ codes " * " ++ grouped (is_alt t || is_union t) (canon t)) ++ canon_more_branches bs) ((Some n, t) ∷ parts_of bs)
     → SpellsUnion (s ++ canon_more_branches (branch n t bs)) (p ∷ (Some n, t) ∷ parts_of bs)
 more_parts s p r n t bs rs =
@@ -110,7 +110,7 @@ mutual
   first_alt none many h k = absurd (omega arith)
   first_alt (more t ts) many h k = let r = spelled t h.0 k.0 in then_alts (grouped (is_alt t) (canon t)) r.parts t r.union_text r.union_is ts h.1 k.1
 
-  then_alts : (s : List ℕ) (ps : List Part) (v : TreeValue) → SpellsUnion s ps → union_of ps ≡ v → (ts : TreeValues) → AreSound ts → HaveLabels ts
+  then_alts : (s : List ℕ) (ps : List BranchValue) (v : TreeValue) → SpellsUnion s ps → union_of ps ≡ v → (ts : TreeValues) → AreSound ts → HaveLabels ts
       → SpellsTree (s ++ canon_more_alts ts) (v ∷ list_of ts)
   then_alts s ps v r e none h k = one_alt s ps v r e
   then_alts s ps v r e (more t ts) h k =
@@ -120,7 +120,7 @@ mutual
   first_part no_branch some h k = absurd (omega arith)
   first_part (branch n t bs) some h k = then_parts (canon_weight n ++ codes " * " ++ grouped (is_alt t || is_union t) (canon t)) (Some n, t) (branch_spelled n t h.0 (spelled t h.1 k.0)) bs h.2 k.1
 
-  then_parts : (s : List ℕ) (p : Part) → SpellsBranch s p → (bs : Branches) → AreSoundBranches bs → BranchesHaveLabels bs → SpellsUnion (s ++ canon_more_branches bs) (p ∷ parts_of bs)
+  then_parts : (s : List ℕ) (p : BranchValue) → SpellsBranch s p → (bs : Branches) → AreSoundBranches bs → BranchesHaveLabels bs → SpellsUnion (s ++ canon_more_branches bs) (p ∷ parts_of bs)
   then_parts s p r no_branch h k = rw append-nil (one_branch r)
   then_parts s p r (branch n t bs) h k =
       more_parts s p r n t bs (then_parts (canon_weight n ++ codes " * " ++ grouped (is_alt t || is_union t) (canon t)) (Some n, t) (branch_spelled n t h.0 (spelled t h.1 k.0)) bs h.2 k.1)

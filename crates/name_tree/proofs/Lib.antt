@@ -18,8 +18,8 @@ pub mod PathLaws
 pub mod Places
 pub mod Quiet
 pub mod Rests
+pub mod Same
 pub mod Recognisers
-pub mod Rows
 pub mod Sounds
 pub mod Spelled
 pub mod Steps

@@ -1,12 +1,12 @@
 -- Trees with labels put behind their leaves, in terms of the lists that they hold.
 use Rattle.std.proofs.Common.{◌≡◌, ℕ, ◌+◌, ◌<◌, ◌≤◌, List, [], ◌∷◌, ◌++◌, length, take, get_or, map, Vec, Global, refl, sym, ap, ◌∙◌}
-use Rattle.std.proofs.lemmas.List.{take_all, take_more, map-append}
+use Rattle.std.proofs.lemmas.List.{take_all, take_more, map-append, append-nil}
 use Rattle.name_tree.specs.declared.tree.Tree.{Tree, Alt, Union}
 use Rattle.name_tree.specs.declared.tree.Trees.{Trees}
 use Rattle.name_tree.specs.declared.tree.Branch.{Branch}
 use Rattle.name_tree.specs.declared.tree.Branches.{Branches as BranchList, out-Branches, roll-Branches}
 use Rattle.name_tree.specs.Path.{Labels}
-use Rattle.name_tree.specs.Value.{TreeValue, alt, tree_values, more, Branches, no_branch, branch, union, append_rest, append_rest_all, append_rest_branches}
+use Rattle.name_tree.specs.Value.{TreeValue, leaf, neg, fail, empty, alt, union, TreeValues, none, more, tree_values, Branches, no_branch, branch, append_rest, append_rest_all, append_rest_branches}
 use Rattle.name_tree.specs.Tree.{value_of, branches_of, listed}
 use Rattle.name_tree.proofs.Bridge.{value_of-Alt, branches_of-roll, branches_of-out}
 
@@ -58,3 +58,21 @@ pub branches_with_rest : (old : BranchList) (new : Vec Branch Global) (items : L
 branches_with_rest old new items k rest is past stands =
     let all : take k items ≡ items = take_all k items past in
     branches_of-roll new ∙ (stands ∙ (ap (λ (bs : List Branch). append_rest_branches (listed bs) rest) (all ∙ is) ∙ ap (λ (bs : Branches). append_rest_branches bs rest) (sym (branches_of-out old))))
+
+-- a tree with no label behind its leaves is the same
+mutual
+  pub append_rest_none : (t : TreeValue) → append_rest t [] ≡ t
+  append_rest_none (leaf path) = ap leaf (append-nil path)
+  append_rest_none neg = refl
+  append_rest_none fail = refl
+  append_rest_none empty = refl
+  append_rest_none (alt ts) = ap alt (all_none ts)
+  append_rest_none (union bs) = ap union (branches_none bs)
+
+  all_none : (ts : TreeValues) → append_rest_all ts [] ≡ ts
+  all_none none = refl
+  all_none (more t ts) = rw (append_rest_none t, all_none ts) refl
+
+  branches_none : (bs : Branches) → append_rest_branches bs [] ≡ bs
+  branches_none no_branch = refl
+  branches_none (branch n t bs) = rw (append_rest_none t, branches_none bs) refl

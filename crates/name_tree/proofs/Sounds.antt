@@ -8,7 +8,7 @@ use Rattle.std.proofs.lemmas.List.Elements.{All-cons, All-nil}
 use Rattle.std.proofs.lemmas.Option.{none-some, same_Some}
 use Rattle.std.proofs.Math.Nat.{mul-le-mul_right}
 use Rattle.name_tree.specs.Path.{Label, Labels, is_plain}
-use Rattle.name_tree.specs.Value.{TreeValue, Part, tree_values, branches, lone, one_or_alt, union_of, one_whole}
+use Rattle.name_tree.specs.Value.{TreeValue, BranchValue, tree_values, branches, lone, one_or_alt, union_of, one_whole}
 use Rattle.name_tree.specs.Grammar.{hex_value, is_digit, AreDigits, no_digit, digit, number, fraction, SpellsByte, plain, escape, SpellsLabel, byte, bytes, SpellsLabels, label, labels, SpellsPath, root, under, SpellsWeight, whole, decimal, SpellsSimple, path, failing, negative, nothing, group, SpellsBranch, bare, weighed, SpellsUnion, branch as one_branch, branches as more_branches, SpellsTree, union as one_union, unions, TreeText, tree, PathText}
 use Rattle.name_tree.specs.Canon.{IsSound, AreSound, AreSoundBranches, IsByteLabel, AreByteLabels, HasLabels, HaveLabels, BranchesHaveLabels, count_names, count_branches, most_members}
 use Rattle.name_tree.proofs.Bytes.{chosen}
@@ -98,11 +98,11 @@ record SoundName (v : TreeValue) : Type 0 where
   sound : IsSound v
   labels : HasLabels v
 
-record SoundPart (p : Part) : Type 0 where
+record SoundPart (p : BranchValue) : Type 0 where
   weight : WeightIsSmall p.0
   tree : SoundName p.1
 
-abbrev SoundParts : List Part → Type 0
+abbrev SoundParts : List BranchValue → Type 0
 SoundParts [] = Unit {0}
 SoundParts (p ∷ ps) = SoundPart p × SoundParts ps
 
@@ -114,7 +114,7 @@ kept_small : (w : Option ℕ) → WeightIsSmall w → unwrap_or w one_whole < 10
 kept_small None h = omega arith
 kept_small (Some n) h = h
 
-branches_sound : (ps : List Part) → SoundParts ps → AreSoundBranches (branches ps) × BranchesHaveLabels (branches ps) × (count_branches (branches ps) ≡ length ps)
+branches_sound : (ps : List BranchValue) → SoundParts ps → AreSoundBranches (branches ps) × BranchesHaveLabels (branches ps) × (count_branches (branches ps) ≡ length ps)
 branches_sound [] h = (tt, tt, refl)
 branches_sound (p ∷ ps) h =
     let k = branches_sound ps h.1 in
@@ -132,7 +132,7 @@ lone_sound : (w : Option ℕ) (v : TreeValue) → WeightIsSmall w → SoundName 
 lone_sound None v h k = k
 lone_sound (Some n) v h k = record { sound = (omega arith, omega arith, (h, k.sound, tt)); labels = (k.labels, tt) }
 
-union_sound : (ps : List Part) → SoundParts ps → 1 ≤ length ps → length ps ≤ most_members → SoundName (union_of ps)
+union_sound : (ps : List BranchValue) → SoundParts ps → 1 ≤ length ps → length ps ≤ most_members → SoundName (union_of ps)
 union_sound [] h some few = absurd (omega arith)
 union_sound (p ∷ []) h some few = lone_sound p.0 p.1 h.0.weight h.0.tree
 union_sound (p ∷ q ∷ ps) h some few =
@@ -154,11 +154,11 @@ record SimpleIs (s : List ℕ) (v : TreeValue) : Type 0 where
   some : 1 ≤ length s
   sound : length s ≤ most_members → SoundName v
 
-record BranchIs (s : List ℕ) (p : Part) : Type 0 where
+record BranchIs (s : List ℕ) (p : BranchValue) : Type 0 where
   some : 1 ≤ length s
   sound : length s ≤ most_members → SoundPart p
 
-record UnionIs (s : List ℕ) (ps : List Part) : Type 0 where
+record UnionIs (s : List ℕ) (ps : List BranchValue) : Type 0 where
   some : 1 ≤ length ps
   few : length ps ≤ length s
   sound : length s ≤ most_members → SoundParts ps
@@ -191,7 +191,7 @@ mutual
       let longer : length (40 ∷ s ++ 41 ∷ []) ≡ suc (length s + 1) = ap suc (length-append s (41 ∷ [])) in
       record { some = omega arith; sound = λ h. k.sound (omega arith) }
 
-  branch_is : {s : List ℕ} {p : Part} → SpellsBranch s p → BranchIs s p
+  branch_is : {s : List ℕ} {p : BranchValue} → SpellsBranch s p → BranchIs s p
   branch_is (bare r) = let k = simple_is r in record { some = k.some; sound = λ h. record { weight = tt; tree = k.sound h } }
   branch_is (weighed {w = w} {a = a} {b = b} {s = s} q x y r) =
       let k = simple_is r in
@@ -199,7 +199,7 @@ mutual
       let longer = five w a (codes "*") b s in
       record { some = omega arith; sound = λ h. record { weight = weight_small q; tree = k.sound (omega arith) } }
 
-  union_is : {s : List ℕ} {ps : List Part} → SpellsUnion s ps → UnionIs s ps
+  union_is : {s : List ℕ} {ps : List BranchValue} → SpellsUnion s ps → UnionIs s ps
   union_is (one_branch r) = let k = branch_is r in let some = k.some in record { some = omega arith; few = omega arith; sound = λ h. (k.sound h, tt) }
   union_is (more_branches {s = s} {a = a} {b = b} {t = t} r x y rs) =
       let k = branch_is r in

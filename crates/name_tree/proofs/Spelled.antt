@@ -2,7 +2,7 @@
 use Rattle.std.proofs.Common.{◌≡◌, ℕ, false, List, [], ◌∷◌, ◌++◌, Option, Some, None, refl, sym, ap, ◌∙◌, append_assoc}
 use Rattle.std.proofs.lemmas.List.{append-nil}
 use Rattle.name_tree.specs.Path.{Labels, is_plain}
-use Rattle.name_tree.specs.Value.{TreeValue, leaf, neg, fail, empty, Part, one_or_alt, union_of}
+use Rattle.name_tree.specs.Value.{TreeValue, leaf, neg, fail, empty, BranchValue, one_or_alt, union_of}
 use Rattle.name_tree.specs.Grammar.{AreBlanks, SpellsPath, SpellsSimple, path, failing, negative, nothing, group, SpellsBranch, bare, weighed, SpellsUnion, branch, branches, SpellsTree, union, unions, TreeText, tree, SpellsWeight}
 use Rattle.name_tree.specs.LabelReading.{is_path_byte}
 use Rattle.name_tree.specs.PathReading.{walk_start}
@@ -18,26 +18,26 @@ data Begins : Option ℕ → Mode → Type 0 where
 record SimpleReads (s : List ℕ) (v : TreeValue) : Type 0 where
   reads : {w : Option ℕ} {m : Mode} → Begins w m → (p : Place) {more : List ℕ} → Follows more → tree_from p m (s ++ more) ≡ tree_from (with_part p w v) Mode.behind more
 
-record BranchReads (s : List ℕ) (part : Part) : Type 0 where
+record BranchReads (s : List ℕ) (part : BranchValue) : Type 0 where
   reads : (p : Place) {more : List ℕ} → Follows more → tree_from p Mode.start (s ++ more) ≡ tree_from (with_part p part.0 part.1) Mode.behind more
 
-record UnionReads (s : List ℕ) (ps : List Part) : Type 0 where
+record UnionReads (s : List ℕ) (ps : List BranchValue) : Type 0 where
   reads : (p : Place) {more : List ℕ} → Follows more → tree_from p Mode.start (s ++ more) ≡ tree_from (record p { parts = p.parts ++ ps }) Mode.behind more
 
 -- behind these alternatives, and these branches of the last
-abbrev at : List Frame → List TreeValue → List Part → Place
+abbrev at : List Frame → List TreeValue → List BranchValue → Place
 at fs vs ps = record { outer = fs; alts = vs; parts = ps }
 
 record TreeReads (s : List ℕ) (vs : List TreeValue) : Type 0 where
   front : List TreeValue
-  last : List Part
+  last : List BranchValue
   same : vs ≡ front ++ union_of last ∷ []
   reads : (fs : List Frame) (us : List TreeValue) {more : List ℕ} → Follows more
       → tree_from (at fs us []) Mode.start (s ++ more) ≡ tree_from (at fs (us ++ front) last) Mode.behind more
 
 record TextReads (s : List ℕ) (v : TreeValue) : Type 0 where
   front : List TreeValue
-  last : List Part
+  last : List BranchValue
   same : v ≡ one_or_alt (front ++ union_of last ∷ [])
   reads : (fs : List Frame) {more : List ℕ} → Follows more → tree_from (before fs) Mode.start (s ++ more) ≡ tree_from (at fs front last) Mode.behind more
 
@@ -105,10 +105,10 @@ weighed_reads {w} {a} {b} {s} {n} {v} q x y r = record {
       (weight_in q p (follows_blanks x (other not_path_42)) ∙ (blanks_weight x p n (42 ∷ b ++ (s ++ more)) ∙ (blanks_star y p n (s ++ more) ∙ r.reads starred p f)));
 }
 
-branch_reads : {s : List ℕ} {p : Part} → BranchReads s p → UnionReads s (p ∷ [])
+branch_reads : {s : List ℕ} {p : BranchValue} → BranchReads s p → UnionReads s (p ∷ [])
 branch_reads r = record { reads = λ p f. r.reads p f }
 
-branches_read : {s a b t : List ℕ} {q : Part} {qs : List Part} → BranchReads s q → AreBlanks a → AreBlanks b → UnionReads t qs → UnionReads (s ++ a ++ 38 ∷ [] ++ b ++ t) (q ∷ qs)
+branches_read : {s a b t : List ℕ} {q : BranchValue} {qs : List BranchValue} → BranchReads s q → AreBlanks a → AreBlanks b → UnionReads t qs → UnionReads (s ++ a ++ 38 ∷ [] ++ b ++ t) (q ∷ qs)
 branches_read {s} {a} {b} {t} {q} {qs} r x y rs = record {
   reads = λ p {more} f.
       rw (append_assoc, append_assoc, append_assoc, append_assoc)
@@ -116,10 +116,10 @@ branches_read {s} {a} {b} {t} {q} {qs} r x y rs = record {
       ∙ (rs.reads (with_part p q.0 q.1) f ∙ ap (λ ps. tree_from (record p { parts = ps }) Mode.behind more) (append_assoc p.parts (q ∷ []) qs)))));
 }
 
-union_reads : {s : List ℕ} {ps : List Part} → UnionReads s ps → TreeReads s (union_of ps ∷ [])
+union_reads : {s : List ℕ} {ps : List BranchValue} → UnionReads s ps → TreeReads s (union_of ps ∷ [])
 union_reads {s} {ps} r = record { front = []; last = ps; same = refl; reads = λ fs us {more} f. r.reads (at fs us []) f ∙ ap (λ xs. tree_from (at fs xs ps) Mode.behind more) (sym (append-nil us)) }
 
-unions_read : {s a b t : List ℕ} {ps : List Part} {vs : List TreeValue} → UnionReads s ps → AreBlanks a → AreBlanks b → TreeReads t vs → TreeReads (s ++ a ++ 124 ∷ [] ++ b ++ t) (union_of ps ∷ vs)
+unions_read : {s a b t : List ℕ} {ps : List BranchValue} {vs : List TreeValue} → UnionReads s ps → AreBlanks a → AreBlanks b → TreeReads t vs → TreeReads (s ++ a ++ 124 ∷ [] ++ b ++ t) (union_of ps ∷ vs)
 unions_read {s} {a} {b} {t} {ps} {vs} r x y rs = record {
   front = union_of ps ∷ rs.front;
   last = rs.last;
@@ -146,11 +146,11 @@ mutual
   simple_read nothing = empty_reads
   simple_read (group r) = group_reads (text_read r)
 
-  branch_read : {s : List ℕ} {p : Part} → SpellsBranch s p → BranchReads s p
+  branch_read : {s : List ℕ} {p : BranchValue} → SpellsBranch s p → BranchReads s p
   branch_read (bare r) = bare_reads (simple_read r)
   branch_read (weighed q x y r) = weighed_reads q x y (simple_read r)
 
-  union_read : {s : List ℕ} {ps : List Part} → SpellsUnion s ps → UnionReads s ps
+  union_read : {s : List ℕ} {ps : List BranchValue} → SpellsUnion s ps → UnionReads s ps
   union_read (branch r) = branch_reads (branch_read r)
   union_read (branches r x y rs) = branches_read (branch_read r) x y (union_read rs)
 

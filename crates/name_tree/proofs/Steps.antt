@@ -5,7 +5,7 @@ use Rattle.std.proofs.lemmas.Bool.{eqb-true, ltb-true}
 use Rattle.std.proofs.lemmas.List.{append-nil}
 use Rattle.std.proofs.lemmas.Option.{none-some, same_Some}
 use Rattle.name_tree.specs.Path.{Labels}
-use Rattle.name_tree.specs.Value.{TreeValue, leaf, neg, fail, empty, Part, one_whole, one_or_alt, union_of}
+use Rattle.name_tree.specs.Value.{TreeValue, leaf, neg, fail, empty, BranchValue, one_whole, one_or_alt, union_of}
 use Rattle.name_tree.specs.Grammar.{is_blank, is_digit, AreBlanks, no_blank, no_digit, digit, whole, decimal, SpellsSimple, path, failing, negative, nothing, group, SpellsBranch, bare, weighed, branch, TreeText}
 use Rattle.name_tree.specs.LabelReading.{is_path_byte}
 use Rattle.name_tree.specs.PathReading.{Walk, walk_start, next_walk, end_walk}
@@ -386,7 +386,7 @@ blank_behind {p} {s} k b h = record {
   };
 }
 
-close_step : (fs : List Frame) (vs : List TreeValue) (ps : List Part) (s : List ℕ) → Behind (record { outer = fs; alts = vs; parts = ps }) s → (b : ℕ) → b ≡ 41
+close_step : (fs : List Frame) (vs : List TreeValue) (ps : List BranchValue) (s : List ℕ) → Behind (record { outer = fs; alts = vs; parts = ps }) s → (b : ℕ) → b ≡ 41
     → IfSome (closed fs (one_or_alt (vs ++ union_of ps ∷ []))) (Next s b)
 close_step [] vs ps s k b e = tt
 close_step (f ∷ fs) vs ps s k b e =
@@ -481,7 +481,7 @@ step p Mode.behind s f b = behind_step f b
 
 -- the end
 
-behind_ends : (fs : List Frame) (vs : List TreeValue) (ps : List Part) (s : List ℕ) → Behind (record { outer = fs; alts = vs; parts = ps }) s → (v : TreeValue)
+behind_ends : (fs : List Frame) (vs : List TreeValue) (ps : List BranchValue) (s : List ℕ) → Behind (record { outer = fs; alts = vs; parts = ps }) s → (v : TreeValue)
     → end_tree (record { outer = fs; alts = vs; parts = ps }) ≡ Some v → TreeText s v
 behind_ends [] vs ps s k v e =
     let text = padded_text (whole_tree k) in

@@ -1,7 +1,7 @@
 -- The laws of the recogniser of trees.
 use Rattle.std.proofs.Common.{◌≡◌, ℕ, ◌+◌, ◌*◌, List, [], ◌∷◌, ◌++◌, length, Option, Some, None, refl, ◌∙◌}
 use Rattle.name_tree.specs.Path.{is_plain}
-use Rattle.name_tree.specs.Value.{TreeValue, leaf, neg, Part}
+use Rattle.name_tree.specs.Value.{TreeValue, leaf, neg, BranchValue}
 use Rattle.name_tree.specs.Grammar.{TreeText}
 use Rattle.name_tree.specs.PathReading.{Walk}
 use Rattle.name_tree.proofs.Walks.{walk_can_end}
@@ -23,7 +23,7 @@ unfolding is_plain
 follows_closings [] = at_end
 follows_closings (f ∷ fs) = other refl
 
-behind_ends : (fs : List Frame) (vs : List TreeValue) (ps : List Part) → (v : TreeValue) × (tree_from (record { outer = fs; alts = vs; parts = ps }) Mode.behind (closings fs) ≡ Some v)
+behind_ends : (fs : List Frame) (vs : List TreeValue) (ps : List BranchValue) → (v : TreeValue) × (tree_from (record { outer = fs; alts = vs; parts = ps }) Mode.behind (closings fs) ≡ Some v)
 behind_ends [] vs ps = (_, refl)
 behind_ends (f ∷ fs) vs ps = behind_ends fs f.alts _
 

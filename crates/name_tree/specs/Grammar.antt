@@ -2,7 +2,7 @@
 use Rattle.std.specs.Prelude.{◌≡◌, ℕ, ◌+◌, ◌-◌, ◌*◌, ◌/◌, ◌≤◌, Bool, ◌||◌, ◌&&◌, ◌==◌, nat_le, if◌then◌else◌, List, [], ◌∷◌, ◌++◌, length, codes, IsTrue, Option, Some, None}
 use Rattle.std.specs.Char.{is_ascii_digit}
 use Rattle.name_tree.specs.Path.{Label, Labels, is_plain}
-use Rattle.name_tree.specs.Value.{TreeValue, leaf, neg, fail, empty, Part, one_whole, one_or_alt, union_of}
+use Rattle.name_tree.specs.Value.{TreeValue, leaf, neg, fail, empty, BranchValue, one_whole, one_or_alt, union_of}
 
 -- a space, a tab, a CR or an LF
 abbrev pub is_blank : ℕ → Bool
@@ -75,21 +75,21 @@ mutual
     group : {s : List ℕ} {v : TreeValue} → TreeText s v → SpellsSimple (codes "(" ++ s ++ codes ")") v
 
   -- a simple, or a weight, `*` and a simple
-  pub data SpellsBranch : List ℕ → Part → Type 0 where
+  pub data SpellsBranch : List ℕ → BranchValue → Type 0 where
     bare : {s : List ℕ} {v : TreeValue} → SpellsSimple s v → SpellsBranch s (None, v)
     weighed : {w a b s : List ℕ} {n : ℕ} {v : TreeValue} → SpellsWeight w n → AreBlanks a → AreBlanks b → SpellsSimple s v
         → SpellsBranch (w ++ a ++ codes "*" ++ b ++ s) (Some n, v)
 
   -- one or more branches with `&` between them
-  pub data SpellsUnion : List ℕ → List Part → Type 0 where
-    branch : {s : List ℕ} {p : Part} → SpellsBranch s p → SpellsUnion s (p ∷ [])
-    branches : {s a b t : List ℕ} {p : Part} {ps : List Part} → SpellsBranch s p → AreBlanks a → AreBlanks b → SpellsUnion t ps
+  pub data SpellsUnion : List ℕ → List BranchValue → Type 0 where
+    branch : {s : List ℕ} {p : BranchValue} → SpellsBranch s p → SpellsUnion s (p ∷ [])
+    branches : {s a b t : List ℕ} {p : BranchValue} {ps : List BranchValue} → SpellsBranch s p → AreBlanks a → AreBlanks b → SpellsUnion t ps
         → SpellsUnion (s ++ a ++ codes "&" ++ b ++ t) (p ∷ ps)
 
   -- one or more unions with `|` between them
   pub data SpellsTree : List ℕ → List TreeValue → Type 0 where
-    union : {s : List ℕ} {ps : List Part} → SpellsUnion s ps → SpellsTree s (union_of ps ∷ [])
-    unions : {s a b t : List ℕ} {ps : List Part} {vs : List TreeValue} → SpellsUnion s ps → AreBlanks a → AreBlanks b → SpellsTree t vs
+    union : {s : List ℕ} {ps : List BranchValue} → SpellsUnion s ps → SpellsTree s (union_of ps ∷ [])
+    unions : {s a b t : List ℕ} {ps : List BranchValue} {vs : List TreeValue} → SpellsUnion s ps → AreBlanks a → AreBlanks b → SpellsTree t vs
         → SpellsTree (s ++ a ++ codes "|" ++ b ++ t) (union_of ps ∷ vs)
 
   -- the text of a tree: blanks, a tree, blanks

@@ -1,6 +1,7 @@
 -- What the code's trees say.
-use Rattle.std.specs.Prelude.{List, [], ◌∷◌}
+use Rattle.std.specs.Prelude.{ℕ, List, [], ◌∷◌}
 use Rattle.name_tree.specs.declared.tree.Tree.{Tree, Leaf, Neg, Fail, Empty, Alt', Union, Row_of-Tree, end_of-Tree, more_of-Tree}
+use Rattle.name_tree.specs.declared.tree.Trees.{Trees}
 use Rattle.name_tree.specs.declared.tree.Branch.{Branch}
 use Rattle.name_tree.specs.declared.tree.Branches.{Branches as BranchList, Branches', Row_of-Branch, end_of-Branch, more_of-Branch}
 use Rattle.name_tree.specs.Value.{TreeValue, leaf, neg, fail, empty, alt, union, TreeValues, none, more, Branches, no_branch, branch}
@@ -26,6 +27,14 @@ abbrev mutual
   pub row_branches : {m : _} → Row_of-Branch m → Branches
   row_branches end_of-Branch = no_branch
   row_branches (more_of-Branch weight t bs) = branch weight (value_of t) (row_branches bs)
+
+-- the alternatives of a choice of the code, in their order
+abbrev pub trees_in : Trees → List Tree
+trees_in trees = trees.items.items
+
+-- a branch of the code: its weight, and what its tree says
+abbrev pub branch_value : Branch → ℕ × TreeValue
+branch_value b = (b.weight, value_of b.tree)
 
 -- branches, in the order of a list
 abbrev pub listed : List Branch → Branches

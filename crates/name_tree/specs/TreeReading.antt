@@ -1,7 +1,7 @@
 -- A tree read byte by byte, with the parentheses that are open on a stack.
 use Rattle.std.specs.Prelude.{ℕ, ◌+◌, ◌-◌, ◌*◌, ◌/◌, ◌==◌, nat_lt, if◌then◌else◌, List, [], ◌∷◌, ◌++◌, Option, Some, None, option_map}
 use Rattle.name_tree.specs.Path.{Labels}
-use Rattle.name_tree.specs.Value.{TreeValue, leaf, neg, fail, empty, Part, one_whole, one_or_alt, union_of}
+use Rattle.name_tree.specs.Value.{TreeValue, leaf, neg, fail, empty, BranchValue, one_whole, one_or_alt, union_of}
 use Rattle.name_tree.specs.Grammar.{is_blank, is_digit}
 use Rattle.name_tree.specs.Recogniser.{value_from}
 use Rattle.name_tree.specs.LabelReading.{is_path_byte}
@@ -10,7 +10,7 @@ use Rattle.name_tree.specs.PathReading.{Walk, walk_start, next_walk, end_walk}
 -- an open parenthesis: the alternatives before it, the branches before it in its union, and the weight before it
 pub record Frame : Type 0 where
   pub alts : List TreeValue
-  pub parts : List Part
+  pub parts : List BranchValue
   pub weight : Option ℕ
 
 -- where in a tree the reading is: in which open parentheses, the innermost first, behind which alternatives,
@@ -18,7 +18,7 @@ pub record Frame : Type 0 where
 pub record Place : Type 0 where
   pub outer : List Frame
   pub alts : List TreeValue
-  pub parts : List Part
+  pub parts : List BranchValue
 
 -- and where in a branch
 pub data Mode : Type 0 where

@@ -33,14 +33,14 @@ one_or_alt (t ∷ []) = t
 one_or_alt ts = alt (tree_values ts)
 
 -- a branch of a union as it is written: its weight in millionths, if one is written, and its tree
-abbrev pub Part : Type 0
-Part = Option ℕ × TreeValue
+abbrev pub BranchValue : Type 0
+BranchValue = Option ℕ × TreeValue
 
 -- the weight of a branch without one
 abbrev pub one_whole : ℕ
 one_whole = 1000000
 
-abbrev pub branches : List Part → Branches
+abbrev pub branches : List BranchValue → Branches
 branches [] = no_branch
 branches (p ∷ ps) = branch (unwrap_or p.0 one_whole) p.1 (branches ps)
 
@@ -50,7 +50,7 @@ lone None v = v
 lone (Some n) v = union (branch n v no_branch)
 
 -- what some branches with `&` between them stand for
-abbrev pub union_of : List Part → TreeValue
+abbrev pub union_of : List BranchValue → TreeValue
 union_of (p ∷ []) = lone p.0 p.1
 union_of ps = union (branches ps)
 

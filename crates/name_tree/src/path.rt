@@ -58,18 +58,26 @@ impl Path {
         self.labels.as_slice()
     }
 
-    /// Its labels, in order. It takes no memory.
-    pub fn into_labels(self) -> Vec<Vec<u8>>
-        ensures { map (λ l. l.items) result.items ≡ self }
-    {
-        self.labels
-    }
-
     /// Whether it has no label.
     pub fn is_empty(&self) -> bool
         ensures { IsTrue result ↔ (self.now ≡ []) }
     {
         self.labels.is_empty()
+    }
+
+    /// Whether the other one has the same labels. It takes no memory.
+    pub fn same(&self, other: &Path) -> bool
+        ensures { IsTrue result ↔ (self.now ≡ other.now) }
+    {
+        if self.len() != other.len() {
+            return false;
+        }
+        for at in 0..self.len() {
+            if self.label(at) != other.label(at) {
+                return false;
+            }
+        }
+        true
     }
 
     /// Puts a label behind the others. An `Err` changes nothing.

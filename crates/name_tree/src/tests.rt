@@ -220,7 +220,7 @@ fn takes_and_joins_labels(rt: HostRuntime) -> Result<(), Fail> {
     let joined = joined.joined_from(rt.alloc(), &path, 1)?;
     let text = write_path(rt.alloc(), &joined)?;
     assert_eq!(rt; text.as_slice(), b"/b/a/b/b".as_slice());
-    assert_eq!(rt; joined.into_labels().len(), 4);
+    assert_eq!(rt; joined.len(), 4);
     Ok(())
 }
 

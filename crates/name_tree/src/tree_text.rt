@@ -11,7 +11,7 @@ use crate::Mem;
 use crate::label::{Refused, is_blank_byte};
 use crate::path_text::is_in_paths;
 use crate::tree::Tree;
-use crate::union::{Part, choice_of, union_of_parts};
+use crate::union::{WrittenBranch, choice_of, union_of_parts};
 use crate::walk::PathReader;
 use crate::weight::{Decimals, Whole};
 use std::alloc::Global;
@@ -21,7 +21,7 @@ use std::mem::replace;
 #[derive(Debug, Drop)]
 pub(crate) struct Frame {
     alts: Vec<Tree>,
-    parts: Vec<Part>,
+    parts: Vec<WrittenBranch>,
     weight: Option<u64>,
 }
 
@@ -51,7 +51,7 @@ pub(crate) enum Mode {
 pub struct TreeReader {
     outer: Vec<Frame>,
     alts: Vec<Tree>,
-    parts: Vec<Part>,
+    parts: Vec<WrittenBranch>,
     mode: Mode,
     path: PathReader,
 }
@@ -82,7 +82,7 @@ impl TreeReader {
     fn end_branch(&mut self, weight: Option<u64>, tree: Tree) -> Mem<()>
         ensures { OnOk result (state_of self.new ≡ (with_part (place_of self.old) weight (value_of tree), behind)) }
     {
-        self.parts.push(Part { weight, tree })?;
+        self.parts.push(WrittenBranch { weight, tree })?;
         self.mode = Mode::Behind;
         Ok(())
     }

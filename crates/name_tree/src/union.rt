@@ -11,14 +11,14 @@ use std::alloc::Global;
 
 /// A branch of a union as it is written.
 #[derive(Debug, Drop)]
-pub(crate) struct Part {
+pub(crate) struct WrittenBranch {
     /// Its weight in millionths, if one is written.
     pub(crate) weight: Option<u64>,
     pub(crate) tree: Tree,
 }
 
 /// The branches of a union, in order. One without a weight has the weight of one whole.
-fn branches_in(alloc: Global, parts: Vec<Part>) -> Mem<Vec<Branch>>
+fn branches_in(alloc: Global, parts: Vec<WrittenBranch>) -> Mem<Vec<Branch>>
     ensures { IfOk result (λ branches. branches.items ≡ map branch_in parts.items) }
 {
     parts
@@ -31,14 +31,14 @@ fn branches_in(alloc: Global, parts: Vec<Part>) -> Mem<Vec<Branch>>
 }
 
 /// Whether this is one branch without a weight.
-fn is_bare(parts: &[Part]) -> bool
+fn is_bare(parts: &[WrittenBranch]) -> bool
     ensures { IsTrue result ↔ ((length parts.now ≡ 1) × All (λ part. IsNone part.weight) parts.now) }
 {
-    matches!(parts, [Part { weight: None, .. }])
+    matches!(parts, [WrittenBranch { weight: None, .. }])
 }
 
 /// The tree that some branches with `&` between them stand for: one without a weight is itself, and any others are a union.
-pub(crate) fn union_of_parts(alloc: Global, mut parts: Vec<Part>) -> Mem<Tree>
+pub(crate) fn union_of_parts(alloc: Global, mut parts: Vec<WrittenBranch>) -> Mem<Tree>
     ensures { IfOk result (λ tree. value_of tree ≡ union_of (map part_of parts.items)) }
 {
     if is_bare(parts.as_slice()) {

@@ -6,7 +6,7 @@ ghost use Rattle.name_tree.specs.Growth.{Grows};
 ghost use Rattle.name_tree.specs.Value.{tree_values};
 ghost use Rattle.name_tree.specs.Canon.{decimals_text, canon_weight, grouped, is_alt, canon, canon_alts, branch_text, canon_branches};
 ghost use Rattle.name_tree.specs.Separated.{separated};
-ghost use Rattle.name_tree.specs.Tree.{value_of, branches_of};
+ghost use Rattle.name_tree.specs.Tree.{value_of, trees_in, branches_of};
 
 use crate::label::is_plain_byte;
 use crate::path::Path;
@@ -194,7 +194,7 @@ fn put_tree(tree: &Tree, out: &mut Bytes) -> Mem<()>
 /// Puts the alternatives of a choice behind some bytes. An `Err` may leave a part of them there.
 #[cycle(put)]
 fn put_alts(trees: &Trees, out: &mut Bytes) -> Mem<()>
-    ensures ok { OnOk result (out.new.items ≡ out.old.items ++ canon_alts (tree_values (map value_of trees.now.items.items))) }
+    ensures ok { OnOk result (out.new.items ≡ out.old.items ++ canon_alts (tree_values (map value_of (trees_in trees.now)))) }
     ensures grows { Grows out.old.items out.new.items }
 {
     for (at, tree) in trees.items.iter().enumerate() {

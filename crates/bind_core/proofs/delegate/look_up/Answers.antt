@@ -20,5 +20,5 @@ returns-then-count-eq-MOST_WIDE-clause-step g c =
 pub returns-clause-step : goal.returns-clause-step
 returns-clause-step g c =
     lookup_step _ _ _ _ _ _ (record { trees = c.into_iter.result; named = c.in_ok-named.field-0; left = c.args.left - 1 }) c.in_ok-push.ensures.items refl
-    (ap (map value_of) (c.into_iter.ensures.rest ∙ ap (λ (v : Vec Tree Global). v.items) c.into_items.ensures) ∙ c.in_ok-trees.ensures.trees)
+    (ap (map value_of) (c.into_iter.ensures.rest ∙ c.into_items.ensures) ∙ c.in_ok-trees.ensures.trees)
     c.in_ok-named.ensures.leaf (omega arith) (omega arith) (c.if-not-text_fits.ensures.0 refl) _ c.of-2.ensures.outcome c.of-2.ensures.cost

@@ -9,7 +9,7 @@ pub returns-in_ok-push-in-Alt-clause-step : goal.returns-in_ok-push-in-Alt-claus
 returns-in_ok-push-in-Alt-clause-step g c =
     alt_step _ _ _ _ _ _ c.requires _ c.of-in-Alt.ensures.outcome c.of-in-Alt.ensures.cost (map value_of c.in-Alt.trees.items.items)
     (record { trees = c.into_iter.result; named = None; left = c.args.left }) (ap value_of c.in-Alt.is ∙ value_of-Alt c.in-Alt.trees)
-    c.in_ok-push-in-Alt.ensures.items refl (ap (map value_of) (c.into_iter.ensures.rest ∙ ap (λ (v : Vec Tree Global). v.items) c.into_items.ensures)) refl
+    c.in_ok-push-in-Alt.ensures.items refl (ap (map value_of) (c.into_iter.ensures.rest ∙ c.into_items.ensures)) refl
 
 pub returns-in_ok-push-in-Union-clause-step : goal.returns-in_ok-push-in-Union-clause-step
 returns-in_ok-push-in-Union-clause-step g c =

@@ -1,10 +1,9 @@
-use Rattle.std.proofs.Common.{◌≡◌, ◌≤◌, ◌<◌, List, Vec, Global, arith, map, sym, ap, subst, ◌∙◌}
+use Rattle.std.proofs.Common.{◌≡◌, ◌≤◌, ◌<◌, List, arith, map, sym, ap, subst, ◌∙◌}
 use Rattle.std.proofs.lemmas.List.{length-map}
 use Rattle.name_tree.proofs.Places.{goes_on, nested, leaves, leaves_at_end, stands_at_end}
 use Rattle.dtab_table.specs.TableGrammar.{DtabText}
 use Rattle.dtab_table.specs.TableReading.{table_start, next_state, ended_state, table_depth}
 use Rattle.dtab_table.specs.TableReaders.{depth_of}
-use Rattle.dtab_table.specs.declared.dtab.Entry.{Entry}
 use Rattle.dtab_table.specs.Answers.{IsTable}
 use Rattle.dtab_table.specs.Rules.{Rule, rule_of}
 use Rattle.dtab_table.specs.Dtab.{rules_of}
@@ -42,7 +41,7 @@ returns-then-count-gt-MOST_ENTRIES c = record {
 
 pub returns-in-Ok-of : goal.returns-in-Ok-of
 returns-in-Ok-of c =
-    let is : rules_of c.in-Ok-of.dtab ≡ map rule_of c.in-Ok-end.entries.items = c.in-Ok-of.ensures ∙ ap (λ (es : Vec Entry Global). map rule_of es.items) c.of.ensures in
+    let is : rules_of c.in-Ok-of.dtab ≡ map rule_of c.in-Ok-end.entries.items = c.in-Ok-of.ensures ∙ ap (map rule_of) c.of.ensures in
     subst (λ (rules : List Rule). IsTable c.args.text.now rules) (sym is) (record {
       value = stands_at_end next_state table_start table_depth table_counts ended_state DtabText table_laws _ _ _ _ c.loop-at.invariant.stands c.if-text-gt-MOST_BYTES.false c.loop-at-test.false c.in-Ok-end.ensures;
       few = omega (arith, c.len-count.ensures, length-map c.in-Ok-end.entries.items rule_of, c.if-count-gt-MOST_ENTRIES.false);

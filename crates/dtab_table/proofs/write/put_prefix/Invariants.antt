@@ -1,6 +1,6 @@
 use Rattle.std.proofs.Common.{◌≡◌, ◌++◌, map, take}
 use Rattle.std.specs.List.{flat_map}
-use Rattle.dtab_table.specs.Rules.{pattern_of}
+use Rattle.dtab_table.specs.Pattern.{pattern_of}
 use Rattle.dtab_table.specs.TableCanon.{canon_pattern}
 use Rattle.dtab_table.proofs.write.put_prefix.Given as goal
 

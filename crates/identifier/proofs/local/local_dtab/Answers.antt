@@ -1,7 +1,7 @@
 use Rattle.std.proofs.Common.{◌≡◌, ◌≤◌, ◌<◌, ◌∙◌, ap, sym, subst, arith, length, map, List, Err, Some, None, Vec, Global}
 use Rattle.std.proofs.lemmas.Result.{err_from_is_err_and}
 use Rattle.http_wire.specs.declared.head.Field.{Field}
-use Rattle.dtab_table.specs.declared.dtab.Entry.{Entry}
+use Rattle.dtab_table.specs.declared.entry.Entry.{Entry}
 use Rattle.dtab_table.specs.Dtab.{rules_of}
 use Rattle.dtab_table.specs.Rules.{rule_of}
 use Rattle.dtab_table.specs.Answers.{most_entries}
@@ -38,7 +38,7 @@ returns-clause-rules c =
     let within : length c.add_tables-2.new.entries.items ≤ most_entries = omega (arith, c.if-len-gt-MOST_ENTRIES.false, c.len.ensures, c.add_tables-2.new.entries.ok.0) in
     subst (λ (fs : List Field). local_rules fs ≡ Some (map rule_of c.add_tables-2.new.entries.items)) c.items-fields.ensures
     (few c.items-fields.result.now c.add_tables-2.new.entries.items whole within)
-    ∙ ap Some (sym (c.in_ok-of.ensures ∙ ap (λ (v : Vec Entry Global). map rule_of v.items) c.of.ensures))
+    ∙ ap Some (sym (c.in_ok-of.ensures ∙ ap (map rule_of) c.of.ensures))
 
 pub returns-clause-sound : goal.returns-clause-sound
 returns-clause-sound c = sound_local c.args.head.now.fields (rules_of c.in_ok-of.field-0) (returns-clause-rules c)

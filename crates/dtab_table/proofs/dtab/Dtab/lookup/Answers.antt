@@ -1,4 +1,4 @@
-use Rattle.std.proofs.Common.{ap, ◌∙◌, arith}
+use Rattle.std.proofs.Common.{◌∙◌, arith}
 use Rattle.dtab_table.proofs.Rewriting.{as_many, begun, in_bounds, entry_here, one_more, done}
 use Rattle.dtab_table.proofs.dtab.Dtab.lookup.Goals as goal
 
@@ -29,4 +29,4 @@ loop-at-preserved g c =
 
 pub returns-clause-trees : goal.returns-clause-trees
 returns-clause-trees g c =
-    done c.args.self.now.entries.items c.args.path.now c.deref-at-items.result.now c.loop-at.at-index c.loop-at.trees.items _ _ c.loop-at-test.false (ap (λ v. v.items) c.of.ensures) c.loop-at.invariant
+    done c.args.self.now.entries.items c.args.path.now c.deref-at-items.result.now c.loop-at.at-index c.loop-at.trees.items _ _ c.loop-at-test.false c.of.ensures c.loop-at.invariant
