@@ -49,11 +49,12 @@ impl Index {
     /// Puts a prefix, in which `None` is `*`, and its position behind the others. An `Err` changes nothing.
     ///
     /// The cost is one pass over the prefix, and a look at each shape that the index has.
-    pub fn add(&mut self, alloc: Global, prefix: Vec<Option<Vec<u8>>>, at: u32) -> Mem<()>
+    pub fn add(&mut self, prefix: Vec<Option<Vec<u8>>>, at: u32) -> Mem<()>
         requires { AreBelow at self.old }
         ensures ok { OnOk result (self.new ≡ self.old ++ (patterns_of prefix.items, at) ∷ []) }
         ensures err { OnErr result (self.new ≡ self.old) }
     {
+        let alloc = *self.entries.allocator();
         note_shape(alloc, &mut self.shapes, prefix.as_slice())?;
         let key = prefix_key(prefix.as_slice());
         note_place(alloc, &mut self.buckets, key, self.entries.len())?;

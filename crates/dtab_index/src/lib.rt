@@ -11,8 +11,8 @@
 //!
 //! ```text
 //! let mut index = Index::new(alloc);
-//! index.add(alloc, vec![in alloc; Some(svc), Some(web)]?, 0)?;
-//! index.add(alloc, vec![in alloc; None]?, 1)?;
+//! index.add(vec![in alloc; Some(svc), Some(web)]?, 0)?;
+//! index.add(vec![in alloc; None]?, 1)?;
 //! // 1, 0 for `/svc/web/x`, and 1 for `/other`
 //! let places = index.matching(alloc, labels)?;
 //! ```

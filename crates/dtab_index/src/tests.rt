@@ -33,7 +33,7 @@ fn gives_the_greatest_first(rt: HostRuntime) -> Result<(), Fail> {
     let mut index = Index::new(rt.alloc());
     let added: [&[u8]; 5] = [b"/a", b"/*", b"/a/b", b"/*/b", b"/"];
     for (at, text) in added.iter().enumerate() {
-        index.add(rt.alloc(), prefix(rt.alloc(), text)?, at as u32)?;
+        index.add(prefix(rt.alloc(), text)?, at as u32)?;
     }
     let rows: [(&[u8], &[u32]); 4] = [
         (b"/a/b/c", &[4, 3, 2, 1, 0]),
@@ -55,7 +55,7 @@ fn finds_one_of_a_thousand(rt: HostRuntime) -> Result<(), Fail> {
         let mut labels = Vec::new(rt.alloc());
         labels.push(Some(Vec::from_slice(rt.alloc(), b"svc")?))?;
         labels.push(Some(Vec::from_slice(rt.alloc(), &at.to_be_bytes())?))?;
-        index.add(rt.alloc(), labels, at)?;
+        index.add(labels, at)?;
     }
     for at in 0..1001u32 {
         let mut labels = path(rt.alloc(), b"/svc")?;

@@ -132,7 +132,7 @@ fn index_of(alloc: Global, entries: &[Entry]) -> Mem<Index>
 {
     let mut index = Index::new(alloc);
     for (at, entry) in entries.iter().enumerate() {
-        index.add(alloc, entry.prefix.patterns(alloc)?, at as u32)?;
+        index.add(entry.prefix.patterns(alloc)?, at as u32)?;
     }
     Ok(index)
 }

@@ -117,8 +117,12 @@ fn writes_prefixes_that_were_read(rt: HostRuntime) -> Result<(), Fail> {
 #[test]
 fn reads_so_many_entries_and_no_more(rt: HostRuntime) -> Result<(), Fail> {
     let mut text = Vec::new(rt.alloc());
-    for _ in 0..1_024 {
+    for count in 1..1_025usize {
         text.extend_from_slice(b"/a=>/b;")?;
+        if count % 177 == 0 || count == 700 {
+            let dtab = read_dtab(rt.alloc(), text.as_slice()).map_err(|_| "refused")?;
+            assert_eq!(rt; dtab.len(), count);
+        }
     }
     let dtab = read_dtab(rt.alloc(), text.as_slice()).map_err(|_| "refused")?;
     assert_eq!(rt; dtab.len(), 1_024);
@@ -220,6 +224,54 @@ fn matches_any_label(rt: HostRuntime) -> Result<(), Fail> {
     let path = read_path(rt.alloc(), b"/any").ok().ok_or("refused")?;
     let got = leaves::<Brand>(rt.alloc(), &dtab, &path, Blank::new(1))?;
     assert!(rt; got.is_empty());
+    Ok(())
+}
+
+/// Tables of so many entries and of texts of so many bytes between the limits are read, and written as they were.
+#[test]
+fn reads_middle_sizes(rt: HostRuntime) -> Result<(), Fail> {
+    let mut text = Vec::from_slice(rt.alloc(), b"/a=>/b")?;
+    for count in 2..701usize {
+        text.extend_from_slice(b";/svc/*=>/c")?;
+        if count % 100 == 0 || count == 113 {
+            let dtab = read_dtab(rt.alloc(), text.as_slice()).map_err(|_| "refused")?;
+            assert_eq!(rt; dtab.len(), count);
+            let written = write_dtab(rt.alloc(), &dtab)?;
+            assert_eq!(rt; written.as_slice(), text.as_slice());
+        }
+    }
+    Ok(())
+}
+
+#[test]
+fn joins_copies_and_compares(rt: HostRuntime) -> Result<(), Fail> {
+    let first = read_dtab(rt.alloc(), b"/a => /b; /c/* => /d").map_err(|_| "refused")?;
+    let second = read_dtab(rt.alloc(), b"/a => /e | ~").map_err(|_| "refused")?;
+    assert_eq!(rt; first.len(), 2);
+    assert_eq!(rt; second.len(), 1);
+    let both = joined(rt.alloc(), &first, &second)?.copied(rt.alloc())?;
+    assert_eq!(rt; both.len(), 3);
+    let text = write_dtab(rt.alloc(), &both)?;
+    assert_eq!(rt; text.as_slice(), b"/a=>/b;/c/*=>/d;/a=>/e | ~".as_slice());
+    let rows: [(usize, usize, &[u8], bool); 7] = [
+        (0, 3, b"/a/x", true),
+        (1, 2, b"/a/x", false),
+        (2, 3, b"/a/x", true),
+        (0, 3, b"/c", false),
+        (0, 2, b"/c/q/r", true),
+        (3, 3, b"/a", false),
+        (0, 3, b"/", false),
+    ];
+    for (from, to, text, want) in rows {
+        let path = read_path(rt.alloc(), text).map_err(|_| "refused")?;
+        let to = to.min(3);
+        let from = from.min(to);
+        assert_eq!(rt; both.matches_any(from, to, &path), want, "{text:?}");
+    }
+    assert!(rt; both.entry(0).same(first.entry(0)));
+    assert!(rt; both.entry(2).same(second.entry(0)));
+    assert!(rt; !both.entry(0).same(both.entry(1)));
+    assert!(rt; !both.entry(0).same(both.entry(2)));
     Ok(())
 }
 

@@ -80,9 +80,10 @@ same_alternatives ts us same = cc
 pub same_choices : (b : Bool) (t u : Tree) (ts us : Trees) → t ≡ Alt ts → u ≡ Alt us → IsTrue b ↔ (map value_of (trees_in ts) ≡ map value_of (trees_in us)) → IsTrue b ↔ (value_of t ≡ value_of u)
 same_choices b t u ts us is are tells =
     let left : value_of t ≡ alt (tree_values (map value_of (trees_in ts))) = ap value_of is ∙ value_of-Alt ts in
-    let right : value_of u ≡ alt (tree_values (map value_of (trees_in us))) = ap value_of are ∙ value_of-Alt us in
-    (λ yes. left ∙ (ap (λ (vs : List TreeValue). alt (tree_values vs)) (tells.0 yes) ∙ sym right),
-    λ same. tells.1 (same_values _ _ (same_alternatives _ _ (sym left ∙ (same ∙ right)))))
+    let right : value_of u ≡ alt (tree_values (map value_of (trees_in us))) = ap value_of are ∙ value_of-Alt us in (
+      λ yes. left ∙ (ap (λ (vs : List TreeValue). alt (tree_values vs)) (tells.0 yes) ∙ sym right),
+      λ same. tells.1 (same_values _ _ (same_alternatives _ _ (sym left ∙ (same ∙ right)))),
+    )
 
 pub same_unions : (b : Bool) (bs cs : BranchList) (xs ys : List Branch) → xs ≡ (out-Branches bs).items.items → ys ≡ (out-Branches cs).items.items
     → IsTrue b ↔ (map branch_value xs ≡ map branch_value ys) → IsTrue b ↔ (branches_of bs ≡ branches_of cs)

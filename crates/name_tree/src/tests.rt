@@ -105,14 +105,6 @@ fn refuses_texts_at_their_places(rt: HostRuntime) -> Result<(), Fail> {
 }
 
 #[test]
-fn reads_paths(rt: HostRuntime) -> Result<(), Fail> {
-    let path = read_path(rt.alloc(), b" /a\\x2Fb ").map_err(|_| "refused")?;
-    assert_eq!(rt; path.len(), 1);
-    assert_eq!(rt; path.label(0), b"a/b".as_slice());
-    Ok(())
-}
-
-#[test]
 fn writes_what_was_read(rt: HostRuntime) -> Result<(), Fail> {
     let rows: [(&[u8], &[u8]); 14] = [
         (b"/a|/b&.50*(~)", b"/a | 1 * /b & 0.5 * ~"),
@@ -210,17 +202,73 @@ fn writes_paths(rt: HostRuntime) -> Result<(), Fail> {
 }
 
 #[test]
-fn takes_and_joins_labels(rt: HostRuntime) -> Result<(), Fail> {
-    let path = read_path(rt.alloc(), b"/a/b").map_err(|_| "refused")?;
+fn takes_joins_and_compares_labels(rt: HostRuntime) -> Result<(), Fail> {
+    let path = read_path(rt.alloc(), b" /a\\x2Fb/c ").map_err(|_| "refused")?;
     assert_eq!(rt; path.len(), 2);
+    assert_eq!(rt; path.label(0), b"a/b".as_slice());
     let part = path.part(rt.alloc(), 1, 2)?;
     let joined = part.joined(rt.alloc(), &path)?;
     let text = write_path(rt.alloc(), &joined)?;
-    assert_eq!(rt; text.as_slice(), b"/b/a/b".as_slice());
+    assert_eq!(rt; text.as_slice(), b"/c/a\\x2fb/c".as_slice());
     let joined = joined.joined_from(rt.alloc(), &path, 1)?;
     let text = write_path(rt.alloc(), &joined)?;
-    assert_eq!(rt; text.as_slice(), b"/b/a/b/b".as_slice());
-    assert_eq!(rt; joined.len(), 4);
+    assert_eq!(rt; text.as_slice(), b"/c/a\\x2fb/c/c".as_slice());
+    assert!(rt; joined.same(&joined));
+    assert!(rt; !joined.same(&path));
+    Ok(())
+}
+
+/// Texts of lengths between the limits, which are read, and written as they were.
+#[test]
+fn reads_middle_lengths(rt: HostRuntime) -> Result<(), Fail> {
+    for count in [3usize, 31, 617, 700, 4_999] {
+        let mut text = Vec::new(rt.alloc());
+        for _ in 0..count {
+            text.extend_from_slice(b"/a")?;
+        }
+        let path = read_path(rt.alloc(), text.as_slice()).map_err(|_| "refused")?;
+        assert_eq!(rt; path.len(), count);
+        let written = write_path(rt.alloc(), &path)?;
+        assert_eq!(rt; written.as_slice(), text.as_slice());
+        for _ in 0..count {
+            text.extend_from_slice(b" | ~")?;
+        }
+        let tree = read_tree(rt.alloc(), text.as_slice()).map_err(|_| "refused")?;
+        let written = write_tree(rt.alloc(), &tree)?;
+        assert_eq!(rt; written.as_slice(), text.as_slice());
+    }
+    Ok(())
+}
+
+/// A tree is the same as its copy, and as no other of these.
+#[test]
+fn copies_and_compares_trees(rt: HostRuntime) -> Result<(), Fail> {
+    let texts: [&[u8]; 14] = [
+        b"/",
+        b"/a",
+        b"/b",
+        b"/a/b",
+        b"~",
+        b"!",
+        b"$",
+        b"/a | ~",
+        b"~ | /a",
+        b"/a | ~ | ~",
+        b"1 * /a & 2 * ~",
+        b"2 * /a & 2 * ~",
+        b"1 * /a & 2 * $",
+        b"1 * /a",
+    ];
+    for (at, text) in texts.iter().enumerate() {
+        let tree = read_tree(rt.alloc(), text).map_err(|_| "refused")?;
+        let copy = tree.copied(rt.alloc())?;
+        let written = write_tree(rt.alloc(), &copy)?;
+        assert_eq!(rt; written.as_slice(), *text);
+        for (place, other) in texts.iter().enumerate() {
+            let other = read_tree(rt.alloc(), other).map_err(|_| "refused")?;
+            assert_eq!(rt; copy.same(&other), at == place, "{text:?}");
+        }
+    }
     Ok(())
 }
 

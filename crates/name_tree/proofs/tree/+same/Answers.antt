@@ -20,7 +20,7 @@ Branches::same-returns-then-not-same t c =
     let as_many : length c.deref-branch-items.result.now ≡ length ys.items = ap length c.deref-branch-items.ensures.value ∙ (sym xs.ok.0 ∙ (sym c.len.ensures ∙ (c.if-len.false ∙ (c.len-2.ensures ∙ ys.ok.0)))) in
     same_unions false c.args.self.now c.args.other.now c.deref-branch-items.result.now ys.items c.deref-branch-items.ensures.value refl
     (other_member branch_value c.deref-branch-items.result.now ys.items c.loop-at.at c.branch-item.result c.index.result.now c.loop-at-test.true as_many c.branch-item.is c.index.ensures
-        (λ same. let yes : IsTrue c.same.result = c.same.ensures.1 same in let no : c.same.result ≡ false = c.if-not-same.true in cc))
+    (λ same. let yes : IsTrue c.same.result = c.same.ensures.1 same in let no : c.same.result ≡ false = c.if-not-same.true in cc))
 
 pub Branches::same-loop-at-preserved : goal.Branches::same-loop-at-preserved
 Branches::same-loop-at-preserved t c =
@@ -48,7 +48,7 @@ Trees::same-returns-then-not-same t c =
     let as_many : length c.deref-tree-items.result.now ≡ length ys.items = ap length c.deref-tree-items.ensures.value ∙ (sym xs.ok.0 ∙ (sym c.len.ensures ∙ (c.if-len.false ∙ (c.len-2.ensures ∙ ys.ok.0)))) in
     subst (λ (ts : List Tree). IsTrue false ↔ (map value_of ts ≡ map value_of c.args.other.now.items.items)) c.deref-tree-items.ensures.value
     (other_member value_of c.deref-tree-items.result.now ys.items c.loop-at.at c.tree-item.result c.index.result.now c.loop-at-test.true as_many c.tree-item.is c.index.ensures
-        (λ same. let yes : IsTrue c.same.result = c.same.ensures.1 same in let no : c.same.result ≡ false = c.if-not-same.true in cc))
+    (λ same. let yes : IsTrue c.same.result = c.same.ensures.1 same in let no : c.same.result ≡ false = c.if-not-same.true in cc))
 
 pub Trees::same-loop-at-preserved : goal.Trees::same-loop-at-preserved
 Trees::same-loop-at-preserved t c =
