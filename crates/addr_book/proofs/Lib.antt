@@ -7,6 +7,7 @@ pub mod Hosts
 pub mod Lines
 pub mod Lookups
 pub mod Maps
+pub mod SlotLaws
 pub mod SlotSteps
 pub mod Seating
 pub mod Sound

@@ -6,6 +6,7 @@ pub mod BookFault
 pub mod Bound
 pub mod FileLine
 pub mod Found
+pub mod Laws
 pub mod Name
 pub mod Namer
 pub mod Parts

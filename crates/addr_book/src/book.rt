@@ -5,6 +5,7 @@ ghost use Rattle.std.specs.FinMap.{contains_key};
 ghost use Rattle.addr_book.specs.declared.addr.Addr.{Addr};
 ghost use Rattle.addr_book.specs.AddrList.{IsAddrList};
 ghost use Rattle.addr_book.specs.Book.{after_set, after_drop, is_used};
+ghost use Rattle.addr_book.specs.Laws.{HasOwnSlots};
 ghost use Rattle.addr_book.specs.BookFault.{set_refusal, drop_refusal};
 
 use crate::Mem;
@@ -110,6 +111,13 @@ impl Book {
         ensures used { is_some result ≡ is_used self.now.services addr }
     {
         self.parts.seats.slots.get(addr)
+    }
+
+    /// No two addresses share a slot.
+    pub(crate) fn has_own_slots(&self)
+        ensures { HasOwnSlots self.now }
+    {
+        let _parts = &self.parts;
     }
 
     /// Prepares the book with these addresses for the service, in the place of those that it has, if it is there. What is prepared does not change this book.
