@@ -74,6 +74,17 @@ fn threads_leave_every_word_0(rt: HostRuntime) -> Result<(), Fail> {
     Ok(())
 }
 
+fn may_be_moved<T: Send>() {}
+
+fn may_be_shared<T: Sync>() {}
+
+#[test]
+fn threads_share_the_words_and_seats_go_to_threads() {
+    may_be_moved::<Loads>();
+    may_be_shared::<Loads>();
+    may_be_moved::<LoadSeat>();
+}
+
 #[test]
 fn all_1024_seats_hold_slot_8191(rt: HostRuntime) -> Result<(), Fail> {
     let (loads, mut seats) = start(rt.alloc(), 1024)?;

@@ -8,7 +8,7 @@ pub join_seat-requires : goal.join_seat-requires
 join_seat-requires c =
     let split = c.split-last.ensures in
     let kept = c.loop.invariant in (
-      split.seat.0.0,
+      ap (λ w. w.table) split.seat.0,
       split.other.0 ∙ kept.table,
       ap (λ (me : Me (Unit {0}) Tally). me.1) split.other.1 ∙ kept.bare,
       omega (arith, c.args.self.now.slots),
