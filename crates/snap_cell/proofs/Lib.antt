@@ -2,3 +2,5 @@ pub mod Prefixes
 pub mod Adding
 pub mod Steps
 pub mod Options
+pub mod Uses
+pub mod Crossing

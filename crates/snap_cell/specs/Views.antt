@@ -1,5 +1,5 @@
 -- What contracts read of a reader, and how it moves.
-use Rattle.std.specs.Prelude.{ℕ, ◌≡◌, ◌+◌, ◌-◌, ◌^◌, min, List, [], Some, slice_get, length}
+use Rattle.std.specs.Prelude.{ℕ, ◌≡◌, ◌+◌, ◌-◌, ◌^◌, min, List, [], Some, IsSome, slice_get, length}
 use mathlib.Core.List.{IsPrefix}
 use Rattle.logbook.specs.Pages.{Book}
 use Rattle.snap_cell.specs.declared.kept.Origin.{Origin}
@@ -39,6 +39,10 @@ module _ {V O Q S : Type 0} where
   abbrev pub readers_of : Reader V O Q S → ℕ
   readers_of r = r.origin.readers
 
+  -- the reader is at its place in the cell, from where it may enter, and not away in a guard
+  abbrev pub IsThere : Reader V O Q S → Type 0
+  IsThere r = IsSome r.door
+
   -- it is the same reader of the same cell
   pub record SameReader (old new : Reader V O Q S) : Type 0 where
     pub number : number_of new ≡ number_of old
@@ -51,12 +55,21 @@ module _ {V O Q S : Type 0} where
     pub seen : seen_of new ≡ seen_of old
     pub items : items_of new ≡ items_of old
 
+  -- nothing moved, and the reader is back at its place
+  pub record Returned (old new : Reader V O Q S) : Type 0 where
+    pub same : SameReader old new
+    pub refusals : refusals_of new ≡ refusals_of old
+    pub seen : seen_of new ≡ seen_of old
+    pub items : items_of new ≡ items_of old
+    pub there : IsThere new
+
   -- the number of refusals rose, or stands at its last value, and all else is as before
   pub record Refused (old new : Reader V O Q S) : Type 0 where
     pub same : SameReader old new
     pub refusals : refusals_of new ≡ min (refusals_of old + 1) (2 ^ 64 - 1)
     pub seen : seen_of new ≡ seen_of old
     pub items : items_of new ≡ items_of old
+    pub there : IsThere old → IsThere new
 
   -- a reader that has seen nothing, with this number
   pub record IsNew (origin : Origin V O) (count : ℕ) (r : Reader V O Q S) : Type 0 where
@@ -69,6 +82,10 @@ module _ {V O Q S : Type 0} where
   -- readers that have seen nothing, numbered from 0
   abbrev pub EachNew : Origin V O → List (Reader V O Q S) → Type 0
   EachNew origin rs = (i : ℕ) (r : Reader V O Q S) → slice_get rs i ≡ Some r → IsNew origin i r
+
+  -- each is at its place
+  abbrev pub EachThere : List (Reader V O Q S) → Type 0
+  EachThere rs = (i : ℕ) (r : Reader V O Q S) → slice_get rs i ≡ Some r → IsThere r
 
   -- each is of this cell
   abbrev pub EachOf : Origin V O → List (Reader V O Q S) → Type 0

@@ -1,5 +1,5 @@
 -- What contracts read of a writer and of a note.
-use Rattle.std.specs.Prelude.{ℕ, ◌≡◌, List}
+use Rattle.std.specs.Prelude.{ℕ, ◌≡◌, List, IsSome}
 use Rattle.left_right.specs.declared.Absorb.{Ghosts}
 use Rattle.logbook.specs.Pages.{Book}
 use Rattle.snap_cell.specs.declared.kept.Origin.{Origin}
@@ -32,6 +32,10 @@ module _ {V O S T : Type 0} {g : Ghosts (Kept V O) (Entry O) T} where
   -- how many readers the cell has
   abbrev pub reader_count : Writer V O S T g → ℕ
   reader_count w = w.origin.readers
+
+  -- the writer's own reader is at its place, and not away with a value
+  abbrev pub IsReadable : Writer V O S T g → Type 0
+  IsReadable w = IsSome w.door
 
   -- it is the writer of the same cell, and has published the same
   pub record SameWriter (old new : Writer V O S T g) : Type 0 where

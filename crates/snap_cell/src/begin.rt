@@ -3,8 +3,8 @@ ghost use Rattle.std.specs.Prelude.{◌≡◌, ◌+◌, ◌<◌, ◌^◌, [], �
 ghost use Rattle.left_right.specs.Sides.{view};
 ghost use Rattle.snap_cell.specs.Rule.{IsFirst, Opens, Stands};
 ghost use Rattle.snap_cell.specs.Origins.{origin_at};
-ghost use Rattle.snap_cell.specs.Views.{EachNew};
-ghost use Rattle.snap_cell.specs.Writers.{published_by, cell_written, opening_written, reader_count};
+ghost use Rattle.snap_cell.specs.Views.{EachNew, EachThere};
+ghost use Rattle.snap_cell.specs.Writers.{published_by, cell_written, opening_written, reader_count, IsReadable};
 
 use crate::history::Prefix;
 use crate::kept::{Entry, Kept, Origin};
@@ -128,6 +128,7 @@ fn open_doors<V: Published<O>, O: Operation, Q, R: Wait>(
     requires told { view desk.old.desk.place ≡ Some desk.old.desk.shown.value.origin }
     ensures new { EachNew desk.old.desk.shown.value.origin all.new.items }
     ensures count { length all.new.items ≡ length all.old.items }
+    ensures there { EachThere all.new.items }
     ensures shown { desk.new.desk.shown ≡ desk.old.desk.shown }
     ensures pending { (desk.new.log ≡ desk.old.log) × (desk.new.behind ≡ desk.old.behind) }
     ensures told { view desk.new.desk.place ≡ view desk.old.desk.place }
@@ -149,6 +150,7 @@ pub fn start<V: Published<O>, O: Operation, Q, R: Wait>(
     requires some { 0 < readers }
     ensures writer { IfOk result (λ t. (published_by t.0 ≡ []) × (opening_written t.0 ≡ first) × (reader_count t.0 ≡ readers)) }
     ensures readers { IfOk result (λ t. (length t.1.items ≡ readers) × EachNew (cell_written t.0) t.1.items) }
+    ensures there { IfOk result (λ t. IsReadable t.0 × EachThere t.1.items) }
 {
     let (head, known) = Prefix::start();
     let mut all = new_readers(alloc, &first, &known, readers)?;

@@ -16,14 +16,14 @@ pub trait Stay {
 
     ghost cell_of_home: { Self.Home → Self.Cell };
 
-    ghost unmoved: { Self.Home → Self.Home → Type 0 };
+    ghost returned: { Self.Home → Self.Home → Type 0 };
 
     fn value(&self) -> &Self::Value
         ensures { result.now ≡ value self.now };
 
     fn put_back(self, home: &mut Self::Home)
         requires { ∥ cell self ≡ cell_of_home home.old ∥₁ }
-        ensures unmoved { unmoved home.old home.new }
+        ensures returned { returned home.old home.new }
         ensures cell { ∥ cell self ≡ cell_of_home home.new ∥₁ };
 }
 
@@ -45,7 +45,7 @@ impl<S: Stay> Guard<'_, S> {
 
 impl<S: Stay> Drop for Guard<'_, S> {
     fn drop(self)
-        ensures { S.unmoved self.entry.home.now self.exit.0.now }
+        ensures { S.returned self.entry.home.now self.exit.0.now }
     {
         let Self { home, stay } = self;
         stay.put_back(home);

@@ -144,7 +144,8 @@ impl<O> Prefix<O> {
 /// published and nothing else. The wait stands for that, which no clause of the list says.
 pub(crate) fn await_part<O, R: Wait>(rt: &R, part: &Prefix<O>, whole: &Prefix<O>)
     requires { whole.now.seen.book ≡ part.now.seen.book }
-    ensures { IsPrefix part.now.seen.log whole.now.seen.log }
+    ensures part { IsPrefix part.now.seen.log whole.now.seen.log }
+    ensures longer { length part.now.seen.log ≤ length whole.now.seen.log }
 {
     for _ in rt.forever() {
         if part.count <= whole.count {

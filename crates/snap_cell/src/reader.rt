@@ -1,5 +1,5 @@
 //! Readers.
-ghost use Rattle.std.specs.Prelude.{◌≡◌, Some, length};
+ghost use Rattle.std.specs.Prelude.{◌≡◌, ◌<◌, Some, length};
 ghost use Rattle.std.specs.Option.{ForSome};
 ghost use Rattle.left_right.specs.Sides.{view};
 ghost use Rattle.snap_cell.specs.Items.{items_in, InOrder};
@@ -31,5 +31,6 @@ pub struct Reader<V: Published<O>, O: Operation, Q> {
     pub(crate) refused: u64,
     ghost of_cell: { ForSome door (λ d. view d.reader.place ≡ Some origin) },
     ghost one_list: { known.seen.book ≡ origin.empty.book },
+    ghost below: { number < origin.readers },
     ghost in_order: { InOrder (items_in items.value) (length known.seen.log) },
 }

@@ -1,14 +1,14 @@
-//! Cells over a sum: that calls succeed, and what readers see of what was published.
-ghost use Rattle.std.specs.Prelude.{◌≡◌, ◌+◌, ◌<◌, ◌≤◌, ◌%◌, ◌^◌, ◌++◌, [], ◌∷◌, length, fold, OnOk, IfSome, IfNone};
+//! Cells over a sum: that calls succeed, what readers see of what was published, and which handles may go to other threads.
+ghost use Rattle.std.specs.Prelude.{◌≡◌, ◌+◌, ◌<◌, ◌≤◌, ◌%◌, ◌^◌, ◌++◌, [], ◌∷◌, length, fold, IfSome, IfNone};
 ghost use Rattle.std.specs.Thread.{IsSync};
 ghost use mathlib.Core.List.{IsPrefix};
-ghost use Rattle.snap_cell.specs.Views.{seen_of, items_of, cell_of, opening_of, EachOf, Refused};
+ghost use Rattle.snap_cell.specs.Views.{seen_of, items_of, cell_of, number_of, opening_of, EachOf, IsThere, Refused};
 ghost use Rattle.snap_cell.specs.Writers.{published_by, cell_written, opening_written, reader_count};
 
 use super::*;
 use left_right::Absorb;
 use std::snapshot::Snapshot;
-use std::sync::Wait;
+use std::sync::{Mutex, Wait};
 use std::test::Fail;
 use std::thread::{Threads, join_mut};
 
@@ -56,33 +56,11 @@ fn read(reader: &mut Reader<Sum, Add, u64>, item: u64) -> Option<u64>
     ensures before { IfSome result (λ n. IsPrefix (seen_of reader.old) (seen_of reader.new)) }
     ensures item { IfSome result (λ n. items_of reader.new ≡ items_of reader.old ++ (item, length (seen_of reader.new)) ∷ []) }
     ensures cell { cell_of reader.new ≡ cell_of reader.old }
+    ensures there { IfSome result (λ n. IsThere reader.new) }
     ensures none { IfNone result (Refused reader.old reader.new) }
 {
     let guard = reader.enter(Some(Snapshot::of(&item)))?;
     Some(guard.get().0)
-}
-
-/// A publish of the reader's own, which it then has seen: its item stands at the operation's place.
-fn publish_own<R: Wait>(
-    rt: &R,
-    writer: &mut Writer<Sum, Add>,
-    reader: &mut Reader<Sum, Add, u64>,
-    add: Add,
-) -> Mem<()>
-    requires own { cell_of reader.old ≡ cell_written writer.old }
-    requires fits { add.digit < 10 }
-    requires caller { add.by < reader_count writer.old }
-    ensures cells { (cell_of reader.new ≡ cell_of reader.old) × (cell_written writer.new ≡ cell_written writer.old) }
-    ensures published { OnOk result (published_by writer.new ≡ published_by writer.old ++ add ∷ []) }
-    ensures seen { OnOk result (seen_of reader.new ≡ published_by writer.new) }
-    ensures before { OnOk result (IsPrefix (seen_of reader.old) (seen_of reader.new)) }
-    ensures item { OnOk result (items_of reader.new ≡ items_of reader.old ++ (add.serial, length (published_by writer.old)) ∷ []) }
-{
-    let item = Snapshot::of(&add.serial);
-    reader.catch_up(rt, writer);
-    writer.publish(rt, add)?;
-    reader.learn(writer.tell(), Some(item));
-    Ok(())
 }
 
 fn digit_of(by: u32, serial: u64, digit: u64) -> Add
@@ -113,7 +91,8 @@ fn end<R: Wait>(rt: &R, writer: Writer<Sum, Add>, readers: Vec<Reader<Sum, Add, 
     }
 }
 
-// What was seen before and after a publish, by the second reader, which learnt of it, and by the first, which entered later.
+// What was seen before and after a publish of the second reader's caller, by that reader, which then has seen it, and by the first, which
+// entered later.
 fn publish_one<R: Wait>(
     rt: &R,
     writer: &mut Writer<Sum, Add>,
@@ -125,9 +104,11 @@ fn publish_one<R: Wait>(
     ensures two { (length readers.new.items ≡ 2) × (reader_count writer.new ≡ 2) }
 {
     let before = read(&mut readers[0], 1);
-    let published = publish_own(rt, writer, &mut readers[1], digit_of(1, 0, 5));
-    let learnt = read(&mut readers[1], 2);
-    let entered = read(&mut readers[0], 3);
+    let add = digit_of(readers[1].number(), 0, 5);
+    let published = writer.publish_for(rt, &mut readers[1], add, Some(Snapshot::of(&2)));
+    let learnt = read(&mut readers[1], 3);
+    readers[0].catch_up(rt, writer, Some(Snapshot::of(&4)));
+    let entered = read(&mut readers[0], 5);
     published.ok()?;
     Some([before?, learnt?, entered?, latest(rt, writer)])
 }
@@ -294,4 +275,21 @@ fn what_is_entered_never_falls_back(rt: HostRuntime) -> Result<(), Fail> {
     end(&rt, writer, readers);
     assert_eq!(rt; told, ((true, (true, true)), Some(10_000), Some(10_000)));
     Ok(())
+}
+
+fn may_be_moved<T: Send>() {}
+
+fn may_be_shared<T: Sync>() {}
+
+// Whatever the value and its operations are, as long as they may go to other threads themselves.
+fn handles_cross<V: Published<O> + Send + Sync, O: Operation + Send, Q>() {
+    may_be_moved::<Writer<V, O>>();
+    may_be_moved::<Reader<V, O, Q>>();
+    may_be_moved::<Note<O>>();
+    may_be_shared::<Mutex<Writer<V, O>>>();
+}
+
+#[test]
+fn handles_go_to_other_threads() {
+    handles_cross::<Sum, Add, u64>();
 }

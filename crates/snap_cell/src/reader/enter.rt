@@ -1,11 +1,11 @@
 //! How a reader enters.
-ghost use Rattle.std.specs.Prelude.{◌≡◌, ◌≤◌, Some, length, fold, IfSome, IfNone};
+ghost use Rattle.std.specs.Prelude.{◌≡◌, ◌<◌, ◌≤◌, Some, length, fold, IfSome, IfNone};
 ghost use Rattle.left_right.specs.Sides.{view};
 ghost use mathlib.Core.List.{IsPrefix};
 ghost use Rattle.snap_cell.specs.Items.{added, InOrder};
 ghost use Rattle.snap_cell.specs.Legal.{Legal};
 ghost use Rattle.snap_cell.specs.Rule.{Sound};
-ghost use Rattle.snap_cell.specs.Views.{seen_of, items_of, number_of, refusals_of, opening_of, readers_of, SameReader, Unmoved, Refused};
+ghost use Rattle.snap_cell.specs.Views.{seen_of, items_of, number_of, refusals_of, opening_of, readers_of, IsThere, SameReader, Unmoved, Returned, Refused};
 
 use super::Reader;
 use crate::guard::{Guard, Stay};
@@ -38,7 +38,7 @@ impl<V: Published<O>, O: Operation, Q> Stay for Entered<V, O, Q> {
 
     ghost cell_of_home = { λ h. Some h.origin };
 
-    ghost unmoved = { Unmoved };
+    ghost returned = { Returned };
 
     fn value(&self) -> &V {
         &self.reading.get().value
@@ -55,9 +55,10 @@ impl<V: Published<O>, O: Operation, Q> Reader<V, O, Q> {
     ghost use Rattle.snap_cell.specs.Guards.{lender_of, reader_in, value_in};
     ghost use Rattle.snap_cell.specs.contracts.reader.Reader.{the_row};
 
-    /// Its number among the readers of its cell, from 0.
+    /// Its number among the readers of its cell, from 0. No call changes it.
     pub fn number(&self) -> u32
-        ensures { result ≡ number_of self.now }
+        ensures number { result ≡ number_of self.now }
+        ensures below { result < readers_of self.now }
     {
         self.number
     }
@@ -127,10 +128,11 @@ impl<V: Published<O>, O: Operation, Q> Reader<V, O, Q> {
     }
 
     // Sees a list that goes on from what this reader knows of.
-    fn see(&mut self, list: &Prefix<O>, item: Option<Snapshot<Q>>)
+    pub(super) fn see(&mut self, list: &Prefix<O>, item: Option<Snapshot<Q>>)
         requires list { list.now.seen.book ≡ self.old.origin.empty.book }
         requires longer { length (seen_of self.old) ≤ length list.now.seen.log }
         ensures same { SameReader self.old self.new × (self.new.refused ≡ self.old.refused) }
+        ensures there { IsThere self.old → IsThere self.new }
         ensures seen { seen_of self.new ≡ list.now.seen.log }
         ensures before { IsPrefix (seen_of self.old) (seen_of self.new) }
         ensures items { items_of self.new ≡ added (items_of self.old) item (length (seen_of self.new)) }

@@ -3,7 +3,7 @@ ghost use Rattle.std.specs.Prelude.{◌≡◌, ◌-◌, max, length};
 ghost use mathlib.Core.List.{IsPrefix};
 ghost use Rattle.snap_cell.specs.History.{longer};
 ghost use Rattle.snap_cell.specs.Items.{added, InOrder};
-ghost use Rattle.snap_cell.specs.Views.{seen_of, items_of, refusals_of, cell_of, list_of, SameReader};
+ghost use Rattle.snap_cell.specs.Views.{seen_of, items_of, refusals_of, cell_of, list_of, SameReader, IsThere};
 ghost use Rattle.snap_cell.specs.Writers.{told_by, list_told, published_by, cell_written};
 
 use super::Reader;
@@ -19,10 +19,13 @@ impl<V: Published<O>, O: Operation, Q> Reader<V, O, Q> {
     /// memory and waits for nobody.
     ///
     /// An item, if there is one, is that of the last operation which the note tells of. Its point is how many operations stood
-    /// before that one, or how many the reader had seen where those were more.
+    /// before that one, or how many the reader had seen where those were more. So after [`Reader::catch_up`], and with no more than one
+    /// publish between, `learn(writer.tell(), item)` gives the item the point that it was decided at, whether or not its operation was
+    /// published. [`Writer::publish_for`] is the three in one.
     pub fn learn(&mut self, note: Note<O>, item: Option<Snapshot<Q>>)
         requires own { list_told note ≡ list_of (cell_of self.old) }
         ensures same { SameReader self.old self.new × (refusals_of self.new ≡ refusals_of self.old) }
+        ensures there { IsThere self.old → IsThere self.new }
         ensures seen { seen_of self.new ≡ longer (seen_of self.old) (told_by note) }
         ensures before { IsPrefix (seen_of self.old) (seen_of self.new) }
         ensures told { IsPrefix (told_by note) (seen_of self.new) }
@@ -35,16 +38,21 @@ impl<V: Published<O>, O: Operation, Q> Reader<V, O, Q> {
         self.items = with(items, item, point);
     }
 
-    /// Sees all that was published, which what it had seen begins. A note alone does not show that it tells of more than the
-    /// reader had seen; this does. It is under `Wait` for the proof's sake: nothing is waited for, since a reader has seen nothing that was
-    /// not published.
-    pub fn catch_up<R: Wait>(&mut self, rt: &R, writer: &Writer<V, O>)
+    /// Sees all that was published, which what it had seen begins. An item, if there is one, stands at this point: so stands a call that
+    /// was refused under the writer's lock. It takes no memory.
+    ///
+    /// A note alone does not show that it tells of more than the reader had seen; this does. It is under `Wait` for the proof's sake:
+    /// nothing is waited for, since a reader has seen nothing that was not published.
+    pub fn catch_up<R: Wait>(&mut self, rt: &R, writer: &Writer<V, O>, item: Option<Snapshot<Q>>)
         requires own { cell_of self.old ≡ cell_written writer.now }
-        ensures same { SameReader self.old self.new × (refusals_of self.new ≡ refusals_of self.old) × (items_of self.new ≡ items_of self.old) }
+        ensures same { SameReader self.old self.new × (refusals_of self.new ≡ refusals_of self.old) }
+        ensures there { IsThere self.old → IsThere self.new }
         ensures seen { seen_of self.new ≡ published_by writer.now }
         ensures before { IsPrefix (seen_of self.old) (seen_of self.new) }
+        ensures item { items_of self.new ≡ added (items_of self.old) item (length (published_by writer.now)) }
+        ensures order { InOrder (items_of self.new) (length (seen_of self.new)) }
     {
         await_part(rt, &self.known, &writer.known);
-        self.known = self.known.newer(&writer.known);
+        self.see(&writer.known, item);
     }
 }

@@ -1,15 +1,18 @@
 //! What the writer publishes and tells.
-ghost use Rattle.std.specs.Prelude.{◌≡◌, ◌<◌, ◌++◌, [], ◌∷◌, drop, fold, Some, MatchResult};
+ghost use Rattle.std.specs.Prelude.{◌≡◌, ◌<◌, ◌++◌, [], ◌∷◌, drop, fold, length, Some, MatchResult};
+ghost use mathlib.Core.List.{IsPrefix};
 ghost use Rattle.left_right.specs.Sides.{view};
 ghost use Rattle.snap_cell.specs.Rule.{IsReady, Stands, Follows};
-ghost use Rattle.snap_cell.specs.Views.{list_of};
-ghost use Rattle.snap_cell.specs.Writers.{published_by, cell_written, opening_written, reader_count, told_by, list_told};
+ghost use Rattle.snap_cell.specs.Items.{added, InOrder};
+ghost use Rattle.snap_cell.specs.Views.{list_of, cell_of, number_of, refusals_of, seen_of, items_of, SameReader, IsThere};
+ghost use Rattle.snap_cell.specs.Writers.{published_by, cell_written, opening_written, reader_count, told_by, list_told, IsReadable};
 
 use super::{Note, Writer};
 use crate::kept::Entry;
 use crate::rule::{Desk, Show};
-use crate::{Mem, Operation, Published};
+use crate::{Mem, Operation, Published, Reader};
 use std::alloc::AllocError;
+use std::snapshot::Snapshot;
 use std::sync::Wait;
 
 // Shows the copy that has the operation which is pending.
@@ -50,6 +53,7 @@ impl<V: Published<O>, O: Operation> Writer<V, O> {
         ensures told { told_by result ≡ published_by self.old }
         ensures list { list_told result ≡ list_of (cell_written self.old) }
         ensures same { (published_by self.new ≡ published_by self.old) × (cell_written self.new ≡ cell_written self.old) }
+        ensures readable { IsReadable self.old → IsReadable self.new }
     {
         Note {
             known: self.known.again(),
@@ -67,6 +71,7 @@ impl<V: Published<O>, O: Operation> Writer<V, O> {
         requires caller { O.caller operation < reader_count self.old }
         ensures published { MatchResult result (λ _. published_by self.new ≡ published_by self.old ++ operation ∷ []) (λ _. published_by self.new ≡ published_by self.old) }
         ensures cell { cell_written self.new ≡ cell_written self.old }
+        ensures readable { IsReadable self.old → IsReadable self.new }
     {
         if self.stuck || self.known.count == u64::MAX {
             return Err(AllocError);
@@ -93,5 +98,37 @@ impl<V: Published<O>, O: Operation> Writer<V, O> {
                 Ok(())
             }
         }
+    }
+
+    /// Publishes an operation of a reader's caller, and lets the reader see it: a caller's whole change, as it is made under the writer's
+    /// lock. The reader sees all that was published before, and then the operation; an item, if there is one, stands at its point, which
+    /// is how many operations were published before it. For a call that is refused there [`Reader::catch_up`] adds the item.
+    ///
+    /// # Errors
+    /// As [`Writer::publish`]. The reader has then seen all that was published, and has no item of this call.
+    pub fn publish_for<Q, R: Wait>(
+        &mut self,
+        rt: &R,
+        reader: &mut Reader<V, O, Q>,
+        operation: O,
+        item: Option<Snapshot<Q>>,
+    ) -> Mem<()>
+        requires own { cell_of reader.old ≡ cell_written self.old }
+        requires fits { V.fits (fold V.applied (V.state (opening_written self.old)) (published_by self.old)) operation }
+        requires caller { O.caller operation ≡ number_of reader.old }
+        ensures cell { cell_written self.new ≡ cell_written self.old }
+        ensures same { SameReader reader.old reader.new × (refusals_of reader.new ≡ refusals_of reader.old) }
+        ensures there { IsThere reader.old → IsThere reader.new }
+        ensures readable { IsReadable self.old → IsReadable self.new }
+        ensures published { MatchResult result (λ _. published_by self.new ≡ published_by self.old ++ operation ∷ []) (λ _. published_by self.new ≡ published_by self.old) }
+        ensures before { IsPrefix (seen_of reader.old) (published_by self.old) }
+        ensures seen { seen_of reader.new ≡ published_by self.new }
+        ensures item { MatchResult result (λ _. items_of reader.new ≡ added (items_of reader.old) item (length (published_by self.old))) (λ _. items_of reader.new ≡ items_of reader.old) }
+        ensures order { InOrder (items_of reader.new) (length (seen_of reader.new)) }
+    {
+        reader.catch_up(rt, self, None);
+        self.publish(rt, operation)?;
+        reader.learn(self.tell(), item);
+        Ok(())
     }
 }

@@ -4,7 +4,7 @@ ghost use Rattle.std.specs.Option.{ForSome};
 ghost use Rattle.left_right.specs.Sides.{view};
 ghost use Rattle.snap_cell.specs.Legal.{Legal};
 ghost use Rattle.snap_cell.specs.Rule.{Sound};
-ghost use Rattle.snap_cell.specs.Writers.{published_by, cell_written, opening_written, reader_count, SameWriter};
+ghost use Rattle.snap_cell.specs.Writers.{published_by, cell_written, opening_written, reader_count, SameWriter, IsReadable};
 ghost use Rattle.snap_cell.specs.Guards.{whole_value, cell_entered};
 
 use super::Writer;
@@ -58,7 +58,7 @@ impl<V: Published<O>, O: Operation> Whole<V, O> {
 
 impl<V: Published<O>, O: Operation> Writer<V, O> {
     /// The value with all that was published, read through a reader of the writer's own, which tries again until it is let in.
-    /// It takes no memory. Put it back before the next publish, which would wait for it for ever.
+    /// It takes no memory. Put it back before the next publish or value, which would wait for it for ever.
     pub fn value<R: Wait>(&mut self, rt: &R) -> Whole<V, O>
         ensures same { SameWriter self.old self.new }
         ensures cell { cell_entered result ≡ Some (cell_written self.old) }
@@ -74,7 +74,8 @@ impl<V: Published<O>, O: Operation> Writer<V, O> {
     /// Gives the writer's own reader back.
     pub fn put_back(&mut self, whole: Whole<V, O>)
         requires { cell_entered whole ≡ Some (cell_written self.old) }
-        ensures { SameWriter self.old self.new }
+        ensures same { SameWriter self.old self.new }
+        ensures readable { IsReadable self.new }
     {
         let Whole { reading } = whole;
         self.door = Some(reading.leave());

@@ -13,5 +13,6 @@ invariant_of-home g c =
     record {
       of_cell = in_some (λ d. view d.reader.place ≡ Some c.args.home.now.origin) c.leave.result (c.leave.ensures ∙ here);
       one_list = c.args.home.now.one_list;
+      below = c.args.home.now.below;
       in_order = c.args.home.now.in_order;
     }
