@@ -1,6 +1,5 @@
 -- The words may be shared by threads and a seat may go to another. A crate above cites the ruleset.
-use denote.Param.Send.{IsSend, IsSync, sendable}
-use Rattle.std.proofs.Crossing.{crosses}
+use denote.Param.Send.{IsSend, IsSync}
 use Rattle.load_words.proofs.words.Loads.TheSendSync as loads
 use Rattle.load_words.proofs.words.LoadSeat.TheSendSync as seat
 use Rattle.load_words.specs.contracts.words.Loads as Loads

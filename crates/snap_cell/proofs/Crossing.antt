@@ -1,8 +1,7 @@
 -- Which handles of a cell may go to other threads: writers, readers and notes, for any value that may be sent and shared, and any operation that may be sent.
 -- One search for a writer doesn't end, so it goes by parts. A crate above cites the ruleset at the end, and shows what lies under a lock of its own by a lemma of its own.
 use denote.RattleType.{RattleType}
-use denote.Param.{param}
-use denote.Param.Send.{IsSend, IsSync, sendable, param_send, param_sync}
+use denote.Param.Send.{IsSend, IsSync, sendable}
 use Rattle.std.proofs.Crossing.{crosses}
 use Rattle.std.specs.contracts.alloc.Global as Heap
 use Rattle.std.specs.contracts.impls.GlobalAllocator.TheImpl.{ghosts}

@@ -11,7 +11,7 @@ pub invariant_of-home : goal.invariant_of-home
 invariant_of-home g c =
     let here : view c.args.self.reading.reading.place ≡ Some c.args.home.now.origin = ∥∥₁_elim c.requires (Coded-set (coded_option (origin.the_row g.row.V g.row.O).coded) _ _) (λ e. e) in
     record {
-      of_cell = in_some (λ d. view d.reader.place ≡ Some c.args.home.now.origin) c.leave.result (c.leave.ensures ∙ here);
+      of_cell = in_some (λ d. view d.reader.place ≡ Some c.args.home.now.origin) c.leave.result (◌∙◌ {b = view c.args.self.reading.reading.place} c.leave.ensures here);
       one_list = c.args.home.now.one_list;
       below = c.args.home.now.below;
       in_order = c.args.home.now.in_order;
