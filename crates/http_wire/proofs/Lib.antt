@@ -1,8 +1,13 @@
 pub mod FieldLemmas
+pub mod Following
+pub mod Held
+pub mod Leading
+pub mod Standing
 pub mod Lists
 pub mod Looks
 pub mod Numbers
 pub mod Turning
-pub mod Room
+pub mod Spans
 pub mod Settled
 pub mod Targets
+pub mod Tokens

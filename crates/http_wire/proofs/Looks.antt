@@ -14,18 +14,18 @@ use Rattle.http_wire.specs.Heads.{window, IsOpen, MayBecomeHead}
 
 -- ---- a first line that has ended does not end inside a target
 
-token_byte_low : (b : ℕ) → IsTrue (is_token_byte b) → (b ≢ 10) × (b ≢ 13)
+pub token_byte_low : (b : ℕ) → IsTrue (is_token_byte b) → (b ≢ 10) × (b ≢ 13)
 unfolding is_token_byte
 token_byte_low b token = (λ feed. cc (subst (λ (x : ℕ). IsTrue (is_token_byte x)) feed token), λ return. cc (subst (λ (x : ℕ). IsTrue (is_token_byte x)) return token))
 
-uri_byte_low : (b : ℕ) → IsTrue (is_uri_byte b) → b ≢ 10
+pub uri_byte_low : (b : ℕ) → IsTrue (is_uri_byte b) → b ≢ 10
 uri_byte_low b uri = λ feed. cc (subst (λ (x : ℕ). IsTrue (is_uri_byte x)) feed uri)
 
-skip-feed : (bytes : List ℕ) → skip_empty_lines (10 ∷ bytes) ≡ skip_empty_lines bytes
+pub skip-feed : (bytes : List ℕ) → skip_empty_lines (10 ∷ bytes) ≡ skip_empty_lines bytes
 skip-feed [] = refl
 skip-feed (b ∷ bs) = refl
 
-skip-blank : (blank : List LineEnd) (rest : List ℕ) → skip_empty_lines (print_blank blank ++ rest) ≡ skip_empty_lines rest
+pub skip-blank : (blank : List LineEnd) (rest : List ℕ) → skip_empty_lines (print_blank blank ++ rest) ≡ skip_empty_lines rest
 skip-blank [] rest = refl
 skip-blank (crlf ∷ ends) rest =
     let cut : print_blank (crlf ∷ ends) ≡ 13 ∷ 10 ∷ print_blank ends = flat_map-cons print_end crlf ends in
@@ -35,10 +35,10 @@ skip-blank (lf ∷ ends) rest =
     ap (λ (xs : List ℕ). skip_empty_lines (xs ++ rest)) cut ∙ (skip-feed (print_blank ends ++ rest) ∙ skip-blank ends rest)
 
 -- a test of two numbers that differ
-differ : (a b : ℕ) → a ≢ b → eqb a b ≡ false
+pub differ : (a b : ℕ) → a ≢ b → eqb a b ≡ false
 differ a b other = grind (arith, nat_tests, other)
 
-skip-other : (b : ℕ) (bytes : List ℕ) → b ≢ 10 → b ≢ 13 → skip_empty_lines (b ∷ bytes) ≡ b ∷ bytes
+pub skip-other : (b : ℕ) (bytes : List ℕ) → b ≢ 10 → b ≢ 13 → skip_empty_lines (b ∷ bytes) ≡ b ∷ bytes
 skip-other b [] feed return = ap (λ (t : Bool). cond t [] (b ∷ [])) (differ b 10 feed)
 skip-other b (c ∷ bytes) feed return =
     (λ i. cond (differ b 10 feed i) (skip_empty_lines (c ∷ bytes))

@@ -102,7 +102,7 @@ skip_more (a ∷ b ∷ bytes) more line is =
     by_tests false false first second some = refl
 
 -- so does the first line, once it has ended
-first_line_more : (bytes more line : List ℕ) → Some line ≡ first_line bytes → Some line ≡ first_line (bytes ++ more)
+pub first_line_more : (bytes more line : List ℕ) → Some line ≡ first_line bytes → Some line ≡ first_line (bytes ++ more)
 unfolding first_line
 first_line_more bytes more line is =
     line_more (skip_empty_lines bytes) more line is ∙ ap line_at (sym (skip_more bytes more line is))

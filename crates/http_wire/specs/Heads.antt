@@ -10,6 +10,10 @@ use Rattle.http_wire.specs.FirstLine.{first_line, ends_in_other_version}
 abbrev pub most : ℕ
 most = 65536
 
+-- the most bytes that are read at once for a head
+abbrev pub most_piece : ℕ
+most_piece = 4096
+
 -- the bytes that count
 unfoldable pub window : List ℕ → List ℕ
 window bytes = take most bytes

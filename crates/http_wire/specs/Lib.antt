@@ -4,6 +4,7 @@ pub mod Framing
 pub mod Heads
 pub mod Host
 pub mod Parsed
+pub mod Places
 pub mod Reading
 pub mod Rest
 pub mod Target

@@ -1,5 +1,5 @@
 -- What a call that reads a head answers, and what it leaves.
-use Rattle.std.specs.Prelude.{◌≡◌, ◌≢◌, ◌<◌, ◌≤◌, Some, None, ℕ, List, [], ◌++◌, length, drop, Option, Result, Ok, Err}
+use Rattle.std.specs.Prelude.{◌≡◌, ◌≢◌, ◌<◌, ◌≤◌, ◌⊎◌, false, Some, None, ℕ, List, [], ◌++◌, length, drop, Option, Result, Ok, Err}
 use Rattle.std.specs.Io.KnownBytes.{Consumes}
 use Rattle.http_wire.specs.declared.head.Head.{Head}
 use Rattle.http_wire.specs.declared.seen.Seen.{Seen}
@@ -9,7 +9,9 @@ use Rattle.http_wire.specs.declared.reading.Turn.{Turn}
 use Rattle.http_wire.specs.declared.reading.Turn.TheVariants.{Answered, More}
 use Rattle.line_base.specs.Counts.{Rose}
 use Rattle.http_wire.specs.FirstLine.{skip_empty_lines}
-use Rattle.http_wire.specs.Heads.{most, BeginsWith, NamesOtherVersion, IsBad, IsTooLarge, IsUnfinished}
+use Rattle.http_wire.specs.declared.watch.Watch.{Watch}
+use Rattle.http_wire.specs.Heads.{most_piece, BeginsWith, NamesOtherVersion, IsBad, IsOpen, IsTooLarge, IsUnfinished}
+use Rattle.http_wire.specs.Places.{StandsAt}
 
 -- what was seen at the front of the bytes
 abbrev pub Shows : List ℕ → Seen → Type 0
@@ -35,12 +37,25 @@ Answers bytes kept (Err HeadEnd.TooLarge) = Whatever IsTooLarge bytes × (kept �
 Answers bytes kept (Err HeadEnd.ReadFault) = IsUnfinished bytes × (kept ≡ bytes)
 Answers bytes kept (Err HeadEnd.OutOfMemory) = kept ≡ bytes
 
--- the bytes that a peer gave, behind those that were kept, and the answer to them all
+-- the last read of some bytes: it gave a piece of at most 4,096 bytes, and began while the bytes before showed no head and no refusal
+pub record EndsInPiece (kept taken : List ℕ) : Type 0 where
+  pub earlier : List ℕ
+  pub piece : List ℕ
+  pub cut : taken ≡ earlier ++ piece
+  pub short : length piece ≤ most_piece
+  pub unfinished : IsUnfinished (kept ++ earlier)
+
+-- no more was read than was needed: nothing, or a last piece behind an unfinished head
+abbrev pub IsPrompt : List ℕ → List ℕ → Type 0
+IsPrompt kept taken = (taken ≡ []) ⊎ EndsInPiece kept taken
+
+-- the bytes that a peer gave, behind those that were kept, and the answer to them all, which is given as soon as they show it
 pub record ReadsHead
     (left_before left_after : Option (List ℕ)) (kept_before kept_after : List ℕ) (result : Result Head HeadEnd)
     : Type 0 where
   pub taken : List ℕ
   pub given : Consumes left_before left_after taken
+  pub prompt : IsPrompt kept_before taken
   pub answers : Answers (kept_before ++ taken) kept_after result
 
 -- what a look at the bytes answers; it reads nothing, so that neither an end nor a fault comes
@@ -63,11 +78,33 @@ pub record HasCauses (ends_before ends_now faults_before faults_now : ℕ) (resu
   pub ends_later : ends_before ≤ ends_now
   pub faults_later : faults_before ≤ faults_now
 
--- one turn of reading: an answer, or more bytes behind an unfinished head
+-- where a watch says that the bytes are not to be looked at, they show no head and no refusal
+pub record Trusts (watch : Watch) (bytes : List ℕ) : Type 0 where
+  pub stands : StandsAt watch.progress bytes
+  pub quiet : watch.due ≡ false → IsOpen bytes
+
+-- an answer by a turn of reading, in which no byte came
+pub record AnswersTurn
+    (left_before left_after : Option (List ℕ)) (kept_before kept_after : List ℕ)
+    (ends_before ends_now faults_before faults_now : ℕ) (result : Result Head HeadEnd)
+    : Type 0 where
+  pub given : Consumes left_before left_after []
+  pub answers : Answers kept_before kept_after result
+  pub causes : HasCauses ends_before ends_now faults_before faults_now result
+
+-- a piece that came behind an unfinished head
+pub record Grows (left_before left_after : Option (List ℕ)) (kept_before kept_after : List ℕ) : Type 0 where
+  pub piece : List ℕ
+  pub given : Consumes left_before left_after piece
+  pub grown : kept_after ≡ kept_before ++ piece
+  pub some : 0 < length piece
+  pub short : length piece ≤ most_piece
+  pub unfinished : IsUnfinished kept_before
+
+-- one turn of reading: an answer, or a piece more behind an unfinished head
 abbrev pub Turns :
     Option (List ℕ) → Option (List ℕ) → List ℕ → List ℕ → ℕ → ℕ → ℕ → ℕ → Turn → Type 0
 Turns left_before left_after kept_before kept_after ends_before ends_now faults_before faults_now (Answered result) =
-    ReadsHead left_before left_after kept_before kept_after result × HasCauses ends_before ends_now faults_before faults_now result
+    AnswersTurn left_before left_after kept_before kept_after ends_before ends_now faults_before faults_now result
 Turns left_before left_after kept_before kept_after ends_before ends_now faults_before faults_now More =
-    (taken : List ℕ) × Consumes left_before left_after taken × (kept_after ≡ kept_before ++ taken)
-    × (length kept_before < length kept_after) × (length kept_before < most)
+    Grows left_before left_after kept_before kept_after

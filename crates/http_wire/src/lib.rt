@@ -9,8 +9,9 @@
 //! The head that is read is that of all the bytes, whatever the pieces in which they came and whatever follows, by the
 //! grammar of the crate `httparse`; the bytes past it are kept. A head is refused as bad exactly where no continuation of the
 //! bytes is one, as another version and as too large exactly where the first line and the length say so; the end of the
-//! connection and a failed read are told only where the peer's count of them rose. Framing, target and host are given, and
-//! refused, exactly by the definitions of `specs/`. That a refusal is told before a further byte is read is tested.
+//! connection and a failed read are told only where the peer's count of them rose. A head and a refusal are told as soon as the bytes
+//! show them: no read begins behind either. Framing, target and host are given, and refused, exactly by the definitions of
+//! `specs/`. The room of a [`Rest`] stays within 69,632 bytes.
 //!
 //! # Example
 //! ```
@@ -35,6 +36,8 @@ mod list;
 mod parse;
 mod reading;
 mod rest;
+mod room;
+mod section;
 mod seen;
 mod target;
 mod text;

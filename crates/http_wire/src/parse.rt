@@ -1,5 +1,6 @@
 //! Parsing a head where it lies.
 ghost use Rattle.std.specs.Prelude.{◌≡◌, ◌==◌, ◌≤◌, All, count_by, length, map, IfOk};
+ghost use Rattle.httparse.specs.Grammar.{IsToken};
 ghost use Rattle.httparse.specs.Spans.{IsHeaderWithin, IsWithin, header_bytes, span_bytes};
 ghost use Rattle.http_wire.specs.Parsed.{IsHeadAt, Parses, pair_of};
 
@@ -7,6 +8,7 @@ use crate::Mem;
 use crate::head::{Field, FieldList, Head};
 use crate::text::{FieldName, Text};
 use http::Method;
+use http::method::MethodError;
 use httparse::Status;
 use httparse::spans::{EMPTY_HEADER_SPAN, HeaderSpan, RequestSpans, parse_request};
 use std::alloc::{AllocError, Global};
@@ -51,12 +53,10 @@ fn head_of(alloc: Global, bytes: &[u8], parts: &RequestSpans, spans: &[HeaderSpa
     requires method { IsWithin parts.now.len parts.now.method }
     requires target { IsWithin parts.now.len parts.now.path }
     requires fields { All (IsHeaderWithin parts.now.len) spans.now }
+    requires token { IsToken (span_bytes bytes.now parts.now.method) }
     ensures { IfOk result (IsHeadAt bytes.now parts.now spans.now) }
 {
-    // A parsed method is a token, so that only memory can be wanting.
-    let Ok(method) = Method::from_bytes(alloc, parts.method.of(bytes)) else {
-        return Err(AllocError);
-    };
+    let method = method_of(alloc, parts.method.of(bytes))?;
     let target = Text::of(Vec::from_slice(alloc, parts.path.of(bytes))?);
     let fields = fields_of(alloc, bytes, spans)?;
     Ok(Head {
@@ -65,6 +65,18 @@ fn head_of(alloc: Global, bytes: &[u8], parts: &RequestSpans, spans: &[HeaderSpa
         version: parts.version,
         fields,
     })
+}
+
+/// The method of this name, a token.
+fn method_of(alloc: Global, token: &[u8]) -> Mem<Method>
+    requires { IsToken token.now }
+    ensures { IfOk result (λ method. method ≡ token.now) }
+{
+    match Method::from_bytes(alloc, token) {
+        Ok(method) => Ok(method),
+        Err(MethodError::OutOfMemory) => Err(AllocError),
+        Err(MethodError::Invalid) => unreachable!(),
+    }
 }
 
 /// The fields whose names and values the spans cover.

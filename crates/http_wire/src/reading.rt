@@ -1,8 +1,9 @@
 //! Reading the head of a request.
 ghost use Rattle.std.specs.Prelude.{◌≡◌, ◌≢◌, ◌<◌, ◌≤◌, Err, length};
 ghost use Rattle.std.specs.Io.KnownBytes.{Keeps};
-ghost use Rattle.http_wire.specs.Heads.{most};
-ghost use Rattle.http_wire.specs.Reading.{Answers, HasCauses, Looks, ReadsHead, Turns};
+ghost use Rattle.http_wire.specs.Heads.{IsUnfinished};
+ghost use Rattle.http_wire.specs.Places.{StandsAt};
+ghost use Rattle.http_wire.specs.Reading.{Answers, HasCauses, Looks, ReadsHead, Trusts, Turns};
 
 use crate::first_line::behind_empty_lines;
 use crate::head::Head;
@@ -78,8 +79,10 @@ enum Turn {
 
 /// Looks at the bytes where it is due, and reads once where they show no answer.
 fn take_turn<P: Peer>(alloc: Global, peer: &mut P, rest: &mut Rest, watch: &mut Watch) -> Turn
+    requires { Trusts watch.old rest.old }
     ensures bytes { Turns (P.left peer.old) (P.left peer.new) rest.old rest.new
         (P.ends peer.old) (P.ends peer.new) (P.read_faults peer.old) (P.read_faults peer.new) result }
+    ensures trusts { result ≡ Turn.More → Trusts watch.new rest.new }
     ensures ends { P.ends peer.old ≤ P.ends peer.new }
     ensures faults { P.read_faults peer.old ≤ P.read_faults peer.new }
     ensures others { (Keeps (P.given peer.old) (P.given peer.new))
@@ -97,9 +100,11 @@ fn take_turn<P: Peer>(alloc: Global, peer: &mut P, rest: &mut Rest, watch: &mut 
 
 /// Reads once behind the bytes of an unfinished head.
 fn read_once<P: Peer>(alloc: Global, peer: &mut P, rest: &mut Rest, watch: &mut Watch) -> Turn
-    requires { length rest.old < most }
+    requires stands { StandsAt watch.old.progress rest.old }
+    requires unfinished { IsUnfinished rest.old }
     ensures bytes { Turns (P.left peer.old) (P.left peer.new) rest.old rest.new
         (P.ends peer.old) (P.ends peer.new) (P.read_faults peer.old) (P.read_faults peer.new) result }
+    ensures trusts { result ≡ Turn.More → Trusts watch.new rest.new }
     ensures ends { P.ends peer.old ≤ P.ends peer.new }
     ensures faults { P.read_faults peer.old ≤ P.read_faults peer.new }
     ensures others { (Keeps (P.given peer.old) (P.given peer.new))

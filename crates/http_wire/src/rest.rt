@@ -1,58 +1,59 @@
 //! The bytes that were read past a head.
-ghost use Rattle.std.specs.Prelude.{◌≡◌, ◌≤◌, ◌<◌, [], ◌++◌, drop, length, vec_len, IfOk, OnOk, OnErr, Ok, Err};
+ghost use Rattle.std.specs.Prelude.{◌≡◌, ◌≤◌, ◌<◌, [], ◌++◌, drop, length, IfOk, OnOk, OnErr, Ok, Err, IsTrue};
 ghost use Rattle.std.specs.Io.KnownBytes.{Keeps};
-ghost use Rattle.line_base.specs.Counts.{Rose};
-ghost use Rattle.http_wire.specs.Rest.{Fills};
+ghost use Rattle.line_base.specs.Counts.{HasCause, CountsEnds, Rose};
+ghost use Rattle.http_wire.specs.Heads.{most, most_piece};
+ghost use Rattle.http_wire.specs.Rest.{Fills, Receives};
 
 use crate::Mem;
-use line_base::Peer;
-use std::alloc::Global;
+use crate::room::{BODY_ROOM, HEAD_PIECE, MOST_ROOM, Room};
+use line_base::{Dialer, Failed, Peer};
+use std::alloc::{AllocError, Global};
 use std::marker::Model;
-
-/// How many bytes one read asks for at most, and the first room of a [`Rest`].
-const PIECE: usize = 4096;
 
 /// Bytes that were read from a connection and not used yet: what lies past a head, or the front of one that has not
 /// ended. Contracts see it as the list of them.
+///
+/// They lie in one room, in which a connection's reads go straight behind them. It has 16,384 bytes from the start, which is all
+/// that bodies use, grows where an unfinished head needs more, and never passes 69,632 bytes, however many heads come through it.
 #[derive(Debug, Drop)]
 pub struct Rest {
-    bytes: Vec<u8>,
-    at: usize,
+    room: Room,
 }
 
 impl Model for Rest {
-    ghost use Rattle.std.specs.Prelude.{List, ℕ, drop, ◌≤◌, vec_len};
+    ghost use Rattle.std.specs.Prelude.{List, ℕ};
+    ghost use Rattle.http_wire.specs.Rest.{held};
 
     ghost Value = { List ℕ };
 
-    ghost view = { λ r. drop r.at r.bytes.items };
-
-    ghost invariant = { λ r. r.at ≤ vec_len r.bytes };
+    ghost view = { λ r. held r.room };
 }
 
 /// Why no bytes could be read.
 #[derive(Clone, Copy, Debug, PartialEq, Eq)]
 pub enum FillFault {
-    /// The peer's count of read faults rose.
+    /// The count of read faults rose.
     ReadFault,
     /// There was no memory for them.
     OutOfMemory,
 }
 
 impl Rest {
-    /// No bytes, with room for those of one read.
+    /// No bytes, with room for 16,384.
     pub fn room(alloc: Global) -> Mem<Rest>
         ensures { IfOk result (λ rest. rest ≡ []) }
     {
-        let bytes = Vec::with_capacity(alloc, PIECE)?;
-        Ok(Rest { bytes, at: 0 })
+        Ok(Rest {
+            room: Room::empty(alloc)?,
+        })
     }
 
     /// The bytes, the oldest first.
     pub fn kept(&self) -> &[u8]
         ensures { result.now ≡ self.now }
     {
-        &self.bytes[self.at..]
+        self.room.held()
     }
 
     /// Takes the first bytes away, in no time.
@@ -60,36 +61,36 @@ impl Rest {
         requires { n ≤ length self.old }
         ensures { self.new ≡ drop n self.old }
     {
-        self.at += n;
+        self.room.skip(n);
     }
 
-    /// Puts bytes behind the others. An `Err` changes nothing.
+    /// Takes all bytes away, in no time.
+    pub fn clear(&mut self)
+        ensures { self.new ≡ [] }
+    {
+        let count = self.kept().len();
+        self.skip(count);
+    }
+
+    /// Puts bytes behind the others. An `Err` changes nothing: there was no memory, or more than 69,632 bytes would be kept.
     pub fn add(&mut self, bytes: &[u8]) -> Mem<()>
         ensures ok { OnOk result (self.new ≡ self.old ++ bytes.now) }
         ensures err { OnErr result (self.new ≡ self.old) }
     {
-        self.compact();
-        self.bytes.extend_from_slice(bytes)?;
-        Ok(())
-    }
-
-    /// Moves the bytes to the front of their room, over those that were skipped.
-    fn compact(&mut self)
-        ensures { self.new ≡ self.old }
-    {
-        if self.at == 0 {
-            return;
+        if bytes.len() > MOST_ROOM - self.kept().len() {
+            return Err(AllocError);
         }
-        let count = self.bytes.len() - self.at;
-        self.bytes.copy_within(self.at.., 0);
-        self.bytes.truncate(count);
-        self.at = 0;
+        self.room.make(bytes.len())?;
+        self.room.put(bytes);
+        Ok(())
     }
 
     /// Reads once from a peer, up to 4,096 bytes, and gives their number: 0 is the end. An `Err` changes nothing, since
     /// the room for the bytes is made first.
     pub fn fill<P: Peer>(&mut self, peer: &mut P) -> Result<usize, FillFault>
+        requires { length self.old < most }
         ensures bytes { Fills (P.left peer.old) (P.left peer.new) self.old self.new result }
+        ensures short { IfOk result (λ n. n ≤ most_piece) }
         ensures ended { result ≡ Ok 0 → Rose (P.ends peer.old) (P.ends peer.new) }
         ensures going { IfOk result (λ n. 0 < n → P.ends peer.new ≡ P.ends peer.old) }
         ensures ends { P.ends peer.old ≤ P.ends peer.new }
@@ -99,17 +100,64 @@ impl Rest {
         ensures others { (Keeps (P.given peer.old) (P.given peer.new))
             × (P.write_faults peer.new ≡ P.write_faults peer.old) }
     {
-        self.compact();
-        if self.bytes.reserve(PIECE).is_err() {
+        if self.room.make(HEAD_PIECE).is_err() {
             return Err(FillFault::OutOfMemory);
         }
-        let mut piece = [0; PIECE];
-        match peer.read(&mut piece) {
-            Ok(count) => match self.bytes.extend_from_slice(&piece[..count]) {
-                Ok(()) => Ok(count),
-                Err(_) => Err(FillFault::OutOfMemory),
-            },
+        match self.room.read(peer, HEAD_PIECE) {
+            Ok(count) => Ok(count),
             Err(_) => Err(FillFault::ReadFault),
         }
+    }
+
+    /// Reads once from a peer, into the room behind the others, so that at most 16,384 bytes are kept then, and gives their number: 0
+    /// is the end. It takes no memory. An `Err` changes nothing.
+    pub fn pull<P: Peer>(&mut self, peer: &mut P) -> Result<usize, Failed>
+        requires { length self.old < 16384 }
+        ensures bytes { Fills (P.left peer.old) (P.left peer.new) self.old self.new result }
+        ensures most { length self.new ≤ 16384 }
+        ensures cause { HasCause (P.read_faults peer.old) (P.read_faults peer.new) result }
+        ensures end { CountsEnds (P.ends peer.old) (P.ends peer.new) result 1 }
+        ensures others { (Keeps (P.given peer.old) (P.given peer.new))
+            × (P.write_faults peer.new ≡ P.write_faults peer.old) }
+    {
+        let most = BODY_ROOM - self.kept().len();
+        self.room.move_to_front();
+        self.room.read(peer, most)
+    }
+
+    /// Receives once from a dialer, as [`Rest::fill`] reads from a peer. 0 is the end.
+    pub fn fill_from<D: Dialer>(&mut self, dialer: &mut D) -> Result<usize, FillFault>
+        requires open_ { IsTrue (D.is_open dialer.old) }
+        requires few { length self.old < most }
+        ensures bytes { Receives (D.left dialer.old) (D.left dialer.new) (D.log dialer.old) (D.log dialer.new)
+            self.old self.new result }
+        ensures short { IfOk result (λ n. n ≤ most_piece) }
+        ensures fault { result ≡ Err FillFault.ReadFault → Rose (D.faults dialer.old) (D.faults dialer.new) }
+        ensures faults { D.faults dialer.old ≤ D.faults dialer.new }
+        ensures stays { D.is_open dialer.new ≡ D.is_open dialer.old }
+    {
+        if self.room.make(HEAD_PIECE).is_err() {
+            return Err(FillFault::OutOfMemory);
+        }
+        match self.room.receive(dialer, HEAD_PIECE) {
+            Ok(count) => Ok(count),
+            Err(_) => Err(FillFault::ReadFault),
+        }
+    }
+
+    /// Receives once from a dialer, as [`Rest::pull`] reads from a peer: into the room behind the others, so that at most 16,384 bytes
+    /// are kept then, with no memory. 0 is the end. An `Err` changes nothing.
+    pub fn pull_from<D: Dialer>(&mut self, dialer: &mut D) -> Result<usize, Failed>
+        requires open_ { IsTrue (D.is_open dialer.old) }
+        requires few { length self.old < 16384 }
+        ensures bytes { Receives (D.left dialer.old) (D.left dialer.new) (D.log dialer.old) (D.log dialer.new)
+            self.old self.new result }
+        ensures most { length self.new ≤ 16384 }
+        ensures cause { HasCause (D.faults dialer.old) (D.faults dialer.new) result }
+        ensures stays { D.is_open dialer.new ≡ D.is_open dialer.old }
+    {
+        let most = BODY_ROOM - self.kept().len();
+        self.room.move_to_front();
+        self.room.receive(dialer, most)
     }
 }

@@ -187,6 +187,69 @@ fn a_refusal_is_told_at_its_byte(rt: HostRuntime) -> Result<(), Fail> {
     Ok(())
 }
 
+/// A peer that gives these bytes at once, or none of them, and whose next read fails.
+fn peer_that_fails(alloc: Global, bytes: &[u8]) -> Result<MemPeer, AllocError> {
+    let failing = Vec::from_elem(alloc, u64::from(!bytes.is_empty()), 1)?;
+    let source = MemSource::of(Vec::from_slice(alloc, bytes)?, Vec::new(alloc), failing);
+    Ok(MemPeer::of(source, MemSink::of(alloc, Vec::new(alloc), Vec::new(alloc))))
+}
+
+#[test]
+fn a_head_is_told_before_the_next_read(rt: HostRuntime) -> Result<(), Fail> {
+    let alloc = rt.alloc();
+    // What is kept, and what comes.
+    let rows = [
+        ("", "GET / HTTP/1.1\r\nHost: a\r\n\r\n"),
+        ("", "GET / HTTP/1.1\nHost: a\n\n"),
+        ("", "\r\nGET / HTTP/1.1\r\n\r\n"),
+        ("GET / HTTP/1.1\r\nHost: a\r\n\r\n", ""),
+        ("GET / HTTP/1.1\nHost: a\n\n", ""),
+        ("GET / HTTP/1.1\r\nHost: a\r\n\r", "\n"),
+        ("GET / HTTP/1.1\nHost: a\n", "\n"),
+        ("GET / HTT", "P/1.1\nHost: a\n\r\n"),
+    ];
+    for (kept, comes) in &rows {
+        let mut peer = peer_that_fails(alloc, comes.as_bytes())?;
+        let mut rest = Rest::room(alloc)?;
+        rest.add(kept.as_bytes())?;
+        assert_eq!(rt;
+            read_request_head(alloc, &mut peer, &mut rest).err(),
+            None,
+            "{kept:?} {comes:?}"
+        );
+        assert_eq!(rt; peer.source().faults(), 0);
+    }
+    Ok(())
+}
+
+#[test]
+fn many_heads_come_through_one_room(rt: HostRuntime) -> Result<(), Fail> {
+    let alloc = rt.alloc();
+    let heads = [
+        "PROPPATCH /a HTTP/1.1\r\nHost: a\r\n\r\n",
+        "VERSION-CONTROLLED-AT /bc HTTP/1.1\nHost: bc\n\n",
+        "\r\nX /def HTTP/1.0\r\nA: 1\r\nB: 2\r\nC: 3\r\n\r\n",
+    ];
+    let methods = ["PROPPATCH", "VERSION-CONTROLLED-AT", "X"];
+    let mut bytes = Vec::new(alloc);
+    let mut sizes = Vec::new(alloc);
+    for turn in 0..3000usize {
+        bytes.extend_from_slice(heads[turn % 3].as_bytes())?;
+        sizes.push(1 + turn % 97)?;
+    }
+    let mut peer = peer_of(alloc, bytes.as_slice(), sizes)?;
+    let mut rest = Rest::room(alloc)?;
+    for turn in 0..3000usize {
+        let head = read_request_head(alloc, &mut peer, &mut rest).map_err(|end| Fail::from(end))?;
+        assert_eq!(rt; head.method.as_str(), methods[turn % 3]);
+    }
+    assert_eq!(rt;
+        read_request_head(alloc, &mut peer, &mut rest).err(),
+        Some(HeadEnd::Ended)
+    );
+    Ok(())
+}
+
 #[test]
 fn a_failed_read_keeps_what_came(rt: HostRuntime) -> Result<(), Fail> {
     let alloc = rt.alloc();
@@ -218,8 +281,21 @@ fn bytes_past_a_head_are_kept(rt: HostRuntime) -> Result<(), Fail> {
     assert_eq!(rt; rest.kept(), b"bcd".as_slice());
     let mut peer = peer_of(alloc, b"ef", Vec::new(alloc))?;
     assert_eq!(rt; rest.fill(&mut peer), Ok(2));
-    assert_eq!(rt; rest.fill(&mut peer), Ok(0));
     assert_eq!(rt; rest.kept(), b"bcdef".as_slice());
+    assert_eq!(rt; rest.fill(&mut peer), Ok(0));
+    assert_eq!(rt; rest.pull(&mut peer), Ok(0));
+    assert_eq!(rt; rest.kept(), b"bcdef".as_slice());
+    let most = Vec::from_elem(alloc, b'x', 69627)?;
+    rest.add(most.as_slice())?;
+    assert_eq!(rt; rest.kept().len(), 69632);
+    assert!(rt; rest.add(b"y").is_err());
+    rest.skip(69000);
+    assert_eq!(rt; rest.kept().len(), 632);
+    let mut long = peer_of(alloc, most.as_slice(), Vec::new(alloc))?;
+    assert_eq!(rt; rest.pull(&mut long), Ok(15752));
+    assert_eq!(rt; rest.kept().len(), 16384);
+    rest.clear();
+    assert_eq!(rt; rest.pull(&mut long), Ok(16384));
     Ok(())
 }
 

@@ -1,120 +1,144 @@
 //! Where bytes that come in pieces may show a head or a refusal of one.
+ghost use Rattle.std.specs.Prelude.{◌≡◌, ℕ, List, [], ◌∷◌, ◌++◌, false};
+ghost use Rattle.http_wire.specs.Heads.{IsOpen};
+ghost use Rattle.http_wire.specs.Places.{is_at_end, is_in_fields, is_news, Advances, Follows, StandsAt};
 
-/// What the next byte of a head belongs to.
+use crate::section::Place;
+
+/// How far the bytes of a request's head have come.
 #[derive(Clone, Copy, Debug, PartialEq, Eq)]
-enum Place {
-    /// An empty line before the request line.
+pub(crate) enum Progress {
+    /// In the empty lines before the request line.
     Before,
-    /// The same, behind its carriage return.
+    /// The same, behind a carriage return.
     BeforeReturn,
-    /// The request line.
-    Request,
-    /// A line's first byte.
-    Start,
-    /// A field's name.
-    Name,
-    /// A field's value.
-    Value,
-    /// The line feed of a field.
-    ValueReturn,
-    /// The line feed of the empty line that ends the head.
-    LastReturn,
-    /// Nothing: the bytes before it show the head's end, or that there is none.
-    Shown,
+    /// In the request line.
+    Line,
+    /// In the field lines.
+    Fields(Place),
 }
 
-impl Place {
-    /// The place behind one more byte.
-    fn after(self, byte: u8) -> Place {
+impl Progress {
+    /// How far they have come with one more byte.
+    fn after(self, byte: u8) -> Progress
+        ensures { Advances self byte result }
+    {
         match self {
-            Place::Before => before(byte),
-            Place::BeforeReturn if byte == b'\n' => Place::Before,
-            Place::BeforeReturn | Place::Request => request(byte),
-            Place::Start => start(byte),
-            Place::Name if byte == b':' => Place::Value,
-            Place::Name if is_token_byte(byte) => Place::Name,
-            Place::Value => value(byte),
-            Place::ValueReturn if byte == b'\n' => Place::Start,
-            _ => Place::Shown,
+            Progress::Before => before(byte),
+            Progress::BeforeReturn => before_return(byte),
+            Progress::Line => line(byte),
+            Progress::Fields(place) => Progress::Fields(place.after(byte)),
+        }
+    }
+
+    /// Whether the request line has ended.
+    fn is_in_fields(self) -> bool
+        ensures { result ≡ is_in_fields self }
+    {
+        matches!(self, Progress::Fields(_))
+    }
+
+    /// Whether the bytes are to be looked at where they come from here to `next`.
+    fn is_news(self, next: Progress) -> bool
+        ensures { result ≡ is_news self next }
+    {
+        (next.is_in_fields() && !self.is_in_fields()) || next.is_at_end()
+    }
+
+    /// Whether they show the head's end, or that there is none.
+    fn is_at_end(self) -> bool
+        ensures { result ≡ is_at_end self }
+    {
+        match self {
+            Progress::Fields(place) => place.is_over(),
+            _ => false,
         }
     }
 }
 
-/// The place behind a byte that stands before the request line.
-fn before(byte: u8) -> Place {
-    match byte {
-        b'\n' => Place::Before,
-        b'\r' => Place::BeforeReturn,
-        _ => Place::Request,
+/// How far bytes have come, by one that stands before the request line.
+fn before(byte: u8) -> Progress
+    ensures { Advances Progress.Before byte result }
+{
+    if byte == b'\n' {
+        Progress::Before
+    } else if byte == b'\r' {
+        Progress::BeforeReturn
+    } else {
+        Progress::Line
     }
 }
 
-/// The place behind a byte of the request line.
-fn request(byte: u8) -> Place {
-    match byte {
-        b'\n' => Place::Start,
-        _ => Place::Request,
+/// The same, behind a carriage return, which is the request line's first byte where no line feed follows.
+fn before_return(byte: u8) -> Progress
+    ensures { Advances Progress.BeforeReturn byte result }
+{
+    if byte == b'\n' {
+        Progress::Before
+    } else {
+        Progress::Line
     }
 }
 
-/// The place behind a line's first byte.
-fn start(byte: u8) -> Place {
-    match byte {
-        b'\r' => Place::LastReturn,
-        _ if is_token_byte(byte) => Place::Name,
-        _ => Place::Shown,
+/// How far bytes have come, by one of the request line.
+fn line(byte: u8) -> Progress
+    ensures { Advances Progress.Line byte result }
+{
+    if byte == b'\n' {
+        Progress::Fields(Place::Start)
+    } else {
+        Progress::Line
     }
 }
 
-/// The place behind a byte of a value.
-fn value(byte: u8) -> Place {
-    match byte {
-        b'\n' => Place::Start,
-        b'\r' => Place::ValueReturn,
-        b'\t' | b' '..=b'~' | 0x80..=0xff => Place::Value,
-        _ => Place::Shown,
-    }
-}
-
-/// Whether the byte may stand in a field's name (RFC 9110 section 5.6.2).
-fn is_token_byte(byte: u8) -> bool {
-    byte.is_ascii_alphanumeric() || b"!#$%&'*+-.^_`|~".contains(&byte)
-}
-
-/// Follows bytes as they come, each once, and says when it is worth to look at all of them: where the request line has
-/// ended, where the head has, and at a byte that can stand in no head.
-///
-/// It decides nothing, and no clause speaks of it: what it finds is looked at again. It is there so that bytes that come
-/// one by one are not parsed from the front at each of them, and a refusal is still told at once.
+/// Follows bytes as they come, each once, and says when they are to be looked at: where the request line has ended, where the
+/// head has, and at a byte that can stand in no head. So bytes that come one by one are not parsed from the front at each of
+/// them, and a head and a refusal are told at once.
 #[derive(Debug, Drop)]
 pub(crate) struct Watch {
-    place: Place,
+    progress: Progress,
     due: bool,
 }
 
 impl Watch {
     /// A watch that has followed nothing.
-    pub(crate) fn new() -> Watch {
+    pub(crate) fn new() -> Watch
+        ensures { (result.progress ≡ Progress.Before) × (result.due ≡ false) }
+    {
         Watch {
-            place: Place::Before,
+            progress: Progress::Before,
             due: false,
         }
     }
 
-    /// Follows more bytes.
-    pub(crate) fn follow(&mut self, bytes: &[u8]) {
-        self.due = false;
+    /// Follows more bytes, behind bytes that show no head and no refusal.
+    pub(crate) fn follow(&mut self, bytes: &[u8])
+        ensures { (before : List ℕ) → StandsAt self.old.progress before → IsOpen before
+            → Follows before (before ++ bytes.now) self.new }
+    {
+        self.due = self.progress.is_at_end();
         for byte in bytes {
-            let next = self.place.after(*byte);
-            if next == Place::Shown || (self.place == Place::Request && next == Place::Start) {
-                self.due = true;
+            if self.progress.is_at_end() {
+                return;
             }
-            self.place = next;
+            self.step(*byte);
         }
     }
 
-    /// Whether it is worth to look at the bytes, for what was followed last.
-    pub(crate) fn is_due(&self) -> bool {
+    /// Follows one more byte.
+    fn step(&mut self, byte: u8)
+        requires { is_at_end self.old.progress ≡ false }
+        ensures { (before now : List ℕ) → Follows before now self.old → Follows before (now ++ byte ∷ []) self.new }
+    {
+        let next = self.progress.after(byte);
+        self.due |= self.progress.is_news(next);
+        self.progress = next;
+    }
+
+    /// Whether the bytes are to be looked at, for what was followed last.
+    pub(crate) fn is_due(&self) -> bool
+        ensures { result ≡ self.now.due }
+    {
         self.due
     }
 }

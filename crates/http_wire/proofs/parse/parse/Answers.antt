@@ -1,5 +1,5 @@
 use Rattle.std.proofs.Common.{Err, ap, ◌∙◌}
-use Rattle.http_wire.proofs.Room.{refuses}
+use Rattle.http_wire.proofs.Spans.{refuses}
 use Rattle.http_wire.proofs.parse.parse.Goals as goal
 
 pub returns : goal.returns

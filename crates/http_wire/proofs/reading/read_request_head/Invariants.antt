@@ -1,11 +1,13 @@
 use Rattle.std.proofs.Common.{◌≡◌, ◌≤◌, ◌-◌, List, ℕ, ◌++◌, length}
 use Rattle.std.specs.Io.KnownBytes.{Consumes, Keeps}
 use Rattle.http_wire.specs.Heads.{most}
+use Rattle.http_wire.specs.Reading.{IsPrompt, Trusts}
 use Rattle.http_wire.proofs.reading.read_request_head.Given as goal
 
 abbrev pub invariant-loop-answer : goal.invariant-loop-answer
 invariant-loop-answer g l = record {
-  read : (taken : List ℕ) × Consumes (g.P.Peer.left l.fn.peer) (g.P.Peer.left l.peer) taken × (l.rest ≡ l.fn.rest ++ taken);
+  read : (taken : List ℕ) × Consumes (g.P.Peer.left l.fn.peer) (g.P.Peer.left l.peer) taken × IsPrompt l.fn.rest taken × (l.rest ≡ l.fn.rest ++ taken);
+  trusts : Trusts l.watch l.rest;
   ends : g.P.Peer.ends l.fn.peer ≤ g.P.Peer.ends l.peer;
   faults : g.P.Peer.read_faults l.fn.peer ≤ g.P.Peer.read_faults l.peer;
   given : Keeps (g.P.Peer.given l.fn.peer) (g.P.Peer.given l.peer);

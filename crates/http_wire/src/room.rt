@@ -1,0 +1,145 @@
+//! The room that a connection's reads go into.
+ghost use Rattle.std.specs.Prelude.{◌≡◌, ◌+◌, ◌≤◌, ◌<◌, [], ◌++◌, drop, length, vec_len, IfOk, OnOk, IsTrue};
+
+use crate::Mem;
+use line_base::{Dialer, Failed, Peer};
+use std::alloc::Global;
+
+/// The room that a connection begins with, and all that a body needs.
+pub(crate) const BODY_ROOM: usize = 16384;
+
+/// The most bytes that are read at once for a head.
+pub(crate) const HEAD_PIECE: usize = 4096;
+
+/// The greatest room: the longest unfinished head, and one more piece behind it.
+pub(crate) const MOST_ROOM: usize = 69632;
+
+/// Bytes in a room: those from `at` to `end` are held, and reads go behind them. Nothing is moved but to make room.
+#[derive(Debug, Drop)]
+pub(crate) struct Room {
+    bytes: Vec<u8>,
+    at: usize,
+    end: usize,
+    ghost within: { (at ≤ end) × (end ≤ vec_len bytes) × (16384 ≤ vec_len bytes) × (vec_len bytes ≤ 69632) },
+}
+
+impl Room {
+    ghost use Rattle.std.specs.Io.KnownBytes.{Keeps};
+    ghost use Rattle.line_base.specs.Counts.{HasCause, CountsEnds};
+    ghost use Rattle.http_wire.specs.Rest.{held, Fills, Receives};
+
+    /// A room that holds nothing.
+    pub(crate) fn empty(alloc: Global) -> Mem<Room>
+        ensures { IfOk result (λ room. held room ≡ []) }
+    {
+        let bytes = Vec::from_elem(alloc, 0u8, BODY_ROOM)?;
+        Ok(Room {
+            bytes,
+            at: 0,
+            end: 0,
+        })
+    }
+
+    /// The bytes that are held.
+    pub(crate) fn held(&self) -> &[u8]
+        ensures { result.now ≡ held self.now }
+    {
+        &self.bytes[self.at..self.end]
+    }
+
+    /// Lets the first bytes go, in no time.
+    pub(crate) fn skip(&mut self, n: usize)
+        requires { n ≤ length (held self.old) }
+        ensures { held self.new ≡ drop n (held self.old) }
+    {
+        self.at += n;
+    }
+
+    /// Makes room for so many bytes behind those that are held: over those that were let go first, and then in more memory.
+    pub(crate) fn make(&mut self, more: usize) -> Mem<()>
+        requires { length (held self.old) + more ≤ 69632 }
+        ensures ok { OnOk result (self.new.end + more ≤ vec_len self.new.bytes) }
+        ensures same { held self.new ≡ held self.old }
+    {
+        if self.bytes.len() - self.end >= more {
+            return Ok(());
+        }
+        self.move_to_front();
+        let wanted = self.end + more;
+        if self.bytes.len() < wanted {
+            let doubled = 2 * self.bytes.len();
+            self.bytes.resize(wanted.max(doubled.min(MOST_ROOM)), 0)?;
+        }
+        Ok(())
+    }
+
+    /// Moves the bytes that are held to the front.
+    pub(crate) fn move_to_front(&mut self)
+        ensures same { held self.new ≡ held self.old }
+        ensures front { (self.new.at ≡ 0) × (self.new.end ≡ length (held self.old)) }
+        ensures room { vec_len self.new.bytes ≡ vec_len self.old.bytes }
+    {
+        if self.at == 0 {
+            return;
+        }
+        self.bytes.copy_within(self.at..self.end, 0);
+        self.end -= self.at;
+        self.at = 0;
+    }
+
+    /// Puts bytes behind those that are held.
+    pub(crate) fn put(&mut self, more: &[u8])
+        requires { self.old.end + length more.now ≤ vec_len self.old.bytes }
+        ensures { held self.new ≡ held self.old ++ more.now }
+    {
+        let end = self.end + more.len();
+        self.bytes[self.end..end].copy_from_slice(more);
+        self.end = end;
+    }
+
+    /// Reads once from a peer behind the bytes that are held, up to so many bytes.
+    pub(crate) fn read<P: Peer>(&mut self, peer: &mut P, most: usize) -> Result<usize, Failed>
+        requires some { 0 < most }
+        requires room { self.old.end + most ≤ vec_len self.old.bytes }
+        ensures bytes { Fills (P.left peer.old) (P.left peer.new) (held self.old) (held self.new) result }
+        ensures short { IfOk result (λ n. n ≤ most) }
+        ensures cause { HasCause (P.read_faults peer.old) (P.read_faults peer.new) result }
+        ensures end { CountsEnds (P.ends peer.old) (P.ends peer.new) result most }
+        ensures others { (Keeps (P.given peer.old) (P.given peer.new))
+            × (P.write_faults peer.new ≡ P.write_faults peer.old) }
+    {
+        let end = self.end + most;
+        match peer.read(&mut self.bytes[self.end..end]) {
+            Ok(count) => {
+                self.end += count;
+                Ok(count)
+            }
+            Err(failed) => Err(failed),
+        }
+    }
+
+    /// Receives once from a dialer behind the bytes that are held, up to so many bytes.
+    pub(crate) fn receive<D: Dialer>(
+        &mut self,
+        dialer: &mut D,
+        most: usize,
+    ) -> Result<usize, Failed>
+        requires open_ { IsTrue (D.is_open dialer.old) }
+        requires some { 0 < most }
+        requires room { self.old.end + most ≤ vec_len self.old.bytes }
+        ensures bytes { Receives (D.left dialer.old) (D.left dialer.new) (D.log dialer.old) (D.log dialer.new)
+            (held self.old) (held self.new) result }
+        ensures short { IfOk result (λ n. n ≤ most) }
+        ensures cause { HasCause (D.faults dialer.old) (D.faults dialer.new) result }
+        ensures stays { D.is_open dialer.new ≡ D.is_open dialer.old }
+    {
+        let end = self.end + most;
+        match dialer.recv(&mut self.bytes[self.end..end]) {
+            Ok(count) => {
+                self.end += count;
+                Ok(count)
+            }
+            Err(failed) => Err(failed),
+        }
+    }
+}
