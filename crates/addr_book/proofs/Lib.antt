@@ -8,6 +8,7 @@ pub mod Lines
 pub mod Lookups
 pub mod Maps
 pub mod SlotLaws
+pub mod Places
 pub mod SlotSteps
 pub mod Seating
 pub mod Sound

@@ -1,0 +1,3 @@
+pub mod Finding
+pub mod Lengths
+pub mod Rising

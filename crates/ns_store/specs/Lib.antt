@@ -1,0 +1,6 @@
+pub mod Contents
+pub mod Namespace
+pub mod Refusal
+pub mod Spaces
+pub mod Store
+pub mod Versions
