@@ -1,5 +1,5 @@
 -- What each status shows.
-use Rattle.std.proofs.Common.{◌≡◌, ℕ, List, length, length-append, refl, sym, ap, subst, ◌∙◌, arith, true, false, inl, inr, lit<}
+use Rattle.std.proofs.Common.{◌≡◌, ℕ, ◌<◌, List, length, length-append, refl, sym, ap, subst, ◌∙◌, arith, true, false, inl, inr, lit<}
 use Rattle.std.specs.Prelude.{Option, None, Some, ◌⊎◌, IsSome, Contains}
 use Rattle.std.specs.Io.KnownBytes.{Consumes}
 use Rattle.linker.specs.Replay.{replay_of}
@@ -30,7 +30,7 @@ long_course words old new (words_refused place) some long (inr took) = absurd to
 long_course words old new read_failed some long (inr took) = absurd (omega (arith, taken_length old.left new.left long.0 took.1.1.0 some long.1 took.1.1.1, long.2, took.1.1.2))
 long_course words old new too_long some long (inr took) = refl
 long_course words old new (script_read script) some long (inr took) = absurd (omega (arith, taken_length old.left new.left long.0 script some long.1 took.1.0, long.2, took.1.2))
-long_course words old new unread some long (inr took) = absurd (omega (arith, taken_length old.left new.left long.0 took.1.0 some long.1 took.1.1, long.2, took.1.2))
+long_course words old new unread some long (inr took) = absurd (omega (arith, taken_length old.left new.left long.0 took.1.0.0 some long.1 took.1.0.1, long.2, took.1.0.2))
 
 pub long_cause : (words : List (List ℕ)) (old new : Input) (old_out new_out : Output) (status : ℕ) → Ran words old new old_out new_out status → IsSome old.left → ReadsLong old new → (status ≡ 8) ⊎ Yields status old_out new_out
 long_cause words old new old_out new_out status ran some long = ended (ended_code ran.0 old_out new_out status ran.2)
@@ -53,3 +53,28 @@ known_status words old new old_out new_out status ran = ended (ended_code ran.0 
     ended (inl is) = subst (Contains statuses) (sym is) (course_status ran.0)
     ended (inr (inl memory)) = subst (Contains statuses) (sym memory) (5, lit< tt, refl)
     ended (inr (inr failed)) = subst (Contains statuses) (sym failed.0) (4, lit< tt, refl)
+
+-- the output's count rose only where a write failed
+pub write_cause : (words : List (List ℕ)) (old new : Input) (old_out new_out : Output) (status : ℕ) → Ran words old new old_out new_out status → old_out.faults < new_out.faults → status ≡ 5
+write_cause words old new old_out new_out status ran rose = ended ran.2
+  where
+    ended : Ended ran.0 old_out new_out status → status ≡ 5
+    ended (inl whole) = absurd (omega (arith, whole.2, rose))
+    ended (inr (inl short)) = absurd (omega (arith, short.1, rose))
+    ended (inr (inr failed)) = failed.0
+
+-- the input's count rose only where a read failed
+failed_course : (words : List (List ℕ)) (old new : Input) (course : Course) → old.faults < new.faults → Took words old new course → status_of course ≡ 4
+failed_course words old new course rose (inl refused) = absurd (omega (arith, ap (λ (i : Input). i.faults) refused.3, rose))
+failed_course words old new (words_refused place) rose (inr took) = absurd took.1
+failed_course words old new read_failed rose (inr took) = refl
+failed_course words old new too_long rose (inr took) = absurd (omega (arith, took.1.1, rose))
+failed_course words old new (script_read script) rose (inr took) = absurd (omega (arith, took.1.4, rose))
+failed_course words old new unread rose (inr took) = absurd (omega (arith, took.1.1, rose))
+
+pub read_cause : (words : List (List ℕ)) (old new : Input) (old_out new_out : Output) (status : ℕ) → Ran words old new old_out new_out status → old.faults < new.faults → (status ≡ 4) ⊎ Yields status old_out new_out
+read_cause words old new old_out new_out status ran rose = ended (ended_code ran.0 old_out new_out status ran.2)
+  where
+    ended : (status ≡ status_of ran.0) ⊎ Yields status old_out new_out → (status ≡ 4) ⊎ Yields status old_out new_out
+    ended (inl is) = inl (is ∙ failed_course words old new ran.0 rose ran.1)
+    ended (inr yields) = inr yields

@@ -1,14 +1,14 @@
 -- The play of a script: what was written so far, what waits to be written, and what is yet to be played.
-use Rattle.std.proofs.Common.{◌≡◌, ℕ, ◌+◌, ◌≤◌, List, [], ◌∷◌, ◌++◌, drop, append_assoc, sym, ap, subst, ◌∙◌, arith, Bool, true, false, inl, inr}
+use Rattle.std.proofs.Common.{◌≡◌, ℕ, ◌+◌, ◌≤◌, List, [], ◌∷◌, ◌++◌, length, take, drop, append_assoc, refl, sym, ap, subst, ◌∙◌, arith, Bool, true, false, inl, inr}
 use Rattle.std.specs.Prelude.{slice_range, Option}
-use Rattle.std.proofs.lemmas.List.{append-nil}
+use Rattle.std.proofs.lemmas.List.{append-nil, take_at}
 use Rattle.std.specs.Io.KnownBytes.{Appends}
 use Rattle.std.proofs.KnownBytes.{Appends-trans}
 use Rattle.line_base.specs.Counts.{Rose}
 use Rattle.dtab_table.specs.Rules.{Rule}
 use Rattle.linker.specs.Line.{lines_of, line_value}
-use Rattle.linker.specs.Replay.{Played, before, played, line_played}
-use Rattle.linker.specs.Run.{AppendsFront}
+use Rattle.linker.specs.Replay.{Played, before, played, line_played, replay_of}
+use Rattle.linker.specs.Run.{AppendsFront, Begins, script_read}
 use Rattle.linker.specs.declared.player.PlayEnd.{PlayEnd}
 use Rattle.linker.specs.declared.player.PlayEnd.TheVariants.{Done, BadLine, WriteFault, OutOfMemory}
 use Rattle.linker.specs.declared.player.Turn.{Turn}
@@ -29,42 +29,38 @@ pub rose_later : (a b c : ℕ) → a ≤ b → Rose b c → Rose a c
 rose_later a b c later rose = omega arith
 
 -- a play that ends with its last replies
-pub plays_end : (all : Played) (end result : PlayEnd) (a b c : Option (List ℕ)) (f g : ℕ) (written replies rest : List ℕ) → all.0 ≡ written ++ (replies ++ rest)
-    → Appends a b written → Finishes replies end b c f g result → (Appends a c (written ++ replies) → Plays all a c end) → Plays all a c result
-plays_end all end result a b c f g written replies rest is old (inl done) ends =
-    subst (Plays all a c) (sym done.0) (ends (Appends-trans a b c written replies old done.1))
-plays_end all end result a b c f g written replies rest is old (inr failed) ends =
-    subst (Plays all a c) (sym failed.0) (front_of a b c all.0 written replies rest is old failed.2)
+pub plays_end : (script : List ℕ) (end result : PlayEnd) (a b c : Option (List ℕ)) (f g : ℕ) (written replies rest : List ℕ) → (replay_of script).0 ≡ written ++ (replies ++ rest)
+    → Appends a b written → Finishes replies end b c f g result → (Appends a c (written ++ replies) → Plays script a c end) → Plays script a c result
+plays_end script end result a b c f g written replies rest is old (inl done) ends =
+    subst (Plays script a c) (sym done.0) (ends (Appends-trans a b c written replies old done.1))
+plays_end script end result a b c f g written replies rest is old (inr failed) ends =
+    subst (Plays script a c) (sym failed.0) (front_of a b c (replay_of script).0 written replies rest is old failed.2)
 
 pub fault_cause : (end result : PlayEnd) (bytes : List ℕ) (b c : Option (List ℕ)) (e f g : ℕ) → e ≤ f → Finishes bytes end b c f g result → (end ≡ WriteFault → ⊥) → result ≡ WriteFault → Rose e g
 fault_cause end result bytes b c e f g later (inl done) other is = absurd (other (sym done.0 ∙ is))
 fault_cause end result bytes b c e f g later (inr failed) other is = rose_later e f g later failed.1
 
-module _ (all : Played) (written replies piece new_replies : List ℕ) (rules : List Rule) (number : ℕ) (script : List ℕ) (at stop next : ℕ)
-    (line : lines_of (drop at script) ≡ slice_range script at stop ∷ lines_of (drop next script))
-    (same : all ≡ before (written ++ replies) (played rules number (lines_of (drop at script))))
-    (grown : new_replies ≡ replies ++ piece) where
+-- one line more: what was played so far, with its piece behind the replies, is played whatever lines follow
+module _ (all : Played) (written replies piece new_replies : List ℕ) (rules : List Rule) (number : ℕ) (line : List ℕ) (lines : List (List ℕ))
+    (same : all ≡ before (written ++ replies) (played rules number (line ∷ lines))) (grown : new_replies ≡ replies ++ piece) where
   abbrev rest : List Rule → Played
-  rest rules' = played rules' (number + 1) (lines_of (drop next script))
-
-  here : played rules number (lines_of (drop at script)) ≡ line_played (line_value (slice_range script at stop)) rules number rest
-  here = ap (played rules number) line
+  rest rules' = played rules' (number + 1) lines
 
   joined : (end : Played) → before (written ++ replies) (before piece end) ≡ before (written ++ new_replies) end
   joined end =
       ap (λ (xs : List ℕ). (xs, end.1)) (sym (append_assoc (written ++ replies) piece end.0) ∙ ap (λ (xs : List ℕ). xs ++ end.0) (append_assoc written replies piece ∙ ap (λ (xs : List ℕ). written ++ xs) (sym grown)))
 
   -- the script goes on
-  pub goes_on : (rules' : List Rule) (turn : Turn) → turn ≡ Next → Answers (line_value (slice_range script at stop)) rules number rules' piece turn → all ≡ before (written ++ new_replies) (rest rules')
+  pub goes_on : (rules' : List Rule) (turn : Turn) → turn ≡ Next → Answers (line_value line) rules number rules' piece turn → all ≡ before (written ++ new_replies) (rest rules')
   goes_on rules' turn is answers =
-      let told = subst (Answers (line_value (slice_range script at stop)) rules number rules' piece) is answers in
-      same ∙ (ap (before (written ++ replies)) (here ∙ told rest) ∙ joined (rest rules'))
+      let told = subst (Answers (line_value line) rules number rules' piece) is answers in
+      same ∙ (ap (before (written ++ replies)) (told rest) ∙ joined (rest rules'))
 
   -- the line ends it
-  pub stops : (rules' : List Rule) (turn : Turn) → turn ≡ Stop → Answers (line_value (slice_range script at stop)) rules number rules' piece turn → all ≡ (written ++ new_replies, false)
+  pub stops : (rules' : List Rule) (turn : Turn) → turn ≡ Stop → Answers (line_value line) rules number rules' piece turn → all ≡ (written ++ new_replies, false)
   stops rules' turn is answers =
-      let told = subst (Answers (line_value (slice_range script at stop)) rules number rules' piece) is answers in
-      same ∙ (ap (before (written ++ replies)) (here ∙ told rest) ∙ ap (λ (xs : List ℕ). (xs, false)) (append_assoc written replies piece ∙ ap (λ (xs : List ℕ). written ++ xs) (sym grown)))
+      let told = subst (Answers (line_value line) rules number rules' piece) is answers in
+      same ∙ (ap (before (written ++ replies)) (told rest) ∙ ap (λ (xs : List ℕ). (xs, false)) (append_assoc written replies piece ∙ ap (λ (xs : List ℕ). written ++ xs) (sym grown)))
 
 -- a front of the replies that waited is written now
 pub flushed : (all : Played) (written front others replies : List ℕ) (rest : Played) → replies ≡ front ++ others → all ≡ before (written ++ replies) rest → all ≡ before ((written ++ front) ++ others) rest
@@ -75,25 +71,55 @@ flushed all written front others replies rest is same =
 pub at_end : (all : Played) (bytes : List ℕ) → all ≡ before bytes ([], true) → all ≡ (bytes, true)
 at_end all bytes same = same ∙ ap (λ (xs : List ℕ). (xs, true)) (append-nil bytes)
 
-module _ (all : Played) (a b c : Option (List ℕ)) (f g : ℕ) (written replies bytes : List ℕ) (result : PlayEnd) (old : Appends a b written) (same : bytes ≡ replies) where
-  whole : (good : Bool) → all ≡ (written ++ replies, good) → all.0 ≡ written ++ (replies ++ [])
+-- what the lines so far come to, whatever lines follow them
+abbrev pub PlaysSo : List (List ℕ) → List ℕ → List Rule → ℕ → Type 0
+PlaysSo front replies rules number = (more : List (List ℕ)) → played [] 1 (front ++ more) ≡ before replies (played rules number more)
+
+-- the whole script, of which some lines were played
+pub whole_script : (script : List ℕ) (front lines : List (List ℕ)) (replies : List ℕ) (rules : List Rule) (number : ℕ) → lines_of script ≡ front ++ lines → PlaysSo front replies rules number
+    → replay_of script ≡ before replies (played rules number lines)
+whole_script script front lines replies rules number split so = ap (played [] 1) split ∙ so lines
+
+-- the lines so far are the whole replies to the script's first lines
+pub begins_so : (script : List ℕ) (front lines : List (List ℕ)) (replies : List ℕ) (rules : List Rule) (number : ℕ) → lines_of script ≡ front ++ lines → PlaysSo front replies rules number
+    → Begins (script_read script) replies
+begins_so script front lines replies rules number split so = (
+  length front,
+  ap (λ (ls : List (List ℕ)). played [] 1 (take (length front) ls)) split
+      ∙ (ap (played [] 1) (take_at front lines (length front) refl ∙ sym (append-nil front)) ∙ (so [] ∙ ap (λ (xs : List ℕ). (xs, true)) (append-nil replies))),
+)
+
+-- one line more
+pub split_on : (all front lines : List (List ℕ)) (line : List ℕ) (rest : List (List ℕ)) → all ≡ front ++ lines → lines ≡ line ∷ rest → all ≡ (front ++ line ∷ []) ++ rest
+split_on all front lines line rest split is = split ∙ (ap (λ (ls : List (List ℕ)). front ++ ls) is ∙ sym (append_assoc front (line ∷ []) rest))
+
+pub plays_on : (front : List (List ℕ)) (line written replies piece new_replies out others : List ℕ) (rules rules' : List Rule) (number : ℕ) (turn : Turn) → PlaysSo front (written ++ replies) rules number
+    → new_replies ≡ replies ++ piece → new_replies ≡ out ++ others → turn ≡ Next → Answers (line_value line) rules number rules' piece turn
+    → PlaysSo (front ++ line ∷ []) ((written ++ out) ++ others) rules' (number + 1)
+plays_on front line written replies piece new_replies out others rules rules' number turn so grown cut is answers more =
+    flushed (played [] 1 ((front ++ line ∷ []) ++ more)) written out others new_replies (played rules' (number + 1) more) cut
+    (goes_on (played [] 1 ((front ++ line ∷ []) ++ more)) written replies piece new_replies rules number line more
+    (ap (played [] 1) (append_assoc front (line ∷ []) more) ∙ so (line ∷ more)) grown rules' turn is answers)
+
+module _ (script : List ℕ) (a b c : Option (List ℕ)) (f g : ℕ) (written replies bytes : List ℕ) (result : PlayEnd) (old : Appends a b written) (same : bytes ≡ replies) where
+  whole : (good : Bool) → replay_of script ≡ (written ++ replies, good) → (replay_of script).0 ≡ written ++ (replies ++ [])
   whole good is = ap (λ p. p.0) is ∙ ap (λ (xs : List ℕ). written ++ xs) (sym (append-nil replies))
 
-  pub plays_stop : all ≡ (written ++ replies, false) → Finishes bytes BadLine b c f g result → Plays all a c result
+  pub plays_stop : replay_of script ≡ (written ++ replies, false) → Finishes bytes BadLine b c f g result → Plays script a c result
   plays_stop is fin =
-      plays_end all BadLine result a b c f g written replies [] (whole false is) old (rw same at fin)
+      plays_end script BadLine result a b c f g written replies [] (whole false is) old (rw same at fin)
       (λ app. (ap (λ p. p.1) is, subst (Appends a c) (sym (ap (λ p. p.0) is)) app))
 
-  pub plays_done : all ≡ (written ++ replies, true) → Finishes bytes Done b c f g result → Plays all a c result
+  pub plays_done : replay_of script ≡ (written ++ replies, true) → Finishes bytes Done b c f g result → Plays script a c result
   plays_done is fin =
-      plays_end all Done result a b c f g written replies [] (whole true is) old (rw same at fin)
+      plays_end script Done result a b c f g written replies [] (whole true is) old (rw same at fin)
       (λ app. (ap (λ p. p.1) is, subst (Appends a c) (sym (ap (λ p. p.0) is)) app))
 
-  pub plays_short : (rest : Played) → all ≡ before (written ++ replies) rest → Finishes bytes OutOfMemory b c f g result → Plays all a c result
-  plays_short rest is fin =
-      plays_end all OutOfMemory result a b c f g written replies rest.0 (ap (λ p. p.0) is ∙ append_assoc written replies rest.0) old (rw same at fin)
-      (λ app. (written ++ replies, rest.0, ap (λ p. p.0) is, app))
+  pub plays_short : (rest : Played) → replay_of script ≡ before (written ++ replies) rest → Begins (script_read script) (written ++ replies) → Finishes bytes OutOfMemory b c f g result → Plays script a c result
+  plays_short rest is begins fin =
+      plays_end script OutOfMemory result a b c f g written replies rest.0 (ap (λ p. p.0) is ∙ append_assoc written replies rest.0) old (rw same at fin)
+      (λ app. (written ++ replies, rest.0, ap (λ p. p.0) is, app, begins))
 
   -- a front of the replies is written, and then a write fails
-  pub plays_fault : (rest : Played) → all ≡ before (written ++ replies) rest → AppendsFront b c replies → AppendsFront a c all.0
-  plays_fault rest is front = front_of a b c all.0 written replies rest.0 (ap (λ p. p.0) is ∙ append_assoc written replies rest.0) old front
+  pub plays_fault : (rest : Played) → replay_of script ≡ before (written ++ replies) rest → AppendsFront b c replies → AppendsFront a c (replay_of script).0
+  plays_fault rest is front = front_of a b c (replay_of script).0 written replies rest.0 (ap (λ p. p.0) is ∙ append_assoc written replies rest.0) old front

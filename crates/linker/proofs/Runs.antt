@@ -1,34 +1,51 @@
 -- How runs end.
 use Rattle.std.proofs.Common.{◌≡◌, ℕ, ◌≤◌, List, [], ◌++◌, refl, sym, ap, subst, ◌∙◌, arith, inl, inr}
+use Rattle.std.specs.Prelude.{Option, Some, None}
 use Rattle.std.proofs.lemmas.List.{append-nil}
 use Rattle.std.specs.Io.KnownBytes.{Appends}
-use Rattle.std.proofs.KnownBytes.{Appends-trans, Appends-nil}
+use Rattle.std.proofs.KnownBytes.{Appends-trans, Appends-nil, Consumes-nil}
 use Rattle.linker.specs.declared.run.Status.{Status}
 use Rattle.linker.specs.declared.run.Status.TheVariants as status
-use Rattle.linker.specs.Run.{Course, Output, Ended, output_of, status_of, memory_line}
+use Rattle.linker.specs.Run.{Course, words_refused, read_failed, too_long, script_read, unread, Begins, Input, Output, Ended, Ran, faulty_word, output_of, status_of, memory_line}
 use Rattle.linker.specs.Told.{code_of, Tells}
 use Rattle.linker.proofs.Plays.{front_of, rose_later}
 
 -- a course that one last line tells of
 pub tells_end : (course : Course) (line : List ℕ) (end result : Status) (old new : Output) → line ≡ output_of course → code_of end ≡ status_of course
     → Tells line end old new result → Ended course old new (code_of result)
-tells_end course line end result old new is code (inl done) = inl (ap code_of done.0 ∙ code, subst (Appends old.held new.held) is done.1)
+tells_end course line end result old new is code (inl done) = inl (ap code_of done.0 ∙ code, subst (Appends old.held new.held) is done.1, done.2)
 tells_end course line end result old new is code (inr failed) = inr (inr (ap code_of failed.0, failed.1, line, inl is, failed.2))
 
 -- a front of what the course writes was written, and then memory was wanting
-pub tells_memory : (course : Course) (result : Status) (old mid new : Output) (front rest : List ℕ) → output_of course ≡ front ++ rest → Appends old.held mid.held front → old.faults ≤ mid.faults
-    → Tells memory_line status.Memory mid new result → Ended course old new (code_of result)
-tells_memory course result old mid new front rest is given later (inl done) =
-    inr (inl (ap code_of done.0, front ++ memory_line, (front, rest, is, refl), Appends-trans old.held mid.held new.held front memory_line given done.1))
-tells_memory course result old mid new front rest is given later (inr failed) =
+pub tells_memory : (course : Course) (result : Status) (old mid new : Output) (front rest : List ℕ) → output_of course ≡ front ++ rest → Appends old.held mid.held front → mid.faults ≡ old.faults
+    → Begins course front → Tells memory_line status.Memory mid new result → Ended course old new (code_of result)
+tells_memory course result old mid new front rest is given kept begins (inl done) =
+    inr (inl (ap code_of done.0, done.2 ∙ kept, front ++ memory_line, (front, rest, is, refl, begins), Appends-trans old.held mid.held new.held front memory_line given done.1))
+tells_memory course result old mid new front rest is given kept begins (inr failed) =
     inr (inr (
       ap code_of failed.0,
-      rose_later old.faults mid.faults new.faults later failed.1,
+      rose_later old.faults mid.faults new.faults (omega (arith, kept)) failed.1,
       front ++ memory_line,
-      inr (front, rest, is, refl),
+      inr (front, rest, is, refl, begins),
       front_of old.held mid.held new.held (front ++ memory_line) front memory_line [] (ap (λ (xs : List ℕ). front ++ xs) (sym (append-nil memory_line))) given failed.2,
     ))
 
+-- a course may have written nothing
+begins_nothing : (course : Course) → Begins course []
+begins_nothing (script_read script) = (0, refl)
+begins_nothing (words_refused place) = refl
+begins_nothing read_failed = refl
+begins_nothing too_long = refl
+begins_nothing unread = refl
+
 -- memory was wanting before anything was written
 pub tells_memory_first : (course : Course) (result : Status) (old new : Output) → Tells memory_line status.Memory old new result → Ended course old new (code_of result)
-tells_memory_first course result old new told = tells_memory course result old old new [] (output_of course) refl (Appends-nil old.held) (omega arith) told
+tells_memory_first course result old new told = tells_memory course result old old new [] (output_of course) refl (Appends-nil old.held) refl (begins_nothing course) told
+
+-- memory was wanting for the words themselves
+pub no_words : (words : List (List ℕ)) (input : Input) (old new : Output) (result : Status) → Tells memory_line status.Memory old new result → Ran words input input old new (code_of result)
+no_words words input old new result told = by_words (faulty_word words) refl
+  where
+    by_words : (found : Option ℕ) → faulty_word words ≡ found → Ran words input input old new (code_of result)
+    by_words (Some place) is = (words_refused place, inl (place, is, refl, refl), tells_memory_first (words_refused place) result old new told)
+    by_words None is = (unread, inr (is, (([], Consumes-nil input.left, omega arith), refl)), tells_memory_first unread result old new told)

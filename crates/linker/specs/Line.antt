@@ -66,10 +66,10 @@ pick_line (Some path) = pick path
 abbrev pub pick_value : List ℕ → Line
 pick_value text = if is_empty (drop_gaps (behind_word text)) then pick_line (path_of (word_of text)) else bad
 
--- a line by its first word: `dtab` and a table, or `pick` and a path
+-- a line by its first word: `dtab` and a table, which begins behind the gap and goes to the end of the line, or `pick` and a path
 abbrev pub command_value : List ℕ → Line
 command_value text =
-    if bytes_eq (word_of text) (codes "dtab") then table_line (table_of (behind_word text)) else
+    if bytes_eq (word_of text) (codes "dtab") then table_line (table_of (drop_gaps (behind_word text))) else
     (if bytes_eq (word_of text) (codes "pick") then pick_value (drop_gaps (behind_word text)) else bad)
 
 abbrev pub line_value : List ℕ → Line

@@ -1,14 +1,23 @@
 -- What a run of the program does: by its words, by what it reads, and by what becomes of its writing.
-use Rattle.std.specs.Prelude.{◌≡◌, ◌⊎◌, ℕ, ◌<◌, ◌≤◌, Bool, true, false, nat_le, if◌then◌else◌, List, [], ◌∷◌, ◌++◌, length, codes, Option, Some, None}
+use Rattle.std.specs.Prelude.{◌≡◌, ◌⊎◌, ℕ, ◌<◌, ◌≤◌, Bool, true, false, nat_le, if◌then◌else◌, List, [], ◌∷◌, ◌++◌, length, map, take, drop, codes, string_bytes, String, Option, Some, None, Result, Ok, Err}
+use Rattle.std.specs.Global.{Global}
 use Rattle.std.specs.Str.{bytes_eq}
+use Rattle.std.specs.Vec.Iter.{into_iter_items}
+use Rattle.std.specs.declared.vec.IntoIter.{IntoIter}
 use Rattle.std.specs.Fmt.{decimal}
 use Rattle.std.specs.Io.KnownBytes.{Appends, Consumes, IsAtEnd}
 use Rattle.line_base.specs.Counts.{Rose}
-use Rattle.linker.specs.Replay.{replay_of}
+use Rattle.linker.specs.Line.{lines_of}
+use Rattle.linker.specs.Replay.{played, replay_of}
 
 -- the most bytes of a script
 abbrev pub most_script : ℕ
 most_script = 67108864
+
+-- the words after the program's name, which is the first of the arguments. Arguments that are no text are one empty word
+abbrev pub words_of : {E : Type 0} → Result (IntoIter (String Global) Global) E → List (List ℕ)
+words_of (Ok arguments) = map (λ (w : String Global). string_bytes w) (drop 1 (into_iter_items arguments))
+words_of (Err error) = [] ∷ []
 
 -- the first word that fits no command, counted from 1, or one more than there are: None where they fit. The one command is `replay` alone
 abbrev pub faulty_word : List (List ℕ) → Option ℕ
@@ -62,13 +71,13 @@ ReadsFew old new = (taken : List ℕ) × Consumes old.left new.left taken × (le
 abbrev pub ReadsLong : Input → Input → Type 0
 ReadsLong old new = (taken : List ℕ) × Consumes old.left new.left taken × (most_script < length taken)
 
--- the course that the input shows, before and after it was read
+-- the course that the input shows, before and after it was read: its count of faults rose exactly where a read failed
 abbrev pub Reads : Input → Input → Course → Type 0
 Reads old new (words_refused place) = ⊥
 Reads old new read_failed = Rose old.faults new.faults × ReadsFew old new
-Reads old new too_long = ReadsLong old new
-Reads old new (script_read script) = Consumes old.left new.left script × IsAtEnd new.left × (length script ≤ most_script) × Rose old.ends new.ends
-Reads old new unread = ReadsFew old new
+Reads old new too_long = ReadsLong old new × (new.faults ≡ old.faults)
+Reads old new (script_read script) = Consumes old.left new.left script × IsAtEnd new.left × (length script ≤ most_script) × Rose old.ends new.ends × (new.faults ≡ old.faults)
+Reads old new unread = ReadsFew old new × (new.faults ≡ old.faults)
 
 -- the course that the words and the input show: nothing is read where the words fit no command
 abbrev pub Took : List (List ℕ) → Input → Input → Course → Type 0
@@ -82,21 +91,30 @@ AppendsFront old new bytes = (front : List ℕ) × (rest : List ℕ) × (bytes �
 abbrev pub memory_line : List ℕ
 memory_line = codes "error memory\n"
 
--- the bytes are a front of all, and then the line that tells that memory is wanting
-abbrev pub IsCutShort : List ℕ → List ℕ → Type 0
-IsCutShort all bytes = (front : List ℕ) × (rest : List ℕ) × (all ≡ front ++ rest) × (bytes ≡ front ++ memory_line)
+-- what a course may have written where memory is then wanting: of a script the whole replies to its first lines, each of them good, and else nothing
+abbrev pub Begins : Course → List ℕ → Type 0
+Begins (script_read script) front = (count : ℕ) × (played [] 1 (take count (lines_of script)) ≡ (front, true))
+Begins (words_refused place) front = front ≡ []
+Begins read_failed front = front ≡ []
+Begins too_long front = front ≡ []
+Begins unread front = front ≡ []
+
+-- the bytes are such a front of what the course writes, and then the line that tells that memory is wanting
+abbrev pub IsCutShort : Course → List ℕ → Type 0
+IsCutShort course bytes = (front : List ℕ) × (rest : List ℕ) × (output_of course ≡ front ++ rest) × (bytes ≡ front ++ memory_line) × Begins course front
 
 -- what the output tells of itself: the bytes that it holds, and its faults
 pub record Output : Type 0 where
   pub held : Option (List ℕ)
   pub faults : ℕ
 
--- a run of this course ends so: it wrote all and has the course's status, or memory was wanting, or a write failed
+-- a run of this course ends so: it wrote all and has the course's status, or memory was wanting, or a write failed. The output's count of faults rose
+-- exactly where a write failed
 abbrev pub Ended : Course → Output → Output → ℕ → Type 0
 Ended course old new status =
-    ((status ≡ status_of course) × Appends old.held new.held (output_of course))
-    ⊎ (((status ≡ 7) × (bytes : List ℕ) × IsCutShort (output_of course) bytes × Appends old.held new.held bytes)
-    ⊎ ((status ≡ 5) × Rose old.faults new.faults × (bytes : List ℕ) × ((bytes ≡ output_of course) ⊎ IsCutShort (output_of course) bytes) × AppendsFront old.held new.held bytes))
+    ((status ≡ status_of course) × Appends old.held new.held (output_of course) × (new.faults ≡ old.faults))
+    ⊎ (((status ≡ 7) × (new.faults ≡ old.faults) × (bytes : List ℕ) × IsCutShort course bytes × Appends old.held new.held bytes)
+    ⊎ ((status ≡ 5) × Rose old.faults new.faults × (bytes : List ℕ) × ((bytes ≡ output_of course) ⊎ IsCutShort course bytes) × AppendsFront old.held new.held bytes))
 
 -- the whole of a run
 abbrev pub Ran : List (List ℕ) → Input → Input → Output → Output → ℕ → Type 0

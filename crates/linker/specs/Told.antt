@@ -11,10 +11,10 @@ use Rattle.linker.specs.declared.player.Turn.TheVariants.{Next, Stop}
 use Rattle.linker.specs.declared.player.PlayEnd.{PlayEnd}
 use Rattle.linker.specs.declared.player.PlayEnd.TheVariants.{Done, BadLine, WriteFault, OutOfMemory}
 use Rattle.linker.specs.Line.{Line, blank, table, pick}
-use Rattle.linker.specs.Replay.{Played, before, line_played}
+use Rattle.linker.specs.Replay.{Played, before, line_played, replay_of}
 use Rattle.linker.specs.declared.run.Status.{Status}
 use Rattle.linker.specs.declared.run.Status.TheVariants as status
-use Rattle.linker.specs.Run.{AppendsFront, Output}
+use Rattle.linker.specs.Run.{AppendsFront, Begins, Output, script_read}
 
 -- what a line of the code says
 abbrev pub said_of : code.Line → Line
@@ -28,11 +28,11 @@ Answers said rules number new piece Next = (rest : List Rule → Played) → lin
 Answers said rules number new piece Stop = (rest : List Rule → Played) → line_played said rules number rest ≡ (piece, false)
 
 -- what the sink has gained when the play of a script ends so
-abbrev pub Plays : Played → Option (List ℕ) → Option (List ℕ) → PlayEnd → Type 0
-Plays all old new Done = (all.1 ≡ true) × Appends old new all.0
-Plays all old new BadLine = (all.1 ≡ false) × Appends old new all.0
-Plays all old new WriteFault = AppendsFront old new all.0
-Plays all old new OutOfMemory = AppendsFront old new all.0
+abbrev pub Plays : List ℕ → Option (List ℕ) → Option (List ℕ) → PlayEnd → Type 0
+Plays script old new Done = ((replay_of script).1 ≡ true) × Appends old new (replay_of script).0
+Plays script old new BadLine = ((replay_of script).1 ≡ false) × Appends old new (replay_of script).0
+Plays script old new WriteFault = AppendsFront old new (replay_of script).0
+Plays script old new OutOfMemory = (front : List ℕ) × (rest : List ℕ) × ((replay_of script).0 ≡ front ++ rest) × Appends old new front × Begins (script_read script) front
 
 -- these bytes were written and the play ends as it was to, or a write failed
 abbrev pub Finishes : List ℕ → PlayEnd → Option (List ℕ) → Option (List ℕ) → ℕ → ℕ → PlayEnd → Type 0
@@ -56,4 +56,4 @@ code_of status.Long = 8
 -- a last line was written and this is the status, or the write failed
 abbrev pub Tells : List ℕ → Status → Output → Output → Status → Type 0
 Tells line end old new result =
-    ((result ≡ end) × Appends old.held new.held line) ⊎ ((result ≡ status.Write) × Rose old.faults new.faults × AppendsFront old.held new.held line)
+    ((result ≡ end) × Appends old.held new.held line × (new.faults ≡ old.faults)) ⊎ ((result ≡ status.Write) × Rose old.faults new.faults × AppendsFront old.held new.held line)

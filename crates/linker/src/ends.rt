@@ -1,5 +1,5 @@
 //! Reading all of a source, up to a limit, and writing all of some bytes.
-ghost use Rattle.std.specs.Prelude.{◌≡◌, ◌<◌, ◌≤◌, ◌++◌, List, ℕ, length, IfOk, OnOk, OnErr, Err};
+ghost use Rattle.std.specs.Prelude.{◌≡◌, ◌<◌, ◌≤◌, ◌++◌, List, ℕ, length, MatchResult, IfOk, OnOk, OnErr, Err};
 ghost use Rattle.std.specs.Io.KnownBytes.{Appends, Consumes, IsAtEnd};
 ghost use Rattle.line_base.specs.Counts.{Rose};
 ghost use Rattle.linker.specs.Run.{AppendsFront};
@@ -29,6 +29,7 @@ pub fn read_all<S: Source>(alloc: Global, source: &mut S, most: usize) -> Result
     ensures within { IfOk result (λ v. length v.items ≤ most) }
     ensures long { result ≡ Err ReadEnd.Long → (taken : List ℕ) × Consumes (S.left source.old) (S.left source.new) taken × (most < length taken) }
     ensures fault { result ≡ Err ReadEnd.Fault → Rose (S.faults source.old) (S.faults source.new) }
+    ensures kept { MatchResult result (λ _. S.faults source.new ≡ S.faults source.old) (λ end. (end ≡ ReadEnd.Fault → ⊥) → S.faults source.new ≡ S.faults source.old) }
     ensures few { OnErr result ((result ≡ Err ReadEnd.Long → ⊥) → (taken : List ℕ) × Consumes (S.left source.old) (S.left source.new) taken × (length taken ≤ most)) }
 {
     let mut all: Vec<u8> = Vec::new(alloc);
@@ -55,6 +56,7 @@ pub fn write_all<K: Sink>(sink: &mut K, bytes: &[u8]) -> Result<(), Failed>
     ensures ok { OnOk result (Appends (K.held sink.old) (K.held sink.new) bytes.now) }
     ensures err { OnErr result (AppendsFront (K.held sink.old) (K.held sink.new) bytes.now) }
     ensures cause { OnErr result (Rose (K.faults sink.old) (K.faults sink.new)) }
+    ensures kept { OnOk result (K.faults sink.new ≡ K.faults sink.old) }
     ensures later { K.faults sink.old ≤ K.faults sink.new }
 {
     let mut at = 0;

@@ -111,7 +111,7 @@ fn read_command(alloc: Global, text: &[u8]) -> Result<Line, LineFault>
 {
     let (word, rest) = split_word(text);
     if word == b"dtab".as_slice() {
-        return match read_dtab(alloc, rest) {
+        return match read_dtab(alloc, without_gap(rest)) {
             Ok(table) => Ok(Line::Table(table)),
             Err(DtabFault::OutOfMemory) => Err(LineFault::OutOfMemory),
             Err(_) => Err(LineFault::Bad),

@@ -3,7 +3,6 @@ ghost use Rattle.std.specs.Prelude.{◌≡◌, ◌≤◌, ◌++◌, [], List, �
 ghost use Rattle.line_base.specs.Counts.{Rose};
 ghost use Rattle.dtab_table.specs.Dtab.{rules_of};
 ghost use Rattle.linker.specs.Line.{line_value};
-ghost use Rattle.linker.specs.Replay.{replay_of};
 ghost use Rattle.linker.specs.Run.{AppendsFront};
 ghost use Rattle.linker.specs.Told.{Answers, Plays, Finishes, Flushes};
 
@@ -82,6 +81,7 @@ fn answer<L: Ledger>(
 /// Writes the last replies, and ends so, unless the write fails.
 fn finish<K: Sink>(sink: &mut K, replies: &[u8], end: PlayEnd) -> PlayEnd
     ensures finishes { Finishes replies.now end (K.held sink.old) (K.held sink.new) (K.faults sink.old) (K.faults sink.new) result }
+    ensures kept { (result ≡ PlayEnd.WriteFault → ⊥) → K.faults sink.new ≡ K.faults sink.old }
     ensures later { K.faults sink.old ≤ K.faults sink.new }
 {
     match write_all(sink, replies) {
@@ -95,6 +95,7 @@ fn flush<K: Sink>(sink: &mut K, replies: &mut Bytes) -> Result<(), Failed>
     ensures ok { OnOk result (Flushes replies.old.items replies.new.items (K.held sink.old) (K.held sink.new)) }
     ensures err { OnErr result (AppendsFront (K.held sink.old) (K.held sink.new) replies.old.items) }
     ensures cause { OnErr result (Rose (K.faults sink.old) (K.faults sink.new)) }
+    ensures kept { OnOk result (K.faults sink.new ≡ K.faults sink.old) }
     ensures later { K.faults sink.old ≤ K.faults sink.new }
 {
     if replies.len() < FLUSH {
@@ -117,8 +118,9 @@ pub fn play<K: Sink, L: Ledger>(
     steps: &mut Steps<L>,
 ) -> PlayEnd
     requires { length script.now ≤ 67108864 }
-    ensures played { Plays (replay_of script.now) (K.held sink.old) (K.held sink.new) result }
+    ensures played { Plays script.now (K.held sink.old) (K.held sink.new) result }
     ensures cause { result ≡ PlayEnd.WriteFault → Rose (K.faults sink.old) (K.faults sink.new) }
+    ensures kept { (result ≡ PlayEnd.WriteFault → ⊥) → K.faults sink.new ≡ K.faults sink.old }
     ensures later { K.faults sink.old ≤ K.faults sink.new }
 {
     let mut table = Dtab::empty(alloc);

@@ -1,5 +1,5 @@
 //! The top call: all that the program does, over any input and output.
-ghost use Rattle.std.specs.Prelude.{◌≡◌, ◌⊎◌, ℕ, Contains, IsSome, Some, None, true, false, map, string_bytes};
+ghost use Rattle.std.specs.Prelude.{◌≡◌, ◌⊎◌, ◌<◌, ℕ, Contains, IsSome, Some, None, true, false, map, string_bytes};
 ghost use Rattle.line_base.specs.Counts.{Rose};
 ghost use Rattle.linker.specs.Run.{Ran, Input, Output, faulty_word, statuses, ReadsScript, ReadsLong, Yields, IsComplete};
 
@@ -41,9 +41,11 @@ pub fn linker<R: AllocGlobal, S: Source, K: Sink>(
     ensures done { result ≡ 0 → ReadsScript true (record { left = S.left input.old; faults = S.faults input.old; ends = S.ends input.old }) (record { left = S.left input.new; faults = S.faults input.new; ends = S.ends input.new }) }
     ensures line { result ≡ 3 → ReadsScript false (record { left = S.left input.old; faults = S.faults input.old; ends = S.ends input.old }) (record { left = S.left input.new; faults = S.faults input.new; ends = S.ends input.new }) }
 
-    // 4 and 5 only where a count of faults rose.
+    // 5 exactly where the output's count of faults rose, and 4 exactly where the input's did, but for want of memory.
     ensures read { result ≡ 4 → Rose (S.faults input.old) (S.faults input.new) }
     ensures write { result ≡ 5 → Rose (K.faults out.old) (K.faults out.new) }
+    ensures read_fault { S.faults input.old < S.faults input.new → (result ≡ 4) ⊎ Yields result (record { held = K.held out.old; faults = K.faults out.old }) (record { held = K.held out.new; faults = K.faults out.new }) }
+    ensures write_fault { K.faults out.old < K.faults out.new → result ≡ 5 }
 
     // 8 exactly where more was read than a script may have.
     ensures long { result ≡ 8 → ReadsLong (record { left = S.left input.old; faults = S.faults input.old; ends = S.ends input.old }) (record { left = S.left input.new; faults = S.faults input.new; ends = S.ends input.new }) }

@@ -200,6 +200,19 @@ fn entries(alloc: Global, count: u32) -> Result<String, AllocError> {
     Ok(script)
 }
 
+/// `dtab`, so many blanks, and a table of so many bytes.
+fn table_behind(alloc: Global, blanks: usize, bytes: usize) -> Result<String, AllocError> {
+    let mut script = String::from_str(alloc, "dtab")?;
+    for _ in 0..blanks {
+        script.push(' ')?;
+    }
+    script.push_str("/a=>/")?;
+    for _ in 5..bytes {
+        script.push('b')?;
+    }
+    Ok(script)
+}
+
 #[test]
 fn limits(rt: HostRuntime) -> Result<(), Fail> {
     let alloc = rt.alloc();
@@ -222,8 +235,16 @@ fn limits(rt: HostRuntime) -> Result<(), Fail> {
         (long_label(alloc, 2048)?, "too-deep\n", 0),
         (long_label(alloc, 65_535)?, "too-deep\n", 0),
         (long_label(alloc, 65_536)?, "error line 1\n", 3),
+        (long_label(alloc, 1_234)?, "negative\n", 0),
+        (entries(alloc, 700)?, "ok\n", 0),
         (entries(alloc, 1024)?, "ok\n", 0),
         (entries(alloc, 1025)?, "error line 1\n", 3),
+        // A table begins behind the gap, and the limit is on its text alone.
+        (table_behind(alloc, 1, 65_536)?, "ok\n", 0),
+        (table_behind(alloc, 1, 65_537)?, "error line 1\n", 3),
+        (table_behind(alloc, 70_000, 6)?, "ok\n", 0),
+        (table_behind(alloc, 70_000, 65_536)?, "ok\n", 0),
+        (table_behind(alloc, 70_000, 65_537)?, "error line 1\n", 3),
     ];
     for (script, written, status) in rows.iter() {
         let (text, ended) = replayed(&rt, script.as_str())?;

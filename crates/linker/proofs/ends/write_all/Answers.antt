@@ -1,4 +1,4 @@
-use Rattle.std.proofs.Common.{arith}
+use Rattle.std.proofs.Common.{arith, ◌∙◌}
 use Rattle.linker.proofs.Known.{grown, kept_front}
 use Rattle.linker.proofs.ends.write_all.Goals as goal
 
@@ -6,7 +6,7 @@ pub loop-at-preserved : goal.loop-at-preserved
 loop-at-preserved g c = record {
   within = omega (arith, c.in-Ok.ensures.bound);
   given = grown _ _ _ c.args.bytes.now _ _ c.loop-at.invariant.given c.in-Ok.ensures.bytes;
-  later = omega (arith, c.in-Ok.ensures.cause.later);
+  kept = c.in-Ok.ensures.cause.kept ∙ c.loop-at.invariant.kept;
 }
 
 pub returns-in-Err-clause-err : goal.returns-in-Err-clause-err

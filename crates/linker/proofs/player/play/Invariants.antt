@@ -2,7 +2,7 @@ use Rattle.std.proofs.Common.{◌≡◌, ℕ, ◌+◌, ◌-◌, ◌≤◌, List,
 use Rattle.std.specs.Io.KnownBytes.{Appends}
 use Rattle.dtab_table.specs.Dtab.{rules_of}
 use Rattle.linker.specs.Line.{lines_of}
-use Rattle.linker.specs.Replay.{played, before, replay_of}
+use Rattle.linker.proofs.Plays.{PlaysSo}
 use Rattle.linker.proofs.player.play.Given as goal
 
 abbrev pub invariant-loop-at : goal.invariant-loop-at
@@ -11,8 +11,10 @@ invariant-loop-at g l = record {
   few : l.number ≤ l.at + 1;
   written : List ℕ;
   given : Appends (g.K.Sink.held l.fn.sink) (g.K.Sink.held l.sink) written;
-  same : replay_of l.script ≡ before (written ++ l.replies.items) (played (rules_of l.table) l.number (lines_of (drop l.at l.script)));
-  later : g.K.Sink.faults l.fn.sink ≤ g.K.Sink.faults l.sink;
+  front : List (List ℕ);
+  split : lines_of l.script ≡ front ++ lines_of (drop l.at l.script);
+  so : PlaysSo front (written ++ l.replies.items) (rules_of l.table) l.number;
+  kept : g.K.Sink.faults l.sink ≡ g.K.Sink.faults l.fn.sink;
 }
 
 abbrev pub decreases-loop-at : goal.decreases-loop-at

@@ -1,7 +1,7 @@
 use Rattle.std.proofs.Common.{map}
 use Rattle.std.specs.Prelude.{string_bytes}
 use Rattle.linker.specs.Run.{Input, Output}
-use Rattle.linker.proofs.Causes.{long_cause, known_status}
+use Rattle.linker.proofs.Causes.{long_cause, known_status, read_cause, write_cause}
 use Rattle.linker.proofs.program.linker.Goals as goal
 
 pub returns-clause-longer : goal.returns-clause-longer
@@ -19,3 +19,19 @@ returns-clause-status g c =
     let old_out : Output = record { held = g.K.Sink.held c.args.out.now; faults = g.K.Sink.faults c.args.out.now } in
     let new_out : Output = record { held = g.K.Sink.held c.run.new.out; faults = g.K.Sink.faults c.run.new.out } in
     known_status (map string_bytes c.args.words.now) old_in new_in old_out new_out c.code.result (rw (← c.code.ensures) at c.run.ensures)
+
+pub returns-clause-read_fault : goal.returns-clause-read_fault
+returns-clause-read_fault g c =
+    let old_in : Input = record { left = g.S.Source.left c.args.input.now; faults = g.S.Source.faults c.args.input.now; ends = g.S.Source.ends c.args.input.now } in
+    let new_in : Input = record { left = g.S.Source.left c.run.new.input; faults = g.S.Source.faults c.run.new.input; ends = g.S.Source.ends c.run.new.input } in
+    let old_out : Output = record { held = g.K.Sink.held c.args.out.now; faults = g.K.Sink.faults c.args.out.now } in
+    let new_out : Output = record { held = g.K.Sink.held c.run.new.out; faults = g.K.Sink.faults c.run.new.out } in
+    read_cause (map string_bytes c.args.words.now) old_in new_in old_out new_out c.code.result (rw (← c.code.ensures) at c.run.ensures)
+
+pub returns-clause-write_fault : goal.returns-clause-write_fault
+returns-clause-write_fault g c =
+    let old_in : Input = record { left = g.S.Source.left c.args.input.now; faults = g.S.Source.faults c.args.input.now; ends = g.S.Source.ends c.args.input.now } in
+    let new_in : Input = record { left = g.S.Source.left c.run.new.input; faults = g.S.Source.faults c.run.new.input; ends = g.S.Source.ends c.run.new.input } in
+    let old_out : Output = record { held = g.K.Sink.held c.args.out.now; faults = g.K.Sink.faults c.args.out.now } in
+    let new_out : Output = record { held = g.K.Sink.held c.run.new.out; faults = g.K.Sink.faults c.run.new.out } in
+    write_cause (map string_bytes c.args.words.now) old_in new_in old_out new_out c.code.result (rw (← c.code.ensures) at c.run.ensures)

@@ -12,4 +12,4 @@ returns-in-OutOfMemory g c =
     let mid : Output = record { held = g.K.Sink.held c.play.new.sink; faults = g.K.Sink.faults c.play.new.sink } in
     let new : Output = record { held = g.K.Sink.held c.tell.new.out; faults = g.K.Sink.faults c.tell.new.out } in
     let e = c.in-OutOfMemory.ensures in
-    tells_memory (script_read c.args.script.now) c.tell.result old mid new e.played.0 e.played.1 e.played.2 e.played.3 e.later c.tell.ensures
+    tells_memory (script_read c.args.script.now) c.tell.result old mid new e.played.0 e.played.1 e.played.2 e.played.3 (e.kept (λ is. cc is)) e.played.4 c.tell.ensures

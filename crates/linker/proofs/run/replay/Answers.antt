@@ -16,11 +16,11 @@ returns-in-Err-Long g c =
     let old : Output = record { held = g.K.Sink.held c.args.out.now; faults = g.K.Sink.faults c.args.out.now } in
     let new : Output = record { held = g.K.Sink.held c.tell-in-Err-Long.new.out; faults = g.K.Sink.faults c.tell-in-Err-Long.new.out } in
     let e = c.in-Err-Long.ensures in
-    (too_long, e.long (ap Err c.in-Err-Long.field-0-is), tells_end too_long _ status.Long c.tell-in-Err-Long.result old new refl refl c.tell-in-Err-Long.ensures)
+    (too_long, (e.long (ap Err c.in-Err-Long.field-0-is), e.kept (λ is. cc (is, c.in-Err-Long.field-0-is))), tells_end too_long _ status.Long c.tell-in-Err-Long.result old new refl refl c.tell-in-Err-Long.ensures)
 
 pub returns-in-Err-OutOfMemory : goal.returns-in-Err-OutOfMemory
 returns-in-Err-OutOfMemory g c =
     let old : Output = record { held = g.K.Sink.held c.args.out.now; faults = g.K.Sink.faults c.args.out.now } in
     let new : Output = record { held = g.K.Sink.held c.tell-in-Err-OutOfMemory.new.out; faults = g.K.Sink.faults c.tell-in-Err-OutOfMemory.new.out } in
     let e = c.in-Err-OutOfMemory.ensures in
-    (unread, e.few (λ is. cc (is, c.in-Err-OutOfMemory.field-0-is)), tells_memory_first unread c.tell-in-Err-OutOfMemory.result old new c.tell-in-Err-OutOfMemory.ensures)
+    (unread, (e.few (λ is. cc (is, c.in-Err-OutOfMemory.field-0-is)), e.kept (λ is. cc (is, c.in-Err-OutOfMemory.field-0-is))), tells_memory_first unread c.tell-in-Err-OutOfMemory.result old new c.tell-in-Err-OutOfMemory.ensures)

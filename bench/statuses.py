@@ -1,0 +1,69 @@
+#!/usr/bin/env python3
+"""Runs the built program `linker` where each status but 7 is due, and compares the status and both outputs. (bench/starve.py has 7.)
+
+The input of status 4 is a folder, which can't be read; the output of status 5 is /dev/full, which takes nothing.
+
+usage: bench/statuses.py [--program crates/linker/out/linker]
+"""
+import argparse, os, subprocess, sys, tempfile
+
+HERE = os.path.dirname(os.path.abspath(__file__))
+
+# The most bytes of a script.
+MOST = 67_108_864
+
+# What is written to standard error where the words fit no command, and nowhere else.
+USAGE = b"usage: linker replay"
+
+
+def main():
+    parser = argparse.ArgumentParser(description=__doc__, formatter_class=argparse.RawDescriptionHelpFormatter)
+    parser.add_argument("--program", default=os.path.join(HERE, "..", "crates", "linker", "out", "linker"))
+    program = parser.parse_args().program
+    wrong = []
+
+    def check(what, words, stdin, status, written, stdout=subprocess.PIPE):
+        done = subprocess.run([program, *words], stdin=stdin, stdout=stdout, stderr=subprocess.PIPE)
+        told = done.stderr.startswith(USAGE) if status == 2 else not done.stderr
+        is_right = done.returncode == status and (done.stdout or b"") == written and told
+        print(f"{'right' if is_right else 'WRONG'}: {what}: status {done.returncode}")
+        if not is_right:
+            wrong.append(what)
+
+    with tempfile.TemporaryDirectory() as folder:
+
+        def script(text):
+            path = os.path.join(folder, "script")
+            with open(path, "wb") as file:
+                file.write(text)
+            return open(path, "rb")
+
+        def blanks(count):
+            path = os.path.join(folder, "blanks")
+            with open(path, "wb") as file:
+                for _ in range(count // 65_536):
+                    file.write(b"\n" * 65_536)
+                file.write(b"\n" * (count % 65_536))
+            return open(path, "rb")
+
+        sample = b"dtab /a => /$/inet/127.0.0.1/80\npick /a/b\n"
+        replies = b"ok\n127.0.0.1:80 /$/inet/127.0.0.1/80 /b\n"
+        check("a script", ["replay"], script(sample), 0, replies)
+        check("no script", ["replay"], subprocess.DEVNULL, 0, b"")
+        for words, place in [([], 1), ([""], 1), (["--help"], 1), (["replays"], 1), (["replay", "x"], 2), (["replay", "replay"], 2), ([b"\xff"], 1)]:
+            check(f"words {words}", words, script(sample), 2, b"error words %d\n" % place)
+        check("a bad line", ["replay"], script(sample + b"picks /a\n" + sample), 3, replies + b"error line 3\n")
+        descriptor = os.open(folder, os.O_RDONLY)
+        check("an input that can't be read", ["replay"], descriptor, 4, b"error read\n")
+        os.close(descriptor)
+        with open("/dev/full", "wb") as full:
+            check("an output that takes nothing", ["replay"], script(sample), 5, b"", full)
+        check("the longest script", ["replay"], blanks(MOST), 0, b"")
+        check("a byte more", ["replay"], blanks(MOST + 1), 8, b"error long\n")
+
+    if wrong:
+        sys.exit(f"wrong: {', '.join(wrong)}")
+
+
+if __name__ == "__main__":
+    main()

@@ -1,0 +1,79 @@
+//! The program from the arguments of its process to the code that it exits with.
+ghost use Rattle.std.specs.Prelude.{◌≡◌, ◌↔◌, IsTrue, IfOk, drop};
+ghost use Rattle.std.specs.Process.{exit_status};
+ghost use Rattle.std.specs.Vec.Iter.{into_iter_items};
+ghost use Rattle.linker.specs.Run.{Ran, Input, Output, words_of};
+
+use crate::program::linker;
+use crate::run::{Status, tell};
+use line_base::{Sink, Source};
+use std::alloc::{AllocError, AllocGlobal, Global};
+use std::env::Args;
+use std::io::{self, ErrorKind};
+use std::process::ExitCode;
+
+/// What the process ends with.
+#[derive(Drop)]
+pub struct Exit {
+    /// The code that it exits with, which is the program's status.
+    pub code: ExitCode,
+    /// Whether the words fit no command: how to call the program is then written to standard error.
+    pub tells_usage: bool,
+}
+
+/// The arguments behind the first, which is the program's name.
+fn words_behind_name(alloc: Global, arguments: Args) -> Result<Vec<String>, AllocError>
+    ensures { IfOk result (λ words. words.items ≡ drop 1 (into_iter_items arguments)) }
+{
+    let mut words = Vec::new(alloc);
+    for word in arguments {
+        words.push(word)?;
+    }
+    if !words.is_empty() {
+        drop(words.remove(0));
+    }
+    Ok(words)
+}
+
+/// The status for the arguments of the process. Those that are no text are one empty word, which fits no command.
+fn status_for<R: AllocGlobal, S: Source, K: Sink>(
+    rt: &R,
+    arguments: io::Result<Args>,
+    input: &mut S,
+    out: &mut K,
+) -> u8
+    ensures { Ran (words_of arguments)
+        (record { left = S.left input.old; faults = S.faults input.old; ends = S.ends input.old }) (record { left = S.left input.new; faults = S.faults input.new; ends = S.ends input.new })
+        (record { held = K.held out.old; faults = K.faults out.old }) (record { held = K.held out.new; faults = K.faults out.new }) result }
+{
+    let alloc = rt.alloc();
+    match arguments {
+        Ok(arguments) => match words_behind_name(alloc, arguments) {
+            Ok(words) => linker(rt, words.as_slice(), input, out),
+            Err(_) => tell(out, b"error memory\n", Status::Memory).code(),
+        },
+        Err(error) if error.kind() == ErrorKind::OutOfMemory => {
+            tell(out, b"error memory\n", Status::Memory).code()
+        }
+        Err(_) => linker(rt, &[String::new(alloc)], input, out),
+    }
+}
+
+/// Does what the arguments say, the first of which is the program's name, and gives what the process ends with.
+pub fn run_arguments<R: AllocGlobal, S: Source, K: Sink>(
+    rt: &R,
+    arguments: io::Result<Args>,
+    input: &mut S,
+    out: &mut K,
+) -> Exit
+    ensures ran { Ran (words_of arguments)
+        (record { left = S.left input.old; faults = S.faults input.old; ends = S.ends input.old }) (record { left = S.left input.new; faults = S.faults input.new; ends = S.ends input.new })
+        (record { held = K.held out.old; faults = K.faults out.old }) (record { held = K.held out.new; faults = K.faults out.new }) (exit_status result.code) }
+    ensures usage { IsTrue result.tells_usage ↔ (exit_status result.code ≡ 2) }
+{
+    let status = status_for(rt, arguments, input, out);
+    Exit {
+        code: ExitCode::from(status),
+        tells_usage: status == 2,
+    }
+}
