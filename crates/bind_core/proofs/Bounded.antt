@@ -1,6 +1,6 @@
 -- Where the rules of a table are sound, each union that a delegation finds has no more members than a union of theirs, and no larger weights.
-use Rattle.std.proofs.Common.{◌≡◌, ℕ, zero, suc, ◌+◌, ◌<◌, ◌≤◌, Bool, true, false, List, [], ◌∷◌, ◌++◌, Option, Some, None, length, refl, sym, ap, subst, arith}
-use Rattle.std.specs.Prelude.{nat_lt, ◌==◌, if◌then◌else◌, option_map, Result, Ok, Err, IfOk}
+use Rattle.std.proofs.Common.{◌-◌, ◌≡◌, ℕ, zero, suc, ◌+◌, ◌<◌, ◌≤◌, Bool, true, false, List, [], ◌∷◌, ◌++◌, Option, Some, None, length, refl, sym, ap, subst, arith}
+use Rattle.std.specs.Prelude.{nat_lt, ◌==◌, if◌then◌else◌, option_map}
 use Rattle.std.specs.Option.{option_to_list}
 use Rattle.name_tree.specs.Path.{Labels, canon_path}
 use Rattle.name_tree.specs.Value.{TreeValue, TreeValues, Branches, leaf, neg, fail, empty, alt, union, none, more, no_branch, branch, append_rest, append_rest_all, append_rest_branches}
@@ -8,13 +8,11 @@ use Rattle.dtab_table.specs.Dtab.{rest_behind, rewrites}
 use Rattle.dtab_table.specs.Rules.{Rule}
 use Rattle.dtab_table.specs.TableCanon.{AreSoundRules}
 use Rattle.name_tree.specs.Canon.{IsSound, AreSound, AreSoundBranches, count_names, count_branches, most_members, weight_bound}
-use Rattle.bind_core.specs.declared.leaf.Leaf.{Leaf}
-use Rattle.bind_core.specs.declared.outcome.Delegated.{Delegated}
-use Rattle.bind_core.specs.Addr.{named_leaf}
-use Rattle.bind_core.specs.Found.{Found, members, IsBounded, AreBounded, count_members}
-use Rattle.bind_core.specs.Delegation.{Ending, Told, Evaluated, negative, failing, no_replica, too_deep, too_wide, bound, IfBound, or_else, is_too_deep, is_failing, is_empty, some_end, found_at, found_in, kept, together, walk, walk_all, walk_each, first_of, named_ending, counted, lookup, outcome_of, most_deep, most_wide, most_path_bytes}
+use Rattle.addr_book.specs.declared.leaf.Leaf.{Leaf}
+use Rattle.bind_core.specs.declared.outcome.Outcome.{Outcome}
+use Rattle.addr_book.specs.Found.{Found, members, IsBounded, AreBounded, count_members}
+use Rattle.bind_core.specs.Delegation.{Ending, Told, Evaluated, negative, failing, no_replica, too_deep, too_wide, bound, IfBound, or_else, is_too_deep, is_failing, is_empty, some_end, found_at, found_in, kept, together, walk, walk_all, walk_each, first_of, named_ending, Names, visited, lookup, outcome_of, most_deep, most_wide, most_path_bytes}
 use Rattle.bind_core.specs.Outcome.{ending_of}
-use Rattle.bind_core.specs.Stack.{IsAnswer}
 
 count_names-rest : (ts : TreeValues) (rest : Labels) → count_names (append_rest_all ts rest) ≡ count_names ts
 count_names-rest none rest = refl
@@ -149,24 +147,23 @@ named_ending-bounded : (found : Option Leaf) → IfBound IsBounded (named_ending
 named_ending-bounded None = tt
 named_ending-bounded (Some found) = tt
 
-lookup-bounded : (rules : List Rule) (left : ℕ) → AreSoundRules rules → (path : Labels) → EndsBounded (lookup rules left path)
+lookup-bounded : (rules : List Rule) (names : Names) (left : ℕ) → AreSoundRules rules → (path : Labels) → EndsBounded (lookup rules names left path)
 unfolding lookup
-lookup-bounded rules zero sound path = tt
-lookup-bounded rules (suc left) sound path =
+lookup-bounded rules names zero sound path = tt
+lookup-bounded rules names (suc left) sound path =
     let within =
-    or_else-bounded (first_of (lookup rules left) (rewrites rules path)) (named_ending (named_leaf path), 0)
-    (first_of-bounded (lookup rules left) (lookup-bounded rules left sound) (rewrites rules path) (rewrites-sound rules path sound))
-    (named_ending-bounded (named_leaf path)) in
+    or_else-bounded (first_of (lookup rules names left) (rewrites rules path)) (named_ending (names path), [])
+    (first_of-bounded (lookup rules names left) (lookup-bounded rules names left sound) (rewrites rules path) (rewrites-sound rules path sound))
+    (named_ending-bounded (names path)) in
     elim (nat_lt most_path_bytes (length (canon_path path))) as (λ b.
-    EndsBounded (if b then (too_deep, 0) else counted (or_else (first_of (lookup rules left) (rewrites rules path)) (named_ending (named_leaf path), 0)))) [ true ↦ tt | false ↦ within ]
+    EndsBounded (if b then (too_deep, []) else visited (most_deep - suc left) path (or_else (first_of (lookup rules names left) (rewrites rules path)) (named_ending (names path), [])))) [ true ↦ tt | false ↦ within ]
 
-outcome_of-bounded : (rules : List Rule) (path : Labels) → AreSoundRules rules → IfBound IsBounded (outcome_of rules path)
-outcome_of-bounded rules path sound =
-    elim (nat_lt most_wide (lookup rules most_deep path).1) as (λ b. IfBound IsBounded (if b then too_wide else (lookup rules most_deep path).0)) [
+outcome_of-bounded : (rules : List Rule) (names : Names) (path : Labels) → AreSoundRules rules → IfBound IsBounded (outcome_of rules names path)
+outcome_of-bounded rules names path sound =
+    elim (nat_lt most_wide (length (lookup rules names most_deep path).1)) as (λ b. IfBound IsBounded (if b then too_wide else (lookup rules names most_deep path).0)) [
       | true ↦ tt
-      | false ↦ lookup-bounded rules most_deep sound path
+      | false ↦ lookup-bounded rules names most_deep sound path
     ]
 
-pub bounded_outcome : {E : Type 0} (rules : List Rule) (path : Labels) (r : Result Delegated E) → IfOk r (IsAnswer (lookup rules most_deep path)) → AreSoundRules rules → IfOk r (λ d. IfBound IsBounded (ending_of d.outcome))
-bounded_outcome rules path (Ok d) is sound = subst (IfBound IsBounded) (sym is.outcome) (outcome_of-bounded rules path sound)
-bounded_outcome rules path (Err e) is sound = tt
+pub bounded_outcome : (rules : List Rule) (names : Names) (path : Labels) (o : Outcome) → ending_of o ≡ outcome_of rules names path → AreSoundRules rules → IfBound IsBounded (ending_of o)
+bounded_outcome rules names path o is sound = subst (IfBound IsBounded) (sym is) (outcome_of-bounded rules names path sound)

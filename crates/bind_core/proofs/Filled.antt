@@ -1,18 +1,16 @@
 -- Each union that a delegation finds has a member, and no weight in it is 0.
-use Rattle.std.proofs.Common.{ℕ, zero, suc, ◌<◌, Bool, true, false, List, [], ◌∷◌, ◌++◌, Option, Some, None, length, inl, inr, refl, sym, subst, arith}
-use Rattle.std.specs.Prelude.{nat_lt, if◌then◌else◌, Result, Ok, Err, IfOk, IsSome}
+use Rattle.std.proofs.Common.{◌≡◌, ◌-◌, ℕ, zero, suc, ◌<◌, Bool, true, false, List, [], ◌∷◌, ◌++◌, Option, Some, None, length, inl, inr, refl, sym, subst, arith}
+use Rattle.std.specs.Prelude.{nat_lt, if◌then◌else◌, IsSome}
 use Rattle.std.proofs.lemmas.Bool.Decides.{nat_tests}
 use Rattle.name_tree.specs.Path.{Labels, canon_path}
 use Rattle.name_tree.specs.Value.{TreeValue, TreeValues, Branches, leaf, neg, fail, empty, alt, union, none, more, no_branch, branch}
 use Rattle.dtab_table.specs.Dtab.{rewrites}
 use Rattle.dtab_table.specs.Rules.{Rule}
-use Rattle.bind_core.specs.declared.leaf.Leaf.{Leaf}
-use Rattle.bind_core.specs.declared.outcome.Delegated.{Delegated}
-use Rattle.bind_core.specs.Addr.{named_leaf}
-use Rattle.bind_core.specs.Found.{Found, one, many, no_member, member, members, first_leaf, IsFilled, AreFilled}
-use Rattle.bind_core.specs.Delegation.{Ending, Told, Evaluated, negative, failing, no_replica, too_deep, too_wide, bound, IfBound, or_else, is_too_deep, is_failing, is_empty, some_end, found_at, found_in, kept, together, walk, walk_all, walk_each, first_of, named_ending, counted, lookup, outcome_of, most_deep, most_wide, most_path_bytes}
+use Rattle.addr_book.specs.declared.leaf.Leaf.{Leaf}
+use Rattle.bind_core.specs.declared.outcome.Outcome.{Outcome}
+use Rattle.addr_book.specs.Found.{Found, one, many, no_member, member, members, first_leaf, IsFilled, AreFilled}
+use Rattle.bind_core.specs.Delegation.{Ending, Told, Evaluated, negative, failing, no_replica, too_deep, too_wide, bound, IfBound, or_else, is_too_deep, is_failing, is_empty, some_end, found_at, found_in, kept, together, walk, walk_all, walk_each, first_of, named_ending, Names, visited, lookup, outcome_of, most_deep, most_wide, most_path_bytes}
 use Rattle.bind_core.specs.Outcome.{ending_of}
-use Rattle.bind_core.specs.Stack.{IsAnswer}
 use Rattle.bind_core.proofs.Trees.{zero_or}
 
 abbrev EndsFilled : Told → Type 0
@@ -84,26 +82,25 @@ named_ending-filled : (found : Option Leaf) → IfBound IsFilled (named_ending f
 named_ending-filled None = tt
 named_ending-filled (Some found) = tt
 
-lookup-filled : (rules : List Rule) (left : ℕ) (path : Labels) → EndsFilled (lookup rules left path)
+lookup-filled : (rules : List Rule) (names : Names) (left : ℕ) (path : Labels) → EndsFilled (lookup rules names left path)
 unfolding lookup
-lookup-filled rules zero path = tt
-lookup-filled rules (suc left) path =
+lookup-filled rules names zero path = tt
+lookup-filled rules names (suc left) path =
     let within =
-    or_else-filled (first_of (lookup rules left) (rewrites rules path)) (named_ending (named_leaf path), 0) (first_of-filled (lookup rules left) (lookup-filled rules left) (rewrites rules path))
-    (named_ending-filled (named_leaf path)) in
+    or_else-filled (first_of (lookup rules names left) (rewrites rules path)) (named_ending (names path), []) (first_of-filled (lookup rules names left) (lookup-filled rules names left) (rewrites rules path))
+    (named_ending-filled (names path)) in
     elim (nat_lt most_path_bytes (length (canon_path path))) as (λ b.
-    EndsFilled (if b then (too_deep, 0) else counted (or_else (first_of (lookup rules left) (rewrites rules path)) (named_ending (named_leaf path), 0)))) [ true ↦ tt | false ↦ within ]
+    EndsFilled (if b then (too_deep, []) else visited (most_deep - suc left) path (or_else (first_of (lookup rules names left) (rewrites rules path)) (named_ending (names path), [])))) [ true ↦ tt | false ↦ within ]
 
-outcome_of-filled : (rules : List Rule) (path : Labels) → IfBound IsFilled (outcome_of rules path)
-outcome_of-filled rules path =
-    elim (nat_lt most_wide (lookup rules most_deep path).1) as (λ b. IfBound IsFilled (if b then too_wide else (lookup rules most_deep path).0)) [
+outcome_of-filled : (rules : List Rule) (names : Names) (path : Labels) → IfBound IsFilled (outcome_of rules names path)
+outcome_of-filled rules names path =
+    elim (nat_lt most_wide (length (lookup rules names most_deep path).1)) as (λ b. IfBound IsFilled (if b then too_wide else (lookup rules names most_deep path).0)) [
       | true ↦ tt
-      | false ↦ lookup-filled rules most_deep path
+      | false ↦ lookup-filled rules names most_deep path
     ]
 
-pub filled_outcome : {E : Type 0} (rules : List Rule) (path : Labels) (r : Result Delegated E) → IfOk r (IsAnswer (lookup rules most_deep path)) → IfOk r (λ d. IfBound IsFilled (ending_of d.outcome))
-filled_outcome rules path (Ok d) is = subst (IfBound IsFilled) (sym is.outcome) (outcome_of-filled rules path)
-filled_outcome rules path (Err e) is = tt
+pub filled_outcome : (rules : List Rule) (names : Names) (path : Labels) (o : Outcome) → ending_of o ≡ outcome_of rules names path → IfBound IsFilled (ending_of o)
+filled_outcome rules names path o is = subst (IfBound IsFilled) (sym is) (outcome_of-filled rules names path)
 
 -- so it has a first leaf
 pub first_leaf-filled : (f : Found) → IsFilled f → IsSome (first_leaf f)

@@ -1,10 +1,13 @@
 pub mod Bounded
-pub mod Bounds
+pub mod Closing
 pub mod Filled
 pub mod Gathers
-pub mod Hosts
+pub mod Joined
+pub mod Local
 pub mod Narrow
 pub mod Stacks
+pub mod Stepping
+pub mod Telling
 pub mod Trees
 pub mod Turns
 pub mod Unions

@@ -1,14 +1,13 @@
 -- Trees and lookups are never too wide: that is for the whole delegation to say.
-use Rattle.std.proofs.Common.{◌≡◌, ℕ, zero, suc, Bool, true, false, List, [], ◌∷◌, Option, Some, None, length}
+use Rattle.std.proofs.Common.{◌-◌, ◌≡◌, ℕ, zero, suc, Bool, true, false, List, [], ◌∷◌, Option, Some, None, length}
 use Rattle.std.specs.Prelude.{nat_lt, ◌==◌, if◌then◌else◌}
 use Rattle.name_tree.specs.Path.{Labels, canon_path}
 use Rattle.name_tree.specs.Value.{TreeValue, TreeValues, Branches, leaf, neg, fail, empty, alt, union, none, more, no_branch, branch}
 use Rattle.dtab_table.specs.Dtab.{rewrites}
 use Rattle.dtab_table.specs.Rules.{Rule}
-use Rattle.bind_core.specs.declared.leaf.Leaf.{Leaf}
-use Rattle.bind_core.specs.Addr.{named_leaf}
-use Rattle.bind_core.specs.Found.{Found}
-use Rattle.bind_core.specs.Delegation.{Told, Evaluated, negative, failing, no_replica, too_deep, too_wide, bound, or_else, is_too_deep, is_failing, is_empty, some_end, found_in, kept, together, walk, walk_all, walk_each, first_of, named_ending, counted, lookup, most_path_bytes}
+use Rattle.addr_book.specs.declared.leaf.Leaf.{Leaf}
+use Rattle.addr_book.specs.Found.{Found}
+use Rattle.bind_core.specs.Delegation.{Told, Evaluated, negative, failing, no_replica, too_deep, too_wide, bound, or_else, is_too_deep, is_failing, is_empty, some_end, found_in, kept, together, walk, walk_all, walk_each, first_of, named_ending, Names, visited, lookup, most_deep, most_path_bytes, Visit}
 
 abbrev pub IsNarrow : Told → Type 0
 IsNarrow told = told.0 ≡ too_wide → ⊥
@@ -17,7 +16,7 @@ abbrev pub AreNarrow : List Evaluated → Type 0
 AreNarrow [] = Unit {0}
 AreNarrow (b ∷ bs) = IsNarrow b.told × AreNarrow bs
 
-or_else-IsNarrow : (a b : Told) → IsNarrow a → IsNarrow b → IsNarrow (or_else a b)
+pub or_else-IsNarrow : (a b : Told) → IsNarrow a → IsNarrow b → IsNarrow (or_else a b)
 or_else-IsNarrow (negative, n) b ha hb = hb
 or_else-IsNarrow (failing, n) b ha hb = ha
 or_else-IsNarrow (no_replica, n) b ha hb = ha
@@ -60,20 +59,20 @@ module _ (look : Labels → Told) (narrow : (path : Labels) → IsNarrow (look p
         | false ↦ (walk-IsNarrow t, walk_each-AreNarrow bs)
       ]
 
-  first_of-IsNarrow : (ts : List TreeValue) → IsNarrow (first_of look ts)
+  pub first_of-IsNarrow : (ts : List TreeValue) → IsNarrow (first_of look ts)
   first_of-IsNarrow [] = λ h. cc
   first_of-IsNarrow (t ∷ ts) = or_else-IsNarrow (walk look t) (first_of look ts) (walk-IsNarrow t) (first_of-IsNarrow ts)
 
-named_ending-IsNarrow : (found : Option Leaf) (n : ℕ) → IsNarrow (named_ending found, n)
+pub named_ending-IsNarrow : (found : Option Leaf) (n : List Visit) → IsNarrow (named_ending found, n)
 named_ending-IsNarrow None n = λ h. cc
 named_ending-IsNarrow (Some found) n = λ h. cc
 
-pub lookup-IsNarrow : (rules : List Rule) (left : ℕ) (path : Labels) → IsNarrow (lookup rules left path)
+pub lookup-IsNarrow : (rules : List Rule) (names : Names) (left : ℕ) (path : Labels) → IsNarrow (lookup rules names left path)
 unfolding lookup
-lookup-IsNarrow rules zero path = λ h. cc
-lookup-IsNarrow rules (suc left) path =
+lookup-IsNarrow rules names zero path = λ h. cc
+lookup-IsNarrow rules names (suc left) path =
     let within =
-    or_else-IsNarrow (first_of (lookup rules left) (rewrites rules path)) (named_ending (named_leaf path), 0) (first_of-IsNarrow (lookup rules left) (lookup-IsNarrow rules left) (rewrites rules path))
-    (named_ending-IsNarrow (named_leaf path) 0) in
+    or_else-IsNarrow (first_of (lookup rules names left) (rewrites rules path)) (named_ending (names path), []) (first_of-IsNarrow (lookup rules names left) (lookup-IsNarrow rules names left) (rewrites rules path))
+    (named_ending-IsNarrow (names path) []) in
     elim (nat_lt most_path_bytes (length (canon_path path))) as (λ b.
-    IsNarrow (if b then (too_deep, 0) else counted (or_else (first_of (lookup rules left) (rewrites rules path)) (named_ending (named_leaf path), 0)))) [ true ↦ (λ h. cc) | false ↦ within ]
+    IsNarrow (if b then (too_deep, []) else visited (most_deep - suc left) path (or_else (first_of (lookup rules names left) (rewrites rules path)) (named_ending (names path), [])))) [ true ↦ (λ h. cc) | false ↦ within ]

@@ -13,7 +13,7 @@ walk_all-tree_values look (t ∷ ts) = ap (or_else (walk look t)) (walk_all-tree
 
 pub all_work-tree_values : (work : Labels → ℕ) (ts : List TreeValue) → all_work work (tree_values ts) ≡ list_work work ts
 all_work-tree_values work [] = refl
-all_work-tree_values work (t ∷ ts) = ap (λ (k : ℕ). tree_work work t + k) (all_work-tree_values work ts)
+all_work-tree_values work (t ∷ ts) = ap (λ (k : ℕ). 1 + (tree_work work t + k)) (all_work-tree_values work ts)
 
 -- the weight of a branch is 0, or it is not
 pub zero_or : (n : ℕ) → ((n == 0) ≡ true) ⊎ ((n == 0) ≡ false)

@@ -1,9 +1,11 @@
 -- The turns of the loop: each keeps what the stack comes to, and leaves less work.
-use Rattle.std.proofs.Common.{◌≡◌, ℕ, ◌+◌, ◌<◌, ◌≤◌, List, [], ◌∷◌, ◌++◌, length, map, true, false, inl, inr, Global, refl, sym, ap, subst, ◌∙◌, arith}
-use Rattle.std.specs.Prelude.{nat_lt, Result, Ok, Err, IfOk}
+use Rattle.std.proofs.Common.{◌≡◌, ℕ, ◌+◌, ◌<◌, ◌≤◌, List, [], ◌∷◌, ◌++◌, length, map, Bool, true, false, inl, inr, Option, None, Some, Global, refl, sym, ap, subst, ◌∙◌, arith}
+use Rattle.std.specs.Prelude.{nat_lt, if◌then◌else◌, Result, Ok, Err, IfOk}
+use Rattle.std.specs.Option.{is_some}
 use Rattle.std.specs.declared.vec.IntoIter.{IntoIter}
 use Rattle.std.specs.Vec.Iter.{into_iter_items, into_iter_len}
 use Rattle.std.proofs.lemmas.Bool.Decides.{nat_tests}
+use Rattle.std.proofs.lemmas.List.{append-nil}
 use Rattle.name_tree.specs.declared.tree.Tree.{Tree}
 use Rattle.name_tree.specs.declared.tree.Branch.{Branch}
 use Rattle.name_tree.specs.Path.{Labels}
@@ -14,170 +16,275 @@ use Rattle.bind_core.specs.declared.frame.Choice.{Choice}
 use Rattle.bind_core.specs.declared.frame.Union.{Union}
 use Rattle.bind_core.specs.declared.frame.Frame.{Frame}
 use Rattle.bind_core.specs.declared.frame.Frame.TheVariants as frame
+use Rattle.addr_book.specs.declared.leaf.Leaf.{Leaf}
 use Rattle.bind_core.specs.declared.outcome.Outcome.{Outcome}
 use Rattle.bind_core.specs.declared.outcome.Outcome.TheVariants as outcome
-use Rattle.bind_core.specs.declared.outcome.Delegated.{Delegated}
-use Rattle.bind_core.specs.Outcome.{ending_of}
-use Rattle.bind_core.specs.Delegation.{negative, Told, or_else, walk, walk_each, first_of, lookup, named_ending, most_wide}
+use Rattle.bind_core.specs.declared.work.Work.{Work}
+use Rattle.bind_core.specs.declared.work.Task.{Task}
+use Rattle.bind_core.specs.declared.work.Task.TheVariants as task
+use Rattle.bind_core.specs.Outcome.{ending_of, ended_as, traced}
+use Rattle.bind_core.specs.Delegation.{Ending, Names, Visit, negative, Told, or_else, walk, walk_each, first_of, lookup, named_ending, most_wide, visits_within}
 use Rattle.bind_core.specs.Kept.{Kept, kept_of, kept_with, kept_ending}
-use Rattle.bind_core.specs.Stack.{ends_all, behind, tree_work, list_work, each_work, path_work, choice_work, union_work, frame_work, stack_work, choice_names, union_branches, choice_told, union_on, frame_on, resume, told_of, weighted, PassesOn, LeadsTo, IsStep, IsAnswer}
+use Rattle.bind_core.specs.Stack.{ends_all, behind, closed, end_items, tree_work, list_work, each_work, path_work, choice_work, union_work, frame_work, stack_work, task_work, choice_names, union_branches, choice_told, choice_on, lookup_on, union_on, frame_on, resume, task_told, weighted, Fits, LeadsTo, IsStep, IsAnswer}
 use Rattle.bind_core.proofs.Trees.{walk_each-weighted, each_work-weighted, walk_each-some}
-use Rattle.bind_core.proofs.Stacks.{or_else-assoc, resume-append, resume-ended, resume-more, stack_work-append, told_step, under}
+use Rattle.bind_core.proofs.Stacks.{resume-append, resume-ended, resume-more, stack_work-append, or_else-assoc, ended}
+use Rattle.bind_core.proofs.Stepping.{tell_step, close_step, push_step, last_step}
 
--- what a step does, where it is
-pub on_ok : {E : Type 0} {P Q : Delegated → Type 0} (r : Result Delegated E) → ((d : Delegated) → P d → Q d) → IfOk r P → IfOk r Q
-on_ok (Ok d) f p = f d p
-on_ok (Err e) f p = tt
-
-keeps : (o : Outcome) (n : ℕ) (x : Told) → (o ≡ outcome.Neg → ⊥) → or_else (ending_of o, n) x ≡ (ending_of o, n)
-keeps outcome.Neg n x other = absurd (other refl)
-keeps outcome.Fail n x other = refl
-keeps outcome.Empty n x other = refl
-keeps outcome.TooDeep n x other = refl
-keeps outcome.TooWide n x other = refl
-keeps (outcome.Bound found) n x other = refl
+keeps : (o : Outcome) (vs : List Visit) (x : Told) → (o ≡ outcome.Neg → ⊥) → or_else (ending_of o, vs) x ≡ (ending_of o, vs)
+keeps outcome.Neg vs x other = absurd (other refl)
+keeps outcome.Fail vs x other = refl
+keeps outcome.Empty vs x other = refl
+keeps outcome.TooDeep vs x other = refl
+keeps outcome.TooWide vs x other = refl
+keeps (outcome.Bound found) vs x other = refl
 
 some_work : (work : _) (ts : List TreeValue) → 0 < list_work work ts
 some_work work [] = omega arith
-some_work work (t ∷ ts) = omega (arith, some_work work ts)
+some_work work (t ∷ ts) = omega arith
 
 some_each : (work : _) (bs : Branches) → 0 < each_work work bs
 some_each work no_branch = omega arith
-some_each work (branch n t bs) = omega (arith, some_each work bs)
+some_each work (branch n t bs) = omega arith
 
 no_elements : {X : Type 0} (xs : List X) → length xs ≡ 0 → xs ≡ []
 no_elements [] none = refl
 no_elements (x ∷ xs) none = absurd (omega arith)
 
 -- an iterator with no length has no tree
-no_trees : (trees : IntoIter Tree Global) → into_iter_len trees ≡ 0 → into_iter_items trees ≡ []
+pub no_trees : (trees : IntoIter Tree Global) → into_iter_len trees ≡ 0 → into_iter_items trees ≡ []
 no_trees trees none = no_elements (into_iter_items trees) (omega arith)
 
--- what is told at the end is the answer
-answer_of : (whole : Told) (told : Delegated) → told.cost ≤ most_wide → told_of told ≡ whole → IsAnswer whole told
-answer_of whole told few same =
-    let within : whole.1 ≤ most_wide = omega (arith, few, ap (λ (x : Told). x.1) same) in
-    let test : nat_lt most_wide whole.1 ≡ false = grind (arith, nat_tests) in
-    record { outcome = rw test (ap (λ (x : Told). x.0) same); cost = omega (arith, ap (λ (x : Told). x.1) same) }
+named-goes_on : (named : Option Leaf) → ends_all (named_ending named) ≡ false
+named-goes_on None = refl
+named-goes_on (Some found) = refl
 
-too_many : (whole : Told) (told : Delegated) → told.outcome ≡ outcome.TooWide → told.cost ≡ most_wide + 1 → most_wide < whole.1 → IsAnswer whole told
-too_many whole told outcome_is cost_is many =
-    let test : nat_lt most_wide whole.1 ≡ true = grind (arith, nat_tests) in record { outcome = rw (outcome_is, test) refl; cost = omega arith }
+kept-items : (most : ℕ) (vs : List Visit) (b : Bool) → (if b then [] else map traced vs) ≡ map traced (if b then [] else vs)
+kept-items most vs true = refl
+kept-items most vs false = refl
 
-pub ends : (rules : List Rule) (whole : Told) (told : Delegated) → LeadsTo rules whole [] told → IsAnswer whole told
-ends rules whole told (inl open') = answer_of whole told open'.few open'.same
-ends rules whole told (inr wide) = too_many whole told wide.outcome wide.cost wide.many
+module _ (rules : List Rule) (names : Names) (most : ℕ) (small : most ≤ most_wide) (whole : Told) (work : Work) (o : Outcome) where
+  -- what is told at the end is the answer
+  answer_of : (vs : List Visit) → Fits most vs work → work.count ≤ most_wide → (ending_of o, vs) ≡ whole → IsAnswer most whole work o
+  answer_of vs fits few same =
+      let made : length vs ≤ most_wide = omega (arith, few, fits.count) in
+      let test : nat_lt most_wide (length vs) ≡ false = grind (arith, nat_tests) in
+      subst (λ (x : Told). IsAnswer most x work o) same
+      (record { outcome = rw test refl; count = omega (arith, fits.count, made); items = fits.items ∙ kept-items most vs (nat_lt most (length vs)) })
 
--- what ends all is the answer, whatever is left
-pub ends_at_once : (rules : List Rule) (whole : Told) (stack : List Frame) (told : Delegated) → LeadsTo rules whole stack told → ends_all (ending_of told.outcome) ≡ true → IsAnswer whole told
-ends_at_once rules whole stack told (inl open') ends = answer_of whole told open'.few (sym (resume-ended rules stack (told_of told) ends) ∙ open'.same)
-ends_at_once rules whole stack told (inr wide) ends = too_many whole told wide.outcome wide.cost wide.many
+  too_many : o ≡ outcome.TooWide → work.count ≡ most_wide + 1 → work.visits.items.items ≡ [] → most_wide < length whole.1 → IsAnswer most whole work o
+  too_many outcome_is count_is items_are many =
+      let test : nat_lt most_wide (length whole.1) ≡ true = grind (arith, nat_tests) in
+      let none_kept : nat_lt most (length whole.1) ≡ true = grind (arith, nat_tests) in
+      record { outcome = rw (outcome_is, test) refl; count = omega arith; items = rw (items_are, none_kept) refl }
 
--- what does not end all has a cost within the limit
-pub few_of : (rules : List Rule) (whole : Told) (stack : List Frame) (told : Delegated) → LeadsTo rules whole stack told → ends_all (ending_of told.outcome) ≡ false → told.cost ≤ most_wide
-few_of rules whole stack told (inl open') goes_on = open'.few
-few_of rules whole stack told (inr wide) goes_on = let ends : true ≡ false = rw wide.outcome at goes_on in cc
+  -- what ends all is the answer, whatever is left
+  pub ends_at_once : (stack : List Frame) → LeadsTo rules names most whole stack work (task.Tell o) → ends_all (ending_of o) ≡ true → IsAnswer most whole work o
+  ends_at_once stack (inl open') ends = answer_of open'.visits open'.fits open'.few (sym (resume-ended rules names stack (ending_of o, open'.visits) ends) ∙ open'.same)
+  ends_at_once stack (inr wide) ends = let is : o ≡ outcome.TooWide = cc in too_many is wide.count wide.items wide.many
 
-module _ (rules : List Rule) (whole : Told) (all fs new : List Frame) (f : Frame) (popped : all ≡ fs ++ f ∷ []) (told next : Delegated)
-    (turn : IsStep rules (frame_on rules f (told_of told)) (frame_work rules f) fs new next) where
-  -- a turn of the last frame leads on
-  pub turned : LeadsTo rules whole all told → ends_all (ending_of told.outcome) ≡ false → LeadsTo rules whole new next
-  turned (inl open') goes_on =
-      let around : resume rules fs (frame_on rules f (told_of told)) ≡ whole =
-      sym (resume-append rules fs (f ∷ []) (told_of told)) ∙ (ap (λ (xs : List Frame). resume rules xs (told_of told)) (sym popped) ∙ open'.same) in
-      elim (turn.leads) [
-        | inl step ↦
+  -- and so is what is told where nothing is left
+  pub ends : LeadsTo rules names most whole [] work (task.Tell o) → IsAnswer most whole work o
+  ends (inl open') = answer_of open'.visits open'.fits open'.few open'.same
+  ends (inr wide) = let is : o ≡ outcome.TooWide = cc in too_many is wide.count wide.items wide.many
+
+not_wide : (o : Outcome) → ends_all (ending_of o) ≡ false → o ≡ outcome.TooWide → ⊥
+not_wide o goes_on is = let ends : true ≡ false = rw is at goes_on in cc
+
+-- what does not end all comes after no more lookups than the limit
+pub few_told : (rules : List Rule) (names : Names) (most : ℕ) (whole : Told) (stack : List Frame) (work : Work) (now : Task) (o : Outcome) → now ≡ task.Tell o → LeadsTo rules names most whole stack work now
+    → ends_all (ending_of o) ≡ false → work.count ≤ most_wide
+few_told rules names most whole stack work now o is (inl open') goes_on = open'.few
+few_told rules names most whole stack work now o is (inr wide) goes_on = absurd (not_wide o goes_on cc)
+
+pub few_tried : (rules : List Rule) (names : Names) (most : ℕ) (whole : Told) (stack : List Frame) (work : Work) (now : Task) (tree : Tree) (left : ℕ) → now ≡ task.Try tree left
+    → LeadsTo rules names most whole stack work now → work.count ≤ most_wide
+few_tried rules names most whole stack work now tree left is (inl open') = open'.few
+few_tried rules names most whole stack work now tree left is (inr wide) = let other : task.Try tree left ≡ task.Tell outcome.TooWide = cc in cc
+
+module _ (rules : List Rule) (names : Names) (most : ℕ) (whole : Told) where
+  -- a step leads on
+  leads_on : (fs : List Frame) (asked : List Visit → Told) (turns : ℕ) (mid new : Work) (next : Task) → mid.stack.items ≡ fs → IsStep rules names most asked turns mid new next
+      → (vs : List Visit) → Fits most vs mid → resume rules names fs (asked vs) ≡ whole → LeadsTo rules names most whole new.stack.items new next
+  leads_on fs asked turns mid new next stack_is step vs fits same =
+      elim (step.leads vs fits) [
+        | inl on ↦
             inl (record {
-              few = step.few;
+              visits = on.visits;
+              fits = on.fits;
+              few = on.few;
               same =
-                  ap (λ (xs : List Frame). resume rules xs (told_of next)) turn.pushed
-                  ∙ (resume-append rules fs turn.more (told_of next) ∙ (ap (resume rules fs) step.same ∙ around));
+                  ap (λ (xs : List Frame). resume rules names xs (task_told rules names next on.visits)) (step.pushed ∙ ap (λ (xs : List Frame). xs ++ step.more) stack_is)
+                  ∙ (resume-append rules names fs step.more (task_told rules names next on.visits) ∙ (ap (resume rules names fs) on.same ∙ same));
             })
         | inr wide ↦
             inr (record {
               outcome = wide.outcome;
-              cost = wide.cost;
-              many = subst (λ (x : Told). most_wide < x.1) around (omega (arith, wide.many, resume-more rules fs (frame_on rules f (told_of told))));
+              count = wide.count;
+              items = wide.items;
+              many = subst (λ (x : Told). most_wide < length x.1) same (omega (arith, wide.many, resume-more rules names fs (asked vs)));
             })
       ]
-  turned (inr wide) goes_on = let ends : true ≡ false = rw wide.outcome at goes_on in cc
 
-  pub fewer : stack_work rules new < stack_work rules all
-  fewer = rw (turn.pushed, popped) (omega (arith, stack_work-append rules fs turn.more, stack_work-append rules fs (f ∷ []), turn.less))
+  fewer : (fs : List Frame) (asked : List Visit → Told) (turns : ℕ) (mid new : Work) (next : Task) → mid.stack.items ≡ fs → IsStep rules names most asked turns mid new next
+      → stack_work rules new.stack.items + task_work rules next < stack_work rules fs + turns
+  fewer fs asked turns mid new next stack_is step = rw (step.pushed, stack_is) (omega (arith, stack_work-append rules fs step.more, step.less))
 
--- a lookup or an alternation passes what is not negative
-pub passed : (rules : List Rule) (f : Choice) (fs : List Frame) (told : Delegated) → told.cost ≤ most_wide → (told.outcome ≡ outcome.Neg → ⊥)
-    → IsStep rules (or_else (told_of told) (choice_told rules f)) (choice_work rules f) fs fs told
-passed rules f fs told few other =
-    told_step rules (or_else (told_of told) (choice_told rules f)) (choice_work rules f) fs told (some_work (path_work rules f.left) (choice_names f)) few
-    (sym (keeps told.outcome told.cost (choice_told rules f) other))
+  -- the first step
+  pub begins : (old new : Work) (next : Task) (asked : List Visit → Told) (turns : ℕ) → old.stack.items ≡ [] → Fits most [] old → asked [] ≡ whole → IsStep rules names most asked turns old new next
+      → LeadsTo rules names most whole new.stack.items new next
+  begins old new next asked turns none fits same step = leads_on [] asked turns old new next none step [] fits same
 
-not_negative : (f : Choice) (o : Outcome) → PassesOn (frame.Choice f) o → o ≡ outcome.Neg → ⊥
-not_negative f outcome.Neg passes is = passes
-not_negative f outcome.Fail passes is = cc
-not_negative f outcome.Empty passes is = cc
-not_negative f outcome.TooDeep passes is = cc
-not_negative f outcome.TooWide passes is = cc
-not_negative f (outcome.Bound found) passes is = cc
+  -- a tree that is tried
+  pub tried : (work new : Work) (now next : Task) (tree : Tree) (left : ℕ) → now ≡ task.Try tree left
+      → IsStep rules names work.visits.most (λ vs. behind vs (walk (lookup rules names left) (value_of tree))) (tree_work (path_work rules left) (value_of tree)) work new next
+      → LeadsTo rules names most whole work.stack.items work now → LeadsTo rules names most whole new.stack.items new next
+  tried work new now next tree left is step (inl on) =
+      let asked : List Visit → Told = λ vs. behind vs (walk (lookup rules names left) (value_of tree)) in
+      leads_on work.stack.items asked (tree_work (path_work rules left) (value_of tree)) work new next refl
+      (subst (λ (k : ℕ). IsStep rules names k asked (tree_work (path_work rules left) (value_of tree)) work new next) on.fits.most_is step) on.visits on.fits (rw is at on.same)
+  tried work new now next tree left is step (inr wide) = let other : task.Try tree left ≡ task.Tell outcome.TooWide = cc in cc
 
--- so a frame that passes it on is let go
-pub let_go : (rules : List Rule) (f : Frame) (fs : List Frame) (told : Delegated) → told.cost ≤ most_wide → PassesOn f told.outcome
-    → IsStep rules (frame_on rules f (told_of told)) (frame_work rules f) fs fs told
-let_go rules (frame.Choice f) fs told few passes = passed rules f fs told few (not_negative f told.outcome passes)
-let_go rules (frame.Union f) fs told few passes = absurd passes
+  module _ (work mid new : Work) (f : Frame) (now : Task) (o : Outcome) (next : Task) (is : now ≡ task.Tell o) (popped : work.stack.items ≡ mid.stack.items ++ f ∷ [])
+      (count_is : mid.count ≡ work.count) (visits_are : mid.visits ≡ work.visits)
+      (step : IsStep rules names work.visits.most (λ vs. frame_on rules names f (ending_of o, vs)) (frame_work rules f) mid new next) where
+    -- an outcome that is told to the last frame
+    pub turned : LeadsTo rules names most whole work.stack.items work now → ends_all (ending_of o) ≡ false → LeadsTo rules names most whole new.stack.items new next
+    turned (inl on) goes_on =
+        leads_on mid.stack.items (λ vs. frame_on rules names f (ending_of o, vs)) (frame_work rules f) mid new next refl (rw on.fits.most_is at step) on.visits
+        (record { most_is = rw visits_are on.fits.most_is; count = count_is ∙ on.fits.count; items = rw visits_are on.fits.items })
+        (sym (resume-append rules names mid.stack.items (f ∷ []) (ending_of o, on.visits)) ∙ (ap (λ (xs : List Frame). resume rules names xs (ending_of o, on.visits)) (sym popped) ∙ rw is at on.same))
+    turned (inr wide) goes_on = absurd (not_wide o goes_on cc)
 
--- and where no tree is left, it comes to what its path names
-pub emptied : (rules : List Rule) (f : Choice) (fs : List Frame) (told new : Delegated) → told.cost ≤ most_wide → told.outcome ≡ outcome.Neg → into_iter_len f.trees ≡ 0
-    → ending_of new.outcome ≡ named_ending f.named → new.cost ≡ told.cost → IsStep rules (or_else (told_of told) (choice_told rules f)) (choice_work rules f) fs fs new
-emptied rules f fs told new few is none end_is cost_is =
-    let tree_values : choice_names f ≡ [] = ap (map value_of) (no_trees f.trees none) in
-    let sums : told.cost ≡ told.cost + (0 + 0) = omega arith in
-    told_step rules (or_else (told_of told) (choice_told rules f)) (choice_work rules f) fs new (some_work (path_work rules f.left) (choice_names f)) (omega arith)
-    (rw (is, tree_values, end_is, cost_is) (ap (λ (k : ℕ). (named_ending f.named, k)) sums))
+pub tried_fewer : (rules : List Rule) (names : Names) (most : ℕ) (work new : Work) (now next : Task) (tree : Tree) (left : ℕ) → now ≡ task.Try tree left
+    → IsStep rules names most (λ vs. behind vs (walk (lookup rules names left) (value_of tree))) (tree_work (path_work rules left) (value_of tree)) work new next
+    → stack_work rules new.stack.items + task_work rules next < stack_work rules work.stack.items + task_work rules now
+tried_fewer rules names most work new now next tree left is step =
+    rw is (fewer rules names most (negative, []) work.stack.items (λ vs. behind vs (walk (lookup rules names left) (value_of tree))) (tree_work (path_work rules left) (value_of tree)) work new next refl step)
 
--- else it is left with the trees behind the next
-pub chosen : (rules : List Rule) (f g : Choice) (t : TreeValue) (ts : List TreeValue) (fs base new : List Frame) (told : Delegated) → choice_names f ≡ t ∷ ts → choice_names g ≡ ts → g.left ≡ f.left
-    → g.named ≡ f.named → told.outcome ≡ outcome.Neg → base ≡ fs ++ frame.Choice g ∷ []
-    → (next : Delegated) → IsStep rules (behind told.cost (walk (lookup rules f.left) t)) (tree_work (path_work rules f.left) t) base new next
-    → IsStep rules (or_else (told_of told) (choice_told rules f)) (choice_work rules f) fs new next
-chosen rules f g t ts fs base new told cut rest left named is pushed next step =
-    let cut_work : choice_work rules f ≡ tree_work (path_work rules f.left) t + list_work (path_work rules f.left) ts = ap (list_work (path_work rules f.left)) cut in
-    let rest_work : choice_work rules g ≡ list_work (path_work rules f.left) ts = rw (left, rest) refl in
-    let look = lookup rules f.left in
-    let last : Told = (named_ending f.named, 0) in
-    let whole : or_else (told_of told) (choice_told rules f) ≡ behind told.cost (or_else (or_else (walk look t) (first_of look ts)) last) = rw (is, cut) refl in
-    let same : frame_on rules (frame.Choice g) (behind told.cost (walk look t)) ≡ or_else (behind told.cost (walk look t)) (or_else (first_of look ts) last) = rw (left, rest, named) refl in
-    under rules (frame.Choice g) (behind told.cost (walk look t)) (or_else (told_of told) (choice_told rules f)) (tree_work (path_work rules f.left) t) (choice_work rules f) fs base new next pushed step
-    (same
-    ∙ (or_else-assoc (negative, told.cost) (walk look t) (or_else (first_of look ts) last)
-    ∙ (ap (behind told.cost) (sym (or_else-assoc (walk look t) (first_of look ts) last)) ∙ sym whole)))
-    (omega arith)
+pub turned_fewer : (rules : List Rule) (names : Names) (most : ℕ) (work mid new : Work) (f : Frame) (now : Task) (o : Outcome) (next : Task) → now ≡ task.Tell o → work.stack.items ≡ mid.stack.items ++ f ∷ []
+    → IsStep rules names most (λ vs. frame_on rules names f (ending_of o, vs)) (frame_work rules f) mid new next
+    → stack_work rules new.stack.items + task_work rules next < stack_work rules work.stack.items + task_work rules now
+turned_fewer rules names most work mid new f now o next is popped step =
+    let less = fewer rules names most (negative, []) mid.stack.items (λ vs. frame_on rules names f (ending_of o, vs)) (frame_work rules f) mid new next refl step in
+    rw (is, popped) (omega (arith, stack_work-append rules mid.stack.items (f ∷ []), less))
 
-module _ (rules : List Rule) (f : Union) (kept : Kept) (told : Delegated) (few : told.cost ≤ most_wide) (goes_on : ends_all (ending_of told.outcome) ≡ false)
-    (kept_is : kept ≡ kept_with (kept_of f.gathered) f.weight (ending_of told.outcome)) where
+-- what is told where nothing is left, or where it ends all, is the answer
+module _ (rules : List Rule) (names : Names) (most : ℕ) (small : most ≤ most_wide) (whole : Told) (work : Work) (now : Task) (o : Outcome) (is : now ≡ task.Tell o) where
+  pub finished : (stack : List Frame) → LeadsTo rules names most whole stack work now → ends_all (ending_of o) ≡ true → IsAnswer most whole work o
+  finished stack leads ends = ends_at_once rules names most small whole work o stack (subst (λ (x : Task). LeadsTo rules names most whole stack work x) is leads) ends
+
+  pub finished_empty : (stack : List Frame) (left : Work) → length stack ≡ 0 → left.count ≡ work.count → left.visits ≡ work.visits → LeadsTo rules names most whole stack work now → IsAnswer most whole left o
+  finished_empty stack left none count_is visits_are leads =
+      let none_left : stack ≡ [] = no_elements stack none in
+      let answer : IsAnswer most whole work o = ends rules names most small whole work o (subst (λ (fs : List Frame). LeadsTo rules names most whole fs work (task.Tell o)) none_left (subst (λ (x : Task). LeadsTo rules names most whole stack work x) is leads)) in
+      record { outcome = answer.outcome; count = count_is ∙ answer.count; items = rw visits_are answer.items }
+
+-- what a step does, where it is
+pub on_ok : {E : Type 0} {P Q : Task → Type 0} (r : Result Task E) → ((t : Task) → P t → Q t) → IfOk r P → IfOk r Q
+on_ok (Ok t) f p = f t p
+on_ok (Err e) f p = tt
+
+pub is_none : (named : Option Leaf) → is_some named ≡ false → named ≡ None
+is_none None h = refl
+is_none (Some found) h = cc
+
+pub none_kept : (most : ℕ) (test : Bool) → test ≡ nat_lt 0 most → test ≡ false → most ≡ 0
+none_kept most test is no_test = grind (arith, nat_tests)
+
+module _ (rules : List Rule) (names : Names) (most : ℕ) (f : Choice) (old new : Work) (few : old.count ≤ most_wide) where
+  -- a lookup or an alternation passes what is not negative
+  pub passed : (o : Outcome) → (o ≡ outcome.Neg → ⊥) → ends_all (ending_of o) ≡ false → new.stack.items ≡ old.stack.items → new.count ≡ old.count → new.visits.most ≡ old.visits.most
+      → new.visits.items.items ≡ end_items f.visit (ended_as (ending_of o)) old.visits.items.items
+      → IsStep rules names most (λ vs. choice_on rules names f (ending_of o, vs)) (choice_work rules f) old new (task.Tell o)
+  passed o other goes_on stack_is count_is most_is items_are =
+      close_step rules names most (λ vs. choice_on rules names f (ending_of o, vs)) (choice_work rules f) old new f.visit o (some_work (path_work rules f.left) (choice_names f)) few goes_on stack_is count_is
+      most_is items_are (λ vs. ap (closed f.visit) (sym (keeps o vs (choice_told rules names f) other)))
+
+  -- and where no tree is left, it comes to what its path names
+  pub emptied : (told o : Outcome) → told ≡ outcome.Neg → into_iter_len f.trees ≡ 0 → ending_of o ≡ named_ending f.named → new.stack.items ≡ old.stack.items → new.count ≡ old.count
+      → new.visits.most ≡ old.visits.most → new.visits.items.items ≡ end_items f.visit (ended_as (ending_of o)) old.visits.items.items
+      → IsStep rules names most (λ vs. choice_on rules names f (ending_of told, vs)) (choice_work rules f) old new (task.Tell o)
+  emptied told o is none end_is stack_is count_is most_is items_are =
+      let trees : choice_names f ≡ [] = ap (map value_of) (no_trees f.trees none) in
+      let goes_on : ends_all (ending_of o) ≡ false = ap ends_all end_is ∙ named-goes_on f.named in
+      close_step rules names most (λ vs. choice_on rules names f (ending_of told, vs)) (choice_work rules f) old new f.visit o (some_work (path_work rules f.left) (choice_names f)) few goes_on stack_is count_is
+      most_is items_are (λ vs. rw (is, trees, end_is) (ap (λ (xs : List Visit). closed f.visit (named_ending f.named, xs)) (sym (append-nil vs))))
+
+  -- else it is left with the trees behind the next
+  pub chosen : (g : Choice) (tree : Tree) (told : Outcome) → told ≡ outcome.Neg → choice_names f ≡ value_of tree ∷ choice_names g → g.left ≡ f.left → g.named ≡ f.named → g.visit ≡ f.visit
+      → new.stack.items ≡ old.stack.items ++ frame.Choice g ∷ [] → new.count ≡ old.count → new.visits ≡ old.visits
+      → IsStep rules names most (λ vs. choice_on rules names f (ending_of told, vs)) (choice_work rules f) old new (task.Try tree f.left)
+  chosen g tree told is cut left named visit pushed count_is visits_are =
+      rw (is, cut, ← named, ← visit) (push_step rules names most old new g tree f.left few pushed count_is visits_are left)
+
+-- a lookup with no tree comes to what its path names
+pub bare : (rules : List Rule) (names : Names) (most : ℕ) (ts : List TreeValue) (named : Option Leaf) (visit left : ℕ) (old new : Work) (o : Outcome) → ts ≡ [] → old.count ≤ most_wide
+    → ending_of o ≡ named_ending named → new.stack.items ≡ old.stack.items → new.count ≡ old.count
+    → new.visits.most ≡ old.visits.most → new.visits.items.items ≡ end_items (Some visit) (ended_as (ending_of o)) old.visits.items.items
+    → IsStep rules names most (λ vs. lookup_on rules names ts named visit left vs) (list_work (path_work rules left) ts) old new (task.Tell o)
+bare rules names most ts named visit left old new o none few end_is stack_is count_is most_is items_are =
+    let goes_on : ends_all (ending_of o) ≡ false = ap ends_all end_is ∙ named-goes_on named in
+    close_step rules names most (λ vs. lookup_on rules names ts named visit left vs) (list_work (path_work rules left) ts) old new (Some visit) o (some_work (path_work rules left) ts) few goes_on stack_is count_is
+    most_is items_are (λ vs. rw (none, end_is) (ap (λ (xs : List Visit). closed (Some visit) (named_ending named, xs)) (sym (append-nil vs))))
+
+-- one with trees leaves those behind the first
+pub first : (rules : List Rule) (names : Names) (most : ℕ) (ts : List TreeValue) (named : Option Leaf) (visit left : ℕ) (old new : Work) (g : Choice) (tree : Tree) → ts ≡ value_of tree ∷ choice_names g
+    → old.count ≤ most_wide → g.left ≡ left → g.named ≡ named → g.visit ≡ Some visit
+    → new.stack.items ≡ old.stack.items ++ frame.Choice g ∷ [] → new.count ≡ old.count → new.visits ≡ old.visits
+    → IsStep rules names most (λ vs. lookup_on rules names ts named visit left vs) (list_work (path_work rules left) ts) old new (task.Try tree left)
+first rules names most ts named visit left old new g tree cut few left_is named_is visit_is pushed count_is visits_are =
+    rw cut (rw (named_is, visit_is) at (push_step rules names most old new g tree left few pushed count_is visits_are left_is))
+
+-- and nothing where there is none behind it, its path names nothing, and no lookup is kept
+pub last : (rules : List Rule) (names : Names) (most : ℕ) (ts : List TreeValue) (named : Option Leaf) (visit left : ℕ) (old : Work) (tree : Tree) → ts ≡ value_of tree ∷ [] → named ≡ None → most ≡ 0
+    → old.count ≤ most_wide → visit < old.count
+    → IsStep rules names most (λ vs. lookup_on rules names ts named visit left vs) (list_work (path_work rules left) ts) old old (task.Try tree left)
+last rules names most ts named visit left old tree only nothing none few before = rw (only, nothing) (last_step rules names most old tree visit left none few before)
+
+module _ (rules : List Rule) (names : Names) (most : ℕ) (f : Union) (kept : Kept) (o : Outcome) (old : Work) (few : old.count ≤ most_wide) (goes_on : ends_all (ending_of o) ≡ false)
+    (kept_is : kept ≡ kept_with (kept_of f.gathered) f.weight (ending_of o)) where
   abbrev look : Labels → Told
-  look = lookup rules f.left
+  look = lookup rules names f.left
 
   -- a union without a branch that is left
-  pub gathered : (fs : List Frame) (new : Delegated) → weighted (union_branches f) ≡ no_branch → ending_of new.outcome ≡ kept_ending kept → new.cost ≡ told.cost
-      → IsStep rules (union_on rules f (told_of told)) (union_work rules f) fs fs new
-  gathered fs new none end_is cost_is =
+  pub gathered : (result : Outcome) → weighted (union_branches f) ≡ no_branch → ending_of result ≡ kept_ending kept
+      → IsStep rules names most (λ vs. union_on rules names f (ending_of o, vs)) (union_work rules f) old old (task.Tell result)
+  gathered result none end_is =
       let no_more : walk_each look (union_branches f) ≡ [] = sym (walk_each-weighted look (union_branches f)) ∙ ap (walk_each look) none in
-      told_step rules (union_on rules f (told_of told)) (union_work rules f) fs new (some_each (path_work rules f.left) (union_branches f)) (omega arith)
-      (rw (no_more, goes_on, end_is, cost_is, kept_is) refl)
+      tell_step rules names most (λ vs. union_on rules names f (ending_of o, vs)) (union_work rules f) old result (some_each (path_work rules f.left) (union_branches f)) few
+      (λ vs. rw (no_more, goes_on, end_is, kept_is) refl)
 
   -- else it is left with the branches behind the next
-  pub branched : (g : Union) (b : Branch) (bs : Branches) (fs base new : List Frame) → weighted (union_branches f) ≡ branch b.weight (value_of b.tree) bs → 0 < b.weight
-      → union_branches g ≡ bs → g.left ≡ f.left → g.weight ≡ b.weight → kept_of g.gathered ≡ kept → base ≡ fs ++ frame.Union g ∷ []
-      → (next : Delegated) → IsStep rules (behind told.cost (walk look (value_of b.tree))) (tree_work (path_work rules f.left) (value_of b.tree)) base new next
-      → IsStep rules (union_on rules f (told_of told)) (union_work rules f) fs new next
-  branched g b bs fs base new cut some rest left weight kept_g pushed next step =
-      let each : walk_each look (union_branches f) ≡ record { weight = b.weight; told = walk look (value_of b.tree) } ∷ walk_each look bs =
-      sym (walk_each-weighted look (union_branches f)) ∙ (ap (walk_each look) cut ∙ walk_each-some look b.weight (value_of b.tree) bs some) in
-      let rest_work : union_work rules g ≡ each_work (path_work rules f.left) bs = rw (left, rest) refl in
-      let cut_work : each_work (path_work rules f.left) (weighted (union_branches f)) ≡ tree_work (path_work rules f.left) (value_of b.tree) + each_work (path_work rules f.left) bs =
+  pub branched : (new : Work) (g : Union) (b : Branch) → weighted (union_branches f) ≡ branch b.weight (value_of b.tree) (union_branches g) → 0 < b.weight → g.left ≡ f.left → g.weight ≡ b.weight
+      → kept_of g.gathered ≡ kept → new.stack.items ≡ old.stack.items ++ frame.Union g ∷ [] → new.count ≡ old.count → new.visits ≡ old.visits
+      → IsStep rules names most (λ vs. union_on rules names f (ending_of o, vs)) (union_work rules f) old new (task.Try b.tree f.left)
+  branched new g b cut some left weight kept_g pushed count_is visits_are =
+      let each : walk_each look (union_branches f) ≡ record { weight = b.weight; told = walk look (value_of b.tree) } ∷ walk_each look (union_branches g) =
+      sym (walk_each-weighted look (union_branches f)) ∙ (ap (walk_each look) cut ∙ walk_each-some look b.weight (value_of b.tree) (union_branches g) some) in
+      let rest_work : union_work rules g ≡ each_work (path_work rules f.left) (union_branches g) = rw left refl in
+      let cut_work : each_work (path_work rules f.left) (weighted (union_branches f)) ≡ 1 + (tree_work (path_work rules f.left) (value_of b.tree) + each_work (path_work rules f.left) (union_branches g)) =
       ap (each_work (path_work rules f.left)) cut in
-      under rules (frame.Union g) (behind told.cost (walk look (value_of b.tree))) (union_on rules f (told_of told)) (tree_work (path_work rules f.left) (value_of b.tree)) (union_work rules f) fs base new next
-      pushed step
-      (rw (each, goes_on, left, rest, weight, kept_g, kept_is) refl)
-      (omega (arith, each_work-weighted (path_work rules f.left) (union_branches f)))
+      record {
+        more = frame.Union g ∷ [];
+        pushed = pushed;
+        less = omega (arith, each_work-weighted (path_work rules f.left) (union_branches f));
+        leads = λ vs fits. inl (record {
+          visits = vs;
+          fits = record { most_is = rw visits_are fits.most_is; count = count_is ∙ fits.count; items = rw visits_are fits.items };
+          few = omega arith;
+          same = rw (each, goes_on, left, weight, kept_g, kept_is) refl;
+        });
+      }
+
+-- a frame that is a lookup or an alternation, or a union
+pub told_choice : {E : Type 0} (rules : List Rule) (names : Names) (most : ℕ) (f : Choice) (frame_of : Frame) (o : Outcome) (old new : Work) (r : Result Task E) → frame_of ≡ frame.Choice f
+    → IfOk r (IsStep rules names most (λ vs. choice_on rules names f (ending_of o, vs)) (choice_work rules f) old new)
+    → IfOk r (IsStep rules names most (λ vs. frame_on rules names frame_of (ending_of o, vs)) (frame_work rules frame_of) old new)
+told_choice rules names most f frame_of o old new r is step =
+    subst (λ (x : Frame). IfOk r (IsStep rules names most (λ vs. frame_on rules names x (ending_of o, vs)) (frame_work rules x) old new)) (sym is) step
+
+pub told_union : {E : Type 0} (rules : List Rule) (names : Names) (most : ℕ) (f : Union) (frame_of : Frame) (o : Outcome) (old new : Work) (r : Result Task E) → frame_of ≡ frame.Union f
+    → IfOk r (IsStep rules names most (λ vs. union_on rules names f (ending_of o, vs)) (union_work rules f) old new)
+    → IfOk r (IsStep rules names most (λ vs. frame_on rules names frame_of (ending_of o, vs)) (frame_work rules frame_of) old new)
+told_union rules names most f frame_of o old new r is step =
+    subst (λ (x : Frame). IfOk r (IsStep rules names most (λ vs. frame_on rules names x (ending_of o, vs)) (frame_work rules x) old new)) (sym is) step

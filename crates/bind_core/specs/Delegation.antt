@@ -1,12 +1,11 @@
--- Delegation: what a path comes to in a table, and how many lookups that takes. A recursion over the table as a list.
-use Rattle.std.specs.Prelude.{ℕ, zero, suc, ◌+◌, nat_lt, min, ◌==◌, Bool, true, false, ◌||◌, if◌then◌else◌, List, [], ◌∷◌, ◌++◌, length, Option, Some, None}
+-- Delegation: what a path comes to in a table, and which lookups that takes. A recursion over the table as a list.
+use Rattle.std.specs.Prelude.{ℕ, zero, suc, ◌+◌, ◌-◌, nat_lt, min, ◌==◌, Bool, true, false, ◌||◌, if◌then◌else◌, List, [], ◌∷◌, ◌++◌, map, length, Option, Some, None}
 use Rattle.name_tree.specs.Path.{Labels, canon_path}
 use Rattle.name_tree.specs.Value.{TreeValue, TreeValues, Branches, leaf, neg, fail, empty, alt, union, none, more, no_branch, branch}
 use Rattle.dtab_table.specs.Dtab.{rewrites}
 use Rattle.dtab_table.specs.Rules.{Rule}
-use Rattle.bind_core.specs.declared.leaf.Leaf.{Leaf}
-use Rattle.bind_core.specs.Addr.{named_leaf}
-use Rattle.bind_core.specs.Found.{Found, one, many, members}
+use Rattle.addr_book.specs.declared.leaf.Leaf.{Leaf}
+use Rattle.addr_book.specs.Found.{Found, one, many, members}
 
 -- what a tree, a lookup or a delegation comes to
 pub data Ending : Type 0 where
@@ -22,18 +21,24 @@ abbrev pub IfBound : (Found → Type 0) → Ending → Type 0
 IfBound P (bound found) = P found
 IfBound P _ = Unit {0}
 
--- an ending, and the lookups that were made for it
+-- a lookup: how many came before it in its chain, the path that was looked up, and what it came to
+pub record Visit : Type 0 where
+  pub depth : ℕ
+  pub path : Labels
+  pub ending : Ending
+
+-- an ending, and the lookups that were made for it, in the order in which they began
 abbrev pub Told : Type 0
-Told = Ending × ℕ
+Told = Ending × List Visit
 
 -- the first that is not negative. The second is looked for only where the first is negative
 abbrev pub or_else : Told → Told → Told
-or_else (negative, n) second = (second.0, n + second.1)
-or_else (failing, n) second = (failing, n)
-or_else (no_replica, n) second = (no_replica, n)
-or_else (too_deep, n) second = (too_deep, n)
-or_else (too_wide, n) second = (too_wide, n)
-or_else (bound found, n) second = (bound found, n)
+or_else (negative, vs) second = (second.0, vs ++ second.1)
+or_else (failing, vs) second = (failing, vs)
+or_else (no_replica, vs) second = (no_replica, vs)
+or_else (too_deep, vs) second = (too_deep, vs)
+or_else (too_wide, vs) second = (too_wide, vs)
+or_else (bound found, vs) second = (bound found, vs)
 
 -- a branch of a union that is evaluated: its weight in millionths, and what its tree comes to
 pub record Evaluated : Type 0 where
@@ -78,27 +83,27 @@ abbrev pub joint : List Evaluated → Ending
 joint bs = if some_end is_too_deep bs then too_deep else kept (found_in bs) (some_end is_failing bs) (some_end is_empty bs)
 
 -- the lookups of the branches up to the first that is too deep, and with it
-abbrev pub joint_cost : List Evaluated → ℕ
-joint_cost [] = 0
-joint_cost (b ∷ bs) = b.told.1 + (if is_too_deep b.told.0 then 0 else joint_cost bs)
+abbrev pub joint_visits : List Evaluated → List Visit
+joint_visits [] = []
+joint_visits (b ∷ bs) = b.told.1 ++ (if is_too_deep b.told.0 then [] else joint_visits bs)
 
 -- what a union comes to, of which these branches are evaluated
 abbrev pub together : List Evaluated → Told
-together bs = (joint bs, joint_cost bs)
+together bs = (joint bs, joint_visits bs)
 
 module _ (look : Labels → Told) where
   abbrev mutual
     -- a tree, whose leaves are looked up so
     pub walk : TreeValue → Told
     walk (leaf path) = look path
-    walk neg = (negative, 0)
-    walk fail = (failing, 0)
-    walk empty = (no_replica, 0)
+    walk neg = (negative, [])
+    walk fail = (failing, [])
+    walk empty = (no_replica, [])
     walk (alt ts) = walk_all ts
     walk (union bs) = together (walk_each bs)
 
     pub walk_all : TreeValues → Told
-    walk_all none = (negative, 0)
+    walk_all none = (negative, [])
     walk_all (more t ts) = or_else (walk t) (walk_all ts)
 
     -- the branches of a union, but for those of weight 0, which are not evaluated
@@ -108,17 +113,20 @@ module _ (look : Labels → Told) where
 
   -- the first of some trees that is not negative
   abbrev pub first_of : List TreeValue → Told
-  first_of [] = (negative, 0)
+  first_of [] = (negative, [])
   first_of (t ∷ ts) = or_else (walk t) (first_of ts)
 
--- what a path names by itself
+-- what paths name by themselves
+abbrev pub Names : Type 0
+Names = Labels → Option Leaf
+
 abbrev pub named_ending : Option Leaf → Ending
 named_ending None = negative
 named_ending (Some found) = bound (one found)
 
--- one lookup more
-abbrev pub counted : Told → Told
-counted told = (told.0, 1 + told.1)
+-- a lookup before those that were made for it. It comes to what they tell: so where something was too deep, each lookup that had not ended came to that
+abbrev pub visited : ℕ → Labels → Told → Told
+visited depth path told = (told.0, record { depth = depth; path = path; ending = told.0 } ∷ told.1)
 
 -- the most lookups in a chain, and in a delegation; the most bytes of a path's text
 abbrev pub most_deep : ℕ
@@ -132,20 +140,44 @@ most_path_bytes = 2048
 
 -- a path that is reached with so many lookups left in its chain: the trees that the table rewrites it to are tried in order, and then what it
 -- names by itself. It is too deep where no lookup is left, and where its text is too long
-unfoldable pub lookup : List Rule → ℕ → Labels → Told
-lookup rules zero path = (too_deep, 0)
-lookup rules (suc left) path =
-    if nat_lt most_path_bytes (length (canon_path path)) then (too_deep, 0)
-    else counted (or_else (first_of (lookup rules left) (rewrites rules path)) (named_ending (named_leaf path), 0))
+unfoldable pub lookup : List Rule → Names → ℕ → Labels → Told
+lookup rules names zero path = (too_deep, [])
+lookup rules names (suc left) path =
+    if nat_lt most_path_bytes (length (canon_path path)) then (too_deep, [])
+    else visited (most_deep - suc left) path (or_else (first_of (lookup rules names left) (rewrites rules path)) (named_ending (names path), []))
+
+-- a whole delegation, without the limit on its lookups
+abbrev pub told_in : List Rule → Names → Labels → Told
+told_in rules names path = lookup rules names most_deep path
 
 -- too wide, whatever else, where there are too many lookups
 abbrev pub within_width : Told → Ending
-within_width told = if nat_lt most_wide told.1 then too_wide else told.0
+within_width told = if nat_lt most_wide (length told.1) then too_wide else told.0
 
 -- what a path comes to in a table, within the limits
-abbrev pub outcome_of : List Rule → Labels → Ending
-outcome_of rules path = within_width (lookup rules most_deep path)
+abbrev pub outcome_of : List Rule → Names → Labels → Ending
+outcome_of rules names path = within_width (told_in rules names path)
 
 -- how many lookups that takes, as far as they are counted
-abbrev pub cost_of : List Rule → Labels → ℕ
-cost_of rules path = min (lookup rules most_deep path).1 (most_wide + 1)
+abbrev pub cost_of : List Rule → Names → Labels → ℕ
+cost_of rules names path = min (length (told_in rules names path).1) (most_wide + 1)
+
+-- the paths that are looked up for it, in the order in which their lookups begin
+abbrev pub asked_of : List Rule → Names → Labels → List Labels
+asked_of rules names path = map (λ v. v.path) (told_in rules names path).1
+
+-- the lookups, where there are at most so many
+abbrev pub visits_within : ℕ → Told → List Visit
+visits_within most told = if nat_lt most (length told.1) then [] else told.1
+
+-- the lookups, in the order in which they begin. There are none where the delegation is too wide
+abbrev pub trace_of : List Rule → Names → Labels → List Visit
+trace_of rules names path = visits_within most_wide (told_in rules names path)
+
+-- the most lookups of which the paths are kept
+abbrev pub most_asked : ℕ
+most_asked = 256
+
+-- the paths that are looked up, where there are few enough of them
+abbrev pub kept_asked : List Rule → Names → Labels → List Labels
+kept_asked rules names path = map (λ v. v.path) (visits_within most_asked (told_in rules names path))

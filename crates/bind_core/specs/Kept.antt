@@ -1,8 +1,8 @@
 -- What a union keeps of its branches while they are evaluated.
 use Rattle.std.specs.Prelude.{ℕ, Bool, true, false, List, [], ◌∷◌, ◌++◌, map}
 use Rattle.bind_core.specs.declared.gathered.Gathered.{Gathered}
-use Rattle.bind_core.specs.Found.{Found}
-use Rattle.bind_core.specs.Bound.{item_found}
+use Rattle.addr_book.specs.Found.{Found}
+use Rattle.addr_book.specs.Bound.{item_found}
 use Rattle.bind_core.specs.Delegation.{Ending, negative, failing, no_replica, too_deep, too_wide, bound, kept}
 
 -- what the bound ones find, with their weights; whether one fails, and whether one has no replica

@@ -1,8 +1,6 @@
-pub mod Addr
-pub mod Bound
 pub mod Delegation
-pub mod Found
 pub mod Kept
-pub mod Namer
+pub mod Laws
 pub mod Outcome
 pub mod Stack
+pub mod Tables

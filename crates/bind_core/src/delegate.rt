@@ -1,21 +1,24 @@
 //! Delegation, with a stack of what is left to try in place of a recursion.
-ghost use Rattle.std.specs.Prelude.{◌≡◌, ◌+◌, ◌<◌, ◌≤◌, ◌↔◌, false, min, IfOk};
+ghost use Rattle.std.specs.Prelude.{◌≡◌, ◌+◌, ◌<◌, ◌≤◌, ◌↔◌, List, [], map, length, min, false, IfOk};
 ghost use Rattle.dtab_table.specs.TableCanon.{AreSoundRules};
-ghost use Rattle.dtab_table.specs.Dtab.{rules_of};
-ghost use Rattle.bind_core.specs.Found.{IsFilled, IsBounded};
-ghost use Rattle.bind_core.specs.Delegation.{lookup, walk, or_else, named_ending, IfBound};
-ghost use Rattle.bind_core.specs.Outcome.{IsDelegated, ending_of};
-ghost use Rattle.bind_core.specs.Stack.{IsStep, behind, ends_all, frame_on, frame_work, choice_told, choice_work, union_on, union_work, told_of, path_work, tree_work, IsAnswer};
 ghost use Rattle.name_tree.specs.Tree.{value_of};
+ghost use Rattle.addr_book.specs.Found.{IsFilled, IsBounded};
+ghost use Rattle.dtab_table.specs.Rules.{Rule};
+ghost use Rattle.addr_book.specs.Namer.{named_in};
+ghost use Rattle.bind_core.specs.Delegation.{Names, lookup, walk, named_ending, IfBound};
+ghost use Rattle.bind_core.specs.Outcome.{IsDelegated, ending_of, most_for, paths_for, items_for};
+ghost use Rattle.bind_core.specs.Tables.{rules_in};
+ghost use Rattle.bind_core.specs.Stack.{IsStep, IsAnswer, Fits, rules_at, names_at, behind, ends_all, frame_on, frame_work, choice_on, choice_work, union_on, union_work, lookup_on, path_work, tree_work, list_work};
 
 use crate::Mem;
-use crate::bound::Bound;
 use crate::frame::{Choice, Frame, Union, next_weighted};
 use crate::gathered::Gathered;
-use crate::leaf::Leaf;
-use crate::namer::named;
-use crate::outcome::{Delegated, Outcome};
-use dtab_table::Dtab;
+use crate::outcome::{Delegated, Outcome, Wanted};
+use crate::tables::Tables;
+use crate::trace::{PathList, Trace};
+use crate::visits::Visits;
+use crate::work::{Scene, Task, Work};
+use addr_book::{Book, Bound, Leaf, name_answer};
 use line_base::Steps;
 use name_tree::{Path, Tree};
 use std::alloc::Global;
@@ -27,16 +30,18 @@ const MOST_DEEP: u32 = 100;
 /// The most lookups in a delegation.
 const MOST_WIDE: u32 = 10_000;
 
+/// The most lookups of which the paths are told.
+const MOST_ASKED: u32 = 256;
+
 /// The most bytes of the text of a path that is looked up.
 const MOST_PATH_BYTES: usize = 2_048;
 
-/// What a path comes to in a delegation table, and how many lookups that takes (Finagle user guide, "Names and Naming
-/// in Finagle").
+/// What a path comes to in the tables, and which lookups that takes (Finagle user guide, "Names and Naming in Finagle").
 ///
-/// A lookup tries, in order, the trees of all entries whose prefix matches the path, the last entry first, each with
-/// the rest of the path behind every leaf; and then what the path names by itself. The first that isn't negative is the
-/// outcome. A leaf is looked up in turn, and an alternation is the first of its trees that isn't negative: `!` and `$`
-/// stop the search.
+/// A lookup tries, in order, the trees of all entries whose prefix matches the path, the last entry first, so those of the
+/// request's own table first and those of the namespace last, each with the rest of the path behind every leaf; and then
+/// what the path names by itself. The first that isn't negative is the outcome. A leaf is looked up in turn, and an
+/// alternation is the first of its trees that isn't negative: `!` and `$` stop the search.
 ///
 /// A union evaluates its branches in order, but for those of weight 0. It is bound to the bound ones with their
 /// weights, in their order; negative, empty and failing ones are dropped. Where all are dropped, it is failing if one
@@ -49,197 +54,263 @@ const MOST_PATH_BYTES: usize = 2_048;
 /// Each union in a bound outcome has a branch, and no weight in it is 0. Where the table's trees are sound, as those of a
 /// text are, each has at most 65,536 branches, with weights below 10^12.
 ///
+/// With [`Wanted::Asked`] the paths that were looked up are told, where there are at most 256; with [`Wanted::Trace`] each
+/// lookup, where the outcome isn't too wide.
+///
 /// # Cost
 /// Each lookup ticks `steps` at least once. It takes memory for the trees of the entries that match, and none for other
-/// entries. One chain is followed at a time: what is held is a frame for each of its lookups, alternations and unions,
-/// with the trees that are left of it, and the bound branches of those unions. A frame is freed once nothing is left of
-/// it to try.
+/// entries. One chain is followed at a time: what is held is a frame for each of its lookups, alternations and unions that
+/// have something left to try, and the bound branches of those unions. Only where a list is wanted is the path of each
+/// lookup copied.
 pub fn bind<L: Ledger>(
     alloc: Global,
-    table: &Dtab,
+    tables: &Tables<'_>,
+    book: &Book,
     path: &Path,
+    wanted: Wanted,
     steps: &mut Steps<L>,
 ) -> Mem<Delegated>
-    ensures delegated { IfOk result (IsDelegated (rules_of table.now) path.now) }
+    ensures delegated { IfOk result (IsDelegated (rules_in tables.now) (named_in book.now) path.now wanted) }
     ensures cost { IfOk result (λ d. d.cost ≤ 10001) }
     ensures width { IfOk result (λ d. (d.outcome ≡ Outcome.TooWide) ↔ (d.cost ≡ 10001)) }
     ensures counted { IfOk result (λ d. steps.old + min d.cost 10000 ≤ steps.new) }
     ensures filled { IfOk result (λ d. IfBound IsFilled (ending_of d.outcome)) }
-    ensures bounded { AreSoundRules (rules_of table.now) → IfOk result (λ d. IfBound IsBounded (ending_of d.outcome)) }
+    ensures bounded { AreSoundRules (rules_in tables.now) → IfOk result (λ d. IfBound IsBounded (ending_of d.outcome)) }
 {
-    evaluate(alloc, table, path, MOST_DEEP, steps)
+    let scene = Scene { tables, book };
+    let mut work = Work::new(alloc, most_kept(wanted));
+    let outcome = evaluate(alloc, &scene, &mut work, path, MOST_DEEP, steps)?;
+    let cost = work.count;
+    let (asked, trace) = told_lists(alloc, wanted, work.visits)?;
+    Ok(Delegated {
+        outcome,
+        cost,
+        asked,
+        trace,
+    })
 }
 
-/// What a path comes to in a table, with so many lookups left in its chain.
+/// How many lookups are kept for what is wanted.
+fn most_kept(wanted: Wanted) -> u32
+    ensures { result ≡ most_for wanted }
+{
+    match wanted {
+        Wanted::Neither => 0,
+        Wanted::Asked => MOST_ASKED,
+        Wanted::Trace => MOST_WIDE,
+    }
+}
+
+/// The lists that are wanted, of the lookups that were kept.
+fn told_lists(alloc: Global, wanted: Wanted, visits: Visits) -> Mem<(PathList, Trace)>
+    ensures asked { IfOk result (λ lists. lists.0 ≡ paths_for wanted visits.items.items) }
+    ensures trace { IfOk result (λ lists. lists.1 ≡ items_for wanted visits.items.items) }
+{
+    let no_paths = PathList::of(Vec::new(alloc));
+    let no_trace = Trace::of(Vec::new(alloc));
+    match wanted {
+        Wanted::Neither => Ok((no_paths, no_trace)),
+        Wanted::Asked => Ok((visits.into_paths()?, no_trace)),
+        Wanted::Trace => Ok((no_paths, visits.into_trace())),
+    }
+}
+
+/// What a path comes to, with so many lookups left in its chain.
 ///
-/// Each turn gives the last frame what was told. Where that ends all, the frames that are left are let go, and where the frame passes it
-/// on as it is, that frame alone.
+/// Each turn does the next task. What is told goes to the last frame; where it ends all, the frames that are left are let go.
 fn evaluate<L: Ledger>(
     alloc: Global,
-    table: &Dtab,
+    scene: &Scene<'_>,
+    work: &mut Work,
     path: &Path,
     left: u32,
     steps: &mut Steps<L>,
-) -> Mem<Delegated>
-    ensures delegated { IfOk result (IsAnswer (lookup (rules_of table.now) left path.now)) }
-    ensures counted { IfOk result (λ d. steps.old + min d.cost 10000 ≤ steps.new) }
+) -> Mem<Outcome>
+    requires stack { work.old.stack.items ≡ [] }
+    requires fits { Fits work.old.visits.most [] work.old }
+    requires most { work.old.visits.most ≤ 10000 }
+    ensures answer { IfOk result (IsAnswer work.old.visits.most (lookup (rules_at scene.now) (names_at scene.now) left path.now) work.new) }
+    ensures counted { IfOk result (λ _. steps.old + min work.new.count 10000 ≤ steps.new) }
 {
-    let mut stack = Vec::new(alloc);
-    let mut told = look_up(alloc, table, &mut stack, path, left, 0, steps)?;
-    while let Some(frame) = stack.pop() {
-        if told.outcome.ends_all() {
-            return Ok(told);
-        }
-        if frame.passes(&told.outcome) {
-            continue;
-        }
-        told = turn(alloc, table, &mut stack, frame, told, steps)?;
+    let mut task = look_up(alloc, scene, work, path, left, steps)?;
+    loop {
+        task = match task {
+            Task::Try(tree, left) => step(alloc, scene, work, tree, left, steps)?,
+            Task::Tell(told) => {
+                if told.ends_all() {
+                    return Ok(told);
+                }
+                let Some(frame) = work.stack.pop() else {
+                    return Ok(told);
+                };
+                turn(work, frame, told)?
+            }
+        };
     }
-    Ok(told)
 }
 
 /// One turn: a frame that was taken off the stack gets what was told, which doesn't end all. If something is left of
-/// it to try, it goes back on the stack, and the next of it is told.
-fn turn<L: Ledger>(
-    alloc: Global,
-    table: &Dtab,
-    stack: &mut Vec<Frame>,
-    frame: Frame,
-    told: Delegated,
-    steps: &mut Steps<L>,
-) -> Mem<Delegated>
-    requires few { told.cost ≤ 10000 }
-    requires goes_on { ends_all (ending_of told.outcome) ≡ false }
-    ensures step { IfOk result (IsStep (rules_of table.now) (frame_on (rules_of table.now) frame (told_of told))
-        (frame_work (rules_of table.now) frame) stack.old.items stack.new.items) }
-    ensures counted { IfOk result (λ next. steps.old + min next.cost 10000 ≤ steps.new + told.cost) }
+/// it to try, it goes back on the stack, and the next of it is tried.
+fn turn(work: &mut Work, frame: Frame, told: Outcome) -> Mem<Task>
+    requires few { work.old.count ≤ 10000 }
+    requires goes_on { ends_all (ending_of told) ≡ false }
+    ensures step { (rules : List Rule) → (names : Names) → IfOk result (IsStep rules names work.old.visits.most
+        (λ visits. frame_on rules names frame (ending_of told, visits)) (frame_work rules frame) work.old work.new) }
+    ensures count { work.new.count ≡ work.old.count }
 {
     match frame {
-        Frame::Choice(choice) => next_tree(alloc, table, stack, choice, told, steps),
-        Frame::Union(union) => next_branch(alloc, table, stack, union, told, steps),
+        Frame::Choice(choice) => next_tree(work, choice, told),
+        Frame::Union(union) => next_branch(work, union, told),
     }
 }
 
 /// A turn of a lookup or an alternation: its next tree is tried where negative was told, and what its path names where
 /// there is none. Anything else that was told is told on.
-fn next_tree<L: Ledger>(
-    alloc: Global,
-    table: &Dtab,
-    stack: &mut Vec<Frame>,
-    mut choice: Choice,
-    told: Delegated,
-    steps: &mut Steps<L>,
-) -> Mem<Delegated>
-    requires { told.cost ≤ 10000 }
-    ensures step { IfOk result (IsStep (rules_of table.now) (or_else (told_of told) (choice_told (rules_of table.now) choice))
-        (choice_work (rules_of table.now) choice) stack.old.items stack.new.items) }
-    ensures counted { IfOk result (λ next. steps.old + min next.cost 10000 ≤ steps.new + told.cost) }
+fn next_tree(work: &mut Work, mut choice: Choice, told: Outcome) -> Mem<Task>
+    requires few { work.old.count ≤ 10000 }
+    requires goes_on { ends_all (ending_of told) ≡ false }
+    ensures step { (rules : List Rule) → (names : Names) → IfOk result (IsStep rules names work.old.visits.most
+        (λ visits. choice_on rules names choice (ending_of told, visits)) (choice_work rules choice) work.old work.new) }
+    ensures count { work.new.count ≡ work.old.count }
 {
-    let Outcome::Neg = told.outcome else {
-        return Ok(told);
+    let Outcome::Neg = told else {
+        work.visits.end(choice.visit, &told);
+        return Ok(Task::Tell(told));
     };
     let Some(tree) = choice.trees.next() else {
-        return Ok(Delegated::of(named_outcome(choice.named), told.cost));
+        let named = named_outcome(choice.named);
+        work.visits.end(choice.visit, &named);
+        return Ok(Task::Tell(named));
     };
     let left = choice.left;
-    stack.push(Frame::Choice(choice))?;
-    step(alloc, table, stack, tree, left, told.cost, steps)
+    work.stack.push(Frame::Choice(choice))?;
+    Ok(Task::Try(tree, left))
 }
 
-/// A turn of a union: it keeps what was told of the branch that was evaluated, and evaluates the next of those whose
-/// weight isn't 0. Where there is none, it tells what its branches come to together.
-fn next_branch<L: Ledger>(
-    alloc: Global,
-    table: &Dtab,
-    stack: &mut Vec<Frame>,
-    mut union: Union,
-    told: Delegated,
-    steps: &mut Steps<L>,
-) -> Mem<Delegated>
-    requires few { told.cost ≤ 10000 }
-    requires goes_on { ends_all (ending_of told.outcome) ≡ false }
-    ensures step { IfOk result (IsStep (rules_of table.now) (union_on (rules_of table.now) union (told_of told))
-        (union_work (rules_of table.now) union) stack.old.items stack.new.items) }
-    ensures counted { IfOk result (λ next. steps.old + min next.cost 10000 ≤ steps.new + told.cost) }
+/// A turn of a union: it keeps what was told of the branch that was evaluated, and the next of those whose weight isn't 0
+/// is tried. Where there is none, it tells what its branches come to together.
+fn next_branch(work: &mut Work, mut union: Union, told: Outcome) -> Mem<Task>
+    requires few { work.old.count ≤ 10000 }
+    requires goes_on { ends_all (ending_of told) ≡ false }
+    ensures step { (rules : List Rule) → (names : Names) → IfOk result (IsStep rules names work.old.visits.most
+        (λ visits. union_on rules names union (ending_of told, visits)) (union_work rules union) work.old work.new) }
+    ensures count { work.new.count ≡ work.old.count }
 {
-    union.gathered.add(union.weight, told.outcome)?;
+    union.gathered.add(union.weight, told)?;
     let Some(branch) = next_weighted(&mut union.branches) else {
-        return Ok(Delegated::of(union.gathered.into_outcome(), told.cost));
+        return Ok(Task::Tell(union.gathered.into_outcome()));
     };
     union.weight = branch.weight;
     let left = union.left;
-    stack.push(Frame::Union(union))?;
-    step(alloc, table, stack, branch.tree, left, told.cost, steps)
+    work.stack.push(Frame::Union(union))?;
+    Ok(Task::Try(branch.tree, left))
 }
 
-/// One step: a tree, after `count` lookups. What has to be tried of it first goes on the stack.
+/// One step: a tree is tried. What has to be tried of it later goes on the stack.
 fn step<L: Ledger>(
     alloc: Global,
-    table: &Dtab,
-    stack: &mut Vec<Frame>,
+    scene: &Scene<'_>,
+    work: &mut Work,
     tree: Tree,
     left: u32,
-    count: u32,
     steps: &mut Steps<L>,
-) -> Mem<Delegated>
-    requires { count ≤ 10000 }
-    ensures step { IfOk result (IsStep (rules_of table.now) (behind count (walk (lookup (rules_of table.now) left) (value_of tree)))
-        (tree_work (path_work (rules_of table.now) left) (value_of tree)) stack.old.items stack.new.items) }
-    ensures counted { IfOk result (λ told. steps.old + min told.cost 10000 ≤ steps.new + count) }
+) -> Mem<Task>
+    requires { work.old.count ≤ 10000 }
+    ensures step { IfOk result (IsStep (rules_at scene.now) (names_at scene.now) work.old.visits.most
+        (λ visits. behind visits (walk (lookup (rules_at scene.now) (names_at scene.now) left) (value_of tree)))
+        (tree_work (path_work (rules_at scene.now) left) (value_of tree)) work.old work.new) }
+    ensures counted { IfOk result (λ _. steps.old + min work.new.count 10000 ≤ steps.new + work.old.count) }
 {
     match tree {
-        Tree::Neg => Ok(Delegated::of(Outcome::Neg, count)),
-        Tree::Fail => Ok(Delegated::of(Outcome::Fail, count)),
-        Tree::Empty => Ok(Delegated::of(Outcome::Empty, count)),
-        Tree::Leaf(path) => look_up(alloc, table, stack, &path, left, count, steps),
+        Tree::Neg => Ok(Task::Tell(Outcome::Neg)),
+        Tree::Fail => Ok(Task::Tell(Outcome::Fail)),
+        Tree::Empty => Ok(Task::Tell(Outcome::Empty)),
+        Tree::Leaf(path) => look_up(alloc, scene, work, &path, left, steps),
         Tree::Alt(trees) => {
-            stack.push(Frame::Choice(Choice {
+            work.stack.push(Frame::Choice(Choice {
                 trees: trees.into_items().into_iter(),
                 named: None,
+                visit: None,
                 left,
             }))?;
-            Ok(Delegated::of(Outcome::Neg, count))
+            Ok(Task::Tell(Outcome::Neg))
         }
         Tree::Union(branches) => {
-            stack.push(Frame::Union(Union {
+            work.stack.push(Frame::Union(Union {
                 branches: branches.into_items().into_iter(),
                 weight: 0,
                 gathered: Gathered::new(alloc),
                 left,
             }))?;
-            Ok(Delegated::of(Outcome::Neg, count))
+            Ok(Task::Tell(Outcome::Neg))
         }
     }
 }
 
-/// One lookup of a path, after `count` lookups. What the path is rewritten to goes on the stack.
+/// One lookup of a path. The first tree that it is rewritten to is tried next, and what is left to try after it goes on the stack.
 fn look_up<L: Ledger>(
     alloc: Global,
-    table: &Dtab,
-    stack: &mut Vec<Frame>,
+    scene: &Scene<'_>,
+    work: &mut Work,
     path: &Path,
     left: u32,
-    count: u32,
     steps: &mut Steps<L>,
-) -> Mem<Delegated>
-    requires { count ≤ 10000 }
-    ensures step { IfOk result (IsStep (rules_of table.now) (behind count (lookup (rules_of table.now) left path.now))
-        (path_work (rules_of table.now) left path.now) stack.old.items stack.new.items) }
-    ensures counted { IfOk result (λ told. steps.old + min told.cost 10000 ≤ steps.new + count) }
+) -> Mem<Task>
+    requires { work.old.count ≤ 10000 }
+    ensures step { IfOk result (IsStep (rules_at scene.now) (names_at scene.now) work.old.visits.most
+        (λ visits. behind visits (lookup (rules_at scene.now) (names_at scene.now) left path.now))
+        (path_work (rules_at scene.now) left path.now) work.old work.new) }
+    ensures counted { IfOk result (λ _. steps.old + min work.new.count 10000 ≤ steps.new + work.old.count) }
 {
     if left == 0 || !path.text_fits(MOST_PATH_BYTES) {
-        return Ok(Delegated::of(Outcome::TooDeep, count));
+        return Ok(Task::Tell(Outcome::TooDeep));
     }
-    if count == MOST_WIDE {
-        return Ok(Delegated::of(Outcome::TooWide, MOST_WIDE + 1));
+    if work.count >= MOST_WIDE {
+        work.count = MOST_WIDE + 1;
+        work.visits.clear();
+        return Ok(Task::Tell(Outcome::TooWide));
     }
-    let trees = table.lookup(alloc, path, steps)?;
-    stack.push(Frame::Choice(Choice {
-        trees: trees.into_items().into_iter(),
-        named: named(alloc, path)?,
-        left: left - 1,
+    let trees = scene.tables.rewritten(alloc, path, steps)?;
+    let named = name_answer(alloc, scene.book, path)?;
+    let depth = MOST_DEEP.saturating_sub(left);
+    work.visits.begin(alloc, work.count, depth, path)?;
+    let visit = work.count;
+    work.count += 1;
+    first_tree(work, trees, named, visit, left - 1)
+}
+
+/// The first of the trees of a lookup, whose leaves have so many lookups left in the chain, is tried next. What the path names by itself is
+/// told where there are none. Where nothing is left to try after it and no lookup is kept, no frame is left either.
+fn first_tree(
+    work: &mut Work,
+    trees: Vec<Tree>,
+    named: Option<Leaf>,
+    visit: u32,
+    left: u32,
+) -> Mem<Task>
+    requires few { work.old.count ≤ 10000 }
+    requires begun { visit < work.old.count }
+    ensures step { (rules : List Rule) → (names : Names) → IfOk result (IsStep rules names work.old.visits.most
+        (λ visits. lookup_on rules names (map value_of trees.items) named visit left visits)
+        (list_work (path_work rules left) (map value_of trees.items)) work.old work.new) }
+    ensures count { work.new.count ≡ work.old.count }
+{
+    let mut trees = trees.into_iter();
+    let Some(tree) = trees.next() else {
+        let named = named_outcome(named);
+        work.visits.end(Some(visit), &named);
+        return Ok(Task::Tell(named));
+    };
+    if trees.len() == 0 && named.is_none() && !work.visits.are_kept() {
+        return Ok(Task::Try(tree, left));
+    }
+    work.stack.push(Frame::Choice(Choice {
+        trees,
+        named,
+        visit: Some(visit),
+        left,
     }))?;
-    Ok(Delegated::of(Outcome::Neg, count + 1))
+    Ok(Task::Try(tree, left))
 }
 
 /// The outcome of a lookup whose trees are all negative.

@@ -5,8 +5,7 @@ ghost use Rattle.name_tree.specs.Tree.{listed};
 ghost use Rattle.bind_core.specs.Stack.{IsNextWeighted};
 
 use crate::gathered::Gathered;
-use crate::leaf::Leaf;
-use crate::outcome::Outcome;
+use addr_book::Leaf;
 use name_tree::{Branch, Tree};
 use std::alloc::Global;
 use std::vec::IntoIter;
@@ -20,22 +19,6 @@ pub(crate) enum Frame {
     Union(Union),
 }
 
-impl Frame {
-    ghost use Rattle.std.specs.Prelude.{IsTrue};
-    ghost use Rattle.bind_core.specs.Stack.{PassesOn};
-
-    /// Whether it passes what was told on as it is: a lookup and an alternation do, but for negative.
-    pub(crate) fn passes(&self, outcome: &Outcome) -> bool
-        ensures { IsTrue result → PassesOn self.now outcome.now }
-    {
-        match (self, outcome) {
-            (Frame::Choice(_), Outcome::Neg) => false,
-            (Frame::Choice(_), _) => true,
-            (Frame::Union(_), _) => false,
-        }
-    }
-}
-
 /// What is left of a lookup or of an alternation, where all that was tried of it came to nothing.
 #[derive(Drop)]
 pub(crate) struct Choice {
@@ -43,6 +26,8 @@ pub(crate) struct Choice {
     pub(crate) trees: IntoIter<Tree, Global>,
     /// What the path names by itself, which is tried after the trees. An alternation names nothing.
     pub(crate) named: Option<Leaf>,
+    /// Which lookup it is of, counted from 0 in the order in which they began. An alternation is of none.
+    pub(crate) visit: Option<u32>,
     /// How many lookups are left in the chain for the leaves of the trees.
     pub(crate) left: u32,
 }

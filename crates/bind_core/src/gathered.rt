@@ -2,8 +2,8 @@
 ghost use Rattle.std.specs.Prelude.{◌≡◌, OnOk};
 
 use crate::Mem;
-use crate::bound::{Bound, BoundItem, BoundList};
 use crate::outcome::Outcome;
+use addr_book::{Bound, BoundItem, BoundList};
 use std::alloc::Global;
 
 /// What the branches of a union came to that were evaluated. Negative ones leave nothing here.

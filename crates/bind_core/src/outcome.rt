@@ -1,7 +1,8 @@
 //! Outcomes of delegations.
 ghost use Rattle.std.specs.Prelude.{◌≡◌};
 
-use crate::bound::Bound;
+use crate::trace::{PathList, Trace};
+use addr_book::Bound;
 
 /// What a path comes to in a table.
 #[derive(Debug, Drop)]
@@ -20,6 +21,17 @@ pub enum Outcome {
     Bound(Bound),
 }
 
+/// Which list a delegation gives beside its outcome and its cost.
+#[derive(Debug, Clone, Copy, PartialEq, Eq, Drop)]
+pub enum Wanted {
+    /// None.
+    Neither,
+    /// The paths that were looked up.
+    Asked,
+    /// Each lookup with its depth and how it ended.
+    Trace,
+}
+
 /// An outcome, and what it took.
 #[derive(Debug, Drop)]
 pub struct Delegated {
@@ -27,6 +39,10 @@ pub struct Delegated {
     pub outcome: Outcome,
     /// How many lookups were made, at most 10,000; or 10,001, exactly where there would be more.
     pub cost: u32,
+    /// Where they were wanted and there are at most 256: the paths that were looked up, in the order in which their lookups began.
+    pub asked: PathList,
+    /// Where it was wanted and the outcome isn't too wide: each lookup, in the order in which they began.
+    pub trace: Trace,
 }
 
 impl Outcome {
@@ -41,15 +57,5 @@ impl Outcome {
             Outcome::TooDeep | Outcome::TooWide => true,
             Outcome::Neg | Outcome::Fail | Outcome::Empty | Outcome::Bound(_) => false,
         }
-    }
-}
-
-impl Delegated {
-    /// This outcome, at this cost.
-    pub(crate) fn of(outcome: Outcome, cost: u32) -> Delegated
-        ensures outcome { result.outcome ≡ outcome }
-        ensures cost { result.cost ≡ cost }
-    {
-        Delegated { outcome, cost }
     }
 }

@@ -1,9 +1,8 @@
-//! Delegations over tables that are read from their texts, hosts and ports.
+//! Delegations over tables that are read from their texts, and a book of two services.
 ghost use Rattle.std.specs.Prelude.{◌≡◌, ◌<◌};
 
-use crate::{
-    Bound, Cluster, Delegated, Leaf, Mem, Outcome, append_addr, bind, read_host, read_port,
-};
+use crate::{Delegated, Ended, Mem, Outcome, Tables, TraceItem, Wanted, bind};
+use addr_book::{Book, Bound, Cluster, Leaf, Name, append_addr, read_addrs};
 use dtab_table::{Dtab, read_dtab};
 use line_base::Steps;
 use name_tree::{Path, append_path, read_path};
@@ -12,19 +11,63 @@ use std::marker::Brand;
 use std::sync::ledger::{Blank, Ledger};
 use std::test::Fail;
 
-fn delegate<L: Ledger>(alloc: Global, table: &Dtab, path: &Path, blank: Blank) -> Mem<Delegated>
+/// What paths are delegated by.
+#[derive(Drop)]
+struct Given {
+    space: Dtab,
+    base: Dtab,
+    local: Dtab,
+    book: Book,
+}
+
+/// These tables, and a book with the services `web`, which has an address, and `idle`, which has none.
+fn read_given(alloc: Global, space: &str, base: &str, local: &str) -> Result<Given, Fail> {
+    let mut book = Book::start(alloc)?;
+    for (service, addrs) in [("web", "127.0.0.1 9001"), ("idle", "")] {
+        let name = Name::of(alloc, service.as_bytes())?;
+        let ready = book.prepare_set(alloc, &name, &read_addrs(alloc, addrs.as_bytes())?)?;
+        book.absorb(&ready)?;
+    }
+    Ok(Given {
+        space: read_dtab(alloc, space.as_bytes())?,
+        base: read_dtab(alloc, base.as_bytes())?,
+        local: read_dtab(alloc, local.as_bytes())?,
+        book,
+    })
+}
+
+fn delegate<L: Ledger>(
+    alloc: Global,
+    given: &Given,
+    path: &Path,
+    wanted: Wanted,
+    blank: Blank,
+) -> Mem<Delegated>
     requires name { blank.name ≡ L.name }
     requires parts { blank.parts ≡ L.parts }
     requires some { 0 < blank.parts }
 {
     let mut steps = Steps::<L>::start(blank);
-    bind(alloc, table, path, &mut steps)
+    let tables = Tables {
+        space: &given.space,
+        base: &given.base,
+        local: &given.local,
+    };
+    bind(alloc, &tables, &given.book, path, wanted, &mut steps)
+}
+
+/// What the text of a path comes to.
+fn told(alloc: Global, given: &Given, path: &str, wanted: Wanted) -> Result<Delegated, Fail> {
+    let path = read_path(alloc, path.as_bytes())?;
+    Ok(delegate::<Brand>(alloc, given, &path, wanted, Blank::new(1))?)
 }
 
 /// A leaf in words: the address, the client path and the residual.
 fn put_leaf(leaf: &Leaf, text: &mut Vec<u8>) -> Mem<()> {
-    let Cluster::Inet(addr) = leaf.cluster;
-    append_addr(addr, text)?;
+    match &leaf.cluster {
+        Cluster::Inet(addr) => append_addr(*addr, text)?,
+        Cluster::Fs(service) => text.extend_from_slice(service.text())?,
+    }
     text.push(b' ')?;
     append_path(&leaf.client, text)?;
     text.push(b' ')?;
@@ -48,16 +91,8 @@ fn put_bound(alloc: Global, bound: &Bound, text: &mut Vec<u8>) -> Mem<()> {
     }
 }
 
-/// The first leaf of a bound, in words.
-fn put_first(bound: &Bound, text: &mut Vec<u8>) -> Mem<()> {
-    match bound.first_leaf() {
-        None => text.extend_from_slice(b"no leaf"),
-        Some(leaf) => put_leaf(leaf, text),
-    }
-}
-
-/// An outcome in words. A bound one is its bound, or the first leaf of that.
-fn outcome_text(alloc: Global, outcome: &Outcome, first: bool) -> Mem<Vec<u8>> {
+/// An outcome in words. A bound one is its bound.
+fn outcome_text(alloc: Global, outcome: &Outcome) -> Mem<Vec<u8>> {
     match outcome {
         Outcome::Neg => b"negative".to_vec(alloc),
         Outcome::Fail => b"failing".to_vec(alloc),
@@ -66,25 +101,44 @@ fn outcome_text(alloc: Global, outcome: &Outcome, first: bool) -> Mem<Vec<u8>> {
         Outcome::TooWide => b"too wide".to_vec(alloc),
         Outcome::Bound(bound) => {
             let mut text = Vec::new(alloc);
-            if first {
-                put_first(bound, &mut text)?;
-            } else {
-                put_bound(alloc, bound, &mut text)?;
-            }
+            put_bound(alloc, bound, &mut text)?;
             Ok(text)
         }
     }
 }
 
-/// What the text of a path comes to in the text of a table, in words, with its cost.
-fn told(alloc: Global, table: &[u8], path: &[u8], first: bool) -> Result<(Vec<u8>, u32), Fail> {
-    let table = read_dtab(alloc, table)?;
-    let path = read_path(alloc, path)?;
-    let delegated = delegate::<Brand>(alloc, &table, &path, Blank::new(1))?;
-    Ok((
-        outcome_text(alloc, &delegated.outcome, first)?,
-        delegated.cost,
-    ))
+/// How a lookup ended, in a word.
+fn ended_word(ended: Ended) -> &'static str {
+    match ended {
+        Ended::Negative => "negative",
+        Ended::Failing => "failing",
+        Ended::Empty => "empty",
+        Ended::TooDeep => "too-deep",
+        Ended::Bound => "bound",
+    }
+}
+
+/// The first few lookups of a trace in words: the depth, the path and how it ended.
+fn trace_text(alloc: Global, items: &[TraceItem], most: usize) -> Mem<Vec<u8>> {
+    let mut text = Vec::new(alloc);
+    for item in items.iter().take(most) {
+        text.extend_from_slice(format!(in alloc; "{} ", item.depth)?.as_bytes())?;
+        append_path(&item.path, &mut text)?;
+        text.push(b' ')?;
+        text.extend_from_slice(ended_word(item.ended).as_bytes())?;
+        text.push(b';')?;
+    }
+    Ok(text)
+}
+
+/// Some paths, each with `;` behind it.
+fn paths_text(alloc: Global, paths: &[Path]) -> Mem<Vec<u8>> {
+    let mut text = Vec::new(alloc);
+    for path in paths {
+        append_path(path, &mut text)?;
+        text.push(b';')?;
+    }
+    Ok(text)
 }
 
 /// `/c0 => /c1` and so on, and from the last name to an address.
@@ -233,76 +287,283 @@ const ROWS: [(&str, &str, &str, u32); 31] = [
 
 #[test]
 fn delegations(rt: HostRuntime) -> Result<(), Fail> {
+    let alloc = rt.alloc();
     for (table, path, outcome, cost) in &ROWS {
-        let (text, count) = told(rt.alloc(), table.as_bytes(), path.as_bytes(), false)?;
-        assert_eq!(rt; text.as_slice(), outcome.as_bytes(), "{path} in {table}");
-        assert_eq!(rt; count, *cost, "{path} in {table}");
+        let found = told(
+            alloc,
+            &read_given(alloc, table, "", "")?,
+            path,
+            Wanted::Neither,
+        )?;
+        assert_eq!(rt;
+            outcome_text(alloc, &found.outcome)?.as_slice(),
+            outcome.as_bytes(),
+            "{path} in {table}"
+        );
+        assert_eq!(rt; found.cost, *cost, "{path} in {table}");
+        assert_eq!(rt;
+            (found.asked.items().len(), found.trace.items().len()),
+            (0, 0)
+        );
     }
     Ok(())
 }
+
+/// The three tables, a path, what it comes to, and the paths that are looked up.
+const TABLES: [(&str, &str, &str, &str, &str, &str); 9] = [
+    // The request's own entries go first, then the configured ones, then the namespace's.
+    (
+        "/s => /$/inet/127.0.0.1/1",
+        "/s => /$/inet/127.0.0.1/2",
+        "/s => /$/inet/127.0.0.1/3",
+        "/s",
+        "127.0.0.1:3 /$/inet/127.0.0.1/3 /",
+        "/s;/$/inet/127.0.0.1/3;",
+    ),
+    (
+        "/s => /$/inet/127.0.0.1/1",
+        "/s => /$/inet/127.0.0.1/2",
+        "",
+        "/s",
+        "127.0.0.1:2 /$/inet/127.0.0.1/2 /",
+        "/s;/$/inet/127.0.0.1/2;",
+    ),
+    (
+        "/s => /$/inet/127.0.0.1/1; /s => /y",
+        "/s => ~ | /x",
+        "/s => /w | ~",
+        "/s",
+        "127.0.0.1:1 /$/inet/127.0.0.1/1 /",
+        "/s;/w;/x;/y;/$/inet/127.0.0.1/1;",
+    ),
+    (
+        "/s => /$/inet/127.0.0.1/1",
+        "",
+        "/s => $",
+        "/s",
+        "empty",
+        "/s;",
+    ),
+    // A tree of one table is looked up in all of them.
+    (
+        "/a => /b",
+        "/b => /c",
+        "/s => /a; /c => /$/inet/127.0.0.1/4",
+        "/s/x",
+        "127.0.0.1:4 /$/inet/127.0.0.1/4 /x",
+        "/s/x;/a/x;/b/x;/c/x;/$/inet/127.0.0.1/4/x;",
+    ),
+    // A service of the book is bound, whether it has addresses or not. One that is not there is negative.
+    (
+        "/svc => /#/io.l5d.fs",
+        "",
+        "",
+        "/svc/web/x",
+        "web /#/io.l5d.fs/web /x",
+        "/svc/web/x;/#/io.l5d.fs/web/x;",
+    ),
+    (
+        "/svc => /#/io.l5d.fs | /$/inet/127.0.0.1/9",
+        "",
+        "",
+        "/svc/idle",
+        "idle /#/io.l5d.fs/idle /",
+        "/svc/idle;/#/io.l5d.fs/idle;",
+    ),
+    (
+        "/svc => /#/io.l5d.fs | /$/inet/127.0.0.1/9",
+        "",
+        "",
+        "/svc/none",
+        "127.0.0.1:9 /$/inet/127.0.0.1/9 /none",
+        "/svc/none;/#/io.l5d.fs/none;/$/inet/127.0.0.1/9/none;",
+    ),
+    // An entry goes before what the path names.
+    (
+        "/#/io.l5d.fs/web => /$/inet/127.0.0.1/5",
+        "",
+        "",
+        "/#/io.l5d.fs/web",
+        "127.0.0.1:5 /$/inet/127.0.0.1/5 /",
+        "/#/io.l5d.fs/web;/$/inet/127.0.0.1/5;",
+    ),
+];
+
+#[test]
+fn tables_and_paths_asked(rt: HostRuntime) -> Result<(), Fail> {
+    let alloc = rt.alloc();
+    for (space, base, local, path, outcome, asked) in &TABLES {
+        let given = read_given(alloc, space, base, local)?;
+        let found = told(alloc, &given, path, Wanted::Asked)?;
+        assert_eq!(rt;
+            outcome_text(alloc, &found.outcome)?.as_slice(),
+            outcome.as_bytes(),
+            "{path}"
+        );
+        assert_eq!(rt;
+            paths_text(alloc, found.asked.items())?.as_slice(),
+            asked.as_bytes(),
+            "{path}"
+        );
+        assert_eq!(rt;
+            (found.cost as usize, found.trace.items().len()),
+            (found.asked.items().len(), 0)
+        );
+    }
+    Ok(())
+}
+
+/// A table, a path, how many lookups there are, and the first of them.
+const TRACES: [(&str, &str, usize, &str); 8] = [
+    (
+        "/svc => /$/inet/127.0.0.1/8080",
+        "/svc/a",
+        2,
+        "0 /svc/a bound;1 /$/inet/127.0.0.1/8080/a bound;",
+    ),
+    ("", "/svc", 1, "0 /svc negative;"),
+    (
+        "/s => /a | /b | /c; /b => /a | $",
+        "/s",
+        4,
+        "0 /s empty;1 /a negative;1 /b empty;2 /a negative;",
+    ),
+    // A branch of weight 0 is not looked up; unions in unions; failing goes before empty.
+    (
+        "/s => 0 * /x & /a & 2 * (/b & ~); /a => !; /b => $",
+        "/s",
+        3,
+        "0 /s failing;1 /a failing;1 /b empty;",
+    ),
+    (
+        "/s => /a & /b; /a => /$/inet/127.0.0.1/1; /b => !",
+        "/s",
+        4,
+        "0 /s bound;1 /a bound;2 /$/inet/127.0.0.1/1 bound;1 /b failing;",
+    ),
+    // A lookup that had not ended when something was too deep was too deep; one that had is as it ended.
+    (
+        "/s => /b & /a & /c; /a => /a; /b => ~",
+        "/s",
+        101,
+        "0 /s too-deep;1 /b negative;1 /a too-deep;2 /a too-deep;",
+    ),
+    (
+        "/s => (~ | /b) | /a | /c; /a => /a; /b => /d",
+        "/s",
+        102,
+        "0 /s too-deep;1 /b negative;2 /d negative;1 /a too-deep;",
+    ),
+    ("/s => ! | /a", "/s", 1, "0 /s failing;"),
+];
+
+#[test]
+fn traces(rt: HostRuntime) -> Result<(), Fail> {
+    let alloc = rt.alloc();
+    for (table, path, count, trace) in &TRACES {
+        let found = told(
+            alloc,
+            &read_given(alloc, table, "", "")?,
+            path,
+            Wanted::Trace,
+        )?;
+        let items = found.trace.items();
+        assert_eq!(rt;
+            trace_text(alloc, items, 4)?.as_slice(),
+            trace.as_bytes(),
+            "{path} in {table}"
+        );
+        assert_eq!(rt;
+            (items.len(), found.cost as usize, found.asked.items().len()),
+            (*count, *count, 0)
+        );
+    }
+    Ok(())
+}
+
+/// Outcome, cost, and how many paths and lookups are told.
+fn measured(alloc: Global, table: &str, path: &str) -> Result<(Vec<u8>, u32, usize, usize), Fail> {
+    let given = read_given(alloc, table, "", "")?;
+    let asked = told(alloc, &given, path, Wanted::Asked)?;
+    let traced = told(alloc, &given, path, Wanted::Trace)?;
+    let text = match &traced.outcome {
+        Outcome::Bound(_) => b"bound".to_vec(alloc)?,
+        outcome => outcome_text(alloc, outcome)?,
+    };
+    Ok((
+        text,
+        traced.cost,
+        asked.asked.items().len(),
+        traced.trace.items().len(),
+    ))
+}
+
+/// `/aN` is looked up `2^(13 - N) - 1` times in a table of twelve levels: these sums come to 255, 256, 257, 9,999, 10,000 and 10,001, with the first lookup.
+const SUMS: [(&str, &str, u32, usize, usize); 6] = [
+    ("/s => /a6 | /a6", "negative", 255, 255, 255),
+    ("/s => /a5", "negative", 256, 256, 256),
+    ("/s => /a5 | /a12", "negative", 257, 0, 257),
+    (
+        "/s => /a0 | /a3 | /a4 | /a5 | /a9 | /a11",
+        "negative",
+        9_999,
+        0,
+        9_999,
+    ),
+    (
+        "/s => /a0 | /a3 | /a4 | /a5 | /a9 | /a11 | /a12",
+        "negative",
+        10_000,
+        0,
+        10_000,
+    ),
+    (
+        "/s => /a0 | /a3 | /a4 | /a5 | /a9 | /a11 | /a12 | /a12",
+        "too wide",
+        10_001,
+        0,
+        0,
+    ),
+];
 
 #[test]
 fn limits(rt: HostRuntime) -> Result<(), Fail> {
     let alloc = rt.alloc();
-    let bound = "127.0.0.1:80 /$/inet/127.0.0.1/80 /";
     let rows = [
-        (chain(alloc, 98)?, "/c0", bound, 100),
-        (chain(alloc, 99)?, "/c0", "too deep", 100),
-        (doubling(alloc, 12, "|")?, "/a0", "negative", 8_191),
-        (doubling(alloc, 13, "|")?, "/a0", "too wide", 10_001),
-        (doubling_unions(alloc, 11)?, "/a0", bound, 6_143),
-        (doubling_unions(alloc, 12)?, "/a0", "too wide", 10_001),
+        (chain(alloc, 98)?, "/c0", "bound", 100, 100, 100),
+        (chain(alloc, 99)?, "/c0", "too deep", 100, 100, 100),
+        (doubling_unions(alloc, 11)?, "/a0", "bound", 6_143, 0, 6_143),
+        (doubling_unions(alloc, 12)?, "/a0", "too wide", 10_001, 0, 0),
     ];
-    for (table, path, outcome, cost) in rows {
-        let (text, count) = told(alloc, table.as_bytes(), path.as_bytes(), true)?;
+    for (table, path, outcome, cost, asked, traced) in rows {
+        let found = measured(alloc, table.as_str(), path)?;
         assert_eq!(rt;
-            (text.as_slice(), count),
-            (outcome.as_bytes(), cost),
+            (found.0.as_slice(), found.1, found.2, found.3),
+            (outcome.as_bytes(), cost, asked, traced),
             "{path}"
         );
     }
+    for (entry, outcome, cost, asked, traced) in &SUMS {
+        let mut table = doubling(alloc, 12, "|")?;
+        table.push_str(entry)?;
+        let found = measured(alloc, table.as_str(), "/s")?;
+        assert_eq!(rt;
+            (found.0.as_slice(), found.1, found.2, found.3),
+            (outcome.as_bytes(), *cost, *asked, *traced),
+            "{entry}"
+        );
+    }
+    let given = read_given(alloc, "", "", "")?;
     for (len, outcome, cost) in [(2_047, "negative", 1), (2_048, "too deep", 0)] {
         let mut path = Path::new(alloc);
         path.push(Vec::from_elem(alloc, b'a', len)?)?;
-        let found = delegate::<Brand>(alloc, &Dtab::empty(alloc), &path, Blank::new(1))?;
-        let text = outcome_text(alloc, &found.outcome, true)?;
+        let found = delegate::<Brand>(alloc, &given, &path, Wanted::Asked, Blank::new(1))?;
+        let text = outcome_text(alloc, &found.outcome)?;
         assert_eq!(rt;
-            (text.as_slice(), found.cost),
-            (outcome.as_bytes(), cost),
+            (text.as_slice(), found.cost, found.asked.items().len()),
+            (outcome.as_bytes(), cost, cost as usize),
             "{len}"
         );
     }
     Ok(())
-}
-
-#[test]
-fn hosts_and_ports(rt: HostRuntime) {
-    let hosts = [
-        ("localhost", Some(0x7f00_0001)),
-        ("Localhost", None),
-        ("255.1.0.10", Some(0xff01_000a)),
-        ("256.1.0.10", None),
-        ("255.01.0.10", None),
-        ("255.1.00.10", None),
-        ("255..0.10", None),
-        ("255.1.0", None),
-        ("255.1.0.10.2", None),
-        ("", None),
-    ];
-    for (text, host) in hosts {
-        assert_eq!(rt; read_host(text.as_bytes()), host, "{text}");
-    }
-    let ports = [
-        ("0", None),
-        ("1", Some(1)),
-        ("080", None),
-        ("65535", Some(65_535)),
-        ("65536", None),
-        ("4294967297", None),
-        ("8o", None),
-        ("", None),
-    ];
-    for (text, port) in ports {
-        assert_eq!(rt; read_port(text.as_bytes()), port, "{text}");
-    }
 }

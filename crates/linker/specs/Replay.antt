@@ -3,16 +3,19 @@ use Rattle.std.specs.Prelude.{ℕ, ◌+◌, Bool, true, false, List, [], ◌∷�
 use Rattle.std.specs.Fmt.{decimal}
 use Rattle.name_tree.specs.Path.{Labels, canon_path}
 use Rattle.dtab_table.specs.Rules.{Rule}
-use Rattle.bind_core.specs.declared.leaf.Leaf.{Leaf}
-use Rattle.bind_core.specs.declared.leaf.Cluster.{Cluster}
-use Rattle.bind_core.specs.declared.leaf.Cluster.TheVariants.{Inet}
-use Rattle.bind_core.specs.Addr.{addr_text}
-use Rattle.bind_core.specs.Found.{first_leaf}
+use Rattle.addr_book.specs.declared.leaf.Leaf.{Leaf}
+use Rattle.addr_book.specs.declared.leaf.Cluster.{Cluster}
+use Rattle.addr_book.specs.declared.leaf.Cluster.TheVariants.{Inet, Fs}
+use Rattle.addr_book.specs.Addr.{addr_text}
+use Rattle.addr_book.specs.Book.{no_contents}
+use Rattle.addr_book.specs.Namer.{named_in}
+use Rattle.addr_book.specs.Found.{first_leaf}
 use Rattle.bind_core.specs.Delegation.{Ending, negative, failing, no_replica, too_deep, too_wide, bound, outcome_of}
 use Rattle.linker.specs.Line.{Line, blank, table, pick, bad, line_value, lines_of}
 
 abbrev pub cluster_text : Cluster → List ℕ
 cluster_text (Inet addr) = addr_text addr
+cluster_text (Fs service) = service
 
 -- the replica that is picked: its address, the path that named it, and the rest
 abbrev pub leaf_text : Leaf → List ℕ
@@ -32,9 +35,9 @@ ending_text too_deep = codes "too-deep"
 ending_text too_wide = codes "too-wide"
 ending_text (bound found) = picked_text (first_leaf found)
 
--- the reply line of a pick
+-- the reply line of a pick. There is no book of services
 abbrev pub pick_reply : List Rule → Labels → List ℕ
-pick_reply rules path = ending_text (outcome_of rules path) ++ 10 ∷ []
+pick_reply rules path = ending_text (outcome_of rules (named_in no_contents) path) ++ 10 ∷ []
 
 -- the line that tells of a bad one
 abbrev pub bad_line : ℕ → List ℕ

@@ -19,6 +19,7 @@
 
 use adapters::{ReaderSource, WriterSink};
 use start::run_arguments;
+use std::alloc::AllocError;
 use std::process::ExitCode;
 use std::{env, io};
 
@@ -31,6 +32,12 @@ mod reply;
 mod run;
 mod start;
 mod words;
+
+/// A value, unless there was no memory for it.
+type Mem<T> = Result<T, AllocError>;
+
+/// Bytes of a text.
+type Bytes = Vec<u8>;
 
 /// What is written to standard error where the words fit no command.
 const USAGE: &str = "usage: linker replay < SCRIPT

@@ -9,7 +9,7 @@ ghost use Rattle.linker.specs.Told.{Answers, Plays, Finishes, Flushes};
 use crate::ends::write_all;
 use crate::line::{Line, LineFault, cut_line, read_line};
 use crate::reply::{append_bad_line, append_pick};
-use bind_core::{Bytes, Mem};
+use crate::{Bytes, Mem};
 use dtab_table::Dtab;
 use line_base::{Failed, Sink, Steps};
 use std::alloc::{AllocError, Global};

@@ -1,12 +1,14 @@
 //! The replies to a script's lines.
 ghost use Rattle.std.specs.Prelude.{◌≡◌, ◌++◌, length, take, OnOk, OnErr};
 ghost use Rattle.dtab_table.specs.Dtab.{rules_of};
-ghost use Rattle.bind_core.specs.Found.{first_leaf};
-ghost use Rattle.bind_core.specs.Bound.{found_of};
+ghost use Rattle.addr_book.specs.Found.{first_leaf};
+ghost use Rattle.addr_book.specs.Bound.{found_of};
 ghost use Rattle.bind_core.specs.Outcome.{ending_of};
 ghost use Rattle.linker.specs.Replay.{leaf_text, picked_text, ending_text, pick_reply, bad_line};
 
-use bind_core::{Bound, Bytes, Cluster, Leaf, Mem, Outcome, append_addr, bind};
+use crate::{Bytes, Mem};
+use addr_book::{Book, Bound, Cluster, Leaf, append_addr};
+use bind_core::{Outcome, Tables, Wanted, bind};
 use dtab_table::Dtab;
 use line_base::Steps;
 use name_tree::{Path, append_path};
@@ -18,8 +20,9 @@ fn append_leaf(leaf: &Leaf, out: &mut Bytes) -> Mem<()>
     ensures ok { OnOk result (out.new.items ≡ out.old.items ++ leaf_text leaf.now) }
     ensures err { OnErr result (take (length out.old.items) out.new.items ≡ out.old.items) }
 {
-    match leaf.cluster {
-        Cluster::Inet(addr) => append_addr(addr, out)?,
+    match &leaf.cluster {
+        Cluster::Inet(addr) => append_addr(*addr, out)?,
+        Cluster::Fs(service) => out.extend_from_slice(service.text())?,
     }
     out.push(b' ')?;
     append_path(&leaf.client, out)?;
@@ -53,7 +56,7 @@ fn append_outcome(outcome: &Outcome, out: &mut Bytes) -> Mem<()>
     }
 }
 
-/// Puts the reply line to a pick behind some bytes. At `Err` they are as they were, and some more.
+/// Puts the reply line to a pick behind some bytes. There is no book of services. At `Err` the bytes are as they were, and some more.
 pub fn append_pick<L: Ledger>(
     alloc: Global,
     table: &Dtab,
@@ -64,7 +67,14 @@ pub fn append_pick<L: Ledger>(
     ensures ok { OnOk result (out.new.items ≡ out.old.items ++ pick_reply (rules_of table.now) path.now) }
     ensures err { OnErr result (take (length out.old.items) out.new.items ≡ out.old.items) }
 {
-    let found = bind(alloc, table, path, steps)?;
+    let none = Dtab::empty(alloc);
+    let tables = Tables {
+        space: table,
+        base: &none,
+        local: &none,
+    };
+    let book = Book::start(alloc)?;
+    let found = bind(alloc, &tables, &book, path, Wanted::Neither, steps)?;
     append_outcome(&found.outcome, out)?;
     out.push(b'\n')?;
     Ok(())

@@ -3,10 +3,10 @@ ghost use Rattle.std.specs.Prelude.{◌≡◌, ◌<◌, ◌≤◌, length, map, 
 ghost use Rattle.linker.specs.Run.{Ran, Course, words_refused, script_read, output_of, Reads, Ended, Input, Output};
 ghost use Rattle.linker.specs.Told.{code_of, Tells};
 
+use crate::Mem;
 use crate::ends::{ReadEnd, read_all, write_all};
 use crate::player::{PlayEnd, play};
 use crate::words::{Command, read_words};
-use bind_core::Mem;
 use line_base::{Sink, Source, Steps};
 use std::alloc::Global;
 use std::sync::ledger::{Blank, Ledger};

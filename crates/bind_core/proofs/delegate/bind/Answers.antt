@@ -1,14 +1,22 @@
-use Rattle.dtab_table.specs.Dtab.{rules_of}
+use Rattle.std.proofs.Common.{refl, ◌∙◌}
+use Rattle.bind_core.specs.Tables.{rules_in}
+use Rattle.addr_book.specs.Namer.{named_in}
 use Rattle.bind_core.proofs.Bounded.{bounded_outcome}
 use Rattle.bind_core.proofs.Filled.{filled_outcome}
-use Rattle.bind_core.proofs.Widths.{width_of}
+use Rattle.bind_core.proofs.Telling.{delegated}
+use Rattle.bind_core.proofs.Widths.{width}
 use Rattle.bind_core.proofs.delegate.bind.Goals as goal
 
+pub returns-clause-delegated : goal.returns-clause-delegated
+returns-clause-delegated g c =
+    delegated (rules_in c.args.tables.now) (named_in c.args.book.now) c.args.path.now c.args.wanted _ c.evaluate.new.work _ (c.new-work.ensures.fits.most_is ∙ c.most_kept.ensures) c.in_ok-outcome.ensures.answer refl
+    c.in_ok-asked.ensures.asked c.in_ok-asked.ensures.trace
+
 pub returns-clause-width : goal.returns-clause-width
-returns-clause-width g c = width_of (rules_of c.args.table.now) 100 c.args.path.now c.evaluate.result c.evaluate.ensures.delegated
+returns-clause-width g c = width (rules_in c.args.tables.now) (named_in c.args.book.now) 100 c.args.path.now _ _ c.in_ok-outcome.ensures.answer.outcome c.in_ok-outcome.ensures.answer.count
 
 pub returns-clause-filled : goal.returns-clause-filled
-returns-clause-filled g c = filled_outcome (rules_of c.args.table.now) c.args.path.now c.evaluate.result c.evaluate.ensures.delegated
+returns-clause-filled g c = filled_outcome (rules_in c.args.tables.now) (named_in c.args.book.now) c.args.path.now _ c.in_ok-outcome.ensures.answer.outcome
 
 pub returns-clause-bounded : goal.returns-clause-bounded
-returns-clause-bounded g c = bounded_outcome (rules_of c.args.table.now) c.args.path.now c.evaluate.result c.evaluate.ensures.delegated
+returns-clause-bounded g c = bounded_outcome (rules_in c.args.tables.now) (named_in c.args.book.now) c.args.path.now _ c.in_ok-outcome.ensures.answer.outcome

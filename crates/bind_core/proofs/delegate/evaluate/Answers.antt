@@ -1,38 +1,51 @@
-use Rattle.std.proofs.Common.{refl, sym, ◌∙◌, ◌≤◌, arith}
-use Rattle.dtab_table.specs.Dtab.{rules_of}
+use Rattle.std.proofs.Common.{◌≤◌, refl, sym, ◌∙◌, arith}
 use Rattle.bind_core.specs.Delegation.{lookup, most_wide}
-use Rattle.bind_core.proofs.Turns.{ends_at_once, few_of, turned, fewer, let_go}
+use Rattle.bind_core.specs.Stack.{rules_at, names_at, behind, path_work}
+use Rattle.bind_core.proofs.Turns.{begins, tried, tried_fewer, turned, turned_fewer, few_told, few_tried, finished, finished_empty}
 use Rattle.bind_core.proofs.delegate.evaluate.Goals as goal
 
-pub returns-then-ends_all-clause-delegated : goal.returns-then-ends_all-clause-delegated
-returns-then-ends_all-clause-delegated g c = ends_at_once _ _ _ _ c.loop-frame.invariant.leads (sym c.ends_all.ensures ∙ c.if-ends_all.true)
-
-pub loop-frame-smaller : goal.loop-frame-smaller
-loop-frame-smaller g c =
-    fewer (rules_of c.args.table.now) (lookup (rules_of c.args.table.now) c.args.left c.args.path.now) _ _ _ _ c.in-Some.ensures.items c.loop-frame.told c.in_ok-told-2.told c.in_ok-told-2.ensures.step
-
-pub loop-frame-preserved : goal.loop-frame-preserved
-loop-frame-preserved g c = record {
+pub loop-task-init : goal.loop-task-init
+loop-task-init g c = record {
   leads =
-      turned (rules_of c.args.table.now) (lookup (rules_of c.args.table.now) c.args.left c.args.path.now) _ _ _ _ c.in-Some.ensures.items c.loop-frame.told c.in_ok-told-2.told c.in_ok-told-2.ensures.step
-      c.loop-frame.invariant.leads (sym c.ends_all.ensures ∙ c.if-ends_all.false);
-  counted =
-      let few : c.loop-frame.told.cost ≤ most_wide = few_of _ _ _ _ c.loop-frame.invariant.leads (sym c.ends_all.ensures ∙ c.if-ends_all.false) in
-      omega (arith, c.loop-frame.invariant.counted, c.in_ok-told-2.ensures.counted);
+      begins (rules_at c.args.scene.now) (names_at c.args.scene.now) c.args.work.now.visits.most (lookup (rules_at c.args.scene.now) (names_at c.args.scene.now) c.args.left c.args.path.now) c.args.work.now
+      c.look_up.new.work c.in_ok-task.task (λ vs. behind vs (lookup (rules_at c.args.scene.now) (names_at c.args.scene.now) c.args.left c.args.path.now))
+      (path_work (rules_at c.args.scene.now) c.args.left c.args.path.now) c.requires.stack c.requires.fits refl c.in_ok-task.ensures.step;
+  counted = omega (arith, c.requires.fits.count, c.in_ok-task.ensures.counted);
 }
 
-pub loop-frame-smaller-then-passes : goal.loop-frame-smaller-then-passes
-loop-frame-smaller-then-passes g c =
-    let few : c.loop-frame.told.cost ≤ most_wide = few_of _ _ _ _ c.loop-frame.invariant.leads (sym c.ends_all.ensures ∙ c.if-ends_all.false) in
-    fewer (rules_of c.args.table.now) (lookup (rules_of c.args.table.now) c.args.left c.args.path.now) _ _ _ _ c.in-Some.ensures.items c.loop-frame.told c.loop-frame.told
-    (let_go (rules_of c.args.table.now) c.in-Some.frame _ c.loop-frame.told few (c.if-passes.ensures refl))
+pub returns-then-ends_all-clause-answer : goal.returns-then-ends_all-clause-answer
+returns-then-ends_all-clause-answer g c =
+    finished (rules_at c.args.scene.now) (names_at c.args.scene.now) c.args.work.now.visits.most c.requires.most (lookup (rules_at c.args.scene.now) (names_at c.args.scene.now) c.args.left c.args.path.now)
+    c.loop-task.work c.loop-task.task c.in-Tell.told c.in-Tell.is c.loop-task.work.stack.items c.loop-task.invariant.leads (sym c.ends_all.ensures ∙ c.if-ends_all.true)
 
-pub loop-frame-preserved-then-passes : goal.loop-frame-preserved-then-passes
-loop-frame-preserved-then-passes g c =
-    let few : c.loop-frame.told.cost ≤ most_wide = few_of _ _ _ _ c.loop-frame.invariant.leads (sym c.ends_all.ensures ∙ c.if-ends_all.false) in
-    record {
-      leads =
-          turned (rules_of c.args.table.now) (lookup (rules_of c.args.table.now) c.args.left c.args.path.now) _ _ _ _ c.in-Some.ensures.items c.loop-frame.told c.loop-frame.told
-          (let_go (rules_of c.args.table.now) c.in-Some.frame _ c.loop-frame.told few (c.if-passes.ensures refl)) c.loop-frame.invariant.leads (sym c.ends_all.ensures ∙ c.if-ends_all.false);
-      counted = c.loop-frame.invariant.counted;
-    }
+pub loop-task-preserved-in_ok-task-in-Try : goal.loop-task-preserved-in_ok-task-in-Try
+loop-task-preserved-in_ok-task-in-Try g c = record {
+  leads =
+      tried (rules_at c.args.scene.now) (names_at c.args.scene.now) c.args.work.now.visits.most (lookup (rules_at c.args.scene.now) (names_at c.args.scene.now) c.args.left c.args.path.now) c.loop-task.work
+      c.step.new.work c.loop-task.task c.in_ok-task-in-Try.task c.in-Try.tree c.in-Try.left c.in-Try.is c.in_ok-task-in-Try.ensures.step c.loop-task.invariant.leads;
+  counted =
+      let few : c.loop-task.work.count ≤ most_wide =
+      few_tried (rules_at c.args.scene.now) (names_at c.args.scene.now) c.args.work.now.visits.most (lookup (rules_at c.args.scene.now) (names_at c.args.scene.now) c.args.left c.args.path.now)
+      c.loop-task.work.stack.items c.loop-task.work c.loop-task.task c.in-Try.tree c.in-Try.left c.in-Try.is c.loop-task.invariant.leads in
+      omega (arith, few, c.loop-task.invariant.counted, c.in_ok-task-in-Try.ensures.counted);
+}
+
+pub loop-task-smaller-in_ok-task-in-Try : goal.loop-task-smaller-in_ok-task-in-Try
+loop-task-smaller-in_ok-task-in-Try g c =
+    tried_fewer (rules_at c.args.scene.now) (names_at c.args.scene.now) _ c.loop-task.work c.step.new.work c.loop-task.task c.in_ok-task-in-Try.task c.in-Try.tree c.in-Try.left c.in-Try.is
+    c.in_ok-task-in-Try.ensures.step
+
+pub loop-task-preserved : goal.loop-task-preserved
+loop-task-preserved g c = record {
+  leads =
+      turned (rules_at c.args.scene.now) (names_at c.args.scene.now) c.args.work.now.visits.most (lookup (rules_at c.args.scene.now) (names_at c.args.scene.now) c.args.left c.args.path.now) c.loop-task.work
+      (record { stack = c.pop.new.self; count = c.loop-task.work.count; visits = c.loop-task.work.visits }) c.turn.new.work c.in-Some.frame c.loop-task.task c.in-Tell.told c.in_ok-task-in-Tell.task c.in-Tell.is
+      c.in-Some.ensures.items refl refl (c.in_ok-task-in-Tell.ensures.step (rules_at c.args.scene.now) (names_at c.args.scene.now)) c.loop-task.invariant.leads (sym c.ends_all.ensures ∙ c.if-ends_all.false);
+  counted = omega (arith, c.loop-task.invariant.counted, c.in_ok-task-in-Tell.ensures.count);
+}
+
+pub loop-task-smaller : goal.loop-task-smaller
+loop-task-smaller g c =
+    turned_fewer (rules_at c.args.scene.now) (names_at c.args.scene.now) _ c.loop-task.work
+    (record { stack = c.pop.new.self; count = c.loop-task.work.count; visits = c.loop-task.work.visits }) c.turn.new.work c.in-Some.frame c.loop-task.task c.in-Tell.told c.in_ok-task-in-Tell.task c.in-Tell.is
+    c.in-Some.ensures.items (c.in_ok-task-in-Tell.ensures.step (rules_at c.args.scene.now) (names_at c.args.scene.now))

@@ -1,14 +1,13 @@
 use Rattle.std.proofs.Common.{◌+◌, ◌≤◌, min}
-use Rattle.dtab_table.specs.Dtab.{rules_of}
 use Rattle.bind_core.specs.Delegation.{lookup}
-use Rattle.bind_core.specs.Stack.{LeadsTo, stack_work}
+use Rattle.bind_core.specs.Stack.{rules_at, names_at, LeadsTo, stack_work, task_work}
 use Rattle.bind_core.proofs.delegate.evaluate.Given as goal
 
-abbrev pub invariant-loop-frame : goal.invariant-loop-frame
-invariant-loop-frame g l = record {
-  leads : LeadsTo (rules_of l.table) (lookup (rules_of l.table) l.left l.path) l.stack.items l.told;
-  counted : l.fn.steps + min l.told.cost 10000 ≤ l.steps;
+abbrev pub invariant-loop-task : goal.invariant-loop-task
+invariant-loop-task g l = record {
+  leads : LeadsTo (rules_at l.scene) (names_at l.scene) l.fn.work.visits.most (lookup (rules_at l.scene) (names_at l.scene) l.left l.path) l.work.stack.items l.work l.task;
+  counted : l.fn.steps + min l.work.count 10000 ≤ l.steps;
 }
 
-abbrev pub decreases-loop-frame : goal.decreases-loop-frame
-decreases-loop-frame g l = stack_work (rules_of l.table) l.stack.items
+abbrev pub decreases-loop-task : goal.decreases-loop-task
+decreases-loop-task g l = stack_work (rules_at l.scene) l.work.stack.items + task_work (rules_at l.scene) l.task

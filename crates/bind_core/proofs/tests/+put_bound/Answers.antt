@@ -1,6 +1,6 @@
 use Rattle.std.proofs.Common.{◌<◌, arith}
-use Rattle.bind_core.specs.Bound.{found_of}
-use Rattle.bind_core.proofs.Bounds.{found_size, smaller}
+use Rattle.addr_book.specs.Bound.{found_of}
+use Rattle.addr_book.proofs.Bounds.{found_size, smaller}
 use Rattle.bind_core.proofs.tests.+put_bound.Goals as goal
 
 pub put_bound-requires : goal.put_bound-requires

@@ -1,5 +1,5 @@
-use Rattle.bind_core.specs.Bound.{found_of}
-use Rattle.bind_core.proofs.Bounds.{found_size}
+use Rattle.addr_book.specs.Bound.{found_of}
+use Rattle.addr_book.proofs.Bounds.{found_size}
 use Rattle.bind_core.proofs.tests.+put_bound.Given as goal
 
 abbrev pub decreases-put_bound : goal.decreases-put_bound

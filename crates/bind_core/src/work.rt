@@ -1,0 +1,55 @@
+//! What a delegation goes by, what it has done, and what it does next.
+ghost use Rattle.std.specs.Prelude.{◌≡◌, []};
+
+use crate::frame::Frame;
+use crate::outcome::Outcome;
+use crate::tables::Tables;
+use crate::visits::Visits;
+use addr_book::Book;
+use name_tree::Tree;
+use std::alloc::Global;
+
+/// What a delegation goes by.
+#[derive(Clone, Copy)]
+pub(crate) struct Scene<'a> {
+    /// The tables.
+    pub(crate) tables: &'a Tables<'a>,
+    /// The book of services.
+    pub(crate) book: &'a Book,
+}
+
+/// What a delegation has done, and what it has left for later.
+#[derive(Drop)]
+pub(crate) struct Work {
+    /// What is left of lookups, alternations and unions that have not ended, the innermost last.
+    pub(crate) stack: Vec<Frame>,
+    /// How many lookups were made.
+    pub(crate) count: u32,
+    /// Those lookups, as far as they are kept.
+    pub(crate) visits: Visits,
+}
+
+impl Work {
+    ghost use Rattle.bind_core.specs.Stack.{Fits};
+
+    /// Nothing was done, and so many lookups are kept at most. It takes no memory.
+    pub(crate) fn new(alloc: Global, most: u32) -> Work
+        ensures stack { result.stack.items ≡ [] }
+        ensures fits { Fits most [] result }
+    {
+        Work {
+            stack: Vec::new(alloc),
+            count: 0,
+            visits: Visits::new(alloc, most),
+        }
+    }
+}
+
+/// What a delegation does next.
+#[derive(Drop)]
+pub(crate) enum Task {
+    /// It tries a tree, with so many lookups left in the chain for its leaves.
+    Try(Tree, u32),
+    /// It tells an outcome to the last frame.
+    Tell(Outcome),
+}
