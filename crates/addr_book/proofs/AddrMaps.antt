@@ -1,6 +1,6 @@
 -- Maps of addresses and of services seen as finite maps.
 use Rattle.std.proofs.Common.{◌≡◌, ℕ, Bool, List, length, refl, sym, ap, ◌∙◌, Option, Some, None, cond, map, nat_cmp}
-use Rattle.std.specs.Prelude.{option_map}
+use Rattle.std.specs.Prelude.{is_some, option_map}
 use Rattle.std.specs.declared.cmp.Ordering.{Ordering}
 use Rattle.std.specs.declared.cmp.Ordering.TheVariants.{Less, Equal, Greater}
 use Rattle.std.specs.Ordering.{eq_by_cmp, ordering_then}
@@ -60,3 +60,7 @@ pub number_values : (es : List (Addr × ℕ)) → IsStrictlySortedBy addr_cmp (k
 number_values es h =
     let whole : entries (from_entries {R = addr_cmp} es) ≡ es = ap entries (sym (seen_plain {R = addr_cmp} es)) ∙ (entries-seen addr_total addr_only (λ n. n) es h ∙ plain es) in
     ap (map (λ e. e.1)) (sym whole)
+
+pub is_some_map : {X Y : Type 0} (f : X → Y) (x : Option X) → is_some (option_map f x) ≡ is_some x
+is_some_map f None = refl
+is_some_map f (Some x) = refl

@@ -144,3 +144,7 @@ length_lists (e ∷ es) = ap suc (length_lists es)
 
 pub count_few : (services : Services) (a : Addr) → having (values services) a ≤ len services
 count_few services a = omega (arith, having_few (values services) a, length_lists (entries services), len-entries services)
+
+pub length_numbers : (es : List (Addr × ℕ)) → length (map (λ e. e.1) es) ≡ length es
+length_numbers [] = refl
+length_numbers (e ∷ es) = ap suc (length_numbers es)

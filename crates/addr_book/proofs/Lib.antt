@@ -1,5 +1,6 @@
 pub mod AddrLists
 pub mod AddrMaps
+pub mod Bits
 pub mod Bounds
 pub mod Counts
 pub mod Files
@@ -7,9 +8,12 @@ pub mod Hosts
 pub mod Lines
 pub mod Lookups
 pub mod Maps
-pub mod SlotLaws
 pub mod Places
-pub mod SlotSteps
+pub mod Results
 pub mod Seating
-pub mod Sound
 pub mod Setting
+pub mod Shards
+pub mod SlotLaws
+pub mod SlotMaps
+pub mod SlotSteps
+pub mod Sound

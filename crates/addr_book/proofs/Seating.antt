@@ -71,7 +71,7 @@ inserted slots k s a slot P is new old = go (same_addr a k) refl (sym (get-inser
     go true e h = new (same_is a k e) (cc)
     go false e h = old h
 
-unused_later : (slots : Slots) (k : Addr) (s : ℕ) (free : List ℕ) (from : ℕ) → s < from → AreRising from free → AreUnused slots free → AreUnused (insert slots k s) free
+pub unused_later : (slots : Slots) (k : Addr) (s : ℕ) (free : List ℕ) (from : ℕ) → s < from → AreRising from free → AreUnused slots free → AreUnused (insert slots k s) free
 unused_later slots k s [] from lt up h = tt
 unused_later slots k s (t ∷ free) from lt up h =
     (λ a is. inserted slots k s a t ⊥ is (λ _ e. absurd (omega (arith, up.0, e))) (h.0 a), unused_later slots k s free (suc t) (omega (arith, up.0)) up.1 h.1)
@@ -99,7 +99,7 @@ below-assigned slots (n ∷ news) (s ∷ free) end below under =
     below-assigned (insert slots n.addr s) news free end
     (λ a slot is. inserted slots n.addr s a slot (slot < end) is (λ _ e. subst (λ (x : ℕ). x < end) e under.0) (below a slot)) under.1
 
-len_insert : (slots : Slots) (k : Addr) (s : ℕ) → len (insert slots k s) ≤ len slots + 1
+pub len_insert : (slots : Slots) (k : Addr) (s : ℕ) → len (insert slots k s) ≤ len slots + 1
 len_insert slots k s = rw (len-insert addr_total slots k s) (elim (contains_key slots k) as (λ b. cond b (len slots) (len slots + 1) ≤ len slots + 1) [ true ↦ omega arith | false ↦ omega arith ])
 
 pub len-assigned : (slots : Slots) (news : List Weighted) (free : List ℕ) → len (assigned slots news free) ≤ len slots + length news
@@ -147,7 +147,7 @@ found_value q s [] is = cc
 found_value q s (e ∷ es) is =
     found_case e.1 s (find addr_cmp q es) (list_any (λ slot. slot == s) (map (λ f. f.1) es)) (found_value q s es) (eq_by_cmp addr_cmp q e.0) is
 
-taken_value : (slots : Slots) (q : Addr) (s : ℕ) → get slots q ≡ Some s → list_any (λ slot. slot == s) (values slots) ≡ true
+pub taken_value : (slots : Slots) (q : Addr) (s : ℕ) → get slots q ≡ Some s → list_any (λ slot. slot == s) (values slots) ≡ true
 taken_value slots q s is = found_value q s (entries slots) (sym (get-entries slots q) ∙ is)
 
 pub free_unused : (slots : Slots) (n from : ℕ) → AreUnused slots (free_slots n from (values slots))

@@ -95,23 +95,17 @@ module _ (xs : List Weighted) (i : ℕ) (d : Weighted) (lt : i < length xs) wher
         let is = same_is a here e in
         (ap (has_addr (take i xs)) is ∙ not_before xs i d dist lt, ap (count_at old) (sym is))
 
-    pub counted_in : ((a : Addr) → count_at old a ≡ count_at base a + cond (has_addr (take i xs) a) 1 0) → (n : ℕ) → n ≡ count_at old here → (new : FinMap addr_cmp ℕ) → new ≡ insert old here (n + 1)
-        → (a : Addr) → count_at new a ≡ count_at base a + cond (has_addr (take (i + 1) xs) a) 1 0
+    pub counted_in : ((a : Addr) → count_at old a ≡ count_at base a + cond (has_addr (take i xs) a) 1 0) → (n : ℕ) → n ≡ count_at old here → (new : FinMap addr_cmp ℕ)
+        → ((a : Addr) → count_at new a ≡ cond (same_addr a here) (n + 1) (count_at old a)) → (a : Addr) → count_at new a ≡ count_at base a + cond (has_addr (take (i + 1) xs) a) 1 0
     counted_in was n count new is a =
         in_case (same_addr a here) (has_addr (take i xs) a) _ _ (count_at old a) (count_at old here) (count_at base a)
-        (ap (λ m. count_at m a) is ∙ (count-insert old here (n + 1) a ∙ ap (λ k. cond (same_addr a here) (k + 1) (count_at old a)) count)) (was a) (same_facts a) (has_next xs i d lt a)
+        (is a ∙ ap (λ m. cond (same_addr a here) (m + 1) (count_at old a)) count) (was a) (same_facts a) (has_next xs i d lt a)
 
-    module _ (was : (a : Addr) → count_at old a ≡ count_at base a - cond (has_addr (take i xs) a) 1 0) (n : ℕ) (count : n ≡ count_at old here) (new : FinMap addr_cmp ℕ) (a : Addr) where
-      pub counted_out : new ≡ insert old here (n - 1) → count_at new a ≡ count_at base a - cond (has_addr (take (i + 1) xs) a) 1 0
-      counted_out is =
-          out_case (same_addr a here) (has_addr (take i xs) a) _ _ (count_at old a) (count_at old here) (count_at base a)
-          (ap (λ m. count_at m a) is ∙ (count-insert old here (n - 1) a ∙ ap (λ k. cond (same_addr a here) (k - 1) (count_at old a)) count)) (was a) (same_facts a) (has_next xs i d lt a)
-
-      pub forgotten : n ≤ 1 → new ≡ remove old here → count_at new a ≡ count_at base a - cond (has_addr (take (i + 1) xs) a) 1 0
-      forgotten few is =
-          let none : 0 ≡ count_at old here - 1 = omega arith in
-          out_case (same_addr a here) (has_addr (take i xs) a) _ _ (count_at old a) (count_at old here) (count_at base a)
-          (ap (λ m. count_at m a) is ∙ (count-remove old here a ∙ ap (λ k. cond (same_addr a here) k (count_at old a)) none)) (was a) (same_facts a) (has_next xs i d lt a)
+    pub counted_out : ((a : Addr) → count_at old a ≡ count_at base a - cond (has_addr (take i xs) a) 1 0) → (n : ℕ) → n ≡ count_at old here → (m : ℕ) → m ≡ n - 1
+        → (new : FinMap addr_cmp ℕ) → ((a : Addr) → count_at new a ≡ cond (same_addr a here) m (count_at old a)) → (a : Addr) → count_at new a ≡ count_at base a - cond (has_addr (take (i + 1) xs) a) 1 0
+    counted_out was n count m less new is a =
+        out_case (same_addr a here) (has_addr (take i xs) a) _ _ (count_at old a) (count_at old here) (count_at base a)
+        (is a ∙ ap (λ k. cond (same_addr a here) k (count_at old a)) (less ∙ ap (λ k. k - 1) count)) (was a) (same_facts a) (has_next xs i d lt a)
 
   module _ (uses base old : FinMap addr_cmp ℕ) (was : (a : Addr) → get old a ≡ cond (has_addr (take i xs) a && (count_at uses a == 0)) None (get base a)) (new : FinMap addr_cmp ℕ) (a : Addr) where
     used_here : same_addr a here ≡ true → (count_at uses a == 0) ≡ (count_at uses here == 0)
@@ -131,7 +125,7 @@ none_assigned : (slots : Slots) (news : List Weighted) → assigned slots news [
 none_assigned slots [] = refl
 none_assigned slots (a ∷ news) = refl
 
-nothing_left : {A : Type 0} (xs : List A) (i : ℕ) → length xs ≤ i → drop i xs ≡ []
+pub nothing_left : {A : Type 0} (xs : List A) (i : ℕ) → length xs ≤ i → drop i xs ≡ []
 nothing_left xs i h = empty (drop i xs) (omega (arith, length-drop i xs))
   where
     empty : {A : Type 0} (ys : List A) → length ys ≡ 0 → ys ≡ []

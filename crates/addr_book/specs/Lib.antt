@@ -1,6 +1,7 @@
 pub mod Addr
 pub mod AddrFile
 pub mod AddrList
+pub mod AddrMap
 pub mod Book
 pub mod BookFault
 pub mod Bound
@@ -10,4 +11,8 @@ pub mod Laws
 pub mod Name
 pub mod Namer
 pub mod Parts
+pub mod Services
+pub mod Shards
+pub mod SlotMap
+pub mod SlotSet
 pub mod Uses

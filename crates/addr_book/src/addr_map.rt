@@ -1,96 +1,146 @@
 //! Numbers by addresses.
-ghost use Rattle.std.specs.Prelude.{◌≡◌, ℕ, ◌<◌, ◌==◌, false, slice_index_or, vec_len, OnOk, OnErr, IfOk};
-ghost use Rattle.std.specs.List.{list_any};
+ghost use Rattle.std.specs.Prelude.{◌≡◌, ◌<◌, length, map as each, OnOk, IfOk, None, slice_index_or, slice_set};
 ghost use Rattle.std.specs.FinMap as map;
+ghost use Rattle.addr_book.specs.AddrMap.{addr_place, addr_shard};
 
 use crate::Mem;
 use crate::addr::Addr;
+use crate::addr_shard::AddrShard;
 use std::alloc::Global;
-use std::collections::BTreeMap;
 use std::marker::Model;
+use std::sync::Arc;
+
+/// How many shards a map has: a prime, so that addresses in a row and ports in a row are spread evenly.
+const SHARDS: usize = 127;
+
+/// The shards of a map, in order. `None` stands for one that never had an address.
+type Shards = Vec<Option<Arc<AddrShard>>>;
 
 /// A number for each of some addresses. Contracts see a finite map.
 ///
-/// A look-up takes about `log n` comparisons.
+/// The addresses are spread over 127 shards by a hash. A look-up finds the shard, and in its `n` addresses takes about `log n`
+/// comparisons. A copy shares the shards, and a change copies its shard where another map shares it.
 #[derive(Debug, Drop)]
 pub(crate) struct AddrMap {
-    numbers: BTreeMap<Addr, u32>,
+    shards: Shards,
 }
 
 impl Model for AddrMap {
-    ghost use Rattle.std.specs.Prelude.{ℕ};
+    ghost use Rattle.std.specs.Prelude.{ℕ, map as each};
     ghost use Rattle.std.specs.Coded.{coded_ℕ};
     ghost use Rattle.std.specs.FinMap as map;
     ghost use Rattle.addr_book.specs.AddrList.{addr_cmp, addr_code};
+    ghost use Rattle.addr_book.specs.AddrMap.{addr_place, addr_shard};
+    ghost use Rattle.addr_book.specs.Shards.{IsSharded, whole};
 
     ghost Value = { map.FinMap addr_cmp ℕ };
 
     ghost coded = { map.code addr_code coded_ℕ };
 
-    ghost view = { λ m. map.from_entries m.numbers.entries };
+    ghost view = { λ m. whole (each addr_shard m.shards.items) };
+
+    ghost invariant = { λ m. IsSharded addr_place 127 (each addr_shard m.shards.items) };
 }
 
 impl AddrMap {
-    /// The map with no address. It takes no memory.
-    pub(crate) fn new(alloc: Global) -> AddrMap
-        ensures { result ≡ map.empty }
+    /// The map with no address.
+    pub(crate) fn new(alloc: Global) -> Mem<AddrMap>
+        ensures { IfOk result (λ numbers. numbers ≡ map.empty) }
     {
-        AddrMap {
-            numbers: BTreeMap::new(alloc),
+        let mut shards = Vec::with_capacity(alloc, SHARDS)?;
+        for _place in 0..SHARDS {
+            shards.push(None)?;
         }
-    }
-
-    /// How many addresses it has.
-    pub(crate) fn len(&self) -> usize
-        ensures { result ≡ map.len self.now }
-    {
-        self.numbers.len()
+        Ok(AddrMap { shards })
     }
 
     /// The number of an address, if it has one.
     pub(crate) fn get(&self, addr: Addr) -> Option<u32>
         ensures { result ≡ map.get self.now addr }
     {
-        self.numbers.get(&addr).copied()
+        match &self.shards[place_of(addr)] {
+            Some(shard) => shard.get(addr),
+            None => None,
+        }
     }
 
-    /// Puts a number at an address. An `Err` changes nothing.
-    pub(crate) fn insert(&mut self, addr: Addr, number: u32) -> Mem<()>
-        ensures ok { OnOk result (self.new ≡ map.insert self.old addr number) }
-        ensures err { OnErr result (self.new ≡ self.old) }
+    /// This map with a number at an address.
+    pub(crate) fn with(self, addr: Addr, number: u32) -> Mem<AddrMap>
+        ensures { IfOk result (λ numbers. numbers ≡ map.insert self addr number) }
     {
-        self.numbers.insert(addr, number)?;
-        Ok(())
+        let mut shards = self.shards;
+        let alloc = *shards.allocator();
+        let place = place_of(addr);
+        let mut shard = taken_shard(alloc, &mut shards, place)?;
+        shard.insert(addr, number)?;
+        shards[place] = Some(Arc::new(alloc, shard)?);
+        Ok(AddrMap { shards })
     }
 
-    /// Takes an address away.
-    pub(crate) fn remove(&mut self, addr: Addr)
-        ensures { self.new ≡ map.remove self.old addr }
+    /// This map without an address.
+    pub(crate) fn without(self, addr: Addr) -> Mem<AddrMap>
+        ensures { IfOk result (λ numbers. numbers ≡ map.remove self addr) }
     {
-        self.numbers.remove(&addr);
+        let mut shards = self.shards;
+        let alloc = *shards.allocator();
+        let place = place_of(addr);
+        let mut shard = taken_shard(alloc, &mut shards, place)?;
+        shard.remove(addr);
+        shards[place] = Some(Arc::new(alloc, shard)?);
+        Ok(AddrMap { shards })
     }
 
-    /// Another map with these numbers.
+    /// Another map with these numbers, which shares the shards.
     pub(crate) fn copied(&self) -> Mem<AddrMap>
         ensures { IfOk result (λ copy. copy ≡ self.now) }
     {
         Ok(AddrMap {
-            numbers: self.numbers.clone()?,
+            shards: shared_shards(*self.shards.allocator(), self.shards.as_slice())?,
         })
     }
+}
 
-    /// Which numbers below an end it has: a mark for each, from 0 on.
-    pub(crate) fn marks(&self, alloc: Global, end: usize) -> Mem<Vec<bool>>
-        ensures len { IfOk result (λ marks. vec_len marks ≡ end) }
-        ensures marks { IfOk result (λ marks. (at : ℕ) → at < end → slice_index_or marks.items at false ≡ list_any (λ n. n == at) (map.values self.now)) }
-    {
-        let mut marks = Vec::from_elem(alloc, false, end)?;
-        for number in self.numbers.values() {
-            let at = *number as usize;
-            if at < end {
-                marks[at] = true;
-            }
-        }
-        Ok(marks)
+/// The place of an address's shard.
+#[tactic(auto, unfolding(crate::specs::AddrMap::addr_place))]
+fn place_of(addr: Addr) -> usize
+    ensures place { result ≡ addr_place addr }
+    ensures below { result < 127 }
+{
+    ((u64::from(addr.ip) * 0x1_0000 + u64::from(addr.port)) % SHARDS as u64) as usize
+}
+
+/// The shard at a place, to be changed: itself where no other map shares it, and else a copy. It leaves none at the place.
+fn taken_shard(alloc: Global, shards: &mut Shards, place: usize) -> Mem<AddrShard>
+    requires { place < length shards.old.items }
+    ensures shard { IfOk result (λ shard. shard ≡ addr_shard (slice_index_or shards.old.items place None)) }
+    ensures rest { OnOk result (shards.new.items ≡ slice_set shards.old.items place None) }
+{
+    match shards[place].take() {
+        None => Ok(AddrShard::new(alloc)),
+        Some(shared) => match Arc::try_unwrap(shared) {
+            Ok(shard) => Ok(shard),
+            Err(shared) => shared.copied(),
+        },
+    }
+}
+
+/// The same shards once more.
+fn shared_shards(alloc: Global, shards: &[Option<Arc<AddrShard>>]) -> Mem<Shards>
+    ensures { IfOk result (λ copy. each addr_shard copy.items ≡ each addr_shard shards.now) }
+{
+    let mut copy = Vec::with_capacity(alloc, SHARDS)?;
+    for shard in shards {
+        copy.push(shared_shard(shard)?)?;
+    }
+    Ok(copy)
+}
+
+/// The same shard once more.
+fn shared_shard(shard: &Option<Arc<AddrShard>>) -> Mem<Option<Arc<AddrShard>>>
+    ensures { IfOk result (λ copy. addr_shard copy ≡ addr_shard shard.now) }
+{
+    match shard {
+        Some(shard) => Ok(Some(Arc::try_clone(shard)?)),
+        None => Ok(None),
     }
 }

@@ -34,6 +34,7 @@ mod addr;
 mod addr_file;
 mod addr_list;
 mod addr_map;
+mod addr_shard;
 mod book;
 mod bound;
 mod fault;
@@ -45,7 +46,10 @@ mod name;
 mod namer;
 mod parts;
 mod seats;
+mod service_shard;
 mod services;
+mod slot_map;
+mod slot_set;
 mod slots;
 #[cfg(test)]
 mod tests;

@@ -6,13 +6,14 @@ ghost use Rattle.addr_book.specs.Book.{after_set, after_drop, no_contents};
 ghost use Rattle.addr_book.specs.BookFault.{has_no_room, set_refusal, drop_refusal};
 ghost use Rattle.addr_book.specs.Uses.{list_of};
 
+use crate::Mem;
 use crate::addr::Weighted;
 use crate::addr_list::AddrList;
 use crate::fault::BookFault;
 use crate::name::Name;
 use crate::seats::Seats;
 use crate::services::Services;
-use crate::slots::{assign, without_slot};
+use crate::slots::without_slot;
 use std::alloc::Global;
 
 /// The most services of a book.
@@ -31,15 +32,15 @@ pub(crate) struct Parts {
 impl Parts {
     ghost use Rattle.addr_book.specs.Parts.{contents_of, ArePartsSound};
 
-    /// No services. It takes no memory.
-    pub(crate) fn new(alloc: Global) -> Parts
-        ensures book { contents_of result ≡ no_contents }
-        ensures sound { ArePartsSound result }
+    /// No services.
+    pub(crate) fn new(alloc: Global) -> Mem<Parts>
+        ensures book { IfOk result (λ parts. contents_of parts ≡ no_contents) }
+        ensures sound { IfOk result (λ parts. ArePartsSound parts) }
     {
-        Parts {
-            services: Services::new(alloc),
-            seats: Seats::new(alloc),
-        }
+        Ok(Parts {
+            services: Services::new(alloc)?,
+            seats: Seats::new(alloc)?,
+        })
     }
 
     /// The addresses of a service, none where it is not there.
@@ -77,16 +78,21 @@ impl Parts {
             return Err(BookFault::TooManyServices);
         }
         let addrs = list.items();
-        let mut seats = self.seats.moved(self.addrs(service), addrs)?;
+        let seats = self.seats.moved(self.addrs(service), addrs)?;
         let news = without_slot(alloc, &seats.slots, addrs)?;
         let count = seats.slots.len() + news.len();
         if count > MOST_SLOTS {
             return Err(BookFault::BookFull(count as u32));
         }
-        assign(alloc, &mut seats.slots, news.as_slice())?;
-        let mut services = self.services.copied()?;
-        services.insert(alloc, service, list)?;
-        Ok(Parts { services, seats })
+        let slots = seats.slots.with_lowest(news.as_slice())?;
+        let services = self.services.copied()?.with(service, list)?;
+        Ok(Parts {
+            services,
+            seats: Seats {
+                slots,
+                uses: seats.uses,
+            },
+        })
     }
 
     /// The parts without the service.
@@ -101,8 +107,7 @@ impl Parts {
             return Err(BookFault::Missing);
         };
         let seats = self.seats.moved(list.items(), &[])?;
-        let mut services = self.services.copied()?;
-        services.remove(service);
+        let services = self.services.copied()?.without(service)?;
         Ok(Parts { services, seats })
     }
 }

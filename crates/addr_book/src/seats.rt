@@ -8,26 +8,27 @@ ghost use Rattle.addr_book.specs.Uses.{count_at};
 use crate::Mem;
 use crate::addr::Weighted;
 use crate::addr_map::AddrMap;
+use crate::slot_map::SlotMap;
 use crate::slots::{count_in, count_out, release};
 use std::alloc::Global;
 
 /// The slot of each address, and the number of services that have it.
 #[derive(Debug, Drop)]
 pub(crate) struct Seats {
-    pub(crate) slots: AddrMap,
+    pub(crate) slots: SlotMap,
     pub(crate) uses: AddrMap,
 }
 
 impl Seats {
-    /// No address has a slot. It takes no memory.
-    pub(crate) fn new(alloc: Global) -> Seats
-        ensures slots { result.slots ≡ map.empty }
-        ensures uses { result.uses ≡ map.empty }
+    /// No address has a slot.
+    pub(crate) fn new(alloc: Global) -> Mem<Seats>
+        ensures slots { IfOk result (λ seats. seats.slots ≡ map.empty) }
+        ensures uses { IfOk result (λ seats. seats.uses ≡ map.empty) }
     {
-        Seats {
-            slots: AddrMap::new(alloc),
-            uses: AddrMap::new(alloc),
-        }
+        Ok(Seats {
+            slots: SlotMap::new(alloc)?,
+            uses: AddrMap::new(alloc)?,
+        })
     }
 
     /// The seats where one service has other addresses than before, without slots for those that are new. Those that no service has any more give their slots up.
@@ -40,11 +41,9 @@ impl Seats {
         ensures slots { IfOk result (λ seats. (addr : Addr) → map.get seats.slots addr
             ≡ (if has_addr before.now addr && (count_at seats.uses addr == 0) then None else map.get self.now.slots addr)) }
     {
-        let mut uses = self.uses.copied()?;
-        count_in(&mut uses, after)?;
-        count_out(&mut uses, before)?;
-        let mut slots = self.slots.copied()?;
-        release(&mut slots, &uses, before);
+        let more = count_in(self.uses.copied()?, after)?;
+        let uses = count_out(more, before)?;
+        let slots = release(self.slots.copied()?, &uses, before)?;
         Ok(Seats { slots, uses })
     }
 }

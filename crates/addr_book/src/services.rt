@@ -1,60 +1,73 @@
 //! Services by their names.
-ghost use Rattle.std.specs.Prelude.{◌≡◌, ℕ, OnOk, OnErr, IfOk, MatchOption, option_map, true, false};
+ghost use Rattle.std.specs.Prelude.{◌≡◌, ◌+◌, ◌-◌, ◌<◌, ◌^◌, if◌then◌else◌, length, map as each, OnOk, IfOk, None, MatchOption, option_map, slice_index_or, slice_set, true, false};
 ghost use Rattle.std.specs.FinMap as map;
+ghost use Rattle.addr_book.specs.Services.{hash_behind, mixed, name_place, service_shard};
 
 use crate::Mem;
 use crate::addr_list::AddrList;
 use crate::name::Name;
+use crate::service_shard::ServiceShard;
 use std::alloc::Global;
-use std::collections::BTreeMap;
 use std::marker::Model;
 use std::sync::Arc;
 
+/// How many shards there are: so many that few services share one.
+const SHARDS: usize = 509;
+
+/// The shards, in order. `None` stands for one that never had a service.
+type Shards = Vec<Option<Arc<ServiceShard>>>;
+
 /// Services, each with its addresses. Contracts see a finite map. Copies share the lists.
 ///
-/// A look-up takes about `log n` comparisons of names.
+/// The services are spread over 509 shards by a hash of the name, so that 4,096 are about eight a shard. A copy shares the shards, and
+/// a change copies its shard where other services share it.
 #[derive(Debug, Drop)]
 pub(crate) struct Services {
-    lists: BTreeMap<Name, Arc<AddrList>>,
+    shards: Shards,
+    len: usize,
 }
 
 impl Model for Services {
-    ghost use Rattle.std.specs.Prelude.{List, map};
-    ghost use Rattle.std.specs.Arc.{arc_value};
+    ghost use Rattle.std.specs.Prelude.{◌≡◌, map as each};
+    ghost use Rattle.std.specs.FinMap as map;
     ghost use Rattle.addr_book.specs.Book.{Services as Value_of, services_code};
+    ghost use Rattle.addr_book.specs.Services.{name_place, service_shard};
+    ghost use Rattle.addr_book.specs.Shards.{IsSharded, whole};
 
     ghost Value = { Value_of };
 
     ghost coded = { services_code };
 
-    ghost use Rattle.std.specs.FinMap.{from_entries};
+    ghost view = { λ s. whole (each service_shard s.shards.items) };
 
-    ghost view = { λ s. from_entries (map (λ e. (e.0, arc_value e.1)) s.lists.entries) };
+    ghost invariant = { λ s. IsSharded name_place 509 (each service_shard s.shards.items) × (s.len ≡ map.len (whole (each service_shard s.shards.items))) };
 }
 
 impl Services {
-    /// No services. It takes no memory.
-    pub(crate) fn new(alloc: Global) -> Services
-        ensures { result ≡ map.empty }
+    /// No services.
+    pub(crate) fn new(alloc: Global) -> Mem<Services>
+        ensures { IfOk result (λ services. services ≡ map.empty) }
     {
-        Services {
-            lists: BTreeMap::new(alloc),
+        let mut shards = Vec::with_capacity(alloc, SHARDS)?;
+        for _place in 0..SHARDS {
+            shards.push(None)?;
         }
+        Ok(Services { shards, len: 0 })
     }
 
     /// How many there are.
     pub(crate) fn len(&self) -> usize
         ensures { result ≡ map.len self.now }
     {
-        self.lists.len()
+        self.len
     }
 
     /// The addresses of a service, if it is there.
     pub(crate) fn get(&self, service: &Name) -> Option<&AddrList>
         ensures { option_map (λ list. list.now) result ≡ map.get self.now service.now }
     {
-        match self.lists.get(service) {
-            Some(list) => Some(&**list),
+        match &self.shards[place_of(service.text())] {
+            Some(shard) => shard.get(service),
             None => None,
         }
     }
@@ -63,37 +76,136 @@ impl Services {
     pub(crate) fn find(&self, text: &[u8]) -> Option<&Name>
         ensures { MatchOption result (map.contains_key self.now text.now ≡ false) (λ name. (name.now ≡ text.now) × (map.contains_key self.now text.now ≡ true)) }
     {
-        for (name, _list) in self.lists.iter() {
-            if name.text() == text {
-                return Some(name);
-            }
+        match &self.shards[place_of(text)] {
+            Some(shard) => shard.find(text),
+            None => None,
         }
-        None
     }
 
-    /// Puts a service with its addresses, in the place of its like. An `Err` changes nothing.
-    pub(crate) fn insert(&mut self, alloc: Global, service: &Name, list: &AddrList) -> Mem<()>
-        ensures ok { OnOk result (self.new ≡ map.insert self.old service.now list.now) }
-        ensures err { OnErr result (self.new ≡ self.old) }
+    /// These services with one and its addresses, in the place of its like.
+    pub(crate) fn with(self, service: &Name, list: &AddrList) -> Mem<Services>
+        requires { map.len self < 2 ^ 32 }
+        ensures { IfOk result (λ services. services ≡ map.insert self service.now list.now) }
     {
-        let list = Arc::new(alloc, list.clone()?)?;
-        self.lists.insert(service.clone()?, list)?;
-        Ok(())
+        let Services { mut shards, len } = self;
+        let alloc = *shards.allocator();
+        let place = place_of(service.text());
+        let mut shard = taken_shard(alloc, &mut shards, place)?;
+        let was_there = shard.get(service).is_some();
+        shard.insert(alloc, service, list)?;
+        shards[place] = Some(Arc::new(alloc, shard)?);
+        Ok(Services {
+            shards,
+            len: len_with(len, was_there),
+        })
     }
 
-    /// Takes a service away.
-    pub(crate) fn remove(&mut self, service: &Name)
-        ensures { self.new ≡ map.remove self.old service.now }
+    /// These services without one.
+    pub(crate) fn without(self, service: &Name) -> Mem<Services>
+        ensures { IfOk result (λ services. services ≡ map.remove self service.now) }
     {
-        self.lists.remove(service);
+        let Services { mut shards, len } = self;
+        let alloc = *shards.allocator();
+        let place = place_of(service.text());
+        let mut shard = taken_shard(alloc, &mut shards, place)?;
+        let was_there = shard.get(service).is_some();
+        shard.remove(service);
+        shards[place] = Some(Arc::new(alloc, shard)?);
+        Ok(Services {
+            shards,
+            len: len_without(len, was_there),
+        })
     }
 
-    /// Another map of these services, which shares their lists.
+    /// The same services, in a map that shares the shards.
     pub(crate) fn copied(&self) -> Mem<Services>
         ensures { IfOk result (λ copy. copy ≡ self.now) }
     {
         Ok(Services {
-            lists: self.lists.clone()?,
+            shards: shared_shards(*self.shards.allocator(), self.shards.as_slice())?,
+            len: self.len,
         })
+    }
+}
+
+/// The number that FNV-1a begins with, on 64 bits.
+const BASIS: u64 = 14_695_981_039_346_656_037;
+
+/// The number by which FNV-1a multiplies, on 64 bits.
+const PRIME: u64 = 1_099_511_628_211;
+
+/// The place of the shard of a service, by its name's text.
+#[tactic(auto, unfolding(crate::specs::Services::name_place))]
+fn place_of(text: &[u8]) -> usize
+    ensures place { result ≡ name_place text.now }
+    ensures below { result < 509 }
+{
+    let mut hash = BASIS;
+    for byte in text {
+        hash = mix(hash, *byte);
+    }
+    (hash % SHARDS as u64) as usize
+}
+
+/// A hash, and then a byte.
+#[tactic(auto, unfolding(crate::specs::Services::mixed))]
+fn mix(hash: u64, byte: u8) -> u64
+    ensures { result ≡ mixed hash byte }
+{
+    (hash ^ u64::from(byte)).wrapping_mul(PRIME)
+}
+
+/// The shard at a place, to be changed: itself where no other services share it, and else a copy. It leaves none at the place.
+fn taken_shard(alloc: Global, shards: &mut Shards, place: usize) -> Mem<ServiceShard>
+    requires { place < length shards.old.items }
+    ensures shard { IfOk result (λ shard. shard ≡ service_shard (slice_index_or shards.old.items place None)) }
+    ensures rest { OnOk result (shards.new.items ≡ slice_set shards.old.items place None) }
+{
+    match shards[place].take() {
+        None => Ok(ServiceShard::new(alloc)),
+        Some(shared) => match Arc::try_unwrap(shared) {
+            Ok(shard) => Ok(shard),
+            Err(shared) => shared.copied(),
+        },
+    }
+}
+
+/// How many there are with one that was there already or not.
+fn len_with(len: usize, was_there: bool) -> usize
+    requires { len < 2 ^ 32 }
+    ensures { result ≡ (if was_there then len else len + 1) }
+{
+    if was_there { len } else { len + 1 }
+}
+
+/// How many there are without one that was there or not.
+fn len_without(len: usize, was_there: bool) -> usize
+    ensures { result ≡ (if was_there then len - 1 else len) }
+{
+    if was_there {
+        len.saturating_sub(1)
+    } else {
+        len
+    }
+}
+
+/// The same shards once more.
+fn shared_shards(alloc: Global, shards: &[Option<Arc<ServiceShard>>]) -> Mem<Shards>
+    ensures { IfOk result (λ copy. each service_shard copy.items ≡ each service_shard shards.now) }
+{
+    let mut copy = Vec::with_capacity(alloc, SHARDS)?;
+    for shard in shards {
+        copy.push(shared_shard(shard)?)?;
+    }
+    Ok(copy)
+}
+
+/// The same shard once more.
+fn shared_shard(shard: &Option<Arc<ServiceShard>>) -> Mem<Option<Arc<ServiceShard>>>
+    ensures { IfOk result (λ copy. service_shard copy ≡ service_shard shard.now) }
+{
+    match shard {
+        Some(shard) => Ok(Some(Arc::try_clone(shard)?)),
+        None => Ok(None),
     }
 }

@@ -1,58 +1,69 @@
 //! How the slots and the counts of the book's addresses change.
-ghost use Rattle.std.specs.Prelude.{◌≡◌, ℕ, ◌+◌, ◌-◌, ◌^◌, ◌<◌, ◌≤◌, ◌&&◌, ◌==◌, List, length, IfOk, OnOk, None, if◌then◌else◌};
+ghost use Rattle.std.specs.Prelude.{◌≡◌, ℕ, ◌+◌, ◌-◌, ◌^◌, ◌<◌, ◌&&◌, ◌==◌, IfOk, None, if◌then◌else◌};
 ghost use Rattle.std.specs.FinMap as map;
 ghost use Rattle.addr_book.specs.declared.addr.Addr.{Addr};
-ghost use Rattle.addr_book.specs.AddrList.{AreDistinct, has_addr};
-ghost use Rattle.addr_book.specs.Book.{free_slots, newcomers, with_newcomers};
+ghost use Rattle.addr_book.specs.AddrList.{AreDistinct, has_addr, same_addr};
+ghost use Rattle.addr_book.specs.Book.{newcomers};
 ghost use Rattle.addr_book.specs.Uses.{count_at};
 
 use crate::Mem;
-use crate::addr::Weighted;
+use crate::addr::{Addr, Weighted};
 use crate::addr_map::AddrMap;
+use crate::slot_map::SlotMap;
 use std::alloc::Global;
 
-/// Counts a service more for each address of a list. An `Err` leaves some of them counted.
-pub(crate) fn count_in(uses: &mut AddrMap, list: &[Weighted]) -> Mem<()>
+/// The counts with a service more for each address of a list.
+pub(crate) fn count_in(uses: AddrMap, list: &[Weighted]) -> Mem<AddrMap>
     requires distinct { AreDistinct list.now }
-    requires few { (addr : Addr) → count_at uses.old addr < 2 ^ 16 }
-    ensures { OnOk result ((addr : Addr) → count_at uses.new addr ≡ count_at uses.old addr + (if has_addr list.now addr then 1 else 0)) }
+    requires few { (addr : Addr) → count_at uses addr < 2 ^ 16 }
+    ensures { IfOk result (λ counts. (addr : Addr) → count_at counts addr ≡ count_at uses addr + (if has_addr list.now addr then 1 else 0)) }
 {
+    let mut counts = uses;
     for item in list {
-        let count = uses.get(item.addr).unwrap_or(0);
-        uses.insert(item.addr, count + 1)?;
+        let count = counts.get(item.addr).unwrap_or(0);
+        counts = with_count(counts, item.addr, count + 1)?;
     }
-    Ok(())
+    Ok(counts)
 }
 
-/// Counts a service less for each address of a list, and forgets those that no service has. An `Err` leaves some of them counted.
-pub(crate) fn count_out(uses: &mut AddrMap, list: &[Weighted]) -> Mem<()>
+/// The counts with a service less for each address of a list.
+pub(crate) fn count_out(uses: AddrMap, list: &[Weighted]) -> Mem<AddrMap>
     requires distinct { AreDistinct list.now }
-    ensures { OnOk result ((addr : Addr) → count_at uses.new addr ≡ count_at uses.old addr - (if has_addr list.now addr then 1 else 0)) }
+    ensures { IfOk result (λ counts. (addr : Addr) → count_at counts addr ≡ count_at uses addr - (if has_addr list.now addr then 1 else 0)) }
 {
+    let mut counts = uses;
     for item in list {
-        let count = uses.get(item.addr).unwrap_or(0);
-        if count > 1 {
-            uses.insert(item.addr, count - 1)?;
-        } else {
-            uses.remove(item.addr);
-        }
+        let count = counts.get(item.addr).unwrap_or(0);
+        counts = with_count(counts, item.addr, count.saturating_sub(1))?;
     }
-    Ok(())
+    Ok(counts)
 }
 
-/// Frees the slots of those addresses of a list that no service has.
-pub(crate) fn release(slots: &mut AddrMap, uses: &AddrMap, list: &[Weighted])
-    ensures { (addr : Addr) → map.get slots.new addr ≡ (if has_addr list.now addr && (count_at uses.now addr == 0) then None else map.get slots.old addr) }
+/// The counts with this one for an address, which is not kept where it is 0.
+fn with_count(counts: AddrMap, addr: Addr, count: u32) -> Mem<AddrMap>
+    ensures { IfOk result (λ new. (other : Addr) → count_at new other ≡ (if same_addr other addr then count else count_at counts other)) }
 {
+    if count == 0 {
+        return counts.without(addr);
+    }
+    counts.with(addr, count)
+}
+
+/// The slots without those of the addresses of a list that no service has.
+pub(crate) fn release(slots: SlotMap, uses: &AddrMap, list: &[Weighted]) -> Mem<SlotMap>
+    ensures { IfOk result (λ kept. (addr : Addr) → map.get kept addr ≡ (if has_addr list.now addr && (count_at uses.now addr == 0) then None else map.get slots addr)) }
+{
+    let mut kept = slots;
     for item in list {
         if uses.get(item.addr).unwrap_or(0) == 0 {
-            slots.remove(item.addr);
+            kept = kept.without(item.addr)?;
         }
     }
+    Ok(kept)
 }
 
 /// The addresses of a list that have no slot, in the list's order.
-pub(crate) fn without_slot(alloc: Global, slots: &AddrMap, list: &[Weighted]) -> Mem<Vec<Weighted>>
+pub(crate) fn without_slot(alloc: Global, slots: &SlotMap, list: &[Weighted]) -> Mem<Vec<Weighted>>
     ensures { IfOk result (λ news. news.items ≡ newcomers slots.now list.now) }
 {
     let mut news = Vec::new(alloc);
@@ -62,33 +73,4 @@ pub(crate) fn without_slot(alloc: Global, slots: &AddrMap, list: &[Weighted]) ->
         }
     }
     Ok(news)
-}
-
-/// Gives the lowest free slots to some addresses, in their order. An `Err` leaves some of them without one.
-pub(crate) fn assign(alloc: Global, slots: &mut AddrMap, news: &[Weighted]) -> Mem<()>
-    requires { map.len slots.old + length news.now < 2 ^ 32 }
-    ensures { OnOk result (slots.new ≡ with_newcomers slots.old news.now) }
-{
-    let free = free_below(alloc, slots, slots.len() + news.len())?;
-    for (at, item) in news.iter().enumerate() {
-        if let Some(slot) = free.get(at) {
-            slots.insert(item.addr, *slot)?;
-        }
-    }
-    Ok(())
-}
-
-/// The slots below a number that no address has, the lowest first.
-fn free_below(alloc: Global, slots: &AddrMap, end: usize) -> Mem<Vec<u32>>
-    requires { end < 2 ^ 32 }
-    ensures { IfOk result (λ free. free.items ≡ free_slots end 0 (map.values slots.now)) }
-{
-    let taken = slots.marks(alloc, end)?;
-    let mut free = Vec::new(alloc);
-    for (slot, is_taken) in taken.iter().enumerate() {
-        if !*is_taken {
-            free.push(slot as u32)?;
-        }
-    }
-    Ok(free)
 }

@@ -1,6 +1,7 @@
-//! Names, hosts, ports and address files with their answers, the slots of a book from change to change, and the limits.
+//! Names, hosts, ports, address files and paths with their answers, the slots of a book from change to change, and the limits.
 
 use super::*;
+use name_tree::{append_path, read_path};
 use std::alloc::Global;
 use std::test::Fail;
 
@@ -208,15 +209,21 @@ fn ports(alloc: Global, ports: &[u16]) -> Result<AddrList, Fail> {
     Ok(read_addrs(alloc, text.as_bytes())?)
 }
 
-/// A full list of addresses, whose IPv4 addresses are this number.
-fn block(alloc: Global, ip: u32) -> Result<AddrList, Fail> {
+/// So many addresses, whose IPv4 addresses are this number, with ports from 1 on.
+fn rows(alloc: Global, ip: u32, count: u32) -> Result<AddrList, Fail> {
     let first = ip / 0x0100_0000;
     let last = ip % 0x100;
     let mut text = String::new(alloc);
-    for port in 1..1025u32 {
+    for row in 0..count {
+        let port = row.saturating_add(1);
         text.push_str(format!(in alloc; "{first}.0.0.{last} {port}\n")?.as_str())?;
     }
     Ok(read_addrs(alloc, text.as_bytes())?)
+}
+
+/// A full list of addresses, whose IPv4 addresses are this number.
+fn block(alloc: Global, ip: u32) -> Result<AddrList, Fail> {
+    rows(alloc, ip, 1024)
 }
 
 fn set(alloc: Global, book: &mut Book, service: &str, list: &AddrList) -> Result<(), Fail> {
@@ -298,57 +305,111 @@ fn lends_the_addresses_of_services(rt: HostRuntime) -> Result<(), Fail> {
     Ok(())
 }
 
+/// What a path names in a book, in words: the address or the service, the client path and the residual.
+fn named(alloc: Global, book: &Book, path: &str) -> Result<String, Fail> {
+    let path = read_path(alloc, path.as_bytes())?;
+    let Some(leaf) = name_answer(alloc, book, &path)? else {
+        return Ok(String::from_str(alloc, "nothing")?);
+    };
+    let mut out = Vec::new(alloc);
+    match &leaf.cluster {
+        Cluster::Inet(addr) => append_addr(*addr, &mut out)?,
+        Cluster::Fs(service) => out.extend_from_slice(service.text())?,
+    }
+    out.push(b' ')?;
+    append_path(&leaf.client, &mut out)?;
+    out.push(b' ')?;
+    append_path(&leaf.residual, &mut out)?;
+    Ok(String::from_utf8_lossy(alloc, out.as_slice())?)
+}
+
+/// Paths, and what they name in a book with the service `web`, which has no address.
+const PATHS: [(&str, &str); 14] = [
+    ("/#/io.l5d.fs/web", "web /#/io.l5d.fs/web /"),
+    ("/#/io.l5d.fs/web/a/b", "web /#/io.l5d.fs/web /a/b"),
+    ("/#/io.l5d.fs/mail", "nothing"),
+    ("/#/io.l5d.fs/We", "nothing"),
+    ("/#/io.l5d.fs/w\\x2fb", "nothing"),
+    ("/#/io.l5d.fs", "nothing"),
+    ("/#/io.l5d.consul/web", "nothing"),
+    ("/$/io.l5d.fs/web", "nothing"),
+    (
+        "/$/inet/127.0.0.1/9/a",
+        "127.0.0.1:9 /$/inet/127.0.0.1/9 /a",
+    ),
+    (
+        "/$/inet/localhost/65535",
+        "127.0.0.1:65535 /$/inet/localhost/65535 /",
+    ),
+    ("/$/inet/127.0.0.1/0", "nothing"),
+    ("/$/inet/127.0.0.1", "nothing"),
+    ("/#/inet/127.0.0.1/9", "nothing"),
+    ("/", "nothing"),
+];
+
+#[test]
+fn names_addresses_and_services(rt: HostRuntime) -> Result<(), Fail> {
+    let alloc = rt.alloc();
+    let mut book = Book::start(alloc)?;
+    set(alloc, &mut book, "web", &ports(alloc, &[])?)?;
+    for (path, answer) in PATHS {
+        assert_eq!(rt; named(alloc, &book, path)?.as_str(), answer, "{path}");
+    }
+    drop_service(alloc, &mut book, "web")?;
+    assert_eq!(rt;
+        named(alloc, &book, "/#/io.l5d.fs/web")?.as_str(),
+        "nothing"
+    );
+    Ok(())
+}
+
 #[test]
 fn keeps_the_limits_of_a_book(rt: HostRuntime) -> Result<(), Fail> {
     let alloc = rt.alloc();
     let mut book = Book::start(alloc)?;
     for part in 1..9u32 {
         let service = format!(in alloc; "s{part}")?;
-        set(
-            alloc,
-            &mut book,
-            service.as_str(),
-            &block(alloc, 0x0a00_0000 + part)?,
-        )?;
+        let addrs = block(alloc, 0x0a00_0000 + part)?;
+        set(alloc, &mut book, service.as_str(), &addrs)?;
     }
     // 8,192 addresses are there. One more is too many, and an old one in place of another is not.
     let extra = name(alloc, "extra")?;
+    let new = ports(alloc, &[1])?;
     assert_eq!(rt;
-        book.prepare_set(alloc, &extra, &ports(alloc, &[1])?).err(),
+        book.prepare_set(alloc, &extra, &new).err(),
         Some(BookFault::BookFull(8193))
     );
     set(alloc, &mut book, "extra", &block(alloc, 0x0a00_0001)?)?;
     assert_eq!(rt;
-        book.prepare_set(alloc, &name(alloc, "s1")?, &ports(alloc, &[1])?)
-            .err(),
+        book.prepare_set(alloc, &name(alloc, "s1")?, &new).err(),
         Some(BookFault::BookFull(8193))
     );
     set(alloc, &mut book, "extra", &ports(alloc, &[])?)?;
-    set(alloc, &mut book, "s1", &ports(alloc, &[1])?)?;
+    set(alloc, &mut book, "s1", &new)?;
     assert_eq!(rt; slot(&book, 1), Some(0));
-    Ok(())
-}
 
-#[test]
-fn keeps_the_limit_of_services(rt: HostRuntime) -> Result<(), Fail> {
-    let alloc = rt.alloc();
+    // 4,096 services are one too few for a new one. Where an address is too many besides, the service is told.
     let none = ports(alloc, &[])?;
-    let mut book = Book::start(alloc)?;
-    for service in 0..4095u32 {
-        let service = format!(in alloc; "s{service}")?;
+    for service in 9..4095u32 {
+        let service = format!(in alloc; "t{service}")?;
         set(alloc, &mut book, service.as_str(), &none)?;
     }
-    let last = name(alloc, "last")?;
-    assert!(rt; book.prepare_set(alloc, &last, &none).is_ok());
-    set(alloc, &mut book, "s4095", &none)?;
+    assert_eq!(rt; book.count(), 4095);
+    let rest = rows(alloc, 0x0b00_0001, 1023)?;
+    set(alloc, &mut book, "t4095", &rest)?;
     assert_eq!(rt; book.count(), 4096);
+    let last = name(alloc, "last")?;
+    let other = ports(alloc, &[2])?;
+    for list in [&none, &other] {
+        assert_eq!(rt;
+            book.prepare_set(alloc, &last, list).err(),
+            Some(BookFault::TooManyServices)
+        );
+    }
     assert_eq!(rt;
-        book.prepare_set(alloc, &last, &none).err(),
-        Some(BookFault::TooManyServices)
+        book.prepare_set(alloc, &extra, &other).err(),
+        Some(BookFault::BookFull(8193))
     );
-    assert!(rt;
-        book.prepare_set(alloc, &name(alloc, "s0")?, &ports(alloc, &[1])?)
-            .is_ok()
-    );
+    assert!(rt; book.prepare_set(alloc, &extra, &new).is_ok());
     Ok(())
 }

@@ -1,10 +1,14 @@
-use Rattle.std.proofs.Common.{◌≤◌, length, arith, ap, sym, ◌∙◌, Some}
-use Rattle.std.specs.FinMap.{insert}
+use Rattle.std.proofs.Common.{◌≤◌, length, arith, ap, sym, ◌∙◌, Some, subst}
+use Rattle.std.specs.Prelude.{not}
+use Rattle.std.specs.FinMap.{insert, contains_key}
 use Rattle.addr_book.specs.declared.fault.BookFault.TheVariants.{BookFull}
 use Rattle.addr_book.specs.Parts.{contents_of}
 use Rattle.addr_book.specs.Book.{after_set, with_newcomers}
 use Rattle.addr_book.specs.BookFault.{set_refusal}
+use Rattle.addr_book.specs.AddrList.{AreDistinct}
+use Rattle.addr_book.proofs.AddrLists.{distinct_filtered}
 use Rattle.addr_book.proofs.Sound.{few_counts}
+use Rattle.addr_book.proofs.SlotMaps.{newcomers_new}
 use Rattle.addr_book.proofs.Setting.{few_kept, few_news, refused_full, not_refused, set_contents, set_sound_book}
 use Rattle.addr_book.proofs.parts.Parts.with_service.Goals as goal
 
@@ -65,16 +69,26 @@ returns-clause-sound c =
     set_sound_book c.args.self.now.services c.args.self.now.seats.slots c.args.self.now.seats.uses c.requires c.args.service.now c.addrs.result.now c.addrs.ensures.addrs
     c.in_ok-seats.seats.uses c.in_ok-seats.seats.slots c.in_ok-seats.ensures.slots c.items-addrs.result.now c.in_ok-seats.ensures.uses
     (sym c.has_no_room.ensures ∙ c.if-has_no_room.false) c.in_ok-news.news.items c.in_ok-news.ensures
-    (omega (arith, c.len.ensures, c.len-2.ensures, c.in_ok-news.news.ok.0, c.if-count-gt-MOST_SLOTS.false)) c.insert.new.self
-    (c.in_ok-insert.ensures.ok ∙ (λ i. insert (c.in_ok-services.ensures i) c.args.service.now (sym c.items-addrs.ensures.items i))) c.assign.new.slots
-    (c.in_ok-assign.ensures ∙ ap (with_newcomers c.in_ok-seats.seats.slots) c.as_slice.ensures.value)
+    (omega (arith, c.len.ensures, c.len-2.ensures, c.in_ok-news.news.ok.0, c.if-count-gt-MOST_SLOTS.false)) c.in_ok-services.services
+    (c.in_ok-services.ensures ∙ (λ i. insert (c.in_ok-copied.ensures i) c.args.service.now (sym c.items-addrs.ensures.items i))) c.in_ok-slots.slots
+    (c.in_ok-slots.ensures ∙ ap (with_newcomers c.in_ok-seats.seats.slots) c.as_slice.ensures.value)
 
 pub returns-clause-book : goal.returns-clause-book
 returns-clause-book c =
     set_contents c.args.self.now.services c.args.self.now.seats.slots c.args.self.now.seats.uses c.requires c.args.service.now c.addrs.result.now c.addrs.ensures.addrs
     c.in_ok-seats.seats.uses c.in_ok-seats.seats.slots c.in_ok-seats.ensures.slots c.items-addrs.result.now c.in_ok-seats.ensures.uses
     (sym c.has_no_room.ensures ∙ c.if-has_no_room.false) c.in_ok-news.news.items c.in_ok-news.ensures
-    (omega (arith, c.len.ensures, c.len-2.ensures, c.in_ok-news.news.ok.0, c.if-count-gt-MOST_SLOTS.false)) c.insert.new.self
-    (c.in_ok-insert.ensures.ok ∙ (λ i. insert (c.in_ok-services.ensures i) c.args.service.now (sym c.items-addrs.ensures.items i))) c.assign.new.slots
-    (c.in_ok-assign.ensures ∙ ap (with_newcomers c.in_ok-seats.seats.slots) c.as_slice.ensures.value)
+    (omega (arith, c.len.ensures, c.len-2.ensures, c.in_ok-news.news.ok.0, c.if-count-gt-MOST_SLOTS.false)) c.in_ok-services.services
+    (c.in_ok-services.ensures ∙ (λ i. insert (c.in_ok-copied.ensures i) c.args.service.now (sym c.items-addrs.ensures.items i))) c.in_ok-slots.slots
+    (c.in_ok-slots.ensures ∙ ap (with_newcomers c.in_ok-seats.seats.slots) c.as_slice.ensures.value)
     ∙ ap (after_set (contents_of c.args.self.now) c.args.service.now) c.items-addrs.ensures.items
+
+pub with_lowest-requires-clause-distinct : goal.with_lowest-requires-clause-distinct
+with_lowest-requires-clause-distinct c =
+    subst AreDistinct (sym (c.as_slice.ensures.value ∙ c.in_ok-news.ensures))
+    (distinct_filtered (λ item. not (contains_key c.in_ok-seats.seats.slots item.addr)) c.items-addrs.result.now
+    (subst AreDistinct (sym c.items-addrs.ensures.items) c.items-addrs.ensures.rule.distinct))
+
+pub with_lowest-requires-clause-new : goal.with_lowest-requires-clause-new
+with_lowest-requires-clause-new c =
+    newcomers_new c.in_ok-seats.seats.slots c.items-addrs.result.now c.as_slice.result.now (c.as_slice.ensures.value ∙ c.in_ok-news.ensures)

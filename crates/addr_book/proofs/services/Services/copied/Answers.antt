@@ -1,10 +1,13 @@
-use Rattle.std.proofs.Common.{ap, ◌∙◌}
-use Rattle.std.specs.Arc.{arc_value}
-use Rattle.std.specs.FinMap.{from_entries}
-use Rattle.std.specs.Cmp.Lexicographic.{nat_list_cmp_total}
-use Rattle.addr_book.proofs.Maps.{seen-copy}
-use Rattle.addr_book.proofs.AddrMaps.{name_only}
+use Rattle.std.proofs.Common.{sym, ap, ◌∙◌, subst, map}
+use Rattle.std.specs.FinMap.{len}
+use Rattle.addr_book.specs.Services.{name_place, service_shard}
+use Rattle.addr_book.specs.Shards.{whole, IsSharded}
 use Rattle.addr_book.proofs.services.Services.copied.Goals as goal
 
+pub invariant_of-result : goal.invariant_of-result
+invariant_of-result c =
+    let same = c.in_ok-shared_shards.ensures ∙ ap (map service_shard) c.as_slice.ensures.value in
+    (subst (IsSharded name_place 509) (sym same) c.self.invariant.0, c.self.invariant.1 ∙ ap (λ ms. len (whole ms)) (sym same))
+
 pub returns : goal.returns
-returns c = ap from_entries (seen-copy nat_list_cmp_total name_only arc_value _ _ c.in_ok-clone.ensures.cases) ∙ c.self.view_is
+returns c = ap whole (c.in_ok-shared_shards.ensures ∙ ap (map service_shard) c.as_slice.ensures.value) ∙ c.self.view_is

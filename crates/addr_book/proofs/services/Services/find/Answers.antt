@@ -1,34 +1,28 @@
-use Rattle.std.proofs.Common.{◌≡◌, true, false, sym, ap, ◌∙◌, nat_cmp, nat_eq}
-use Rattle.std.specs.Prelude.{is_some}
-use Rattle.std.specs.Arc.{arc_value}
-use Rattle.std.specs.Cmp.Lexicographic.{pointwise, slice_cmp, nat_list_cmp_total, same_text}
-use Rattle.std.specs.FinMap as map
-use Rattle.addr_book.proofs.Maps.{shown}
+use Rattle.std.proofs.Common.{◌≡◌, Bool, true, false, sym, ap, ◌∙◌, subst, nat_cmp}
+use Rattle.std.specs.Prelude.{is_some, MatchOption}
+use Rattle.std.specs.FinMap.{get, get-empty}
+use Rattle.std.specs.Cmp.Lexicographic.{slice_cmp, nat_list_cmp_total}
+use Rattle.addr_book.specs.Services.{name_place, service_shard}
 use Rattle.addr_book.proofs.AddrMaps.{name_only}
-use Rattle.addr_book.proofs.Lookups.{has_here, has_later, has_none, has_key}
+use Rattle.addr_book.proofs.Shards.{read_gets}
 use Rattle.addr_book.proofs.services.Services.find.Goals as goal
 
-pub returns-then-eq : goal.returns-then-eq
-returns-then-eq c =
+pub returns-in-Some : goal.returns-in-Some
+returns-in-Some c =
     let text = c.args.text.now in
-    let all = ap (λ es. is_some (map.find (slice_cmp nat_cmp) text (shown nat_list_cmp_total name_only arc_value es)))
-    (c.into_iter-name-iterator.ensures.into_iter_gives ∙ c.iter-name-items.ensures.rest) in
-    let same : true ≡ pointwise nat_eq c.in-Some.name.now text = sym c.if-eq.true ∙ (c.eq.ensures ∙ ap (λ t. pointwise nat_eq t text) c.text.ensures.text) in (
-      same_text _ _ same,
-      ap (λ m. map.contains_key m text) (sym c.self.view_is)
-          ∙ (has_key arc_value text _ ∙ (sym all ∙ (sym c.loop-name.invariant ∙ has_here arc_value text c.in-Some.name.now _ _ _ c.in-Some.ensures.steps same))),
-    )
+    let same =
+    ap (λ m. is_some (get m text)) (c.deref.ensures ∙ ap service_shard (sym c.in-Some.is))
+    ∙ ap is_some
+    (read_gets nat_list_cmp_total name_only name_place service_shard 509 c.self.inside.shards.items c.self.invariant.0 text c.place_of.result c.place_of.ensures.place
+    c.place_of.ensures.below c.index.result.now c.index.ensures ∙ ap (λ m. get m text) c.self.view_is) in
+    subst (λ (b : Bool). MatchOption c.find.result (b ≡ false) (λ name. (name.now ≡ text) × (b ≡ true))) same c.find.ensures
 
-pub loop-name-preserved : goal.loop-name-preserved
-loop-name-preserved c =
+pub returns-in-None : goal.returns-in-None
+returns-in-None c =
     let text = c.args.text.now in
-    let other : false ≡ pointwise nat_eq c.in-Some.name.now text = sym c.if-eq.false ∙ (c.eq.ensures ∙ ap (λ t. pointwise nat_eq t text) c.text.ensures.text) in
-    has_later arc_value text c.in-Some.name.now _ _ _ c.in-Some.ensures.steps other ∙ c.loop-name.invariant
-
-pub returns : goal.returns
-returns c =
-    let text = c.args.text.now in
-    let all = ap (λ es. is_some (map.find (slice_cmp nat_cmp) text (shown nat_list_cmp_total name_only arc_value es)))
-    (c.into_iter-name-iterator.ensures.into_iter_gives ∙ c.iter-name-items.ensures.rest) in
-    ap (λ m. map.contains_key m text) (sym c.self.view_is)
-    ∙ (has_key arc_value text _ ∙ (sym all ∙ (sym c.loop-name.invariant ∙ has_none arc_value text _ c.in-None.ensures.steps.0)))
+    ap is_some
+    (sym
+    (sym (get-empty (slice_cmp nat_cmp) text)
+    ∙ (ap (λ s. get (service_shard s) text) (sym c.in-None.is)
+    ∙ (read_gets nat_list_cmp_total name_only name_place service_shard 509 c.self.inside.shards.items c.self.invariant.0 text c.place_of.result c.place_of.ensures.place
+    c.place_of.ensures.below c.index.result.now c.index.ensures ∙ ap (λ m. get m text) c.self.view_is))))

@@ -1,0 +1,23 @@
+-- A finite map in shards: maps of which each has the keys of its own place.
+use Rattle.std.specs.Prelude.{◌≡◌, ℕ, ◌+◌, true, List, [], ◌∷◌, ◌++◌, length}
+use Rattle.std.specs.declared.cmp.Ordering.{Ordering}
+use Rattle.std.specs.FinMap.{FinMap, entries, from_entries, contains_key}
+
+-- the entries of all shards
+abbrev pub joined : {K V : Type 0} {R : K → K → Ordering} → List (FinMap R V) → List (K × V)
+joined [] = []
+joined (shard ∷ shards) = entries shard ++ joined shards
+
+-- the map of them all
+abbrev pub whole : {K V : Type 0} {R : K → K → Ordering} → List (FinMap R V) → FinMap R V
+whole shards = from_entries (joined shards)
+
+-- from a place on, each shard has only keys whose place is its own
+abbrev pub AreHome : {K V : Type 0} {R : K → K → Ordering} → (K → ℕ) → ℕ → List (FinMap R V) → Type 0
+AreHome home at [] = Unit {0}
+AreHome {K} home at (shard ∷ shards) = ((key : K) → contains_key shard key ≡ true → home key ≡ at) × AreHome home (at + 1) shards
+
+-- so many shards, each with the keys of its own place
+pub record IsSharded {K V : Type 0} {R : K → K → Ordering} (home : K → ℕ) (count : ℕ) (shards : List (FinMap R V)) : Type 0 where
+  pub long : length shards ≡ count
+  pub placed : AreHome home 0 shards
