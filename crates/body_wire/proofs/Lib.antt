@@ -1,0 +1,10 @@
+pub mod Collected
+pub mod Digits
+pub mod Going
+pub mod Lines
+pub mod Passes
+pub mod Places
+pub mod Sent
+pub mod Stopping
+pub mod Trails
+pub mod Turning

@@ -1,0 +1,107 @@
+use Rattle.std.proofs.Common.{◌≡◌, ◌<◌, ℕ, List, [], ◌∷◌, ◌++◌, Err, refl, sym, ap, ◌∙◌, arith}
+use Rattle.std.proofs.KnownBytes.{Appends-nil, Appends-trans, Consumes-nil, Consumes-kept, Keeps-refl, Keeps-trans}
+use Rattle.body_wire.specs.declared.end.BodyEnd.{BodyEnd}
+use Rattle.body_wire.specs.Passing.{form_of, most_passed}
+use Rattle.body_wire.proofs.Passes.{begins, answered, answer_not_at_end, no_answer, on_piece, on_end, on_fault}
+use Rattle.body_wire.proofs.Sent.{Receives-nil, received_more, received_same, came_piece}
+use Rattle.body_wire.proofs.Stopping.{no_bytes}
+use Rattle.body_wire.proofs.back.pass_back.Goals as goal
+
+pub pieces-init : goal.pieces-init
+pieces-init g c = record {
+  way = (
+    [],
+    [],
+    Consumes-nil (g.D.Dialer.left c.args.dialer.now),
+    Receives-nil (g.D.Dialer.log c.args.dialer.now),
+    Appends-nil (g.P.Peer.given c.args.peer.now),
+    begins c.args.framing (form_of c.args.chunked) most_passed c.of-decoder.result c.args.out.now.items c.args.rest.now c.of-decoder.ensures.holds
+        (c.of-decoder.ensures.form ∙ c.of.ensures) c.of-decoder.ensures.limit,
+  );
+  faults = refl;
+  open_ = refl;
+  writes = refl;
+  reads = refl;
+  ends = refl;
+  left = Keeps-refl (g.P.Peer.left c.args.peer.now);
+}
+
+pub returns-in-Some-clause-body : goal.returns-in-Some-clause-body
+returns-in-Some-clause-body g c =
+    let w = c.pieces.invariant.way in
+    let t = c.write_turn-turn.ensures.bytes in
+    let quiet =
+    answer_not_at_end c.args.framing (form_of c.args.chunked) most_passed c.pieces.decoder c.write_turn-turn.new.decoder c.args.out.now.items c.args.rest.now w.0 w.1
+    c.pieces.out.items c.pieces.rest c.write_turn-turn.new.rest t.0 BodyEnd.WriteFault c.write_turn-turn.result c.in-Some.end w.5 refl t.2
+    (sym c.answer.ensures ∙ c.in-Some.is) in (
+      w.0,
+      w.1 ++ t.0,
+      w.2,
+      w.3,
+      Appends-trans (g.P.Peer.given c.args.peer.now) (g.P.Peer.given c.pieces.peer) (g.P.Peer.given c.write_turn-turn.new.peer) w.1 t.0 w.4 t.1,
+      (λ at. absurd (let no : ⊥ = cc in no)),
+      answered c.args.framing (form_of c.args.chunked) most_passed c.pieces.decoder c.write_turn-turn.new.decoder c.args.out.now.items c.args.rest.now w.0 w.1 c.pieces.out.items
+          c.pieces.rest c.write_turn-turn.new.rest t.0 w.5 BodyEnd.WriteFault c.write_turn-turn.result c.in-Some.end (λ all went front. front) (λ taken passed count rest. tt) t.2
+          (sym c.answer.ensures ∙ c.in-Some.is),
+    )
+
+pub returns-in-Ok-eq0-clause-body : goal.returns-in-Ok-eq0-clause-body
+returns-in-Ok-eq0-clause-body g c =
+    let w = c.pieces.invariant.way in
+    let t = c.write_turn-turn.ensures.bytes in
+    let b = c.in-Ok-eq0.ensures.bytes in (
+      w.0 ++ b.0 ∷ [],
+      w.1 ++ t.0,
+      came_piece (g.D.Dialer.left c.args.dialer.now) (g.D.Dialer.left c.pieces.dialer) (g.D.Dialer.left c.pull_from.new.dialer) w.0 b.0 w.2 b.1,
+      received_more (g.D.Dialer.log c.args.dialer.now) (g.D.Dialer.log c.pieces.dialer) (g.D.Dialer.log c.pull_from.new.dialer) w.0 b.0 w.3 b.2,
+      Appends-trans (g.P.Peer.given c.args.peer.now) (g.P.Peer.given c.pieces.peer) (g.P.Peer.given c.write_turn-turn.new.peer) w.1 t.0 w.4 t.1,
+      (λ at. (w.0, ap (λ p. w.0 ++ p ∷ []) (no_bytes b.0 (b.3 ∙ c.in-Ok-eq0.field-0-test)))),
+      on_end c.args.framing (form_of c.args.chunked) most_passed c.pieces.decoder c.write_turn-turn.new.decoder c.args.out.now.items c.args.rest.now w.0 w.1 c.pieces.out.items
+          c.pieces.rest c.write_turn-turn.new.rest t.0 c.write_turn-turn.result w.5 t.2
+          (no_answer c.write_turn-turn.new.decoder.count BodyEnd.WriteFault c.write_turn-turn.result (sym c.answer.ensures ∙ c.in-None.is)) b.0 c.pull_from.new.self
+          c.at_end.result (b.3 ∙ c.in-Ok-eq0.field-0-test) b.5 c.at_end.ensures,
+    )
+
+pub pieces-preserved : goal.pieces-preserved
+pieces-preserved g c =
+    let i = c.pieces.invariant in
+    let w = i.way in
+    let t = c.write_turn-turn.ensures.bytes in
+    let b = c.in-Ok.ensures.bytes in
+    let more = no_answer c.write_turn-turn.new.decoder.count BodyEnd.WriteFault c.write_turn-turn.result (sym c.answer.ensures ∙ c.in-None.is) in
+    record {
+      way = (
+        w.0 ++ b.0 ∷ [],
+        w.1 ++ t.0,
+        came_piece (g.D.Dialer.left c.args.dialer.now) (g.D.Dialer.left c.pieces.dialer) (g.D.Dialer.left c.pull_from.new.dialer) w.0 b.0 w.2 b.1,
+        received_more (g.D.Dialer.log c.args.dialer.now) (g.D.Dialer.log c.pieces.dialer) (g.D.Dialer.log c.pull_from.new.dialer) w.0 b.0 w.3 b.2,
+        Appends-trans (g.P.Peer.given c.args.peer.now) (g.P.Peer.given c.pieces.peer) (g.P.Peer.given c.write_turn-turn.new.peer) w.1 t.0 w.4 t.1,
+        on_piece c.args.framing (form_of c.args.chunked) most_passed c.pieces.decoder c.write_turn-turn.new.decoder c.args.out.now.items c.args.rest.now w.0 w.1
+            c.pieces.out.items c.pieces.rest c.write_turn-turn.new.rest t.0 c.write_turn-turn.result w.5 t.2 more c.write_turn-turn.new.out.items b.0 c.pull_from.new.self
+            c.write_turn-turn.ensures.out b.5 c.in-Ok.ensures.most,
+      );
+      faults = c.in-Ok.ensures.cause.kept ∙ i.faults;
+      open_ = c.in-Ok.ensures.stays ∙ i.open_;
+      writes = c.write_turn-turn.ensures.cause.others (λ failed. cc) ∙ i.writes;
+      reads = c.write_turn-turn.ensures.others.1 ∙ i.reads;
+      ends = c.write_turn-turn.ensures.others.2 ∙ i.ends;
+      left = Keeps-trans (g.P.Peer.left c.args.peer.now) (g.P.Peer.left c.pieces.peer) (g.P.Peer.left c.write_turn-turn.new.peer) i.left c.write_turn-turn.ensures.others.0;
+    }
+
+pub returns-in-Err-clause-body : goal.returns-in-Err-clause-body
+returns-in-Err-clause-body g c =
+    let w = c.pieces.invariant.way in
+    let t = c.write_turn-turn.ensures.bytes in
+    let b = c.in-Err.ensures.bytes in
+    let more = no_answer c.write_turn-turn.new.decoder.count BodyEnd.WriteFault c.write_turn-turn.result (sym c.answer.ensures ∙ c.in-None.is) in
+    let faults =
+    on_fault c.args.framing (form_of c.args.chunked) most_passed c.pieces.decoder c.write_turn-turn.new.decoder c.args.out.now.items c.args.rest.now w.0 w.1 c.pieces.out.items
+    c.pieces.rest c.write_turn-turn.new.rest t.0 c.write_turn-turn.result w.5 t.2 more c.pull_from.new.self b.2 in (
+      w.0,
+      w.1 ++ t.0,
+      Consumes-kept (g.D.Dialer.left c.args.dialer.now) (g.D.Dialer.left c.pieces.dialer) (g.D.Dialer.left c.pull_from.new.dialer) _ w.2 b.0,
+      received_same (g.D.Dialer.log c.args.dialer.now) (g.D.Dialer.log c.pieces.dialer) (g.D.Dialer.log c.pull_from.new.dialer) w.0 w.3 b.1,
+      Appends-trans (g.P.Peer.given c.args.peer.now) (g.P.Peer.given c.pieces.peer) (g.P.Peer.given c.write_turn-turn.new.peer) w.1 t.0 w.4 t.1,
+      (λ at. absurd (let no : ⊥ = cc in no)),
+      faults.1,
+    )

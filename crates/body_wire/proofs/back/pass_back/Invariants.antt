@@ -1,0 +1,24 @@
+use Rattle.std.proofs.Common.{◌≡◌, ◌-◌, List, ℕ, length}
+use Rattle.std.specs.List.{concat}
+use Rattle.std.specs.Io.KnownBytes.{Appends, Consumes, Keeps}
+use Rattle.body_wire.specs.Passing.{ReceivesPieces, form_of, most_passed}
+use Rattle.body_wire.specs.Stands.{most_left}
+use Rattle.body_wire.proofs.Passes.{OnWay}
+use Rattle.body_wire.proofs.back.pass_back.Given as goal
+
+abbrev pub invariant-pieces : goal.invariant-pieces
+invariant-pieces g l = record {
+  way :
+      (pieces : List (List ℕ)) × (sent : List ℕ) × Consumes (g.D.Dialer.left l.fn.dialer) (g.D.Dialer.left l.dialer) (concat pieces)
+      × ReceivesPieces (g.D.Dialer.log l.fn.dialer) (g.D.Dialer.log l.dialer) pieces × Appends (g.P.Peer.given l.fn.peer) (g.P.Peer.given l.peer) sent
+      × OnWay l.fn.framing (form_of l.fn.chunked) most_passed l.decoder l.fn.out.items l.fn.rest pieces sent l.out.items l.rest;
+  faults : g.D.Dialer.faults l.dialer ≡ g.D.Dialer.faults l.fn.dialer;
+  open_ : g.D.Dialer.is_open l.dialer ≡ g.D.Dialer.is_open l.fn.dialer;
+  writes : g.P.Peer.write_faults l.peer ≡ g.P.Peer.write_faults l.fn.peer;
+  reads : g.P.Peer.read_faults l.peer ≡ g.P.Peer.read_faults l.fn.peer;
+  ends : g.P.Peer.ends l.peer ≡ g.P.Peer.ends l.fn.peer;
+  left : Keeps (g.P.Peer.left l.fn.peer) (g.P.Peer.left l.peer);
+}
+
+abbrev pub decreases-pieces : goal.decreases-pieces
+decreases-pieces g l = most_left l.decoder - length l.rest

@@ -1,0 +1,107 @@
+use Rattle.std.proofs.Common.{◌≡◌, ◌<◌, ℕ, List, [], ◌∷◌, ◌++◌, Err, refl, sym, ◌∙◌, arith}
+use Rattle.std.proofs.KnownBytes.{Consumes-nil, Consumes-kept, Keeps-refl, Keeps-trans}
+use Rattle.body_wire.specs.declared.end.BodyEnd.{BodyEnd}
+use Rattle.body_wire.specs.declared.form.Form.{Form}
+use Rattle.body_wire.specs.Passing.{most_passed}
+use Rattle.body_wire.proofs.Passes.{begins, answered, answer_not_at_end, no_answer, on_piece, on_end, on_fault, on_no_fault}
+use Rattle.body_wire.proofs.Sent.{Sends-nil, Sends-trans, came_piece}
+use Rattle.body_wire.proofs.onward.pass_body.Goals as goal
+
+pub pieces-init : goal.pieces-init
+pieces-init g c = record {
+  way = (
+    [],
+    [],
+    Consumes-nil (g.P.Peer.left c.args.peer.now),
+    Sends-nil (g.D.Dialer.log c.args.dialer.now),
+    begins c.args.framing Form.Chunks most_passed c.of-decoder.result c.args.out.now.items c.args.rest.now c.of-decoder.ensures.holds c.of-decoder.ensures.form
+        c.of-decoder.ensures.limit,
+  );
+  ends = refl;
+  reads = refl;
+  given = Keeps-refl (g.P.Peer.given c.args.peer.now);
+  writes = refl;
+  faults = refl;
+  open_ = refl;
+  left = Keeps-refl (g.D.Dialer.left c.args.dialer.now);
+}
+
+pub returns-in-Some-clause-body : goal.returns-in-Some-clause-body
+returns-in-Some-clause-body g c =
+    let w = c.pieces.invariant.way in
+    let t = c.send_turn-turn.ensures.bytes in (
+      w.0,
+      w.1 ++ t.0,
+      w.2,
+      Sends-trans (g.D.Dialer.log c.args.dialer.now) (g.D.Dialer.log c.pieces.dialer) (g.D.Dialer.log c.send_turn-turn.new.dialer) w.1 t.0 w.3 t.1,
+      answered c.args.framing Form.Chunks most_passed c.pieces.decoder c.send_turn-turn.new.decoder c.args.out.now.items c.args.rest.now w.0 w.1 c.pieces.out.items
+          c.pieces.rest c.send_turn-turn.new.rest t.0 w.4 BodyEnd.SendFault c.send_turn-turn.result c.in-Some.end (λ all went front. front) (λ taken passed count rest. tt) t.2
+          (sym c.answer.ensures ∙ c.in-Some.is),
+    )
+
+pub returns-in-Some-clause-ends : goal.returns-in-Some-clause-ends
+returns-in-Some-clause-ends g c =
+    let w = c.pieces.invariant.way in
+    let t = c.send_turn-turn.ensures.bytes in
+    let quiet =
+    answer_not_at_end c.args.framing Form.Chunks most_passed c.pieces.decoder c.send_turn-turn.new.decoder c.args.out.now.items c.args.rest.now w.0 w.1 c.pieces.out.items
+    c.pieces.rest c.send_turn-turn.new.rest t.0 BodyEnd.SendFault c.send_turn-turn.result c.in-Some.end w.4 refl t.2 (sym c.answer.ensures ∙ c.in-Some.is) in
+    record { ended = λ at. cc; others = λ no. c.pieces.invariant.ends }
+
+pub returns-in-Ok-eq0-clause-body : goal.returns-in-Ok-eq0-clause-body
+returns-in-Ok-eq0-clause-body g c =
+    let w = c.pieces.invariant.way in
+    let t = c.send_turn-turn.ensures.bytes in
+    let b = c.in-Ok-eq0.ensures.bytes in (
+      w.0 ++ b.0 ∷ [],
+      w.1 ++ t.0,
+      came_piece (g.P.Peer.left c.args.peer.now) (g.P.Peer.left c.pieces.peer) (g.P.Peer.left c.pull.new.peer) w.0 b.0 w.2 b.1,
+      Sends-trans (g.D.Dialer.log c.args.dialer.now) (g.D.Dialer.log c.pieces.dialer) (g.D.Dialer.log c.send_turn-turn.new.dialer) w.1 t.0 w.3 t.1,
+      on_end c.args.framing Form.Chunks most_passed c.pieces.decoder c.send_turn-turn.new.decoder c.args.out.now.items c.args.rest.now w.0 w.1 c.pieces.out.items
+          c.pieces.rest c.send_turn-turn.new.rest t.0 c.send_turn-turn.result w.4 t.2
+          (no_answer c.send_turn-turn.new.decoder.count BodyEnd.SendFault c.send_turn-turn.result (sym c.answer.ensures ∙ c.in-None.is)) b.0 c.pull.new.self c.at_end.result
+          (b.2 ∙ c.in-Ok-eq0.field-0-test) b.3 c.at_end.ensures,
+    )
+
+pub pieces-preserved : goal.pieces-preserved
+pieces-preserved g c =
+    let i = c.pieces.invariant in
+    let w = i.way in
+    let t = c.send_turn-turn.ensures.bytes in
+    let b = c.in-Ok.ensures.bytes in
+    let some : 0 < c.in-Ok.field-0 = let none = c.in-Ok.field-0-test in omega arith in
+    let more = no_answer c.send_turn-turn.new.decoder.count BodyEnd.SendFault c.send_turn-turn.result (sym c.answer.ensures ∙ c.in-None.is) in
+    record {
+      way = (
+        w.0 ++ b.0 ∷ [],
+        w.1 ++ t.0,
+        came_piece (g.P.Peer.left c.args.peer.now) (g.P.Peer.left c.pieces.peer) (g.P.Peer.left c.pull.new.peer) w.0 b.0 w.2 b.1,
+        Sends-trans (g.D.Dialer.log c.args.dialer.now) (g.D.Dialer.log c.pieces.dialer) (g.D.Dialer.log c.send_turn-turn.new.dialer) w.1 t.0 w.3 t.1,
+        on_piece c.args.framing Form.Chunks most_passed c.pieces.decoder c.send_turn-turn.new.decoder c.args.out.now.items c.args.rest.now w.0 w.1 c.pieces.out.items
+            c.pieces.rest c.send_turn-turn.new.rest t.0 c.send_turn-turn.result w.4 t.2 more c.send_turn-turn.new.out.items b.0 c.pull.new.self c.send_turn-turn.ensures.out b.3
+            c.in-Ok.ensures.most,
+      );
+      ends = c.in-Ok.ensures.end.given some ∙ i.ends;
+      reads = c.in-Ok.ensures.cause.kept ∙ i.reads;
+      given = Keeps-trans (g.P.Peer.given c.args.peer.now) (g.P.Peer.given c.pieces.peer) (g.P.Peer.given c.pull.new.peer) i.given c.in-Ok.ensures.others.0;
+      writes = c.in-Ok.ensures.others.1 ∙ i.writes;
+      faults = c.send_turn-turn.ensures.cause.others (λ failed. cc) ∙ i.faults;
+      open_ = c.send_turn-turn.ensures.stays.0 ∙ i.open_;
+      left = Keeps-trans (g.D.Dialer.left c.args.dialer.now) (g.D.Dialer.left c.pieces.dialer) (g.D.Dialer.left c.send_turn-turn.new.dialer) i.left c.send_turn-turn.ensures.stays.1;
+    }
+
+pub returns-in-Err-clause-body : goal.returns-in-Err-clause-body
+returns-in-Err-clause-body g c =
+    let w = c.pieces.invariant.way in
+    let t = c.send_turn-turn.ensures.bytes in
+    let b = c.in-Err.ensures.bytes in
+    let more = no_answer c.send_turn-turn.new.decoder.count BodyEnd.SendFault c.send_turn-turn.result (sym c.answer.ensures ∙ c.in-None.is) in
+    let faults =
+    on_fault c.args.framing Form.Chunks most_passed c.pieces.decoder c.send_turn-turn.new.decoder c.args.out.now.items c.args.rest.now w.0 w.1 c.pieces.out.items c.pieces.rest
+    c.send_turn-turn.new.rest t.0 c.send_turn-turn.result w.4 t.2 more c.pull.new.self b.1 in (
+      w.0,
+      w.1 ++ t.0,
+      Consumes-kept (g.P.Peer.left c.args.peer.now) (g.P.Peer.left c.pieces.peer) (g.P.Peer.left c.pull.new.peer) _ w.2 b.0,
+      Sends-trans (g.D.Dialer.log c.args.dialer.now) (g.D.Dialer.log c.pieces.dialer) (g.D.Dialer.log c.send_turn-turn.new.dialer) w.1 t.0 w.3 t.1,
+      faults.0,
+    )

@@ -1,0 +1,6 @@
+pub mod Bodies
+pub mod Chunks
+pub mod Passing
+pub mod Pieces
+pub mod Stands
+pub mod Turns

@@ -1,0 +1,64 @@
+//! The body of a reply, on its way back to a client.
+ghost use Rattle.std.specs.Prelude.{◌≡◌, ◌≢◌, ℕ, List, [], IsTrue, Err};
+ghost use Rattle.std.specs.List.{concat};
+ghost use Rattle.std.specs.Io.KnownBytes.{Appends, Consumes, Keeps};
+ghost use Rattle.body_wire.specs.Passing.{EndsPieces, PassesOn, RaisedAt, ReceivesPieces, form_of, most_passed};
+
+use crate::Bytes;
+use crate::answer::{MOST_PASSED, answer, at_end};
+use crate::decoder::Decoder;
+use crate::end::BodyEnd;
+use crate::form::Form;
+use crate::writing::write_turn;
+use http_wire::{Framing, Rest};
+use line_base::{Dialer, Peer};
+
+/// Passes the body of a reply back to a client, piece by piece, and gives the number of its content bytes, up to 2^63 - 1. A chunked body
+/// goes back in chunks where `chunked`, and else as its content.
+///
+/// `out` holds what goes first, the reply's head, as in [`pass_body`](crate::pass_body). What one receive gave is written before the next
+/// one, so that events go through as they come, and at most 16,384 bytes that were received are not yet written. No byte is received behind
+/// the last one of the body, and none where there is no body.
+///
+/// Time and memory are those of [`pass_body`](crate::pass_body).
+///
+/// # Errors
+/// See [`BodyEnd`]. At an end that the bytes show, and at `RecvFault`, all that goes back for the bytes that came has been written. At
+/// `WriteFault` and `OutOfMemory` a front of it has.
+pub fn pass_back<P: Peer, D: Dialer>(
+    dialer: &mut D,
+    rest: &mut Rest,
+    framing: Framing,
+    chunked: bool,
+    out: &mut Bytes,
+    peer: &mut P,
+) -> Result<u64, BodyEnd>
+    requires { IsTrue (D.is_open dialer.old) }
+    ensures body { (pieces : List (List ℕ)) × (sent : List ℕ)
+        × Consumes (D.left dialer.old) (D.left dialer.new) (concat pieces)
+        × ReceivesPieces (D.log dialer.old) (D.log dialer.new) pieces
+        × Appends (P.given peer.old) (P.given peer.new) sent
+        × EndsPieces framing pieces result
+        × PassesOn framing (form_of chunked) most_passed out.old.items rest.old pieces sent rest.new result }
+    ensures receives { RaisedAt (Err BodyEnd.RecvFault) (D.faults dialer.old) (D.faults dialer.new) result }
+    ensures writes { RaisedAt (Err BodyEnd.WriteFault) (P.write_faults peer.old) (P.write_faults peer.new) result }
+    ensures never { (result ≢ Err BodyEnd.ReadFault) × (result ≢ Err BodyEnd.SendFault) }
+    ensures peer_stays { (Keeps (P.left peer.old) (P.left peer.new)) × (P.read_faults peer.new ≡ P.read_faults peer.old)
+        × (P.ends peer.new ≡ P.ends peer.old) }
+    ensures dialer_stays { D.is_open dialer.new ≡ D.is_open dialer.old }
+    ensures out { out.new.items ≡ [] }
+{
+    let mut decoder = Decoder::of(framing, Form::of(chunked), MOST_PASSED);
+    'pieces: loop {
+        let turn = write_turn(&mut decoder, rest, out, peer);
+        match answer(decoder.count, BodyEnd::WriteFault, turn) {
+            Some(end) => return end,
+            None => {}
+        }
+        match rest.pull_from(dialer) {
+            Ok(0) => return at_end(framing, decoder.count),
+            Ok(_) => {}
+            Err(_) => return Err(BodyEnd::RecvFault),
+        }
+    }
+}

@@ -1,0 +1,47 @@
+//! Bodies of HTTP/1.1 messages, passed on piece by piece.
+//!
+//! [`pass_body`] passes the body of a request on to an upstream, [`pass_back`] that of a reply back to a client, and [`read_body`] reads
+//! one whole. Each takes the bytes that a [`Rest`](http_wire::Rest) keeps and then reads, one piece after another, up to the body's
+//! end by its [`Framing`](http_wire::Framing); what lies behind stays in the `Rest`. A body that is passed on may have up to 2^63 - 1
+//! content bytes, and takes no more memory than one piece: nothing is kept back until its end. A chunk goes on as one chunk of its
+//! size, in whatever pieces it came; its extensions and the trailers do not go on.
+//!
+//! # What is proved
+//! For every cutting of the bytes and every failing call: what was sent is the head and what goes on for the bytes that were taken,
+//! chunk for chunk, by definitions over the whole body (`specs/`); the answer says what these bytes show, with the number of content
+//! bytes; each fault and each end comes only where its count rose. Before each piece that is read, the body had not ended, and all
+//! that goes on for what came before it had been sent.
+//!
+//! # Example
+//! ```
+//! let mut out = forward_head(alloc, &head, &going)?;
+//! let count = pass_body(&mut peer, &mut rest, framing(&head)?, &mut out, &mut dialer)?;
+//! ```
+#![tactic(auto)]
+
+use std::alloc::AllocError;
+
+mod answer;
+mod back;
+mod decoder;
+mod end;
+mod form;
+mod line;
+mod onward;
+mod read;
+mod sending;
+mod size;
+mod trailers;
+mod turn;
+mod writing;
+
+pub use back::pass_back;
+pub use end::BodyEnd;
+pub use onward::pass_body;
+pub use read::read_body;
+
+/// A value, unless there was no memory for it.
+pub type Mem<T> = Result<T, AllocError>;
+
+/// Bytes of a body, or of what goes on for one.
+pub type Bytes = Vec<u8>;

@@ -1,0 +1,62 @@
+//! The body of a request, on its way to an upstream.
+ghost use Rattle.std.specs.Prelude.{◌≡◌, ◌≢◌, ℕ, List, [], IsTrue, Err};
+ghost use Rattle.std.specs.List.{concat};
+ghost use Rattle.std.specs.Io.KnownBytes.{Consumes, Keeps};
+ghost use Rattle.body_wire.specs.declared.form.Form.{Form};
+ghost use Rattle.body_wire.specs.Passing.{CountsEnd, PassesOn, RaisedAt, Sends, most_passed};
+
+use crate::Bytes;
+use crate::answer::{MOST_PASSED, answer, at_end};
+use crate::decoder::Decoder;
+use crate::end::BodyEnd;
+use crate::form::Form;
+use crate::sending::send_turn;
+use http_wire::{Framing, Rest};
+use line_base::{Dialer, Peer};
+
+/// Passes the body of a request on to an upstream, piece by piece, and gives the number of its content bytes, up to 2^63 - 1.
+///
+/// `out` holds what goes first, the request's head: what of the body lies in `rest` leaves with it, in one call of [`Dialer::send`] where
+/// the dialer takes all. It is empty afterwards, and may be used again. What lies behind the body stays in `rest`.
+///
+/// The time is that of the bytes, one call of [`Peer::read`] and one of `send` for each piece of up to 16,384 bytes. Content alone goes
+/// straight from the room of `rest`; chunk lines, and content beside them, are copied once, into `out`. It takes memory only where `out`
+/// is too small for the head and one piece.
+///
+/// # Errors
+/// See [`BodyEnd`]. At an end that the bytes show, and at `ReadFault`, all that goes on for the bytes that came has been sent: nothing is
+/// kept back. At `SendFault` and `OutOfMemory` a front of it has.
+pub fn pass_body<P: Peer, D: Dialer>(
+    peer: &mut P,
+    rest: &mut Rest,
+    framing: Framing,
+    out: &mut Bytes,
+    dialer: &mut D,
+) -> Result<u64, BodyEnd>
+    requires { IsTrue (D.is_open dialer.old) }
+    ensures body { (pieces : List (List ℕ)) × (sent : List ℕ)
+        × Consumes (P.left peer.old) (P.left peer.new) (concat pieces)
+        × Sends (D.log dialer.old) (D.log dialer.new) sent
+        × PassesOn framing Form.Chunks most_passed out.old.items rest.old pieces sent rest.new result }
+    ensures ends { CountsEnd framing (P.ends peer.old) (P.ends peer.new) result }
+    ensures reads { RaisedAt (Err BodyEnd.ReadFault) (P.read_faults peer.old) (P.read_faults peer.new) result }
+    ensures sends { RaisedAt (Err BodyEnd.SendFault) (D.faults dialer.old) (D.faults dialer.new) result }
+    ensures never { (result ≢ Err BodyEnd.WriteFault) × (result ≢ Err BodyEnd.RecvFault) }
+    ensures peer_stays { (Keeps (P.given peer.old) (P.given peer.new)) × (P.write_faults peer.new ≡ P.write_faults peer.old) }
+    ensures dialer_stays { (D.is_open dialer.new ≡ D.is_open dialer.old) × Keeps (D.left dialer.old) (D.left dialer.new) }
+    ensures out { out.new.items ≡ [] }
+{
+    let mut decoder = Decoder::of(framing, Form::Chunks, MOST_PASSED);
+    'pieces: loop {
+        let turn = send_turn(&mut decoder, rest, out, dialer);
+        match answer(decoder.count, BodyEnd::SendFault, turn) {
+            Some(end) => return end,
+            None => {}
+        }
+        match rest.pull(peer) {
+            Ok(0) => return at_end(framing, decoder.count),
+            Ok(_) => {}
+            Err(_) => return Err(BodyEnd::ReadFault),
+        }
+    }
+}

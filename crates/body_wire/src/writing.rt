@@ -1,0 +1,94 @@
+//! Passing a body on to a peer.
+ghost use Rattle.std.specs.Prelude.{◌≡◌, [], List, ℕ};
+ghost use Rattle.std.specs.Io.KnownBytes.{Appends, Keeps};
+ghost use Rattle.line_base.specs.Counts.{HasCause};
+ghost use Rattle.body_wire.specs.Turns.{RunGoes, SendsAll, TakenGoes, TurnCause, Turns};
+
+use crate::decoder::{Decoder, Stop};
+use crate::turn::{TurnFault, lone_run, take_all};
+use crate::{Bytes, Mem};
+use http_wire::Rest;
+use line_base::{Failed, Peer};
+
+/// Writes all bytes to a peer.
+fn write_all<P: Peer>(peer: &mut P, bytes: &[u8]) -> Result<(), Failed>
+    ensures bytes { (sent : List ℕ) × Appends (P.given peer.old) (P.given peer.new) sent × SendsAll bytes.now sent result }
+    ensures others { (Keeps (P.left peer.old) (P.left peer.new)) × (P.read_faults peer.new ≡ P.read_faults peer.old)
+        × (P.ends peer.new ≡ P.ends peer.old) }
+    ensures cause { HasCause (P.write_faults peer.old) (P.write_faults peer.new) result }
+{
+    let mut at = 0;
+    while at < bytes.len() {
+        match peer.write(&bytes[at..]) {
+            Ok(count) => at += count,
+            Err(failed) => return Err(failed),
+        }
+    }
+    Ok(())
+}
+
+/// Writes what is kept from where it is, where all of it is content and nothing waits before it.
+fn write_run<P: Peer>(
+    decoder: &mut Decoder,
+    rest: &mut Rest,
+    out: &Bytes,
+    peer: &mut P,
+) -> Result<(), Failed>
+    ensures bytes { (sent : List ℕ) × Appends (P.given peer.old) (P.given peer.new) sent
+        × RunGoes decoder.old decoder.new rest.old rest.new out.now.items sent result }
+    ensures others { (Keeps (P.left peer.old) (P.left peer.new)) × (P.read_faults peer.new ≡ P.read_faults peer.old)
+        × (P.ends peer.new ≡ P.ends peer.old) }
+    ensures cause { HasCause (P.write_faults peer.old) (P.write_faults peer.new) result }
+{
+    let run = lone_run(decoder, rest.kept(), out);
+    if run == 0 {
+        return Ok(());
+    }
+    let sent = write_all(peer, rest.kept());
+    rest.skip(run);
+    decoder.pass(run);
+    sent
+}
+
+/// Writes what waits in `out` and all that goes on for the kept bytes, in one call where peers take all bytes of a call.
+pub(crate) fn write_turn<P: Peer>(
+    decoder: &mut Decoder,
+    rest: &mut Rest,
+    out: &mut Bytes,
+    peer: &mut P,
+) -> Result<Stop, TurnFault>
+    ensures bytes { (sent : List ℕ) × Appends (P.given peer.old) (P.given peer.new) sent
+        × Turns decoder.old decoder.new rest.old rest.new out.old.items sent result }
+    ensures out { out.new.items ≡ [] }
+    ensures others { (Keeps (P.left peer.old) (P.left peer.new)) × (P.read_faults peer.new ≡ P.read_faults peer.old)
+        × (P.ends peer.new ≡ P.ends peer.old) }
+    ensures cause { TurnCause (P.write_faults peer.old) (P.write_faults peer.new) result }
+{
+    match write_run(decoder, rest, out, peer) {
+        Ok(()) => {}
+        Err(_) => {
+            out.clear();
+            return Err(TurnFault::Failed);
+        }
+    }
+    let taken = take_all(decoder, rest, out);
+    let sent = write_taken(&taken, out, peer);
+    out.clear();
+    sent
+}
+
+/// Writes what goes on, unless there was no memory for it.
+fn write_taken<P: Peer>(taken: &Mem<Stop>, out: &Bytes, peer: &mut P) -> Result<Stop, TurnFault>
+    ensures bytes { (sent : List ℕ) × Appends (P.given peer.old) (P.given peer.new) sent × TakenGoes taken.now out.now.items sent result }
+    ensures others { (Keeps (P.left peer.old) (P.left peer.new)) × (P.read_faults peer.new ≡ P.read_faults peer.old)
+        × (P.ends peer.new ≡ P.ends peer.old) }
+    ensures cause { TurnCause (P.write_faults peer.old) (P.write_faults peer.new) result }
+{
+    match taken {
+        Ok(stop) => match write_all(peer, out.as_slice()) {
+            Ok(()) => Ok(*stop),
+            Err(_) => Err(TurnFault::Failed),
+        },
+        Err(_) => Err(TurnFault::OutOfMemory),
+    }
+}
