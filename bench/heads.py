@@ -68,7 +68,7 @@ def main():
         with open(os.path.join(work, "crates", "heads", "src", "main.rt"), "w") as file:
             file.write(PROGRAM)
         with open(os.path.join(work, "crates.txt"), "w") as file:
-            file.write("line_base:\nhttp_wire: line_base httparse http http_uri\nheads: line_base http_wire\n")
+            file.write("line_base:\nhttp_wire: line_base httparse http http_header http_uri\nheads: line_base http_wire\n")
         done = subprocess.run(["rt", "run"], cwd=os.path.join(work, "crates", "heads"), capture_output=True, text=True)
         lines = [line for line in done.stdout.splitlines() if line.startswith(("200000 heads", "one head"))]
         print("\n".join(lines) or done.stdout + done.stderr)
