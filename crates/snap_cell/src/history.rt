@@ -74,6 +74,7 @@ impl<O> Prefix<O> {
         (Word::tracked(0, &mut first), Prefix { count: 0, seen })
     }
 
+    /// The same beginning once more.
     pub(crate) fn again(&self) -> Prefix<O>
         ensures { result ≡ self.now }
     {

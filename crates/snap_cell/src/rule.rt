@@ -106,12 +106,14 @@ impl<V: Published<O>, O: Operation> Door<V, O> {
 }
 
 impl<V: Published<O>, O: Operation> Reading<V, O> {
+    /// The copy that is being read.
     pub(crate) fn get(&self) -> &Kept<V, O>
         ensures { result.now ≡ self.now.reading.part.value }
     {
         self.reading.get()
     }
 
+    /// Ends the reading, and gives its place back.
     pub(crate) fn leave(self) -> Door<V, O>
         ensures { view result.reader.place ≡ view self.reading.place }
     {

@@ -127,7 +127,7 @@ impl<V: Published<O>, O: Operation, Q> Reader<V, O, Q> {
         entered
     }
 
-    // Sees a list that goes on from what this reader knows of.
+    /// Sees a list that goes on from what this reader knows of.
     pub(super) fn see(&mut self, list: &Prefix<O>, item: Option<Snapshot<Q>>)
         requires list { list.now.seen.book ≡ self.old.origin.empty.book }
         requires longer { length (seen_of self.old) ≤ length list.now.seen.log }
