@@ -1,14 +1,14 @@
 -- What a watch says of the bytes that it has followed.
-use Rattle.std.proofs.Common.{◌≡◌, ◌⊎◌, inl, inr, ℕ, ◌+◌, ◌<◌, Bool, true, false, List, [], ◌∷◌, ◌++◌, length, take, drop, get_or, ◌||◌, refl, sym, ap, ◌∙◌, subst, arith, Option, Some, None, MatchOption, append_assoc, append-nil}
+use Rattle.std.proofs.Common.{◌≡◌, ◌⊎◌, inl, inr, ℕ, ◌+◌, ◌<◌, Bool, true, false, List, [], ◌∷◌, ◌++◌, length, take, drop, get_or, ◌||◌, refl, sym, ap, ◌∙◌, subst, Option, Some, None, MatchOption, append_assoc, append-nil}
 use Rattle.std.specs.Prelude.{⊤, IsSome}
 use Rattle.std.proofs.lemmas.List.{take-append-drop, take_more}
-use Rattle.httparse.specs.Grammar.{HasNoRequest, NeverHasRequest}
+use Rattle.httparse.specs.Grammar.{HasNoRequest}
 use Rattle.httparse.proofs.GrammarLemmas.{ReadsRequest-append}
 use Rattle.http_wire.specs.declared.section.Place.{Place}
 use Rattle.http_wire.specs.declared.watch.Progress.{Progress}
 use Rattle.http_wire.specs.declared.watch.Progress.TheVariants.{Before, BeforeReturn, Line, Fields}
 use Rattle.http_wire.specs.declared.watch.Watch.{Watch}
-use Rattle.http_wire.specs.FirstLine.{first_line, line_at, ends_in_other_version}
+use Rattle.http_wire.specs.FirstLine.{first_line, ends_in_other_version}
 use Rattle.http_wire.specs.Heads.{IsOpen, MayBecomeHead}
 use Rattle.http_wire.specs.Places.{ReachesFields, HasLine, StandsAt, is_over, is_at_end, is_in_fields, is_news, Advances, Follows, IsDecided}
 use Rattle.http_wire.proofs.Settled.{first_line_more}

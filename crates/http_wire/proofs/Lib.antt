@@ -1,3 +1,5 @@
+pub mod Asked
+pub mod Excluding
 pub mod FieldLemmas
 pub mod Following
 pub mod Held
@@ -8,6 +10,9 @@ pub mod Looks
 pub mod Numbers
 pub mod Turning
 pub mod Spans
+pub mod Receiving
+pub mod Replying
 pub mod Settled
+pub mod Sound
 pub mod Targets
 pub mod Tokens

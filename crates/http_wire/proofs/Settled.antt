@@ -33,12 +33,12 @@ take_longer n bytes more = by_length (ltb (length bytes) n) refl
         ([], take-append-le n bytes more many ∙ sym (append-nil (take n bytes)))
 
 -- the bytes that count go on as the bytes do
-window_more : (bytes more : List ℕ) → (m : List ℕ) × (window (bytes ++ more) ≡ window bytes ++ m)
+pub window_more : (bytes more : List ℕ) → (m : List ℕ) × (window (bytes ++ more) ≡ window bytes ++ m)
 unfolding window
 window_more bytes more = take_longer most bytes more
 
 -- where there are enough bytes, no more of them count
-window_full : (bytes more : List ℕ) → most ≤ length bytes → window (bytes ++ more) ≡ window bytes
+pub window_full : (bytes more : List ℕ) → most ≤ length bytes → window (bytes ++ more) ≡ window bytes
 unfolding window
 window_full bytes more many = take-append-le most bytes more many
 

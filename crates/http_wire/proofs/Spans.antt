@@ -4,8 +4,8 @@ use Rattle.std.specs.List.{flat_map, count_by}
 use Rattle.std.proofs.lemmas.List.Concat.{flat_map-cons}
 use Rattle.std.proofs.lemmas.List.Sums.{sum_by-append}
 use Rattle.httparse.specs.declared.Error.{Error}
-use Rattle.httparse.specs.Grammar.{LineEnd, crlf, lf, print_end, print_blank, print_version, print_section, Field, print_field, RequestHead, print_request, NeverHasRequest}
-use Rattle.httparse.specs.Spans.{RequestExceeds}
+use Rattle.httparse.specs.Grammar.{LineEnd, crlf, lf, print_end, print_blank, print_version, print_section, Field, print_field, RequestHead, print_request, NeverHasRequest, print_reason, ResponseHead, print_response, NeverHasResponse}
+use Rattle.httparse.specs.Spans.{RequestExceeds, ResponseExceeds}
 
 -- how many line feeds the bytes have
 abbrev feeds : List ℕ → ℕ
@@ -55,3 +55,32 @@ pub refuses : (room : ℕ) (bytes : List ℕ) (e : Error) → room ≡ feeds byt
     → (e ≢ Error.TooManyHeaders → NeverHasRequest bytes) → (e ≡ Error.TooManyHeaders → RequestExceeds room bytes) → NeverHasRequest bytes
 refuses room bytes Error.TooManyHeaders size other many = absurd (no_room room bytes size (many refl))
 refuses room bytes e size other many = other (λ same. cc)
+
+-- ---- the same for replies
+
+feeds-reply : (h : ResponseHead) → length h.fields + 2 ≤ feeds (print_response h)
+unfolding print_response
+feeds-reply h =
+    let line = print_blank h.blank ++ print_version h.minor ++ 32 ∷ h.digits ++ print_reason h.reason in
+    omega (
+      arith,
+      feeds-append (line ++ print_end h.line_end) (print_section h.fields h.last),
+      feeds-append line (print_end h.line_end),
+      feeds-append (flat_map print_field h.fields) (print_end h.last),
+      feeds-end h.line_end,
+      feeds-end h.last,
+      feeds-fields h.fields,
+    )
+
+no_room_reply : (room : ℕ) (bytes : List ℕ) → room ≡ feeds bytes → ResponseExceeds room bytes → ⊥
+no_room_reply room bytes size x =
+    let many = feeds-reply x.3 in
+    let same : feeds (x.0 ++ 10 ∷ []) ≡ feeds (print_response x.3) = ap feeds (x.4.1 ∙ append-nil (print_response x.3)) in
+    let cut : feeds bytes ≡ feeds (x.0 ++ x.1) = ap feeds x.2 in
+    let few = x.5 in
+    omega (arith, feeds-append x.0 (10 ∷ []), feeds-append x.0 x.1)
+
+pub refuses_reply : (room : ℕ) (bytes : List ℕ) (e : Error) → room ≡ feeds bytes
+    → (e ≢ Error.TooManyHeaders → NeverHasResponse bytes) → (e ≡ Error.TooManyHeaders → ResponseExceeds room bytes) → NeverHasResponse bytes
+refuses_reply room bytes Error.TooManyHeaders size other many = absurd (no_room_reply room bytes size (many refl))
+refuses_reply room bytes e size other many = other (λ same. cc)

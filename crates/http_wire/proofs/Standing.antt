@@ -1,6 +1,6 @@
 -- How far the bytes of a head have come, and what they show there.
-use Rattle.std.proofs.Common.{◌≡◌, ◌≢◌, ◌↔◌, ◌⊎◌, inl, inr, ◌<◌, ◌≤◌, ◌+◌, ℕ, Bool, true, false, List, [], ◌∷◌, ◌++◌, length, take, eqb, ltb, cond, ◌&&◌, ◌||◌, not, refl, sym, ap, ◌∙◌, subst, arith, IsTrue, All, codes, Option, Some, None, MatchOption, append_assoc, append-nil}
-use Rattle.std.specs.Prelude.{⊤, IsSome, is_some}
+use Rattle.std.proofs.Common.{◌≡◌, ◌≢◌, ◌↔◌, ◌⊎◌, inl, inr, ◌<◌, ◌≤◌, ◌+◌, ℕ, Bool, true, false, List, [], ◌∷◌, ◌++◌, length, take, eqb, ltb, cond, not, refl, sym, ap, ◌∙◌, subst, arith, IsTrue, All, codes, Option, Some, None, append_assoc, append-nil}
+use Rattle.std.specs.Prelude.{IsSome, is_some}
 use Rattle.std.specs.List.{position_or_len}
 use Rattle.std.specs.Option.{option_map}
 use Rattle.std.proofs.lemmas.Bool.Decides.{nat_tests}
@@ -10,14 +10,12 @@ use Rattle.httparse.specs.Grammar.{LineEnd, crlf, lf, print_end, print_blank, pr
 use Rattle.httparse.proofs.GrammarLemmas.{print_request-append, ReadsRequest-append}
 use Rattle.http_wire.specs.declared.section.Place.{Place}
 use Rattle.http_wire.specs.declared.section.Place.TheVariants.{Start, Name, Value, ValueReturn, LastReturn, Ended, Refused}
-use Rattle.http_wire.specs.declared.watch.Progress.{Progress}
 use Rattle.http_wire.specs.declared.watch.Progress.TheVariants.{Before, BeforeReturn, Line, Fields}
-use Rattle.http_wire.specs.FirstLine.{first_line, line_at, skip_empty_lines, ends_in_other_version}
-use Rattle.http_wire.specs.Heads.{IsOpen, MayBecomeHead}
-use Rattle.http_wire.specs.Places.{IsSection, Completes, Begins, Reaches, ReachesFields, HasLine, IsInLine, StandsAt, is_over, is_at_end, IsDecided, Leads}
+use Rattle.http_wire.specs.FirstLine.{first_line, line_at, skip_empty_lines}
+use Rattle.http_wire.specs.Heads.{MayBecomeHead}
+use Rattle.http_wire.specs.Places.{IsSection, Begins, ReachesFields, HasLine, IsInLine, StandsAt, is_over, IsDecided, Leads}
 use Rattle.http_wire.proofs.Looks.{differ, skip-blank, skip-feed, skip-other, token_byte_low, uri_byte_low}
 use Rattle.http_wire.proofs.Leading.{may_follow, must_follow, reaches_more, reaches_start}
-use Rattle.http_wire.proofs.Settled.{first_line_more}
 
 -- ---- the first line
 

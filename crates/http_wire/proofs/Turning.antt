@@ -1,5 +1,5 @@
 -- What reading in pieces adds up to.
-use Rattle.std.proofs.Common.{◌≡◌, ◌≢◌, ◌≤◌, ◌<◌, ◌-◌, inl, inr, ℕ, List, [], ◌++◌, length, take, drop, refl, sym, ap, ◌∙◌, subst, arith, Option, Some, None, Result, Ok, Err, append_assoc, append-nil, length-append}
+use Rattle.std.proofs.Common.{◌≡◌, ◌≢◌, ◌≤◌, ◌<◌, ◌-◌, inr, ℕ, List, [], ◌++◌, length, take, drop, refl, sym, ap, ◌∙◌, subst, arith, Option, Some, None, Result, Ok, Err, append_assoc, append-nil, length-append}
 use Rattle.std.proofs.lemmas.List.{length-take, take_all, take_rest, drop_at}
 use Rattle.std.specs.Io.KnownBytes.{Consumes, Keeps}
 use Rattle.std.proofs.KnownBytes.{Consumes-trans}
@@ -15,7 +15,7 @@ use Rattle.http_wire.specs.Places.{Follows, StandsAt}
 use Rattle.http_wire.specs.Reading.{Answers, AnswersTurn, Grows, IsPrompt, Looks, ReadsHead, Trusts}
 use Rattle.http_wire.proofs.Standing.{stands_first}
 
-take_within : (n : ℕ) (bytes : List ℕ) → length (take n bytes) ≤ length bytes
+pub take_within : (n : ℕ) (bytes : List ℕ) → length (take n bytes) ≤ length bytes
 take_within n bytes = omega (arith, length-take n bytes)
 
 -- a head lies within the bytes that begin with it

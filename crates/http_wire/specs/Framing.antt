@@ -1,5 +1,5 @@
 -- The framing of a request's body (RFC 9112 section 6, RFC 9110 section 8.6).
-use Rattle.std.specs.Prelude.{ℕ, ◌^◌, Bool, ◌&&◌, List, [], ◌∷◌, ◌++◌, map, length, codes, ◌==◌, nat_lt, nat_eq, Option, Some, None, Result, Ok, Err, option_and_then, if◌then◌else◌}
+use Rattle.std.specs.Prelude.{ℕ, ◌^◌, Bool, ◌&&◌, ◌||◌, bytes_eq, List, [], ◌∷◌, ◌++◌, map, length, codes, ◌==◌, nat_lt, nat_eq, Option, Some, None, Result, Ok, Err, option_and_then, if◌then◌else◌}
 use Rattle.std.specs.List.{before_first, list_all, slice_split}
 use Rattle.std.specs.Option.{option_eq}
 use Rattle.std.specs.Char.{is_ascii_digit}
@@ -65,3 +65,19 @@ framed minor (coding ∷ codings) (length ∷ lengths) = Err FramingFault.Length
 abbrev pub framing_of : ℕ → List Field → Result Framing FramingFault
 framing_of minor fields =
     framed minor (values_of (codes "transfer-encoding") fields) (values_of (codes "content-length") fields)
+
+-- the replies of this status to this method have no body, whatever their fields say (RFC 9112 section 6.3)
+abbrev pub has_no_body : List ℕ → ℕ → Bool
+has_no_body method status = bytes_eq method (codes "HEAD") || (status == 204) || (status == 304)
+
+-- a body that no field frames goes up to the end of the connection
+abbrev pub or_to_end : Framing → Framing
+or_to_end Framing.Nothing = Framing.ToEnd
+or_to_end (Framing.Length n) = Framing.Length n
+or_to_end Framing.Chunked = Framing.Chunked
+or_to_end Framing.ToEnd = Framing.ToEnd
+
+-- the framing of a reply of this status to this method, by what its fields say
+abbrev pub reply_framing_of : List ℕ → ℕ → Result Framing FramingFault → Result Framing FramingFault
+reply_framing_of method status (Err fault) = Err fault
+reply_framing_of method status (Ok framing) = Ok (if has_no_body method status then Framing.Nothing else or_to_end framing)

@@ -1,6 +1,6 @@
 -- What some bytes begin with, as the head of a request (RFC 9112 sections 2 to 5). Only the first 65,536 bytes count.
 use Rattle.std.specs.Prelude.{◌≡◌, ℕ, ◌<◌, ◌≤◌, List, [], ◌++◌, length, take, drop, map, true, false, IsSomeAnd, MatchOption, ⊤}
-use Rattle.httparse.specs.Grammar.{RequestHead, print_request, ReadsRequest, HasNoRequest, NeverHasRequest}
+use Rattle.httparse.specs.Grammar.{AllPass, IsToken, is_value_byte, RequestHead, print_request, ReadsRequest, HasNoRequest, NeverHasRequest}
 use Rattle.httparse.specs.Spans.{name_and_value}
 use Rattle.http_wire.specs.declared.head.Field.{Field}
 use Rattle.http_wire.specs.declared.head.Head.{Head}
@@ -28,6 +28,10 @@ pub record IsHeadOf (head : Head) (parts : RequestHead) : Type 0 where
   pub target : head.target ≡ parts.target
   pub version : head.version ≡ parts.minor
   pub fields : map (λ (f : Field). (f.name, f.value)) head.fields ≡ map name_and_value parts.fields
+
+-- what holds of each field that was read: its name is a token, and its value has the bytes that a value may have
+abbrev pub IsSoundField : Field → Type 0
+IsSoundField field = IsToken field.name × AllPass is_value_byte field.value
 
 -- the bytes begin with this head, which is so long, the empty lines before it included
 pub record BeginsWith (bytes : List ℕ) (head : Head) (len : ℕ) : Type 0 where

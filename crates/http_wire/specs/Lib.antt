@@ -3,8 +3,12 @@ pub mod FirstLine
 pub mod Framing
 pub mod Heads
 pub mod Host
+pub mod Laws
 pub mod Parsed
 pub mod Places
 pub mod Reading
+pub mod Replies
+pub mod ReplyReading
 pub mod Rest
+pub mod Sound
 pub mod Target

@@ -1,16 +1,17 @@
-//! How the body of a request is framed.
+//! How the bodies of requests and replies are framed.
 ghost use Rattle.std.specs.Prelude.{◌≡◌, ◌==◌, codes, filter};
 ghost use Rattle.std.specs.List.{list_all, slice_split};
 ghost use Rattle.httparse.specs.Ascii.{comma};
 ghost use Rattle.httparse.specs.Grammar.{trim_ows};
 ghost use Rattle.http_wire.specs.declared.head.Field.{Field};
 ghost use Rattle.http_wire.specs.Fields.{is_named, values_of};
-ghost use Rattle.http_wire.specs.Framing.{agreed, coding_framing, first_number, framing_of, length_framing, pieces_of, says};
+ghost use Rattle.http_wire.specs.Framing.{agreed, coding_framing, first_number, framing_of, length_framing, has_no_body, or_to_end, pieces_of, reply_framing_of, says};
 
 use crate::frames::{Framing, FramingFault};
-use crate::head::{Field, FieldList, Head};
+use crate::head::{Field, FieldList, Head, ReplyHead};
 use crate::list::{all_say, first_piece, number, trimmed};
 use crate::text::same_bytes;
+use http::Method;
 
 /// The framing of a request's body (RFC 9112 section 6.3), in time for its fields and with no memory.
 ///
@@ -26,18 +27,60 @@ use crate::text::same_bytes;
 pub fn framing(head: &Head) -> Result<Framing, FramingFault>
     ensures { result ≡ framing_of head.now.version head.now.fields }
 {
-    let codings = head.fields.count("transfer-encoding");
-    let lengths = head.fields.count("content-length");
+    by_fields(head.version, &head.fields)
+}
+
+/// The framing of a reply's body to a request with this method (RFC 9112 section 6.3), in time for its fields and with no memory.
+///
+/// Its two fields are tested as those of a request, in every reply. After them, a reply to HEAD and one of the status 204 or 304 has no
+/// body. A body that neither field frames goes up to the end of the connection.
+///
+/// # Errors
+/// As for [`framing`].
+pub fn reply_framing(method: &Method, head: &ReplyHead) -> Result<Framing, FramingFault>
+    ensures { result ≡ reply_framing_of method.now head.now.status (framing_of head.now.version head.now.fields) }
+{
+    match by_fields(head.version, &head.fields) {
+        Ok(_) if has_no_body(method, head.status) => Ok(Framing::Nothing),
+        Ok(framing) => Ok(or_to_end(framing)),
+        Err(fault) => Err(fault),
+    }
+}
+
+/// The framing of a reply that has a body: one that no field frames goes up to the end of the connection.
+fn or_to_end(framing: Framing) -> Framing
+    ensures { result ≡ or_to_end framing }
+{
+    match framing {
+        Framing::Nothing | Framing::ToEnd => Framing::ToEnd,
+        Framing::Length(length) => Framing::Length(length),
+        Framing::Chunked => Framing::Chunked,
+    }
+}
+
+/// Whether the replies of this status to this method have no body, whatever their fields say.
+fn has_no_body(method: &Method, status: u16) -> bool
+    ensures { result ≡ has_no_body method.now status }
+{
+    method.as_str() == "HEAD" || status == 204 || status == 304
+}
+
+/// The framing that the two fields give.
+fn by_fields(version: u8, fields: &FieldList) -> Result<Framing, FramingFault>
+    ensures { result ≡ framing_of version fields.now }
+{
+    let codings = fields.count("transfer-encoding");
+    let lengths = fields.count("content-length");
     if codings == 0 && lengths == 0 {
         return Ok(Framing::Nothing);
     }
     if codings == 0 {
-        return by_length(&head.fields);
+        return by_length(fields);
     }
-    if lengths != 0 || head.version == 0 {
+    if lengths != 0 || version == 0 {
         return Err(FramingFault::Length);
     }
-    by_coding(&head.fields)
+    by_coding(fields)
 }
 
 /// The framing that the Content-Length fields give.
@@ -63,8 +106,9 @@ fn by_coding(fields: &FieldList) -> Result<Framing, FramingFault>
     }
 }
 
-/// The length that every piece of every Content-Length field writes, if they all write the same one.
-fn content_length(fields: &FieldList) -> Option<u64>
+/// The length that every piece of every Content-Length field writes, if there is one and they all write the same, in time for the
+/// fields.
+pub fn content_length(fields: &FieldList) -> Option<u64>
     ensures { result ≡ agreed (pieces_of (values_of (codes "content-length") fields.now)) }
 {
     match first_length(fields) {

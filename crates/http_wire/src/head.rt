@@ -1,4 +1,4 @@
-//! The head of a request.
+//! The heads of requests and of replies.
 ghost use Rattle.std.specs.Prelude.{◌≡◌, count_by, find, length, slice_get};
 ghost use Rattle.std.specs.Option.{option_copied};
 ghost use Rattle.http_wire.specs.Fields.{is_named, values_of};
@@ -87,6 +87,19 @@ pub struct Head {
     pub target: Text,
     /// 0 for HTTP/1.0 and 1 for HTTP/1.1.
     pub version: u8,
+    /// The fields, in order.
+    pub fields: FieldList,
+}
+
+/// The head of a reply (RFC 9112 sections 2, 4 and 5).
+#[derive(Debug, Drop)]
+pub struct ReplyHead {
+    /// 0 for HTTP/1.0 and 1 for HTTP/1.1.
+    pub version: u8,
+    /// The number of the three digits of the status code, 0 to 999.
+    pub status: u16,
+    /// The reason phrase, as received: empty where there was none.
+    pub reason: Text,
     /// The fields, in order.
     pub fields: FieldList,
 }

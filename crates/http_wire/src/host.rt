@@ -1,5 +1,7 @@
 //! The host of a request.
-ghost use Rattle.std.specs.Prelude.{option_map};
+ghost use Rattle.std.specs.Prelude.{All, IfOk, IfSome, option_map};
+ghost use Rattle.httparse.specs.Grammar.{AllPass, is_value_byte};
+ghost use Rattle.http_wire.specs.Heads.{IsSoundField};
 ghost use Rattle.http_wire.specs.Host.{host_of, Gives};
 
 use crate::Bytes;
@@ -23,6 +25,17 @@ pub enum HostFault {
 /// `NoHost` exactly where an HTTP/1.1 request has not exactly one Host field, or an HTTP/1.0 request more than one (RFC 9112
 /// section 3.2): two of them may name one host to us and another to the next recipient.
 pub fn read_host(alloc: Global, head: &Head, target: &Target) -> Result<Bytes, HostFault>
+    ensures host { Gives (host_of head.now.version head.now.fields
+        (option_map (λ v. v.items) target.now.authority)) result }
+    ensures sound { All IsSoundField head.now.fields
+        → IfSome target.now.authority (λ authority. AllPass is_value_byte authority.items)
+        → IfOk result (λ host. AllPass is_value_byte host.items) }
+{
+    host_text(alloc, head, target)
+}
+
+/// The same, by the definition alone.
+fn host_text(alloc: Global, head: &Head, target: &Target) -> Result<Bytes, HostFault>
     ensures { Gives (host_of head.now.version head.now.fields
         (option_map (λ v. v.items) target.now.authority)) result }
 {

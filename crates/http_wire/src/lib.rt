@@ -1,8 +1,9 @@
-//! The heads of HTTP/1.1 requests: reading one off a connection, its framing, its target and its host.
+//! The heads of HTTP/1.1 requests and replies: reading one off a connection, its framing, and a request's target and host.
 //!
 //! [`read_request_head`] reads a [`Head`] off a [`Peer`](line_base::Peer), in any pieces, and keeps the bytes past it in a
 //! [`Rest`]. [`framing`] says how the body behind it ends, [`read_target`] what its target goes on as, and [`read_host`] whom
-//! it asks. The profile is that of RFC 9110 and RFC 9112, stricter where two readers of the same bytes could see two
+//! it asks. [`read_reply_head`] receives a [`ReplyHead`] from a [`Dialer`](line_base::Dialer) in the same way, and [`reply_framing`] says
+//! how its body ends. The profile is that of RFC 9110 and RFC 9112, stricter where two readers of the same bytes could see two
 //! different requests; `docs/HTTP.md` states it.
 //!
 //! # What is proved
@@ -11,7 +12,8 @@
 //! bytes is one, as another version and as too large exactly where the first line and the length say so; the end of the
 //! connection and a failed read are told only where the peer's count of them rose. A head and a refusal are told as soon as the bytes
 //! show them: no read begins behind either. Framing, target and host are given, and refused, exactly by the definitions of
-//! `specs/`. The room of a [`Rest`] stays within 69,632 bytes.
+//! `specs/`. The room of a [`Rest`] stays within 69,632 bytes. At most one reading of some bytes holds ([`heads_are_unique`],
+//! [`readings_exclude_one_another`]), and what was read has the bytes that may go on (`specs/Sound.antt`).
 //!
 //! # Example
 //! ```
@@ -32,9 +34,13 @@ mod first_line;
 mod frames;
 mod head;
 mod host;
+mod laws;
 mod list;
 mod parse;
 mod reading;
+mod reply_parse;
+mod reply_reading;
+mod reply_watch;
 mod rest;
 mod room;
 mod section;
@@ -43,12 +49,15 @@ mod target;
 mod text;
 mod watch;
 
-pub use body::framing;
+pub use body::{content_length, framing, reply_framing};
 pub use ended::Ended;
 pub use frames::{Framing, FramingFault};
-pub use head::{Field, FieldList, Head};
+pub use head::{Field, FieldList, Head, ReplyHead};
 pub use host::{HostFault, read_host};
+pub use laws::{heads_are_unique, readings_exclude_one_another};
+pub use list::trimmed;
 pub use reading::{HeadEnd, read_request_head};
+pub use reply_reading::read_reply_head;
 pub use rest::{FillFault, Rest};
 pub use target::{Target, TargetFault, read_target};
 pub use text::{FieldName, Text};

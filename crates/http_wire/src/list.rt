@@ -65,8 +65,8 @@ pub(crate) fn number(digits: &[u8]) -> Option<u64>
     Some(value)
 }
 
-/// The bytes without the spaces and tabs at both ends.
-pub(crate) fn trimmed(bytes: &[u8]) -> &[u8]
+/// The bytes without the spaces and tabs at both ends, in time for these (RFC 9110 section 5.6.3).
+pub fn trimmed(bytes: &[u8]) -> &[u8]
     ensures { result.now ≡ trim_ows bytes.now }
 {
     trimmed_end(trimmed_start(bytes))

@@ -41,7 +41,7 @@ pub(crate) fn parse(alloc: Global, bytes: &[u8]) -> Mem<Parsed>
 }
 
 /// How many line feeds the bytes have.
-fn line_feeds(bytes: &[u8]) -> usize
+pub(crate) fn line_feeds(bytes: &[u8]) -> usize
     ensures { result ≡ count_by (λ b. b == 10) bytes.now }
 {
     bytes.iter().filter(|b| **b == b'\n').count()
@@ -80,7 +80,7 @@ fn method_of(alloc: Global, token: &[u8]) -> Mem<Method>
 }
 
 /// The fields whose names and values the spans cover.
-fn fields_of(alloc: Global, bytes: &[u8], spans: &[HeaderSpan]) -> Mem<FieldList>
+pub(crate) fn fields_of(alloc: Global, bytes: &[u8], spans: &[HeaderSpan]) -> Mem<FieldList>
     requires { All (IsHeaderWithin (length bytes.now)) spans.now }
     ensures { IfOk result (λ fields. map pair_of fields ≡ map (header_bytes bytes.now) spans.now) }
 {

@@ -1,9 +1,10 @@
 //! Reading the head of a request.
-ghost use Rattle.std.specs.Prelude.{◌≡◌, ◌≢◌, ◌<◌, ◌≤◌, Err, length};
+ghost use Rattle.std.specs.Prelude.{◌≡◌, ◌≢◌, ◌<◌, ◌≤◌, Err, IfOk, length};
 ghost use Rattle.std.specs.Io.KnownBytes.{Keeps};
 ghost use Rattle.http_wire.specs.Heads.{IsUnfinished};
 ghost use Rattle.http_wire.specs.Places.{StandsAt};
 ghost use Rattle.http_wire.specs.Reading.{Answers, HasCauses, Looks, ReadsHead, Trusts, Turns};
+ghost use Rattle.http_wire.specs.Sound.{IsSoundHead};
 
 use crate::first_line::behind_empty_lines;
 use crate::head::Head;
@@ -53,6 +54,7 @@ pub fn read_request_head<P: Peer>(
     rest: &mut Rest,
 ) -> Result<Head, HeadEnd>
     ensures head { ReadsHead (P.left peer.old) (P.left peer.new) rest.old rest.new result }
+    ensures sound { IfOk result IsSoundHead }
     ensures causes { HasCauses (P.ends peer.old) (P.ends peer.new)
         (P.read_faults peer.old) (P.read_faults peer.new) result }
     ensures others { (Keeps (P.given peer.old) (P.given peer.new))

@@ -47,7 +47,7 @@ pub(crate) fn look(alloc: Global, bytes: &[u8]) -> Mem<Seen>
 }
 
 /// The bytes that count.
-fn window_of(bytes: &[u8]) -> &[u8]
+pub(crate) fn window_of(bytes: &[u8]) -> &[u8]
     ensures { result.now ≡ window bytes.now }
 {
     if bytes.len() < MOST_HEAD {

@@ -4,6 +4,7 @@ ghost use Rattle.std.specs.List.{list_any};
 ghost use Rattle.http_uri.specs.ByteClasses.{at_sign};
 ghost use Rattle.http_uri.specs.Grammar.{without_fragment};
 ghost use Rattle.http_uri.specs.Uri.{uri_authority, uri_scheme};
+ghost use Rattle.http_wire.specs.Sound.{IsSoundForm, IsSoundTarget};
 ghost use Rattle.http_wire.specs.Target.{form_of, line_of, served, Gives, IsRefused, IsServed};
 
 use crate::head::Head;
@@ -43,6 +44,7 @@ pub enum TargetFault {
 pub fn read_target(alloc: Global, head: &Head) -> Result<Target, TargetFault>
     ensures ok { IfOk result (λ target. (head.now.method ≢ codes "CONNECT")
         × IsServed head.now.method head.now.target (form_of target)) }
+    ensures sound { IsSoundTarget head.now.target → IfOk result IsSoundForm }
     ensures refused { IfErr result (IsRefused head.now.method head.now.target) }
 {
     let method = head.method.as_str();

@@ -1,5 +1,6 @@
 use Rattle.std.proofs.Common.{[], refl, sym, arith, inl, ◌∙◌, append-nil}
 use Rattle.std.proofs.KnownBytes.{Keeps-trans, Keeps-refl}
+use Rattle.http_wire.proofs.Sound.{sound_answer}
 use Rattle.http_wire.proofs.Turning.{nothing_read, reads_after, reads_on, trusts_first}
 use Rattle.http_wire.proofs.reading.read_request_head.Goals as goal
 
@@ -30,3 +31,6 @@ pub returns-in-Answered-clause-head : goal.returns-in-Answered-clause-head
 returns-in-Answered-clause-head g c =
     let read = c.loop-answer.invariant.read in
     reads_after _ _ _ c.args.rest.now c.loop-answer.rest c.take_turn.new.rest read.0 _ _ _ _ c.in-Answered.answer read.1 read.2 read.3 c.in-Answered.ensures.bytes
+
+pub returns-in-Answered-clause-sound : goal.returns-in-Answered-clause-sound
+returns-in-Answered-clause-sound g c = sound_answer c.loop-answer.rest c.take_turn.new.rest c.in-Answered.answer c.in-Answered.ensures.bytes.answers

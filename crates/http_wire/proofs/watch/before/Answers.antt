@@ -1,4 +1,4 @@
-use Rattle.std.proofs.Common.{ℕ, List, [], ◌∷◌, ◌++◌, sym, subst}
+use Rattle.std.proofs.Common.{ℕ, [], ◌∷◌, ◌++◌, sym, subst}
 use Rattle.http_wire.specs.declared.watch.Progress.TheVariants.{Before}
 use Rattle.http_wire.specs.Places.{StandsAt}
 use Rattle.http_wire.proofs.Standing.{before_feed, before_other}

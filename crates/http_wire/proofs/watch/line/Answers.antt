@@ -1,4 +1,4 @@
-use Rattle.std.proofs.Common.{ℕ, List, [], ◌∷◌, ◌++◌, sym, subst}
+use Rattle.std.proofs.Common.{ℕ, [], ◌∷◌, ◌++◌, sym, subst}
 use Rattle.http_wire.specs.declared.section.Place.TheVariants.{Start}
 use Rattle.http_wire.specs.declared.watch.Progress.TheVariants.{Fields}
 use Rattle.http_wire.specs.Places.{StandsAt}

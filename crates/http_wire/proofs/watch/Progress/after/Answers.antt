@@ -1,4 +1,4 @@
-use Rattle.std.proofs.Common.{◌≡◌, false, List, ℕ, subst}
+use Rattle.std.proofs.Common.{◌≡◌, false, subst}
 use Rattle.http_wire.specs.declared.watch.Progress.{Progress}
 use Rattle.http_wire.specs.Places.{is_at_end, StandsAt}
 use Rattle.http_wire.proofs.Standing.{fields_more}

@@ -1,7 +1,5 @@
-use Rattle.std.proofs.Common.{ℕ, List, ◌++◌, take, drop, ap, subst, sym, ◌∙◌, append_assoc}
-use Rattle.std.proofs.lemmas.List.{take-append-drop}
-use Rattle.http_wire.specs.Places.{Follows}
-use Rattle.http_wire.proofs.Following.{none_yet, no_more, all_bytes}
+use Rattle.std.proofs.Common.{sym, ◌∙◌}
+use Rattle.http_wire.proofs.Following.{none_yet, all_bytes}
 use Rattle.http_wire.proofs.watch.Watch.follow.Goals as goal
 
 pub loop-byte-init : goal.loop-byte-init
