@@ -1,4 +1,4 @@
-//! The lines of an address file.
+//! Lines of texts, the words of a line, and what a line of an address file says.
 ghost use Rattle.std.specs.Prelude.{◌≡◌, ◌≤◌, ◌<◌, ◌∷◌, ℕ, length, take, drop, slice_range, slice_index, option_map, IfSome};
 ghost use Rattle.std.specs.Option.{option_and_then};
 ghost use Rattle.addr_book.specs.Addr.{addr_of, host_value, port_value};
@@ -47,8 +47,8 @@ fn read_addr(host: &[u8], text: &[u8]) -> Option<Addr>
     }
 }
 
-/// The weight that a line has behind its `*`, or one where it has no `*`.
-fn read_line_weight(text: Option<&[u8]>) -> Option<u64>
+/// The weight behind a `*`, between spaces and tabs, in millionths and not 0; one where there is no `*`. `None` where the text is none.
+pub fn read_line_weight(text: Option<&[u8]>) -> Option<u64>
     ensures weight { result ≡ line_weight (option_map (λ text. text.now) text.entry) }
     ensures range { IfSome result IsWeight }
 {
@@ -74,7 +74,7 @@ fn single_word(text: &[u8]) -> Option<&[u8]>
 }
 
 /// The bytes before the first `*`, and those behind it, if there is one.
-fn cut_at_star(text: &[u8]) -> (&[u8], Option<&[u8]>)
+pub fn cut_at_star(text: &[u8]) -> (&[u8], Option<&[u8]>)
     ensures before { result.0.now ≡ before_star text.now }
     ensures behind { option_map (λ rest. rest.now) result.1 ≡ behind_star text.now }
 {
@@ -120,16 +120,16 @@ fn word_end(text: &[u8]) -> usize
     text.len()
 }
 
-/// A text without the gap that it begins with.
-fn without_gap(text: &[u8]) -> &[u8]
+/// A text without the spaces and tabs that it begins with.
+pub fn without_gap(text: &[u8]) -> &[u8]
     ensures { result.now ≡ drop_gaps text.now }
 {
     let end = gap_end(text);
     &text[end..]
 }
 
-/// The word that a text begins with, and what follows it.
-fn split_word(text: &[u8]) -> (&[u8], &[u8])
+/// The word that a text begins with, to the first space or tab, and what follows it from there on.
+pub fn split_word(text: &[u8]) -> (&[u8], &[u8])
     ensures word { result.0.now ≡ word_of text.now }
     ensures rest { result.1.now ≡ behind_word text.now }
 {
@@ -139,11 +139,11 @@ fn split_word(text: &[u8]) -> (&[u8], &[u8])
 
 /// A line of a text.
 #[derive(Clone, Copy, Debug, PartialEq, Eq)]
-pub(crate) struct Cut {
+pub struct Cut {
     /// Where the line ends, without its line feed and a CR before that.
-    pub(crate) stop: usize,
+    pub stop: usize,
     /// Where the next line begins.
-    pub(crate) next: usize,
+    pub next: usize,
 }
 
 /// Where the line that begins at a place has its line feed, or where the text ends.
@@ -161,8 +161,8 @@ fn feed_place(text: &[u8], at: usize) -> usize
     end
 }
 
-/// The line of a text that begins at a place.
-pub(crate) fn cut_line(text: &[u8], at: usize) -> Cut
+/// The line of a text that begins at a place. It looks at the bytes of the line alone.
+pub fn cut_line(text: &[u8], at: usize) -> Cut
     requires { at < length text.now }
     ensures line { lines_of (drop at text.now) ≡ slice_range text.now at result.stop ∷ lines_of (drop result.next text.now) }
     ensures stop { (at ≤ result.stop) × (result.stop ≤ length text.now) }
