@@ -1,0 +1,5 @@
+pub mod Branches
+pub mod Drawing
+pub mod Equals
+pub mod Finding
+pub mod Passing

@@ -1,0 +1,110 @@
+-- Addresses that pass through a sieve, one by one along a list.
+use Rattle.std.proofs.Common.{◌≡◌, ℕ, zero, suc, ◌+◌, ◌-◌, ◌<◌, ◌≤◌, List, [], ◌∷◌, length, get_or, drop, Bool, true, false, cond, Option, Some, None, refl, sym, ap, subst, ◌∙◌, arith, not, add-one, drop-cons}
+use Rattle.std.specs.Prelude.{filter, slice_get, unwrap_or, ◌||◌, ◌&&◌, ◌==◌, nat_lt}
+use Rattle.std.specs.List.{list_all}
+use Rattle.std.proofs.lemmas.Bool.{eqb-true, le-ltb}
+use Rattle.std.specs.FinMap.{len, get, get-empty, empty, empty_of_len}
+use Rattle.addr_book.specs.declared.addr.Weighted.{Weighted}
+use Rattle.addr_book.specs.declared.addr.Addr.{Addr}
+use Rattle.addr_book.specs.AddrList.{addr_cmp}
+use Rattle.choose_core.specs.declared.mark.Mark.{Mark}
+use Rattle.choose_core.specs.declared.mark.Limits.{Limits}
+use Rattle.choose_core.specs.declared.sieve.Sieve.{Sieve}
+use Rattle.choose_core.specs.Mark.{is_dead_mark, no_mark}
+use Rattle.choose_core.specs.Marks.{MarkMap, mark_at, no_marks}
+use Rattle.choose_core.specs.Live.{is_alive, some_or_all, live_of}
+use Rattle.choose_core.specs.Sieve.{passes, passing}
+
+-- a list from a place on
+pub cut_or : {X : Type 0} (xs : List X) (i : ℕ) (d : X) → i < length xs → drop i xs ≡ get_or xs i d ∷ drop (i + 1) xs
+cut_or xs i d lt = rw add-one (drop-cons xs i d lt)
+
+pub cut : {X : Type 0} (xs : List X) (i : ℕ) (x : X) → i < length xs → x ≡ get_or xs i x → drop i xs ≡ x ∷ drop (i + 1) xs
+cut xs i x lt is = rw add-one (drop-cons xs i x lt ∙ (λ j. sym is j ∷ drop (suc i) xs))
+
+module _ {X : Type 0} (p : X → Bool) where
+  pub filter_all : ((x : X) → p x ≡ true) → (xs : List X) → filter p xs ≡ xs
+  filter_all all [] = refl
+  filter_all all (x ∷ xs) = ap (λ b. cond b (x ∷ filter p xs) (filter p xs)) (all x) ∙ ap (λ (ys : List X). x ∷ ys) (filter_all all xs)
+
+  -- the next of a list passes, or does not
+  pub read_passes : (xs : List X) (i : ℕ) (d : X) → i < length xs → p (get_or xs i d) ≡ true → filter p (drop i xs) ≡ get_or xs i d ∷ filter p (drop (i + 1) xs)
+  read_passes xs i d lt t =
+      ap (filter p) (cut_or xs i d lt) ∙ ap (λ b. cond b (get_or xs i d ∷ filter p (drop (i + 1) xs)) (filter p (drop (i + 1) xs))) t
+
+  pub read_stays : (xs : List X) (i : ℕ) (d : X) → i < length xs → p (get_or xs i d) ≡ false → filter p (drop i xs) ≡ filter p (drop (i + 1) xs)
+  read_stays xs i d lt t =
+      ap (filter p) (cut_or xs i d lt) ∙ ap (λ b. cond b (get_or xs i d ∷ filter p (drop (i + 1) xs)) (filter p (drop (i + 1) xs))) t
+
+-- the live list is what passes, where all pass if none has failures, or if none is alive
+abbrev pub sieved : Bool → MarkMap → ℕ → Limits → List Weighted → List Weighted
+sieved all marks moment limits list = filter (λ item. all || is_alive marks moment limits item) list
+
+never_dead : (moment : ℕ) (limits : Limits) → is_dead_mark no_mark moment limits ≡ false
+never_dead moment limits = elim (0 == limits.failures) as (λ b. (b && nat_lt moment 0) ≡ false) [ true ↦ le-ltb moment 0 (omega arith) | false ↦ refl ]
+
+all_alive : (marks : MarkMap) (moment : ℕ) (limits : Limits) → len marks ≡ 0 → (item : Weighted) → is_alive marks moment limits item ≡ true
+all_alive marks moment limits none item =
+    ap (λ m. not (is_dead_mark (mark_at m item.addr) moment limits)) (empty_of_len marks none)
+    ∙ (ap (λ o. not (is_dead_mark (unwrap_or o no_mark) moment limits)) (get-empty {X = Mark} addr_cmp item.addr) ∙ ap not (never_dead moment limits))
+
+or_all : (list : List Weighted) → some_or_all list list ≡ list
+or_all [] = refl
+or_all (item ∷ list) = refl
+
+pub none_failed : (marks : MarkMap) (moment : ℕ) (limits : Limits) (list : List Weighted) → len marks ≡ 0 → sieved true marks moment limits list ≡ live_of marks moment limits list
+none_failed marks moment limits list none =
+    let kept : filter (is_alive marks moment limits) list ≡ list = filter_all (is_alive marks moment limits) (all_alive marks moment limits none) list in
+    filter_all (λ _. true) (λ _. refl) list ∙ sym (ap (λ some. some_or_all some list) kept ∙ or_all list)
+
+none_left : (marks : MarkMap) (moment : ℕ) (limits : Limits) (list : List Weighted) → list_all (λ item. is_dead_mark (mark_at marks item.addr) moment limits) list ≡ true → filter (is_alive marks moment limits) list ≡ []
+none_left marks moment limits [] dead = refl
+none_left marks moment limits (item ∷ list) dead =
+    let here = both_are (is_dead_mark (mark_at marks item.addr) moment limits) (list_all (λ other. is_dead_mark (mark_at marks other.addr) moment limits) list) dead in
+    ap (λ b. cond (not b) (item ∷ filter (is_alive marks moment limits) list) (filter (is_alive marks moment limits) list)) here.0 ∙ none_left marks moment limits list here.1
+  where
+    both_are : (a b : Bool) → (a && b) ≡ true → (a ≡ true) × (b ≡ true)
+    both_are true b e = (refl, e)
+    both_are false b e = cc
+
+some_left : (marks : MarkMap) (moment : ℕ) (limits : Limits) (all list : List Weighted) → list_all (λ item. is_dead_mark (mark_at marks item.addr) moment limits) list ≡ false
+    → some_or_all (filter (is_alive marks moment limits) list) all ≡ filter (is_alive marks moment limits) list
+some_left marks moment limits all [] dead = cc
+some_left marks moment limits all (item ∷ list) dead =
+    let rest = some_left marks moment limits all list in
+    elim (is_dead_mark (mark_at marks item.addr) moment limits) as (λ b. (b && list_all (λ other. is_dead_mark (mark_at marks other.addr) moment limits) list) ≡ false
+    → some_or_all (cond (not b) (item ∷ filter (is_alive marks moment limits) list) (filter (is_alive marks moment limits) list)) all ≡ cond (not b) (item ∷ filter (is_alive marks moment limits) list) (filter (is_alive marks moment limits) list)) [
+      | true ↦ λ e. rest e
+      | false ↦ λ e. refl
+    ] dead
+
+-- all are dead, so all pass
+pub all_dead : (marks : MarkMap) (moment : ℕ) (limits : Limits) (list : List Weighted) → list_all (λ item. is_dead_mark (mark_at marks item.addr) moment limits) list ≡ true → sieved true marks moment limits list ≡ live_of marks moment limits list
+all_dead marks moment limits list dead = filter_all (λ _. true) (λ _. refl) list ∙ sym (ap (λ some. some_or_all some list) (none_left marks moment limits list dead))
+
+pub some_alive : (marks : MarkMap) (moment : ℕ) (limits : Limits) (list : List Weighted) → list_all (λ item. is_dead_mark (mark_at marks item.addr) moment limits) list ≡ false → sieved false marks moment limits list ≡ live_of marks moment limits list
+some_alive marks moment limits list dead = sym (some_left marks moment limits list list dead)
+
+-- as the code finds it out
+pub by_dead : (marks : MarkMap) (moment : ℕ) (limits : Limits) (list : List Weighted) (dead : Bool) → dead ≡ list_all (λ item. is_dead_mark (mark_at marks item.addr) moment limits) list
+    → sieved dead marks moment limits list ≡ live_of marks moment limits list
+by_dead marks moment limits list true is_dead = all_dead marks moment limits list (sym is_dead)
+by_dead marks moment limits list false is_dead = some_alive marks moment limits list (sym is_dead)
+
+-- where all pass the list is whole
+pub whole : (sieve : Sieve) (list : List Weighted) → sieve.all ≡ true → passing sieve list ≡ list
+whole sieve list all = filter_all (passes sieve) (λ item. ap (λ b. b || is_alive sieve.marks.now sieve.moment sieve.limits item) all) list
+
+some_or : (some all : List Weighted) → 0 < length all → 0 < length (some_or_all some all)
+some_or [] all more = more
+some_or (item ∷ some) all more = omega arith
+
+-- a live list is not empty
+pub live_some : (marks : MarkMap) (moment : ℕ) (limits : Limits) (list : List Weighted) → 0 < length list → 0 < length (live_of marks moment limits list)
+live_some marks moment limits list more = some_or (filter (is_alive marks moment limits) list) list more
+
+-- a place within a list has an address
+pub has_place : (list : List Weighted) (at : ℕ) → at < length list → slice_get list at ≡ None → ⊥
+has_place [] at lt none = omega arith
+has_place (item ∷ list) zero lt none = cc
+has_place (item ∷ list) (suc at) lt none = has_place list at (omega arith) none

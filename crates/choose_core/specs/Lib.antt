@@ -1,0 +1,10 @@
+pub mod Branch
+pub mod Good
+pub mod Laws
+pub mod Live
+pub mod Mark
+pub mod Marked
+pub mod Marks
+pub mod Over
+pub mod Pair
+pub mod Sieve

@@ -1,0 +1,54 @@
+//! Marked addresses in the order of the addresses.
+ghost use Rattle.std.specs.Prelude.{◌≡◌, ◌<◌, IfOk, IfErr};
+ghost use Rattle.std.specs.FinMap as fin;
+ghost use Rattle.std.specs.Vec.{vec_capacity};
+ghost use Rattle.choose_core.specs.Marks.{with_mark};
+ghost use Rattle.choose_core.specs.Marked.{marks_of, AreSound, IsInOrder, IsPlace, IsGap};
+
+use crate::mark::Mark;
+use addr_book::Addr;
+
+/// An address that has failures, and its mark.
+#[derive(Clone, Copy, Debug)]
+pub(crate) struct Marked {
+    pub(crate) addr: Addr,
+    pub(crate) mark: Mark,
+}
+
+/// The place of an address, or the place where it would go.
+pub(crate) fn search(items: &[Marked], addr: Addr) -> Result<usize, usize>
+    requires { IsInOrder items.now }
+    ensures found { IfOk result (IsPlace items.now addr) }
+    ensures absent { IfErr result (IsGap items.now addr) }
+{
+    items.binary_search_by(|marked| marked.addr.cmp(&addr))
+}
+
+/// Gives the address at a place another mark; it goes where that has no failures.
+pub(crate) fn set_there(items: &mut Vec<Marked>, at: usize, addr: Addr, mark: Mark)
+    requires place { IsPlace items.old.items addr at }
+    requires sound { AreSound items.old.items (vec_capacity items.old) }
+    ensures marks { marks_of items.new.items ≡ with_mark (marks_of items.old.items) addr mark }
+    ensures sound { AreSound items.new.items (vec_capacity items.new) }
+{
+    if mark.is_none() {
+        items.remove(at);
+    } else {
+        items[at] = Marked { addr, mark };
+    }
+}
+
+/// Gives an address that has no failures so far a mark, at the place where it goes. There is room for it.
+pub(crate) fn set_nowhere(items: &mut Vec<Marked>, at: usize, addr: Addr, mark: Mark)
+    requires gap { IsGap items.old.items addr at }
+    requires sound { AreSound items.old.items (vec_capacity items.old) }
+    requires room { fin.len (fin.remove (marks_of items.old.items) addr) < 8192 }
+    ensures marks { marks_of items.new.items ≡ with_mark (marks_of items.old.items) addr mark }
+    ensures sound { AreSound items.new.items (vec_capacity items.new) }
+{
+    if !mark.is_none() {
+        let inserted = items.insert(at, Marked { addr, mark });
+        let is_inserted = inserted.is_ok();
+        prove!(is_inserted);
+    }
+}
