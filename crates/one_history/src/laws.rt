@@ -1,0 +1,20 @@
+//! The laws. The functions do nothing: their contracts are the laws, for any operations and calls.
+ghost use Rattle.std.specs.Prelude.{ℕ, Bool, List, Option};
+ghost use Rattle.one_history.specs.Calls.{CallPlaces, PlacedStays};
+ghost use Rattle.one_history.specs.Order.{CountShowsOrder};
+
+/// Items stay placed while the list of published operations grows.
+pub fn placed_items_stay<O, C>()
+    ensures { (is_change : O → Bool) (publishes : List O → ℕ → ℕ → ℕ → C → Option O) → PlacedStays is_change publishes }
+{}
+
+/// Each call of a caller whose items are placed leaves them placed, with one more.
+pub fn calls_place_items<O, C>()
+    ensures { (is_change : O → Bool) (publishes : List O → ℕ → ℕ → ℕ → C → Option O) → CallPlaces is_change publishes }
+{}
+
+/// Distinct callers whose items are placed in one list made no more changes than the list has; where they made as many, each one's changes
+/// in the list are exactly those that its items published, in their order.
+pub fn counts_show_order<O, C>()
+    ensures { (is_change : O → Bool) (publishes : List O → ℕ → ℕ → ℕ → C → Option O) (caller_of : O → ℕ) → CountShowsOrder is_change publishes caller_of }
+{}
