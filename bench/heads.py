@@ -1,7 +1,8 @@
 #!/usr/bin/env python3
-"""How long reading a request head takes: one of ten fields, many times, and one of 65,535 bytes that comes byte by byte.
+"""How long heads take: reading one of ten fields, many times; reading one of 65,533 bytes that comes byte by byte; and reading and
+forwarding one that lists 16,300 names in a Connection field beside 10,900 other fields, in 65,000 bytes.
 
-It builds a small program over the crates `line_base` and `http_wire` in a folder of its own, which wants the toolchain's command rt, and runs it.
+It builds a small program over the crates of heads in a folder of its own, which wants the toolchain's command rt, and runs it.
 
 usage: bench/heads.py
 """
@@ -9,12 +10,16 @@ import os, shutil, subprocess, sys, tempfile
 
 HERE = os.path.dirname(os.path.abspath(__file__))
 CRATES = os.path.join(HERE, "..", "crates")
+CRATES_USED = ("line_base", "http_wire", "dtab_index", "name_tree", "dtab_table", "forward")
 
 PROGRAM = r'''//! Times the reading of heads.
 #![tactic(auto)]
 
-use http_wire::{Rest, read_request_head};
+use dtab_table::Dtab;
+use forward::{Going, forward_head};
+use http_wire::{Framing, Rest, read_request_head};
 use line_base::{MemPeer, MemSink, MemSource};
+use name_tree::Path;
 use std::io;
 use std::time::Instant;
 
@@ -53,7 +58,41 @@ fn main(rt: HostRuntime) -> io::Result<()> {
     let start = Instant::now(&rt)?;
     let read = read_request_head(alloc, &mut slow, &mut rest).is_ok();
     let took = start.elapsed(&rt)?.as_millis();
-    println!(rt; "one head of {size} bytes by single bytes: {read}, {took} ms")
+    println!(rt; "one head of {size} bytes by single bytes: {read}, {took} ms")?;
+    let mut hostile = Vec::new(alloc);
+    hostile.extend_from_slice(b"GET / HTTP/1.1\r\nConnection: ")?;
+    for n in 0..16300u32 {
+        hostile.push(b'a' + (n % 13) as u8)?;
+        hostile.push(b',')?;
+    }
+    hostile.extend_from_slice(b"\n")?;
+    for n in 0..10900u32 {
+        hostile.push(b'N' + (n % 13) as u8)?;
+        hostile.extend_from_slice(b":\n")?;
+    }
+    hostile.extend_from_slice(b"\n")?;
+    let size = hostile.len();
+    let mut best = u128::MAX;
+    let mut sent = 0usize;
+    for _ in 0..20u32 {
+        rest.clear();
+        rest.add(hostile.as_slice())?;
+        let start = Instant::now(&rt)?;
+        if let Ok(head) = read_request_head(alloc, &mut peer, &mut rest) {
+            let to = Going {
+                host: b"web",
+                target: b"/",
+                framing: Framing::Nothing,
+                local: &Dtab::empty(alloc),
+                service: &Path::new(alloc),
+                client: b"/a",
+                residual: b"/",
+            };
+            sent = forward_head(alloc, &head, &to)?.len();
+        }
+        best = best.min(start.elapsed(&rt)?.as_micros());
+    }
+    println!(rt; "one hostile head of {size} bytes read and forwarded as {sent} bytes, {best} us at best")
 }
 '''
 
@@ -62,15 +101,17 @@ def main():
     if not shutil.which("rt"):
         sys.exit("heads.py: the toolchain's command rt is not on the PATH")
     with tempfile.TemporaryDirectory(prefix="heads-") as work:
-        for crate in ("line_base", "http_wire"):
+        for crate in CRATES_USED:
             shutil.copytree(os.path.join(CRATES, crate), os.path.join(work, "crates", crate))
         os.makedirs(os.path.join(work, "crates", "heads", "src"))
         with open(os.path.join(work, "crates", "heads", "src", "main.rt"), "w") as file:
             file.write(PROGRAM)
         with open(os.path.join(work, "crates.txt"), "w") as file:
-            file.write("line_base:\nhttp_wire: line_base httparse http http_header http_uri\nheads: line_base http_wire\n")
+            lines = open(os.path.join(HERE, "..", "crates.txt")).read().splitlines()
+            file.write("".join(line + "\n" for line in lines if line.split(":")[0] in CRATES_USED))
+            file.write("heads: line_base http_wire name_tree dtab_table forward\n")
         done = subprocess.run(["rt", "run"], cwd=os.path.join(work, "crates", "heads"), capture_output=True, text=True)
-        lines = [line for line in done.stdout.splitlines() if line.startswith(("200000 heads", "one head"))]
+        lines = [line for line in done.stdout.splitlines() if line.startswith(("200000 heads", "one head", "one hostile"))]
         print("\n".join(lines) or done.stdout + done.stderr)
         sys.exit(done.returncode)
 

@@ -1,14 +1,22 @@
 -- The lines of a head, added one by one.
-use Rattle.std.proofs.Common.{◌≡◌, ℕ, ◌+◌, ◌<◌, Bool, true, false, cond, List, [], ◌∷◌, ◌++◌, length, map, filter, take, get_or, codes, refl, sym, ap, ◌∙◌, append_assoc}
+use Rattle.std.proofs.Common.{◌≡◌, ℕ, ◌+◌, ◌<◌, Bool, true, false, cond, All, List, [], ◌∷◌, ◌++◌, length, map, filter, take, get_or, codes, refl, sym, ap, ◌∙◌, append_assoc}
 use Rattle.std.proofs.lemmas.List.{take_more, map-append, append-nil}
-use Rattle.std.proofs.lemmas.List.Elements.{filter-append}
+use Rattle.std.proofs.lemmas.List.Elements.{All-weaker, filter-append}
 use Rattle.name_tree.specs.Path.{canon_path}
 use Rattle.dtab_table.specs.Dtab.{rules_of}
 use Rattle.http_wire.specs.declared.head.Field.{Field}
 use Rattle.http_wire.specs.declared.head.Head.{Head}
 use Rattle.forward.specs.declared.going.Going.{Going}
 use Rattle.forward.specs.Lines.{crlf, ended, line_of}
-use Rattle.forward.specs.Dropped.{goes_on, kept_beside, named_in_connection}
+use Rattle.forward.specs.declared.listed.Listed.{Listed}
+use Rattle.forward.specs.Dropped.{kept_but, named_in_connection, never_kept, never_back}
+use Rattle.forward.specs.Kept.{is_left, left_by}
+use Rattle.forward.specs.Listed.{StandFor}
+use Rattle.forward.proofs.Found.{left_is_kept}
+use Rattle.http_wire.specs.Heads.{IsSoundField}
+use Rattle.http_wire.specs.declared.head.ReplyHead.{ReplyHead}
+use Rattle.http_wire.specs.declared.frames.Framing.{Framing}
+use Rattle.forward.specs.Returned.{status_line, back_framing_lines, closing_lines, returned}
 use Rattle.forward.specs.Forwarded.{request_line, field_line, framing_lines, via, table_lines, residual_lines, forwarded}
 
 ended-append : (xs ys : List (List ℕ)) → ended (xs ++ ys) ≡ ended xs ++ ended ys
@@ -21,42 +29,60 @@ line_put r0 r1 r2 r3 name value end e1 e2 e3 =
     e3 ∙ ap (λ r. r ++ end) (e2 ∙ ap (λ r. r ++ value) e1 ∙ append_assoc r0 name value) ∙ append_assoc r0 (name ++ value) end
     ∙ ap (λ t. r0 ++ t) (sym (append-nil (name ++ value ++ end)))
 
--- the lines of the fields that go on
-abbrev kept_lines : List (List ℕ) → List Field → List ℕ
-kept_lines listed fields = ended (map field_line (kept_beside listed fields))
+-- the parts of a status line and the end of a line are one line
+pub status_put : (r0 r1 r2 r3 r4 a b c d : List ℕ) → r1 ≡ r0 ++ a → r2 ≡ r1 ++ b → r3 ≡ r2 ++ c → r4 ≡ r3 ++ d
+    → r4 ++ crlf ≡ r0 ++ ended ((a ++ b ++ c ++ d) ∷ [])
+status_put r0 r1 r2 r3 r4 a b c d e1 e2 e3 e4 =
+    ap (λ r. r ++ crlf) (e4 ∙ ap (λ r. r ++ d) (e3 ∙ ap (λ r. r ++ c) (e2 ∙ ap (λ r. r ++ b) e1))) ∙ simp (append_assoc, append-nil)
 
--- a field that goes on is one line
-pub kept_line : (listed : List (List ℕ)) (field : Field) → goes_on listed field ≡ true → kept_lines listed (field ∷ []) ≡ ended (field_line field ∷ [])
-unfolding kept_beside
-kept_line listed field holds = ap (λ (b : Bool). ended (map field_line (cond b (field ∷ []) []))) holds
+-- the lines of the fields that are left
+abbrev left_lines : List (List ℕ) → Listed → List Field → List ℕ
+left_lines never listed fields = ended (map field_line (left_by never listed fields))
 
--- one that does not is none
-pub no_line : (listed : List (List ℕ)) (field : Field) → goes_on listed field ≡ false → kept_lines listed (field ∷ []) ≡ []
-unfolding kept_beside
-no_line listed field fails = ap (λ (b : Bool). ended (map field_line (cond b (field ∷ []) []))) fails
+-- a field that is left is one line
+pub left_line : (never : List (List ℕ)) (listed : Listed) (field : Field) → is_left never listed field ≡ true
+    → left_lines never listed (field ∷ []) ≡ ended (field_line field ∷ [])
+unfolding left_by
+left_line never listed field holds = ap (λ (b : Bool). ended (map field_line (cond b (field ∷ []) []))) holds
+
+-- one that is not is none
+pub no_line : (never : List (List ℕ)) (listed : Listed) (field : Field) → is_left never listed field ≡ false → left_lines never listed (field ∷ []) ≡ []
+unfolding left_by
+no_line never listed field fails = ap (λ (b : Bool). ended (map field_line (cond b (field ∷ []) []))) fails
 
 -- no fields are no lines
-pub nothing_kept : (listed : List (List ℕ)) (bytes : List ℕ) → bytes ≡ bytes ++ kept_lines listed []
-unfolding kept_beside
-nothing_kept listed bytes = sym (append-nil bytes)
+pub nothing_left : (never : List (List ℕ)) (listed : Listed) (bytes : List ℕ) → bytes ≡ bytes ++ left_lines never listed []
+unfolding left_by
+nothing_left never listed bytes = sym (append-nil bytes)
 
-kept-append : (listed : List (List ℕ)) (xs ys : List Field) → kept_lines listed (xs ++ ys) ≡ kept_lines listed xs ++ kept_lines listed ys
-unfolding kept_beside
-kept-append listed xs ys =
-    ap (λ fs. ended (map field_line fs)) (filter-append (goes_on listed) xs ys)
-    ∙ ap ended (map-append field_line (filter (goes_on listed) xs) (filter (goes_on listed) ys))
-    ∙ ended-append (map field_line (filter (goes_on listed) xs)) (map field_line (filter (goes_on listed) ys))
+left-append : (never : List (List ℕ)) (listed : Listed) (xs ys : List Field)
+    → left_lines never listed (xs ++ ys) ≡ left_lines never listed xs ++ left_lines never listed ys
+unfolding left_by
+left-append never listed xs ys =
+    ap (λ fs. ended (map field_line fs)) (filter-append (is_left never listed) xs ys)
+    ∙ ap ended (map-append field_line (filter (is_left never listed) xs) (filter (is_left never listed) ys))
+    ∙ ended-append (map field_line (filter (is_left never listed) xs)) (map field_line (filter (is_left never listed) ys))
 
 -- one field more
-pub kept_more : (listed : List (List ℕ)) (fields : List Field) (k : ℕ) (field : Field) (r0 r1 r2 : List ℕ) → k < length fields
-    → field ≡ get_or fields k field → r1 ≡ r0 ++ kept_lines listed (take k fields) → r2 ≡ r1 ++ kept_lines listed (field ∷ [])
-    → r2 ≡ r0 ++ kept_lines listed (take (k + 1) fields)
-kept_more listed fields k field r0 r1 r2 less at before put =
-    let step : kept_lines listed (take (k + 1) fields) ≡ kept_lines listed (take k fields) ++ kept_lines listed (field ∷ [])
-    = ap (kept_lines listed) (take_more fields k field less)
-    ∙ ap (λ (f : Field). kept_lines listed (take k fields ++ f ∷ [])) (sym at)
-    ∙ kept-append listed (take k fields) (field ∷ []) in
-    rw (put, before, step) (append_assoc r0 (kept_lines listed (take k fields)) (kept_lines listed (field ∷ [])))
+pub left_more : (never : List (List ℕ)) (listed : Listed) (fields : List Field) (k : ℕ) (field : Field) (r0 r1 r2 : List ℕ) → k < length fields
+    → field ≡ get_or fields k field → r1 ≡ r0 ++ left_lines never listed (take k fields) → r2 ≡ r1 ++ left_lines never listed (field ∷ [])
+    → r2 ≡ r0 ++ left_lines never listed (take (k + 1) fields)
+left_more never listed fields k field r0 r1 r2 less at before put =
+    let step : left_lines never listed (take (k + 1) fields) ≡ left_lines never listed (take k fields) ++ left_lines never listed (field ∷ [])
+    = ap (left_lines never listed) (take_more fields k field less)
+    ∙ ap (λ (f : Field). left_lines never listed (take k fields ++ f ∷ [])) (sym at)
+    ∙ left-append never listed (take k fields) (field ∷ []) in
+    rw (put, before, step) (append_assoc r0 (left_lines never listed (take k fields)) (left_lines never listed (field ∷ [])))
+
+-- the lines of the fields that are left are those of the fields that go on
+pub left_kept : (never : List (List ℕ)) (listed : Listed) (fields all : List Field) → fields ≡ all
+    → StandFor listed.names.items (named_in_connection all) → All IsSoundField all
+    → left_lines never listed fields ≡ ended (map field_line (kept_but never all))
+unfolding left_by kept_but
+left_kept never listed fields all same stands sound =
+    ap (left_lines never listed) same
+    ∙ ap (λ fs. ended (map field_line fs))
+    (left_is_kept never listed all all stands (All-weaker IsSoundField (λ (f : Field). 0 < length f.name) (λ f field. field.0.0) all sound))
 
 -- more lines behind those that stand
 grown : (lines more : List (List ℕ)) (before after : List ℕ) → before ≡ ended lines → after ≡ before ++ ended more → after ≡ ended (lines ++ more)
@@ -96,16 +122,14 @@ all_joined q h v s c e ks fs ts rs r0 r1 r2 r3 r4 r5 r6 r7 r8 r9 r10 e0 e1 e2 e3
     grown (l8 ++ rs) (e ∷ []) r9 r10 g9 e10 ∙ ap ended (regrouped q h v s c e ks fs ts rs)
 
 -- the bytes behind all lines are the head
-pub head_joined : (head : Head) (to : Going) (method said : List ℕ) (fields : List Field) (listed : List (List ℕ))
+pub head_joined : (head : Head) (to : Going) (method said : List ℕ)
     (r0 r1 r2 r3 r4 r5 r6 r7 r8 r9 r10 r11 : List ℕ)
     → method ≡ head.method
     → said ≡ via head.version
-    → fields ≡ head.fields
-    → listed ≡ named_in_connection head.fields
     → r0 ≡ []
     → r1 ≡ r0 ++ ended (request_line method to.target.now ∷ [])
     → r2 ≡ r1 ++ ended (line_of (codes "Host") to.host.now ∷ [])
-    → r3 ≡ r2 ++ kept_lines listed fields
+    → r3 ≡ r2 ++ ended (map field_line (kept_but never_kept head.fields))
     → r4 ≡ r3 ++ ended (framing_lines to.framing)
     → r5 ≡ r4 ++ ended (line_of (codes "Via") said ∷ [])
     → r6 ≡ r5 ++ ended (table_lines (rules_of to.local.now))
@@ -116,14 +140,47 @@ pub head_joined : (head : Head) (to : Going) (method said : List ℕ) (fields : 
     → r11 ≡ r10 ++ crlf
     → r11 ≡ forwarded head to
 unfolding forwarded
-head_joined head to method said fields listed r0 r1 r2 r3 r4 r5 r6 r7 r8 r9 r10 r11 m v f l e0 e1 e2 e3 e4 e5 e6 e7 e8 e9 e10 e11 =
+head_joined head to method said r0 r1 r2 r3 r4 r5 r6 r7 r8 r9 r10 r11 m v e0 e1 e2 e3 e4 e5 e6 e7 e8 e9 e10 e11 =
     let first : r1 ≡ r0 ++ ended (request_line head.method to.target.now ∷ [])
     = e1 ∙ ap (λ t. r0 ++ ended (request_line t to.target.now ∷ [])) m in
-    let third : r3 ≡ r2 ++ kept_lines (named_in_connection head.fields) head.fields = e3 ∙ (λ k. r2 ++ kept_lines (l k) (f k)) in
     let fifth : r5 ≡ r4 ++ ended (line_of (codes "Via") (via head.version) ∷ []) = e5 ∙ ap (λ t. r4 ++ ended (line_of (codes "Via") t ∷ [])) v in
     e11
     ∙ ap (λ b. b ++ crlf)
     (all_joined (request_line head.method to.target.now) (line_of (codes "Host") to.host.now) (line_of (codes "Via") (via head.version))
     (line_of (codes "l5d-dst-service") (canon_path to.service.now)) (line_of (codes "l5d-dst-client") to.client.now)
-    (line_of (codes "Connection") (codes "close")) (map field_line (kept_beside (named_in_connection head.fields) head.fields)) (framing_lines to.framing)
-    (table_lines (rules_of to.local.now)) (residual_lines to.residual.now) r0 r1 r2 r3 r4 r5 r6 r7 r8 r9 r10 e0 first e2 third e4 fifth e6 e7 e8 e9 e10)
+    (line_of (codes "Connection") (codes "close")) (map field_line (kept_but never_kept head.fields)) (framing_lines to.framing)
+    (table_lines (rules_of to.local.now)) (residual_lines to.residual.now) r0 r1 r2 r3 r4 r5 r6 r7 r8 r9 r10 e0 first e2 e3 e4 fifth e6 e7 e8 e9 e10)
+
+back_joined : (q v : List ℕ) (ks fs cs : List (List ℕ)) (r0 r1 r2 r3 r4 r5 r6 : List ℕ)
+    → r0 ≡ []
+    → r1 ≡ r0 ++ ended (q ∷ [])
+    → r2 ≡ r1 ++ ended ks
+    → r3 ≡ r2 ++ ended fs
+    → r4 ≡ r3 ++ ended (v ∷ [])
+    → r5 ≡ r4 ++ ended cs
+    → r6 ≡ r5 ++ crlf
+    → r6 ≡ ended (q ∷ ks ++ fs ++ v ∷ cs) ++ crlf
+back_joined q v ks fs cs r0 r1 r2 r3 r4 r5 r6 e0 e1 e2 e3 e4 e5 e6 =
+    let g1 : r1 ≡ ended (q ∷ []) = e1 ∙ ap (λ r. r ++ ended (q ∷ [])) e0 in
+    let g2 : r2 ≡ ended (q ∷ ks) = grown (q ∷ []) ks r1 r2 g1 e2 in
+    let g3 : r3 ≡ ended ((q ∷ ks) ++ fs) = grown (q ∷ ks) fs r2 r3 g2 e3 in
+    let g4 : r4 ≡ ended (((q ∷ ks) ++ fs) ++ v ∷ []) = grown ((q ∷ ks) ++ fs) (v ∷ []) r3 r4 g3 e4 in
+    let g5 : r5 ≡ ended ((((q ∷ ks) ++ fs) ++ v ∷ []) ++ cs) = grown (((q ∷ ks) ++ fs) ++ v ∷ []) cs r4 r5 g4 e5 in
+    e6 ∙ ap (λ b. b ++ crlf) (g5 ∙ ap ended (append_assoc ((q ∷ ks) ++ fs) (v ∷ []) cs))
+
+pub returned_joined : (head : ReplyHead) (framing : Framing) (chunked closing : Bool) (said reason : List ℕ) (r0 r1 r2 r3 r4 r5 r6 : List ℕ)
+    → reason ≡ head.reason
+    → said ≡ via head.version
+    → r0 ≡ []
+    → r1 ≡ r0 ++ ended (status_line head.status reason ∷ [])
+    → r2 ≡ r1 ++ ended (map field_line (kept_but never_back head.fields))
+    → r3 ≡ r2 ++ ended (back_framing_lines head framing chunked)
+    → r4 ≡ r3 ++ ended (line_of (codes "Via") said ∷ [])
+    → r5 ≡ r4 ++ ended (closing_lines closing)
+    → r6 ≡ r5 ++ crlf
+    → r6 ≡ returned head framing chunked closing
+unfolding returned
+returned_joined head framing chunked closing said reason r0 r1 r2 r3 r4 r5 r6 p v e0 e1 e2 e3 e4 e5 e6 =
+    back_joined (status_line head.status head.reason) (line_of (codes "Via") (via head.version)) (map field_line (kept_but never_back head.fields))
+    (back_framing_lines head framing chunked) (closing_lines closing) r0 r1 r2 r3 r4 r5 r6 e0
+    (e1 ∙ ap (λ t. r0 ++ ended (status_line head.status t ∷ [])) p) e2 e3 (e4 ∙ ap (λ t. r3 ++ ended (line_of (codes "Via") t ∷ [])) v) e5 e6

@@ -1,2 +1,3 @@
+pub mod Found
 pub mod Joined
-pub mod Listed
+pub mod Named

@@ -35,14 +35,30 @@ named_in_connection fields = pieces_of (values_of (codes "Connection") fields)
 abbrev pub has_name_of : List (List ℕ) → Field → Bool
 has_name_of names field = list_any (λ name. is_named name field) names
 
--- the field goes on, where the Connection fields list these names
-abbrev pub goes_on : List (List ℕ) → Field → Bool
-goes_on listed field = not (has_name_of never_kept field) && not (has_name_of listed field)
+-- the fields of a reply that never go back: those that are written anew, and those of one connection
+abbrev pub never_back : List (List ℕ)
+never_back =
+    codes "Content-Length"
+    ∷ codes "Transfer-Encoding"
+    ∷ codes "Connection"
+    ∷ codes "Keep-Alive"
+    ∷ codes "Proxy-Connection"
+    ∷ codes "TE"
+    ∷ codes "Trailer"
+    ∷ codes "Upgrade"
+    ∷ []
 
--- the fields that go on, where the Connection fields list these names
-unfoldable pub kept_beside : List (List ℕ) → List Field → List Field
-kept_beside listed fields = filter (goes_on listed) fields
+-- the field has none of the names that never go on, and none of those that the Connection fields list
+abbrev pub goes_on : List (List ℕ) → List (List ℕ) → Field → Bool
+goes_on never listed field = not (has_name_of never field) && not (has_name_of listed field)
 
 -- the fields that go on, in their order
+unfoldable pub kept_but : List (List ℕ) → List Field → List Field
+kept_but never fields = filter (goes_on never (named_in_connection fields)) fields
+
+-- those of a request, and those of a reply
 abbrev pub kept : List Field → List Field
-kept fields = kept_beside (named_in_connection fields) fields
+kept fields = kept_but never_kept fields
+
+abbrev pub kept_back : List Field → List Field
+kept_back fields = kept_but never_back fields

@@ -1,3 +1,7 @@
 pub mod Lines
 pub mod Dropped
 pub mod Forwarded
+pub mod Listed
+pub mod Kept
+pub mod Returned
+pub mod Sound

@@ -1,17 +1,19 @@
 //! The received fields that go on.
-ghost use Rattle.std.specs.Prelude.{◌≡◌, ◌++◌, [], ◌∷◌, OnOk, map};
-ghost use Rattle.http_wire.specs.Fields.{is_named};
-ghost use Rattle.forward.specs.Dropped.{goes_on, has_name_of, kept_beside, never_kept};
+ghost use Rattle.std.specs.Prelude.{◌≡◌, ◌++◌, [], ◌∷◌, IfOk, OnOk, map};
+ghost use Rattle.forward.specs.Dropped.{has_name_of};
+ghost use Rattle.forward.specs.Kept.{is_left, left_by};
 ghost use Rattle.forward.specs.Forwarded.{field_line};
 ghost use Rattle.forward.specs.Lines.{ended};
 
 use crate::line::push_field;
+use crate::listed::Listed;
 use crate::{Bytes, Mem};
 use http_wire::Field;
+use std::alloc::Global;
 
 /// The names of the fields that never go on: those that are written anew, those of one connection (RFC 9110 section 7.6.1), Expect,
 /// since no interim reply comes back, and the router's own.
-const NEVER_KEPT: [&str; 15] = [
+pub(crate) const NEVER_KEPT: [&str; 15] = [
     "Host",
     "Content-Length",
     "Transfer-Encoding",
@@ -29,54 +31,68 @@ const NEVER_KEPT: [&str; 15] = [
     "l5d-dst-residual",
 ];
 
-/// Adds the lines of the fields that go on, where the Connection fields list these names.
-pub(crate) fn push_kept(head: &mut Bytes, fields: &[Field], listed: &[&[u8]]) -> Mem<()>
+/// The names of the fields of a reply that never go back: those that are written anew, and those of one connection.
+pub(crate) const NEVER_BACK: [&str; 8] = [
+    "Content-Length",
+    "Transfer-Encoding",
+    "Connection",
+    "Keep-Alive",
+    "Proxy-Connection",
+    "TE",
+    "Trailer",
+    "Upgrade",
+];
+
+/// Adds the lines of the fields that go on: all but those of the names that never do, and those that the Connection fields list.
+pub(crate) fn push_kept(
+    alloc: Global,
+    head: &mut Bytes,
+    fields: &[Field],
+    never: &[&str],
+    listed: &Listed,
+) -> Mem<()>
     ensures { OnOk result (head.new.items ≡ head.old.items
-        ++ ended (map field_line (kept_beside (map (λ n. n.now) listed.now) fields.now))) }
+        ++ ended (map field_line (left_by (map (λ n. n.now) never.now) listed.now fields.now))) }
 {
+    let mut room = Vec::new(alloc);
     for field in fields {
-        push_where_kept(head, field, listed)?;
+        push_where_left(head, field, never, listed, &mut room)?;
     }
     Ok(())
 }
 
 /// Adds the line of a field, where it goes on.
-fn push_where_kept(head: &mut Bytes, field: &Field, listed: &[&[u8]]) -> Mem<()>
+fn push_where_left(
+    head: &mut Bytes,
+    field: &Field,
+    never: &[&str],
+    listed: &Listed,
+    room: &mut Bytes,
+) -> Mem<()>
     ensures { OnOk result (head.new.items ≡ head.old.items
-        ++ ended (map field_line (kept_beside (map (λ n. n.now) listed.now) (field.now ∷ [])))) }
+        ++ ended (map field_line (left_by (map (λ n. n.now) never.now) listed.now (field.now ∷ [])))) }
 {
-    if !goes_on(field, listed) {
+    let on = goes_on(field, never, listed, room)?;
+    if !on {
         return Ok(());
     }
     push_field(head, field.name.bytes(), field.value.bytes())
 }
 
-/// Whether the field goes on, where the Connection fields list these names.
-fn goes_on(field: &Field, listed: &[&[u8]]) -> bool
-    ensures { result ≡ goes_on (map (λ n. n.now) listed.now) field.now }
+/// Whether the field goes on. `room` is room for its name in lower case.
+fn goes_on(field: &Field, never: &[&str], listed: &Listed, room: &mut Bytes) -> Mem<bool>
+    ensures { IfOk result (λ on. on ≡ is_left (map (λ n. n.now) never.now) listed.now field.now) }
 {
-    !is_never_kept(field) && !is_listed(field, listed)
-}
-
-/// Whether the field is one of those that never go on.
-fn is_never_kept(field: &Field) -> bool
-    ensures { result ≡ has_name_of never_kept field.now }
-{
-    NEVER_KEPT
-        .iter()
-        .any(|name| has_name(field, name.as_bytes()))
+    if is_any_of(field, never) {
+        return Ok(false);
+    }
+    let found = listed.has(field.name.bytes(), room)?;
+    Ok(!found)
 }
 
 /// Whether the field has one of these names, in any case.
-fn is_listed(field: &Field, names: &[&[u8]]) -> bool
+fn is_any_of(field: &Field, names: &[&str]) -> bool
     ensures { result ≡ has_name_of (map (λ n. n.now) names.now) field.now }
 {
-    names.iter().any(|name| has_name(field, name))
-}
-
-/// Whether the field has this name, in any case.
-fn has_name(field: &Field, name: &[u8]) -> bool
-    ensures { result ≡ is_named name.now field.now }
-{
-    field.name.bytes().eq_ignore_ascii_case(name)
+    names.iter().any(|name| field.name.is(name))
 }

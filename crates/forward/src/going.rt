@@ -1,22 +1,24 @@
 //! The whole head, line by line.
 ghost use Rattle.std.specs.Prelude.{◌≡◌, ◌++◌, [], ◌∷◌, codes, IfOk, OnOk};
+ghost use Rattle.http_wire.specs.Sound.{IsSoundHead};
 ghost use Rattle.name_tree.specs.Path.{canon_path};
 ghost use Rattle.dtab_table.specs.Dtab.{rules_of};
 ghost use Rattle.forward.specs.Lines.{ended, line_of};
+ghost use Rattle.forward.specs.Sound.{IsSoundWay};
 ghost use Rattle.forward.specs.Forwarded.{forwarded, framing_lines, request_line, residual_lines, table_lines, via};
 
-use crate::dropped::push_kept;
+use crate::dropped::{NEVER_KEPT, push_kept};
 use crate::line::{end_line, push_field, push_line};
-use crate::names::named_in_connection;
-use crate::{Bytes, Mem};
+use crate::listed::Listed;
+use crate::{Bytes, Mem, ROOM};
 use dtab_table::{Dtab, write_dtab};
 use http_wire::{Framing, Head};
 use itoa::Buffer;
 use name_tree::{Path, append_path};
 use std::alloc::Global;
 
-/// What the head has on its way to a replica, beside what was received. Each text stands in the head as it is given here, so the caller
-/// sees to it that none has a CR or an LF.
+/// What the head has on its way to a replica, beside what was received. Each text stands in the head as it is given here, so it has to have
+/// the bytes that may stand there: `IsSoundWay` of `specs/Sound.antt` says which.
 #[derive(Clone, Copy, Debug)]
 pub struct Going<'a> {
     /// The value of the Host field: whom the request asks, or the address that is dialled where it names nobody.
@@ -36,21 +38,20 @@ pub struct Going<'a> {
     pub residual: &'a [u8],
 }
 
-/// How many bytes a head has room for from the start. It grows where it needs more.
-const ROOM: usize = 1024;
-
 /// The head of the request as it goes on to a replica: `docs/HTTP.md` has its lines in order.
 ///
-/// It takes time for the bytes of both heads, and compares each field's name with each name that the Connection fields list. It takes
-/// memory for the bytes that it gives, for a reference to each listed name, and for the text of the table, if that has an entry.
+/// It takes time for the bytes of both heads, and a search by halves among the names that Connection fields list for each field. It takes
+/// memory for the bytes that it gives, for the listed names, and for the text of the table, if that has an entry.
 pub fn forward_head(alloc: Global, head: &Head, to: &Going<'_>) -> Mem<Bytes>
+    requires head { IsSoundHead head.now }
+    requires way { IsSoundWay to.now }
     ensures { IfOk result (λ bytes. bytes.items ≡ forwarded head.now to.now) }
 {
     let mut bytes = Vec::with_capacity(alloc, ROOM)?;
-    let listed = named_in_connection(alloc, head.fields.items())?;
+    let listed = Listed::of(alloc, head.fields.items())?;
     push_request_line(&mut bytes, head.method.as_str(), to.target)?;
     push_line(&mut bytes, "Host", to.host)?;
-    push_kept(&mut bytes, head.fields.items(), listed.as_slice())?;
+    push_kept(alloc, &mut bytes, head.fields.items(), &NEVER_KEPT, &listed)?;
     push_framing(&mut bytes, to.framing)?;
     push_line(&mut bytes, "Via", via(head.version).as_bytes())?;
     push_table(alloc, &mut bytes, to.local)?;
@@ -88,7 +89,7 @@ fn push_framing(head: &mut Bytes, framing: Framing) -> Mem<()>
 }
 
 /// The value of the Via field that is added, by the minor version of the request.
-fn via(minor: u8) -> &'static str
+pub(crate) fn via(minor: u8) -> &'static str
     ensures { result.now ≡ via minor }
 {
     if minor == 0 {

@@ -1,12 +1,12 @@
-//! The head of a request as it goes on to a replica.
+//! The head of a request as it goes on to a replica, and that of a reply as it goes back to the client.
 //!
 //! [`forward_head`] writes it from the [`Head`](http_wire::Head) that was received and from what [`Going`] says of the way that the
 //! request takes. It names the host once, leaves out the fields that speak of one connection and those that a Connection field
 //! lists, frames the body anew, and adds the router's own fields. `docs/HTTP.md` states each line.
 //!
 //! # What is proved
-//! [`forward_head`] gives exactly the bytes of `forwarded` of `specs/Forwarded.antt`, for every head and every way. `kept` of
-//! `specs/Dropped.antt` says which fields are among them.
+//! [`forward_head`] gives exactly the bytes of `forwarded` of `specs/Forwarded.antt`, for every head and every way, and [`back_head`] those of
+//! `returned` of `specs/Returned.antt`. `kept` and `kept_back` of `specs/Dropped.antt` say which fields are among them.
 //!
 //! # Example
 //! ```
@@ -30,11 +30,14 @@
 
 use std::alloc::AllocError;
 
+mod back;
 mod dropped;
 mod going;
 mod line;
+mod listed;
 mod names;
 
+pub use back::back_head;
 pub use going::{Going, forward_head};
 
 /// A value, unless there was no memory for it.
@@ -43,5 +46,5 @@ pub type Mem<T> = Result<T, AllocError>;
 /// Bytes of a text.
 pub type Bytes = Vec<u8>;
 
-#[cfg(test)]
-mod tests;
+/// How many bytes a head has room for from the start. It grows where it needs more.
+const ROOM: usize = 1024;

@@ -1,5 +1,5 @@
 -- The names that Connection fields list, field by field.
-use Rattle.std.proofs.Common.{◌≡◌, ℕ, ◌+◌, ◌<◌, Bool, true, false, cond, List, [], ◌∷◌, ◌++◌, length, map, filter, take, get_or, codes, refl, sym, ap, ◌∙◌, append_assoc, ◌||◌, Bor, Option, subst}
+use Rattle.std.proofs.Common.{◌≡◌, ℕ, ◌+◌, ◌<◌, Bool, true, false, eqb, cond, List, [], ◌∷◌, ◌++◌, length, map, filter, take, get_or, codes, refl, sym, ap, ◌∙◌, append_assoc, ◌||◌, Bor, Option, subst}
 use Rattle.std.specs.List.{list_any}
 use Rattle.std.proofs.lemmas.List.{take_more, map-append, append-nil}
 use Rattle.std.proofs.lemmas.List.Elements.{filter-append}
@@ -8,7 +8,9 @@ use Rattle.http_wire.specs.declared.head.Field.{Field}
 use Rattle.http_wire.specs.Fields.{is_named, values_of}
 use Rattle.http_wire.specs.Framing.{pieces_of, pieces_of_value}
 use Rattle.httparse.specs.Grammar.{trim_ows}
+use Rattle.http_wire.specs.Fields.{lower}
 use Rattle.forward.specs.Dropped.{named_in_connection}
+use Rattle.forward.specs.Listed.{lowered}
 
 -- a test of any of the values is one of what they come from
 pub list_any-map : {A B : Type 0} (p : B → Bool) (v : A → B) (xs : List A) → list_any (λ x. p (v x)) xs ≡ list_any p (map v xs)
@@ -44,12 +46,32 @@ listed-append xs ys =
     ∙ ap pieces_of (map-append value (filter named xs) (filter named ys))
     ∙ pieces-append (map value (filter named xs)) (map value (filter named ys))
 
+-- ---- in lower case
+
+lowered-append : (xs ys : List (List ℕ)) → lowered (xs ++ ys) ≡ lowered xs ++ lowered ys
+lowered-append [] ys = refl
+lowered-append (x ∷ xs) ys = by_test (eqb (length x) 0) (lowered-append xs ys)
+  where
+    by_test : (t : Bool) → lowered (xs ++ ys) ≡ lowered xs ++ lowered ys
+        → cond t (lowered (xs ++ ys)) (lower x ∷ lowered (xs ++ ys)) ≡ cond t (lowered xs) (lower x ∷ lowered xs) ++ lowered ys
+    by_test true later = later
+    by_test false later = ap (λ ns. lower x ∷ ns) later
+
 -- one field more
 pub listed_more : (fields : List Field) (k : ℕ) (field : Field) (n1 n2 : List (List ℕ)) → k < length fields → field ≡ get_or fields k field
-    → n1 ≡ named_in_connection (take k fields) → n2 ≡ n1 ++ named_in_connection (field ∷ []) → n2 ≡ named_in_connection (take (k + 1) fields)
+    → n1 ≡ lowered (named_in_connection (take k fields)) → n2 ≡ n1 ++ lowered (named_in_connection (field ∷ [])) → n2 ≡ lowered (named_in_connection (take (k + 1) fields))
 listed_more fields k field n1 n2 less at before put =
-    put ∙ ap (λ ns. ns ++ named_in_connection (field ∷ [])) before ∙ sym (listed-append (take k fields) (field ∷ []))
-    ∙ ap (λ (f : Field). named_in_connection (take k fields ++ f ∷ [])) at ∙ ap named_in_connection (sym (take_more fields k field less))
+    put ∙ ap (λ ns. ns ++ lowered (named_in_connection (field ∷ []))) before
+    ∙ sym (lowered-append (named_in_connection (take k fields)) (named_in_connection (field ∷ [])))
+    ∙ ap lowered (sym (listed-append (take k fields) (field ∷ [])))
+    ∙ ap (λ (f : Field). lowered (named_in_connection (take k fields ++ f ∷ []))) at ∙ ap (λ fs. lowered (named_in_connection fs)) (sym (take_more fields k field less))
+
+-- one piece more
+pub pieces_more : (n0 n1 n2 pieces : List (List ℕ)) (piece : List ℕ) → n1 ≡ n0 ++ lowered pieces → n2 ≡ n1 ++ lowered (piece ∷ [])
+    → n2 ≡ n0 ++ lowered (pieces ++ piece ∷ [])
+pieces_more n0 n1 n2 pieces piece before put =
+    put ∙ (ap (λ ns. ns ++ lowered (piece ∷ [])) before
+    ∙ (append_assoc n0 (lowered pieces) (lowered (piece ∷ [])) ∙ ap (λ ns. n0 ++ ns) (sym (lowered-append pieces (piece ∷ [])))))
 
 -- the pieces, each without the blanks around it
 pub trimmed_each : (pieces : List (Bor (List ℕ))) (bytes : List (List ℕ)) → map (λ p. p.now) pieces ≡ bytes → map (λ p. trim_ows p.now) pieces ≡ map trim_ows bytes

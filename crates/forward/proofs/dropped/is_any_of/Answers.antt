@@ -2,8 +2,8 @@ use Rattle.std.proofs.Common.{rules, ◌∙◌, ℕ, List, Bor}
 use Rattle.std.proofs.lemmas.Iterator.{YieldsList-from_slice}
 use Rattle.std.proofs.lemmas.Iterator.Search.{any_from_yields_List}
 use Rattle.http_wire.specs.Fields.{is_named}
-use Rattle.forward.proofs.Listed.{list_any-map}
-use Rattle.forward.proofs.dropped.is_listed.Goals as goal
+use Rattle.forward.proofs.Named.{list_any-map}
+use Rattle.forward.proofs.dropped.is_any_of.Goals as goal
 
 pub returns : goal.returns
 returns c =
