@@ -11,6 +11,7 @@ pub mod Laws
 pub mod Name
 pub mod Namer
 pub mod Parts
+pub mod Seated
 pub mod Services
 pub mod Shards
 pub mod SlotMap

@@ -7,6 +7,7 @@ ghost use Rattle.addr_book.specs.AddrList.{IsAddrList};
 ghost use Rattle.addr_book.specs.Book.{after_set, after_drop, is_used};
 ghost use Rattle.addr_book.specs.Laws.{HasOwnSlots};
 ghost use Rattle.addr_book.specs.BookFault.{set_refusal, drop_refusal};
+ghost use Rattle.addr_book.specs.Seated.{IsSeated};
 
 use crate::Mem;
 use crate::addr::{Addr, Weighted};
@@ -117,6 +118,13 @@ impl Book {
     /// No two addresses share a slot.
     pub(crate) fn has_own_slots(&self)
         ensures { HasOwnSlots self.now }
+    {
+        let _parts = &self.parts;
+    }
+
+    /// Exactly the addresses of the services have slots, at most 8,192.
+    pub(crate) fn is_seated(&self)
+        ensures { IsSeated self.now }
     {
         let _parts = &self.parts;
     }

@@ -63,7 +63,7 @@ pub use bound::{Bound, BoundItem, BoundList};
 pub use fault::BookFault;
 pub use file_line::{Cut, cut_at_star, cut_line, read_line_weight, split_word, without_gap};
 pub use host::{read_host, read_port};
-pub use laws::{slots_are_apart, slots_stay};
+pub use laws::{addresses_are_seated, slots_are_apart, slots_stay};
 pub use leaf::{Cluster, Leaf};
 pub use name::{MOST_NAME_BYTES, Name, NameFault};
 pub use namer::name_answer;

@@ -65,6 +65,13 @@ impl Store {
         self.spaces.len()
     }
 
+    /// The version that the next create or put gives, unless it is 2^64 - 1.
+    pub fn next_version(&self) -> u64
+        ensures { result ≡ (contents_of self.now).next }
+    {
+        self.next
+    }
+
     /// The name at a place in the byte order of the names, counted from 0.
     pub fn name(&self, at: usize) -> &Name
         requires { at < fin.len (contents_of self.now).spaces }
