@@ -1,0 +1,12 @@
+pub mod Bindings
+pub mod Cache
+pub mod Chain
+pub mod Changes
+pub mod Hash
+pub mod Kept
+pub mod Laws
+pub mod Links
+pub mod Same
+pub mod Sizes
+pub mod Stored
+pub mod Touch
