@@ -1,0 +1,10 @@
+pub mod Candidates
+pub mod Choosing
+pub mod Code
+pub mod Decided
+pub mod Looking
+pub mod Part
+pub mod Ready
+pub mod Sound
+pub mod State
+pub mod Values

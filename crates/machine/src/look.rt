@@ -1,0 +1,57 @@
+//! Looks: what a state is asked without a pick.
+ghost use Rattle.std.specs.Prelude.{◌≡◌, IfOk};
+ghost use Rattle.machine.specs.Code.{look_value};
+
+use crate::Mem;
+use addr_book::Name;
+use dtab_table::Dtab;
+use name_tree::Path;
+use std::alloc::Global;
+
+/// A question that alters nothing.
+#[derive(Debug, Drop)]
+pub enum Look {
+    /// The version and the table of a namespace.
+    Get {
+        /// The namespace.
+        name: Name,
+    },
+    /// The names of all namespaces.
+    List,
+    /// The addresses of a service.
+    Addrs {
+        /// The service.
+        service: Name,
+    },
+    /// How much there is of each thing.
+    Counts,
+    /// How a path is delegated, lookup by lookup.
+    View {
+        /// The path.
+        path: Path,
+        /// The request's own table, which comes behind the others.
+        local: Dtab,
+    },
+}
+
+impl Look {
+    /// An equal look. It copies the path and the table of a `View`.
+    pub fn copied(&self, alloc: Global) -> Mem<Look>
+        ensures { IfOk result (λ copy. look_value copy ≡ look_value self.now) }
+    {
+        match self {
+            Look::Get { name } => Ok(Look::Get {
+                name: name.clone()?,
+            }),
+            Look::List => Ok(Look::List),
+            Look::Addrs { service } => Ok(Look::Addrs {
+                service: service.clone()?,
+            }),
+            Look::Counts => Ok(Look::Counts),
+            Look::View { path, local } => Ok(Look::View {
+                path: path.part(alloc, 0, path.len())?,
+                local: local.copied(alloc)?,
+            }),
+        }
+    }
+}

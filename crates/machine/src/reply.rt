@@ -1,0 +1,100 @@
+//! What a state answers to changes and looks.
+ghost use Rattle.std.specs.Prelude.{◌≡◌};
+
+use addr_book::{AddrList, Name};
+use bind_core::{Outcome, Trace};
+use choose_core::Mark;
+use dtab_table::Dtab;
+use std::marker::Model;
+
+/// The answer to a change or a look.
+#[derive(Debug, Drop)]
+pub enum Reply {
+    /// A namespace was created or its table replaced: its version.
+    Version(u64),
+    /// Refused: the namespace is there, with this version.
+    Exists(u64),
+    /// Refused: there are 256 namespaces.
+    TooManyNames,
+    /// Refused: no version is left to give.
+    VersionsSpent,
+    /// Refused, or nothing to show: the namespace or the service is not there.
+    Missing,
+    /// Refused: the namespace has this version, another than was said.
+    Stale(u64),
+    /// The namespace is gone.
+    Deleted,
+    /// The service has so many addresses.
+    Set(u32),
+    /// Refused: the book would have so many distinct addresses, more than 8,192.
+    BookFull(u32),
+    /// Refused: there are 4,096 services.
+    TooManyServices,
+    /// The service is gone.
+    Dropped,
+    /// The address has this mark.
+    Marked(Mark),
+    /// No service has the address, so nothing is kept of it.
+    NotKept,
+    /// Refused: 2^64 - 1 changes were accepted before.
+    HistorySpent,
+    /// A namespace's table.
+    Table {
+        /// Its version.
+        version: u64,
+        /// Its table.
+        dtab: Dtab,
+    },
+    /// The names of all namespaces, in the order of their bytes.
+    Names(NameList),
+    /// The addresses of a service, in their order.
+    Addrs(AddrList),
+    /// How much there is of each thing.
+    Counts {
+        /// How many changes were accepted.
+        changes: u64,
+        /// How many addresses have a count of failures above 0.
+        marks: u32,
+        /// How many namespaces there are.
+        namespaces: u32,
+        /// How many services there are.
+        services: u32,
+    },
+    /// How a path is delegated.
+    Viewed {
+        /// What it comes to, before branches without addresses are left out.
+        outcome: Outcome,
+        /// Its lookups, in the order in which they began.
+        trace: Trace,
+    },
+}
+
+/// Some names, in order. Contracts see the list of their bytes.
+#[derive(Debug, Drop)]
+pub struct NameList {
+    items: Vec<Name>,
+}
+
+impl Model for NameList {
+    ghost use Rattle.std.specs.Prelude.{List, ℕ};
+
+    ghost Value = { List (List ℕ) };
+
+    ghost view = { λ l. l.items.items };
+}
+
+impl NameList {
+    /// These names, in their order. It takes no memory.
+    pub fn of(items: Vec<Name>) -> NameList
+        ensures { result ≡ items.items }
+    {
+        NameList { items }
+    }
+
+    /// The names, in order.
+    pub fn items(&self) -> &[Name]
+        ensures { result.now ≡ self.now }
+    {
+        self.items.as_slice()
+    }
+}
