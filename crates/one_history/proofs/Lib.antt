@@ -1,3 +1,4 @@
 pub mod Facts
 pub mod Growing
 pub mod Owning
+pub mod Turning

@@ -1,6 +1,7 @@
 -- Whose changes a list of published operations has.
-use Rattle.std.specs.Prelude.{◌≡◌, ◌≢◌, ℕ, ◌+◌, ◌≤◌, ◌==◌, ◌&&◌, Bool, List, [], ◌∷◌, map, filter, length, All, ⊤, Option, Some}
-use Rattle.one_history.specs.Entries.{entries, changes_made}
+use Rattle.std.specs.Prelude.{◌≡◌, ◌≢◌, ℕ, ◌+◌, ◌≤◌, ◌==◌, ◌&&◌, Bool, List, [], ◌∷◌, ◌++◌, map, filter, length, All, ⊤, Option, Some, false}
+use Rattle.std.specs.Option.{option_to_list}
+use Rattle.one_history.specs.Entries.{entries, changes_made, others_made}
 use Rattle.one_history.specs.Calls.{Placed}
 
 -- no two of these numbers are one
@@ -37,3 +38,13 @@ module _ {O C : Type 0} (is_change : O → Bool) (publishes : List O → ℕ →
   CountShowsOrder = (ops : List O) (callers : Callers) → Distinct (map (λ p. p.0) callers) → All (λ p. OfCaller p.0) callers
       → All (λ p. Placed is_change publishes p.0 ops p.1) callers → length (filter is_change ops) ≤ changes_of_all ops callers
       → All (λ p. InOrder p.0 ops p.1) callers × (length (filter is_change ops) ≡ changes_of_all ops callers)
+
+  -- items stay in order while others publish
+  abbrev pub OthersLeaveOrder : Type 0
+  OthersLeaveOrder = (caller : ℕ) (seen : List O) (items : List (C × ℕ)) (op : O) → InOrder caller seen items → (is_change op && (caller_of op == caller)) ≡ false
+      → InOrder caller (seen ++ op ∷ []) items
+
+  -- a call behind all that was published, with what it publishes next, keeps them in order
+  abbrev pub CallKeepsOrder : Type 0
+  CallKeepsOrder = (caller : ℕ) (seen : List O) (items : List (C × ℕ)) (call : C) → OfCaller caller → InOrder caller seen items
+      → InOrder caller (seen ++ option_to_list (publishes seen caller (changes_made is_change publishes caller seen items) (others_made is_change publishes caller seen items) call)) (items ++ (call, length seen) ∷ [])

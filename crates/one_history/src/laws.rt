@@ -1,7 +1,7 @@
 //! The laws. The functions do nothing: their contracts are the laws, for any operations and calls.
 ghost use Rattle.std.specs.Prelude.{ℕ, Bool, List, Option};
 ghost use Rattle.one_history.specs.Calls.{CallPlaces, PlacedStays};
-ghost use Rattle.one_history.specs.Order.{CountShowsOrder};
+ghost use Rattle.one_history.specs.Order.{CountShowsOrder, OthersLeaveOrder, CallKeepsOrder};
 
 /// Items stay placed while the list of published operations grows.
 pub fn placed_items_stay<O, C>()
@@ -17,4 +17,11 @@ pub fn calls_place_items<O, C>()
 /// in the list are exactly those that its items published, in their order.
 pub fn counts_show_order<O, C>()
     ensures { (is_change : O → Bool) (publishes : List O → ℕ → ℕ → ℕ → C → Option O) (caller_of : O → ℕ) → CountShowsOrder is_change publishes caller_of }
+{}
+
+/// A caller's items stay in order while other callers publish, and with one more call of its own behind all that was published, with what that publishes
+/// next.
+pub fn callers_stay_in_order<O, C>()
+    ensures others { (is_change : O → Bool) (publishes : List O → ℕ → ℕ → ℕ → C → Option O) (caller_of : O → ℕ) → OthersLeaveOrder is_change publishes caller_of }
+    ensures own { (is_change : O → Bool) (publishes : List O → ℕ → ℕ → ℕ → C → Option O) (caller_of : O → ℕ) → CallKeepsOrder is_change publishes caller_of }
 {}

@@ -15,6 +15,7 @@
 //! [`placed_items_stay`]: items stay placed while the list grows. [`calls_place_items`]: each call places one item more. [`counts_show_order`]: callers of which no
 //! two are one, whose items are placed in one list, made no more changes than the list has; where they made as many, the list has no other
 //! change, and each caller's stand in it as its items published them. So a count that threads keep shows that nothing was published twice or by nobody.
+//! [`callers_stay_in_order`]: a caller's items stay in order while others publish, and with one more call at the end.
 //!
 //! # Example
 //! A caller with the number 0 that made a change, looked, and made another one, while caller 1 made one between:
@@ -27,4 +28,4 @@
 
 mod laws;
 
-pub use laws::{calls_place_items, counts_show_order, placed_items_stay};
+pub use laws::{callers_stay_in_order, calls_place_items, counts_show_order, placed_items_stay};
