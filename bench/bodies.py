@@ -11,6 +11,7 @@ import os, shutil, subprocess, sys, tempfile
 
 HERE = os.path.dirname(os.path.abspath(__file__))
 CRATES = os.path.join(HERE, "..", "crates")
+CRATES_USED = ("line_base", "http_wire", "body_wire")
 
 PROGRAM = r'''//! Times the passing of bodies.
 #![tactic(auto)]
@@ -102,13 +103,15 @@ def main():
     if not shutil.which("rt"):
         sys.exit("bodies.py: the toolchain's command rt is not on the PATH")
     with tempfile.TemporaryDirectory(prefix="bodies-") as work:
-        for crate in ("line_base", "http_wire", "body_wire"):
+        for crate in CRATES_USED:
             shutil.copytree(os.path.join(CRATES, crate), os.path.join(work, "crates", crate))
         os.makedirs(os.path.join(work, "crates", "bodies", "src"))
         with open(os.path.join(work, "crates", "bodies", "src", "main.rt"), "w") as file:
             file.write(PROGRAM)
         with open(os.path.join(work, "crates.txt"), "w") as file:
-            file.write("line_base:\nhttp_wire: line_base httparse http http_uri\nbody_wire: line_base http_wire httparse\nbodies: line_base http_wire body_wire\n")
+            lines = open(os.path.join(HERE, "..", "crates.txt")).read().splitlines()
+            file.write("".join(line + "\n" for line in lines if line.split(":")[0] in CRATES_USED))
+            file.write("bodies: line_base http_wire body_wire\n")
         done = subprocess.run(["rt", "run"], cwd=os.path.join(work, "crates", "bodies"), capture_output=True, text=True)
         lines = [line for line in done.stdout.splitlines() if line.startswith("bodies ")]
         for line in lines:

@@ -1,3 +1,6 @@
 pub mod Found
 pub mod Joined
 pub mod Named
+pub mod CanonBytes
+pub mod Written
+pub mod Whole

@@ -5,3 +5,4 @@ pub mod Listed
 pub mod Kept
 pub mod Returned
 pub mod Sound
+pub mod Laws

@@ -21,6 +21,7 @@
 //!     client: b"/$/inet/127.0.0.1/9001",
 //!     residual: b"/",
 //! };
+//! assert!(to.is_sound());
 //! assert_eq!(
 //!     forward_head(alloc, &head, &to)?.as_slice(),
 //!     b"GET / HTTP/1.1\r\nHost: web\r\nX-Kept: 2\r\nVia: 1.1 linkerd\r\nl5d-dst-service: /svc/web\r\nl5d-dst-client: /$/inet/127.0.0.1/9001\r\nConnection: close\r\n\r\n"
@@ -33,12 +34,15 @@ use std::alloc::AllocError;
 mod back;
 mod dropped;
 mod going;
+mod laws;
 mod line;
 mod listed;
 mod names;
+mod texts;
 
 pub use back::back_head;
 pub use going::{Going, forward_head};
+pub use laws::heads_read_back;
 
 /// A value, unless there was no memory for it.
 pub type Mem<T> = Result<T, AllocError>;
@@ -48,3 +52,6 @@ pub type Bytes = Vec<u8>;
 
 /// How many bytes a head has room for from the start. It grows where it needs more.
 const ROOM: usize = 1024;
+
+#[cfg(test)]
+mod tests;
