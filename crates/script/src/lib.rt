@@ -1,0 +1,52 @@
+//! Scripts for a router: the lines that ask for changes, looks and picks, what they do, and the texts of the replies.
+//!
+//! [`read_line`] reads a line as a [`Line`], [`carry_out`] carries it out on a state of the router, and [`reply_text`] writes the reply to it.
+//! [`script_settings`] is what the router of scripts is set up with.
+//!
+//! # Lines
+//! Words stand between spaces and tabs. TABLE goes from its first other byte to the end of the line.
+//!
+//! | line | asks |
+//! |---|---|
+//! | `dtab TABLE` | the table of the namespace `default` |
+//! | `create NAME TABLE` | a new namespace |
+//! | `put NAME VERSION TABLE`, `delete NAME VERSION` | the namespace that has this version, `*` for any |
+//! | `get NAME`, `list` | a namespace's version and table, the names of all |
+//! | `addrs NAME ADDRESS ..`, `drop NAME` | a service's addresses, each `host:port` or `host:port*weight` |
+//! | `fail ADDRESS MOMENT`, `good ADDRESS MOMENT` | a report on an address |
+//! | `pick PATH`, `pick PATH MOMENT WORD WORD WORD TABLE` | a replica for a path |
+//! | `view PATH` | how a path is delegated |
+//!
+//! # What is proved
+//! A line is read exactly as `specs/Line.antt` has it, and [`LineFault::BadLine`] comes exactly where it is outside the grammar. What a line is answered
+//! and the state that it leaves are exactly those of `specs/Carried.antt`. The text of a reply is exactly that of `specs/Reply.antt`.
+//!
+//! # Example
+//! ```
+//! let settings = script_settings(alloc)?;
+//! let mut state = State::start(alloc)?;
+//! let line = read_line(alloc, b"dtab /svc => /$/inet/127.0.0.1/8080")?;
+//! let said = carry_out(alloc, &settings, &mut state, line, &mut steps)?;
+//! // Some(Said::Ok), whose text is `ok`.
+//! ```
+#![tactic(auto)]
+
+use std::alloc::AllocError;
+
+mod addrs;
+mod carried;
+mod command;
+mod line;
+mod reply;
+mod words;
+
+pub use carried::{carry_out, script_settings};
+pub use line::{Line, read_line};
+pub use reply::{Said, reply_text};
+pub use words::LineFault;
+
+/// A value, unless there was no memory for it.
+pub type Mem<T> = Result<T, AllocError>;
+
+/// Bytes of a text.
+pub type Bytes = Vec<u8>;

@@ -1,0 +1,180 @@
+//! The words of a script's line, and what they stand for.
+ghost use Rattle.std.specs.Prelude.{◌≡◌, ◌-◌, ◌^◌, None, Some, MatchResult, IfOk, IfErr, IfSome, option_map};
+ghost use Rattle.std.specs.Option.{option_and_then};
+ghost use Rattle.addr_book.specs.Addr.{at_most, digits_behind, port_value};
+ghost use Rattle.addr_book.specs.AddrList.{IsWeight};
+ghost use Rattle.addr_book.specs.FileLine.{is_empty, word_of, single_word};
+ghost use Rattle.name_tree.specs.Computed.{path_of};
+ghost use Rattle.dtab_table.specs.Computed.{table_of};
+ghost use Rattle.dtab_table.specs.Dtab.{rules_of};
+ghost use Rattle.dtab_table.specs.TableCanon.{AreSoundRules};
+ghost use Rattle.script.specs.Words.{drop_blanks, behind, name_of, number_of, version_of, before_colon, behind_colon, addr_in, weighted_in};
+
+use addr_book::{
+    Addr, Name, NameFault, Weighted, cut_at_star, read_host, read_line_weight, read_port,
+    split_word, without_gap,
+};
+use dtab_table::{Dtab, DtabFault, read_dtab};
+use name_tree::{Path, TextFault, is_blank_byte, read_path};
+use std::alloc::Global;
+
+/// Why a line was not read.
+#[derive(Clone, Copy, Debug, PartialEq, Eq)]
+pub enum LineFault {
+    /// It is no line of a script.
+    BadLine,
+    /// There was no memory for what it says.
+    OutOfMemory,
+}
+
+/// Whether a line has nothing but blanks.
+pub(crate) fn is_blank_line(line: &[u8]) -> bool
+    ensures { result ≡ is_empty (drop_blanks line.now) }
+{
+    for byte in line {
+        if !is_blank_byte(*byte) {
+            return false;
+        }
+    }
+    true
+}
+
+/// The word that a text begins with, and what follows it without the gap between them.
+pub(crate) fn cut_word(text: &[u8]) -> (&[u8], &[u8])
+    ensures word { result.0.now ≡ word_of text.now }
+    ensures behind { result.1.now ≡ behind text.now }
+{
+    let (word, rest) = split_word(text);
+    (word, without_gap(rest))
+}
+
+/// The one word of a text, between gaps. The text of gaps alone has the empty word.
+pub(crate) fn only_word(text: &[u8]) -> Result<&[u8], LineFault>
+    ensures word { IfOk result (λ word. single_word text.now ≡ Some word.now) }
+    ensures more { IfErr result (λ fault. single_word text.now ≡ None) }
+{
+    let (word, more) = cut_word(without_gap(text));
+    if more.is_empty() {
+        Ok(word)
+    } else {
+        Err(LineFault::BadLine)
+    }
+}
+
+/// The name that a word is.
+pub(crate) fn read_name(alloc: Global, word: &[u8]) -> Result<Name, LineFault>
+    ensures { MatchResult result (λ name. name_of word.now ≡ Some name) (λ fault. fault ≡ LineFault.BadLine → name_of word.now ≡ None) }
+{
+    match Name::of(alloc, word) {
+        Ok(name) => Ok(name),
+        Err(NameFault::NotName) => Err(LineFault::BadLine),
+        Err(NameFault::OutOfMemory) => Err(LineFault::OutOfMemory),
+    }
+}
+
+/// The path that a word is.
+pub(crate) fn read_path_word(alloc: Global, word: &[u8]) -> Result<Path, LineFault>
+    ensures { MatchResult result (λ path. path_of word.now ≡ Some path) (λ fault. fault ≡ LineFault.BadLine → path_of word.now ≡ None) }
+{
+    match read_path(alloc, word) {
+        Ok(path) => Ok(path),
+        Err(TextFault::OutOfMemory) => Err(LineFault::OutOfMemory),
+        Err(_) => Err(LineFault::BadLine),
+    }
+}
+
+/// The table that a text is.
+pub(crate) fn read_table(alloc: Global, text: &[u8]) -> Result<Dtab, LineFault>
+    ensures table { MatchResult result (λ dtab. table_of text.now ≡ Some (rules_of dtab)) (λ fault. fault ≡ LineFault.BadLine → table_of text.now ≡ None) }
+    ensures sound { IfOk result (λ dtab. AreSoundRules (rules_of dtab)) }
+{
+    match read_dtab(alloc, text) {
+        Ok(dtab) => Ok(dtab),
+        Err(DtabFault::OutOfMemory) => Err(LineFault::OutOfMemory),
+        Err(_) => Err(LineFault::BadLine),
+    }
+}
+
+/// The number of 64 bits that a word is, in decimal digits without leading zeros.
+pub(crate) fn read_number(word: &[u8]) -> Option<u64>
+    ensures { result ≡ number_of word.now }
+{
+    match word {
+        [] | [b'0', _, ..] => None,
+        _ => read_digits(word),
+    }
+}
+
+/// The number of 64 bits that some decimal digits write.
+fn read_digits(text: &[u8]) -> Option<u64>
+    ensures { result ≡ at_most (2 ^ 64 - 1) (digits_behind 0 text.now) }
+{
+    let mut number: u64 = 0;
+    for byte in text {
+        if !byte.is_ascii_digit() {
+            return None;
+        }
+        let longer = 10 * u128::from(number) + u128::from(*byte - b'0');
+        if longer > u128::from(u64::MAX) {
+            return None;
+        }
+        number = longer as u64;
+    }
+    Some(number)
+}
+
+/// The version that a word says a namespace must have, none for `*`.
+pub(crate) fn read_version(word: &[u8]) -> Option<Option<u64>>
+    ensures { result ≡ version_of word.now }
+{
+    if word == b"*".as_slice() {
+        return Some(None);
+    }
+    match read_number(word) {
+        Some(version) => Some(Some(version)),
+        None => None,
+    }
+}
+
+/// The bytes before the first `:`, and those behind it, if there is one.
+fn cut_at_colon(text: &[u8]) -> (&[u8], Option<&[u8]>)
+    ensures before { result.0.now ≡ before_colon text.now }
+    ensures behind { option_map (λ rest. rest.now) result.1 ≡ behind_colon text.now }
+{
+    for (at, byte) in text.iter().enumerate() {
+        if *byte == b':' {
+            return (&text[..at], Some(&text[at + 1..]));
+        }
+    }
+    (text, None)
+}
+
+/// The port of a text, if there is one.
+fn port_of(text: Option<&[u8]>) -> Option<u16>
+    ensures { result ≡ option_and_then port_value (option_map (λ text. text.now) text.entry) }
+{
+    read_port(text?)
+}
+
+/// The address that a word `host:port` is.
+pub(crate) fn read_addr(word: &[u8]) -> Option<Addr>
+    ensures { result ≡ addr_in word.now }
+{
+    let (host, port) = cut_at_colon(word);
+    match (read_host(host), port_of(port)) {
+        (Some(ip), Some(port)) => Some(Addr { ip, port }),
+        _ => None,
+    }
+}
+
+/// The address that a word is, with the weight behind its `*`, which is one where it has none.
+pub(crate) fn read_weighted(word: &[u8]) -> Option<Weighted>
+    ensures value { result ≡ weighted_in word.now }
+    ensures weight { IfSome result (λ item. IsWeight item.weight) }
+{
+    let (addr, weight) = cut_at_star(word);
+    match (read_addr(addr), read_line_weight(weight)) {
+        (Some(addr), Some(weight)) => Some(Weighted { addr, weight }),
+        _ => None,
+    }
+}
