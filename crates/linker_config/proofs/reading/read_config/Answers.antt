@@ -1,0 +1,7 @@
+use Rattle.serde_json.specs.View.{view}
+use Rattle.linker_config.proofs.Trees.{reads_tree}
+use Rattle.linker_config.proofs.reading.read_config.Goals as goal
+
+pub returns-in-Ok : goal.returns-in-Ok
+returns-in-Ok c =
+    reads_tree c.args.text.now (view c.in-Ok.tree) c.config.result c.in-Ok.ensures.ok.0 c.in-Ok.ensures.ok.1 c.config.ensures

@@ -1,0 +1,79 @@
+-- What a configuration says.
+use Rattle.std.specs.Prelude.{◌≡◌, ℕ, ◌^◌, ◌-◌, List, [], ◌∷◌, codes, Option, None, Some, Ok, IsUtf8}
+use Rattle.serde_json.specs.Data.{Data}
+use Rattle.serde_json.specs.Read.{read}
+use Rattle.serde_json.specs.Find.{get}
+use Rattle.dtab_table.specs.Dtab.{rules_of}
+use Rattle.dtab_table.specs.Rules.{Rule as TableRule}
+use Rattle.identifier.specs.declared.rule.Rule.{Rule}
+use Rattle.choose_core.specs.declared.mark.Limits.{Limits}
+use Rattle.linker_config.specs.declared.config.Config.{Config}
+use Rattle.linker_config.specs.declared.config.Port.{Port}
+use Rattle.linker_config.specs.declared.fault.ConfigFault.TheVariants.{Bad}
+use Rattle.linker_config.specs.Keys.{Told, and_then, keys_told, or_fault}
+use Rattle.linker_config.specs.Values.{number_at, or_default}
+use Rattle.linker_config.specs.Listening.{admin_told, loopback, namerd_told}
+use Rattle.linker_config.specs.Namers.{namers_told}
+use Rattle.linker_config.specs.Router.{routers_told}
+
+-- what a configuration says: where to listen, the folder of the services, how requests are named, the router's settings, the number of the
+-- workers, and the seed of the choices
+pub record Configured : Type 0 where
+  pub admin : Port
+  pub namerd : Port
+  pub server : Port
+  pub root : Option (List ℕ)
+  pub rule : Rule
+  pub space : List ℕ
+  pub base : List TableRule
+  pub limits : Limits
+  pub workers : ℕ
+  pub seed : ℕ
+
+-- a configuration as a value
+abbrev pub said_of : Config → Configured
+said_of c = record {
+  admin = c.admin;
+  namerd = c.namerd;
+  server = c.server;
+  root = c.root;
+  rule = c.rule;
+  space = c.settings.space;
+  base = rules_of c.settings.base;
+  limits = c.settings.limits;
+  workers = c.workers;
+  seed = c.seed;
+}
+
+abbrev pub top_keys : List (List ℕ)
+top_keys =
+    codes "admin" ∷ codes "namerd" ∷ codes "namers" ∷ codes "routers" ∷ codes "workers" ∷ codes "seed"
+    -- these two say nothing
+    ∷ codes "telemetry" ∷ codes "usage" ∷ []
+
+-- the value of the tree, or its first fault. The place of the whole is the empty text
+unfoldable pub config_of : Data → Told Configured
+config_of d =
+    and_then (keys_told [] top_keys (codes "routers" ∷ []) d) (λ _.
+    and_then (or_default (record { ip = loopback; port = 9990 }) admin_told (get (codes "admin") d)) (λ admin.
+    and_then (or_default (record { port = record { ip = loopback; port = 4180 }; space = codes "default" }) namerd_told (get (codes "namerd") d)) (λ named.
+    and_then (or_default None namers_told (get (codes "namers") d)) (λ root.
+    and_then (and_then (or_fault (Bad (codes "routers")) (get (codes "routers") d)) routers_told) (λ routed.
+    and_then (number_at [] (codes "workers") 16 1 256 d) (λ workers.
+    and_then (number_at [] (codes "seed") 0 0 (2 ^ 64 - 1) d) (λ seed.
+    Ok (record {
+      admin = admin;
+      namerd = named.port;
+      server = routed.server;
+      root = root;
+      rule = record { kind = routed.kind; prefix = routed.prefix };
+      space = named.space;
+      base = routed.base;
+      limits = routed.limits;
+      workers = workers;
+      seed = seed;
+    }))))))))
+
+-- the text is JSON
+abbrev pub IsJson : List ℕ → Type 0
+IsJson text = IsUtf8 text × (d : Data) × (read text ≡ Some d)

@@ -1,0 +1,12 @@
+pub mod Answers
+pub mod Client
+pub mod Config
+pub mod Folder
+pub mod Identifier
+pub mod Keys
+pub mod Lines
+pub mod Listening
+pub mod Loading
+pub mod Namers
+pub mod Router
+pub mod Values

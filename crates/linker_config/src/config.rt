@@ -1,0 +1,66 @@
+//! A router's configuration.
+ghost use Rattle.std.specs.Prelude.{◌≡◌, string_bytes};
+
+use identifier::Rule;
+use machine::Settings;
+use std::marker::Model;
+
+/// An IPv4 address and a port to listen on.
+#[derive(Clone, Copy, Debug, PartialEq, Eq)]
+pub struct Port {
+    /// The IPv4 address as a number, its first part the highest eight bits.
+    pub ip: u32,
+    /// The port, which is not 0.
+    pub port: u16,
+}
+
+/// A text of a configuration. Contracts see the list of its bytes.
+#[derive(Debug, Drop)]
+pub struct Text {
+    text: String,
+}
+
+impl Model for Text {
+    ghost use Rattle.std.specs.Prelude.{List, ℕ, string_bytes};
+
+    ghost Value = { List ℕ };
+
+    ghost view = { λ t. string_bytes t.text };
+}
+
+impl Text {
+    /// This text. It takes no memory.
+    pub fn of(text: String) -> Text
+        ensures { result ≡ string_bytes text }
+    {
+        Text { text }
+    }
+
+    /// The text.
+    pub fn as_str(&self) -> &str
+        ensures { result.now ≡ self.now }
+    {
+        self.text.as_str()
+    }
+}
+
+/// What a router is configured to do.
+#[derive(Debug, Drop)]
+pub struct Config {
+    /// Where the administrator's interface listens.
+    pub admin: Port,
+    /// Where the interface to the namespaces listens.
+    pub namerd: Port,
+    /// Where the router listens.
+    pub server: Port,
+    /// The folder that has the addresses of the services, if there is one: a text of one or more bytes.
+    pub root: Option<Text>,
+    /// How requests are named.
+    pub rule: Rule,
+    /// The namespace whose table the router follows, its own table, and when a replica counts as dead.
+    pub settings: Settings,
+    /// How many connections are served at a time, 1 to 256.
+    pub workers: u32,
+    /// What the random words of the router's choices begin with.
+    pub seed: u64,
+}

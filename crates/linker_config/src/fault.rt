@@ -1,0 +1,61 @@
+//! Why a configuration is refused.
+ghost use Rattle.std.specs.Prelude.{◌≡◌};
+
+use crate::Bytes;
+use std::alloc::AllocError;
+use std::marker::Model;
+
+/// A key of a configuration, from the top, as `routers[0].servers[0].port`; `top` is the whole. Contracts see the list of its bytes.
+#[derive(Debug, Drop)]
+pub struct Key {
+    bytes: Bytes,
+}
+
+impl Model for Key {
+    ghost use Rattle.std.specs.Prelude.{List, ℕ};
+
+    ghost Value = { List ℕ };
+
+    ghost view = { λ k. k.bytes.items };
+}
+
+impl Key {
+    /// The key of these bytes. It takes no memory.
+    pub fn of(bytes: Bytes) -> Key
+        ensures { result ≡ bytes.items }
+    {
+        Key { bytes }
+    }
+
+    /// Its bytes.
+    pub fn bytes(&self) -> &[u8]
+        ensures { result.now ≡ self.now }
+    {
+        self.bytes.as_slice()
+    }
+}
+
+/// Why a configuration is refused: the first fault of it.
+#[derive(Debug, Drop)]
+pub enum ConfigFault {
+    /// The text is no JSON.
+    BadJson,
+    /// There is no such key.
+    Unknown(Key),
+    /// The value under this key is of a wrong type, out of its range, or refused by its reader.
+    Bad(Key),
+    /// This key has to be there, and is not.
+    Missing(Key),
+    /// There was no memory for it.
+    OutOfMemory,
+}
+
+impl From<AllocError> for ConfigFault {
+    ghost use Rattle.linker_config.specs.declared.fault.ConfigFault.{ConfigFault};
+
+    ghost from_gives = { λ _ fault. fault ≡ ConfigFault.OutOfMemory };
+
+    fn from(_error: AllocError) -> ConfigFault {
+        ConfigFault::OutOfMemory
+    }
+}

@@ -1,0 +1,28 @@
+//! What a router is told.
+ghost use Rattle.std.specs.Prelude.{◌≤◌};
+ghost use Rattle.dtab_table.specs.Dtab.{rules_of};
+ghost use Rattle.dtab_table.specs.TableCanon.{AreSoundRules};
+ghost use Rattle.machine.specs.Sound.{AreSoundRules-prop};
+
+use crate::config::Port;
+use choose_core::Limits;
+use dtab_table::Dtab;
+use identifier::Kind;
+use name_tree::Path;
+
+/// What a router is told.
+#[derive(Debug, Drop)]
+pub(crate) struct Routed {
+    /// Its own table.
+    pub(crate) base: Dtab,
+    /// What each path begins with.
+    pub(crate) prefix: Path,
+    /// What requests are named by.
+    pub(crate) kind: Kind,
+    /// Where it listens.
+    pub(crate) server: Port,
+    /// When a replica counts as dead.
+    pub(crate) limits: Limits,
+    ghost sound: { AreSoundRules (rules_of base) } by { AreSoundRules-prop (rules_of base) },
+    ghost failures: { 1 ≤ limits.failures },
+}
