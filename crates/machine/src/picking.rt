@@ -98,7 +98,22 @@ impl State {
             Wanted::Neither,
             steps,
         )?;
-        match self.candidates_of(settings, &delegated.outcome, ask) {
+        self.choose_in(alloc, settings, &delegated.outcome, ask)
+    }
+
+    /// Picks a replica where no address has any load, and the ask's path came to an outcome in this state. It takes the memory of the two
+    /// paths that it gives.
+    pub fn choose_in(
+        &self,
+        alloc: Global,
+        settings: &Settings,
+        outcome: &Outcome,
+        ask: &Ask,
+    ) -> Mem<Chosen>
+        requires { ending_of outcome.now ≡ ending_in (settings_of settings.now) (state_of self.now) (ask_of ask.now) }
+        ensures { IfOk result (λ said. chosen_value said ≡ chosen_of (pick_of (settings_of settings.now) (state_of self.now) (ask_of ask.now) 0 0)) }
+    {
+        match self.candidates_of(settings, outcome, ask) {
             Ok(candidates) => picked(alloc, &candidates),
             Err(why) => Ok(Chosen::None(why)),
         }
