@@ -22,6 +22,8 @@
 //! ```
 #![tactic(auto)]
 
+mod changing;
 mod laws;
 
+pub use changing::take_change;
 pub use laws::{published_operations_fit, published_values_are_right};
