@@ -1,4 +1,3 @@
-pub mod Line
 pub mod Replay
 pub mod Run
 pub mod Told

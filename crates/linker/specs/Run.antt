@@ -7,7 +7,8 @@ use Rattle.std.specs.declared.vec.IntoIter.{IntoIter}
 use Rattle.std.specs.Fmt.{decimal}
 use Rattle.std.specs.Io.KnownBytes.{Appends, Consumes, IsAtEnd}
 use Rattle.line_base.specs.Counts.{Rose}
-use Rattle.linker.specs.Line.{lines_of}
+use Rattle.addr_book.specs.FileLine.{lines_of}
+use Rattle.machine.specs.State.{opening}
 use Rattle.linker.specs.Replay.{played, replay_of}
 
 -- the most bytes of a script
@@ -93,7 +94,7 @@ memory_line = codes "error memory\n"
 
 -- what a course may have written where memory is then wanting: of a script the whole replies to its first lines, each of them good, and else nothing
 abbrev pub Begins : Course → List ℕ → Type 0
-Begins (script_read script) front = (count : ℕ) × (played [] 1 (take count (lines_of script)) ≡ (front, true))
+Begins (script_read script) front = (count : ℕ) × (played opening 1 (take count (lines_of script)) ≡ (front, true))
 Begins (words_refused place) front = front ≡ []
 Begins read_failed front = front ≡ []
 Begins too_long front = front ≡ []

@@ -2,30 +2,21 @@
 use Rattle.std.specs.Prelude.{◌≡◌, ◌⊎◌, ℕ, true, false, List, ◌++◌, Option}
 use Rattle.std.specs.Io.KnownBytes.{Appends}
 use Rattle.line_base.specs.Counts.{Rose}
-use Rattle.dtab_table.specs.Dtab.{rules_of}
-use Rattle.dtab_table.specs.Rules.{Rule}
-use Rattle.linker.specs.declared.line.Line as code
-use Rattle.linker.specs.declared.line.Line.TheVariants as line
+use Rattle.machine.specs.Values.{StateValue}
+use Rattle.script.specs.Line.{LineValue}
 use Rattle.linker.specs.declared.player.Turn.{Turn}
 use Rattle.linker.specs.declared.player.Turn.TheVariants.{Next, Stop}
 use Rattle.linker.specs.declared.player.PlayEnd.{PlayEnd}
 use Rattle.linker.specs.declared.player.PlayEnd.TheVariants.{Done, BadLine, WriteFault, OutOfMemory}
-use Rattle.linker.specs.Line.{Line, blank, table, pick}
 use Rattle.linker.specs.Replay.{Played, before, line_played, replay_of}
 use Rattle.linker.specs.declared.run.Status.{Status}
 use Rattle.linker.specs.declared.run.Status.TheVariants as status
 use Rattle.linker.specs.Run.{AppendsFront, Begins, Output, script_read}
 
--- what a line of the code says
-abbrev pub said_of : code.Line → Line
-said_of line.Blank = blank
-said_of (line.Table dtab) = table (rules_of dtab)
-said_of (line.Pick path) = pick path
-
--- this piece is what is written for a line, and the rest is played with the new table, or not at all
-abbrev pub Answers : Line → List Rule → ℕ → List Rule → List ℕ → Turn → Type 0
-Answers said rules number new piece Next = (rest : List Rule → Played) → line_played said rules number rest ≡ before piece (rest new)
-Answers said rules number new piece Stop = (rest : List Rule → Played) → line_played said rules number rest ≡ (piece, false)
+-- this piece is what is written for a line, and the rest is played on the new state, or not at all
+abbrev pub Answers : LineValue → StateValue → ℕ → StateValue → List ℕ → Turn → Type 0
+Answers said state number new piece Next = (rest : StateValue → Played) → line_played said state number rest ≡ before piece (rest new)
+Answers said state number new piece Stop = (rest : StateValue → Played) → line_played said state number rest ≡ (piece, false)
 
 -- what the sink has gained when the play of a script ends so
 abbrev pub Plays : List ℕ → Option (List ℕ) → Option (List ℕ) → PlayEnd → Type 0

@@ -1,11 +1,12 @@
 //! `linker`: a service proxy that routes HTTP/1.1 requests by logical name.
 //!
-//! `linker replay` reads a script from standard input: `dtab TABLE` sets the delegation table, and `pick PATH` asks which replica the path comes to.
-//! [`program::linker`] is the whole program over any source and sink, and [`start::run_arguments`] calls it with the words; `main` makes these of the
-//! standard streams and its arguments, and ends with the code that it is given.
+//! `linker replay` reads a script from standard input and carries its lines out on one state of a router: changes of namespaces, services and
+//! marks, looks, and picks. Each is answered with a line; the crate `script` says which lines there are. [`program::linker`] is the whole program over
+//! any source and sink, and [`start::run_arguments`] calls it with the words; `main` makes these of the standard streams and its arguments, and ends with
+//! the code that it is given.
 //!
 //! # What is proved
-//! At status 0 the output has grown by the replay of what was read; each other status has its cause; and where nothing fails, a script is carried out in
+//! At status 0 the output has grown by the replay of what was read, as `specs/Replay.antt` defines it over the whole language of scripts; each other status has its cause; and where nothing fails, a script is carried out in
 //! full. These are clauses of [`program::linker`]. The code to exit with is the status for exactly the words after the program's name: a clause of
 //! [`start::run_arguments`].
 //!
@@ -25,7 +26,6 @@ use std::{env, io};
 
 mod adapters;
 mod ends;
-mod line;
 mod player;
 mod program;
 mod reply;
@@ -41,7 +41,8 @@ type Bytes = Vec<u8>;
 
 /// What is written to standard error where the words fit no command.
 const USAGE: &str = "usage: linker replay < SCRIPT
-  A line of the script is `dtab TABLE`, which sets the table, or `pick PATH`, which is answered with the replica that the path comes to.
+  The lines of a script: dtab TABLE, create NAME TABLE, put NAME VERSION TABLE, delete NAME VERSION, get NAME, list, addrs NAME ADDRESS ..,
+  drop NAME, fail ADDRESS MOMENT, good ADDRESS MOMENT, pick PATH [MOMENT WORD WORD WORD TABLE], view PATH. Each is answered with a line.
 ";
 
 fn main(rt: HostRuntime) -> ExitCode {
@@ -53,6 +54,3 @@ fn main(rt: HostRuntime) -> ExitCode {
     }
     exit.code
 }
-
-#[cfg(test)]
-mod tests;

@@ -1,17 +1,20 @@
 //! The play of a script, line by line.
 ghost use Rattle.std.specs.Prelude.{◌≡◌, ◌≤◌, ◌++◌, [], List, ℕ, length, IfOk, OnOk, OnErr};
 ghost use Rattle.line_base.specs.Counts.{Rose};
-ghost use Rattle.dtab_table.specs.Dtab.{rules_of};
-ghost use Rattle.linker.specs.Line.{line_value};
+ghost use Rattle.machine.specs.Code.{settings_of, state_of};
+ghost use Rattle.machine.specs.State.{opening};
+ghost use Rattle.script.specs.Carried.{script_settings};
+ghost use Rattle.script.specs.Line.{line_value};
 ghost use Rattle.linker.specs.Run.{AppendsFront};
 ghost use Rattle.linker.specs.Told.{Answers, Plays, Finishes, Flushes};
 
 use crate::ends::write_all;
-use crate::line::{Line, LineFault, cut_line, read_line};
-use crate::reply::{append_bad_line, append_pick};
+use crate::reply::{append_answer, append_bad_line};
 use crate::{Bytes, Mem};
-use dtab_table::Dtab;
+use addr_book::cut_line;
 use line_base::{Failed, Sink, Steps};
+use machine::{Settings, State};
+use script::{LineFault, carry_out, read_line, script_settings};
 use std::alloc::{AllocError, Global};
 use std::sync::ledger::Ledger;
 
@@ -43,34 +46,25 @@ pub enum PlayEnd {
 /// Carries out one line, and puts what is answered behind the replies. An `Err` leaves the replies as they were.
 fn answer<L: Ledger>(
     alloc: Global,
+    settings: &Settings,
     line: &[u8],
     number: u64,
-    table: &mut Dtab,
+    state: &mut State,
     replies: &mut Bytes,
     steps: &mut Steps<L>,
 ) -> Mem<Turn>
+    requires { settings_of settings.now ≡ script_settings }
     ensures ok { IfOk result (λ turn. (piece : List ℕ) × (replies.new.items ≡ replies.old.items ++ piece)
-        × Answers (line_value line.now) (rules_of table.old) number (rules_of table.new) piece turn) }
+        × Answers (line_value line.now) (state_of state.old) number (state_of state.new) piece turn) }
     ensures err { OnErr result (replies.new.items ≡ replies.old.items) }
 {
     match read_line(alloc, line) {
-        Ok(Line::Blank) => Ok(Turn::Next),
-        Ok(Line::Table(new)) => {
-            replies.extend_from_slice(b"ok\n")?;
-            *table = new;
+        Ok(line) => {
+            let said = carry_out(alloc, settings, state, line, steps)?;
+            append_answer(alloc, &said, replies)?;
             Ok(Turn::Next)
         }
-        Ok(Line::Pick(path)) => {
-            let kept = replies.len();
-            match append_pick(alloc, table, &path, replies, steps) {
-                Ok(()) => Ok(Turn::Next),
-                Err(wanting) => {
-                    replies.truncate(kept);
-                    Err(wanting)
-                }
-            }
-        }
-        Err(LineFault::Bad) => {
+        Err(LineFault::BadLine) => {
             append_bad_line(alloc, number, replies)?;
             Ok(Turn::Stop)
         }
@@ -110,7 +104,7 @@ fn flush<K: Sink>(sink: &mut K, replies: &mut Bytes) -> Result<(), Failed>
     }
 }
 
-/// Carries out the lines of a script in order, and writes their replies, up to the first line that is bad.
+/// Carries out the lines of a script in order on a new state, and writes their replies, up to the first line that is bad.
 pub fn play<K: Sink, L: Ledger>(
     alloc: Global,
     script: &[u8],
@@ -123,7 +117,30 @@ pub fn play<K: Sink, L: Ledger>(
     ensures kept { (result ≡ PlayEnd.WriteFault → ⊥) → K.faults sink.new ≡ K.faults sink.old }
     ensures later { K.faults sink.old ≤ K.faults sink.new }
 {
-    let mut table = Dtab::empty(alloc);
+    match (script_settings(alloc), State::start(alloc)) {
+        (Ok(settings), Ok(state)) => play_on(alloc, &settings, state, script, sink, steps),
+        _ => PlayEnd::OutOfMemory,
+    }
+}
+
+/// Carries out the lines of a script in order on the state in which nothing is there.
+fn play_on<K: Sink, L: Ledger>(
+    alloc: Global,
+    settings: &Settings,
+    state: State,
+    script: &[u8],
+    sink: &mut K,
+    steps: &mut Steps<L>,
+) -> PlayEnd
+    requires few { length script.now ≤ 67108864 }
+    requires settings { settings_of settings.now ≡ script_settings }
+    requires state { state_of state ≡ opening }
+    ensures played { Plays script.now (K.held sink.old) (K.held sink.new) result }
+    ensures cause { result ≡ PlayEnd.WriteFault → Rose (K.faults sink.old) (K.faults sink.new) }
+    ensures kept { (result ≡ PlayEnd.WriteFault → ⊥) → K.faults sink.new ≡ K.faults sink.old }
+    ensures later { K.faults sink.old ≤ K.faults sink.new }
+{
+    let mut state = state;
     let mut replies: Bytes = Vec::new(alloc);
     let mut at = 0;
     let mut number = 1u64;
@@ -131,9 +148,10 @@ pub fn play<K: Sink, L: Ledger>(
         let cut = cut_line(script, at);
         match answer(
             alloc,
+            settings,
             &script[at..cut.stop],
             number,
-            &mut table,
+            &mut state,
             &mut replies,
             steps,
         ) {

@@ -1,9 +1,10 @@
 use Rattle.std.proofs.Common.{◌≡◌, ℕ, ◌+◌, ◌-◌, ◌≤◌, List, ◌++◌, length, drop}
 use Rattle.std.specs.Io.KnownBytes.{Appends}
-use Rattle.dtab_table.specs.Dtab.{rules_of}
-use Rattle.linker.specs.Line.{lines_of}
+use Rattle.addr_book.specs.FileLine.{lines_of}
+use Rattle.machine.specs.Code.{settings_of, state_of}
+use Rattle.script.specs.Carried.{script_settings}
 use Rattle.linker.proofs.Plays.{PlaysSo}
-use Rattle.linker.proofs.player.play.Given as goal
+use Rattle.linker.proofs.player.play_on.Given as goal
 
 abbrev pub invariant-loop-at : goal.invariant-loop-at
 invariant-loop-at g l = record {
@@ -13,7 +14,7 @@ invariant-loop-at g l = record {
   given : Appends (g.K.Sink.held l.fn.sink) (g.K.Sink.held l.sink) written;
   front : List (List ℕ);
   split : lines_of l.script ≡ front ++ lines_of (drop l.at l.script);
-  so : PlaysSo front (written ++ l.replies.items) (rules_of l.table) l.number;
+  so : PlaysSo front (written ++ l.replies.items) (state_of l.state) l.number;
   kept : g.K.Sink.faults l.sink ≡ g.K.Sink.faults l.fn.sink;
 }
 

@@ -1,6 +1,0 @@
-use Rattle.std.proofs.Common.{◌≡◌, drop}
-use Rattle.linker.specs.Line.{drop_blanks}
-use Rattle.linker.proofs.line.is_blank_line.Given as goal
-
-abbrev pub invariant-loop-byte : goal.invariant-loop-byte
-invariant-loop-byte l = drop_blanks (drop l.byte-index l.line) ≡ drop_blanks l.line
