@@ -1,9 +1,9 @@
 //! When a replica counts as dead.
-ghost use Rattle.std.specs.Prelude.{◌≡◌, ◌≤◌, codes, IfOk};
+ghost use Rattle.std.specs.Prelude.{◌≤◌, codes, IfOk};
 ghost use Rattle.serde_json.specs.View.{view};
 ghost use Rattle.serde_json.specs.Find.{get};
 ghost use Rattle.linker_config.specs.Values.{or_default};
-ghost use Rattle.linker_config.specs.Client.{accrual_told, backoff_told, client_told, usual_limits};
+ghost use Rattle.linker_config.specs.Client.{accrual_told, backoff_told, client_told};
 ghost use Rattle.linker_config.specs.Answers.{Says};
 
 use crate::fault::ConfigFault;

@@ -1,5 +1,5 @@
 //! The keys of objects, by one rule.
-ghost use Rattle.std.specs.Prelude.{◌≡◌, ◌≢◌, map, string_bytes, option_map, not, is_none, IfOk, Err};
+ghost use Rattle.std.specs.Prelude.{◌≡◌, map, string_bytes, option_map, not, is_none, IfOk, Err};
 ghost use Rattle.std.specs.List.{find, list_any};
 ghost use Rattle.std.specs.Option.{option_copied};
 ghost use Rattle.std.specs.Str.{bytes_eq};

@@ -1,7 +1,5 @@
 //! Reading a configuration.
-ghost use Rattle.std.specs.Prelude.{◌≡◌, ◌^◌, ◌-◌, [], ◌∷◌, codes, None, Some, IsErrOf, IfOk, IfErr};
-ghost use Rattle.serde_json.specs.Data.{Data};
-ghost use Rattle.serde_json.specs.Read.{read};
+ghost use Rattle.std.specs.Prelude.{◌≤◌, [], ◌∷◌, codes, None, Some, IfOk};
 ghost use Rattle.serde_json.specs.View.{view};
 ghost use Rattle.serde_json.specs.Find.{get};
 ghost use Rattle.linker_config.specs.Keys.{and_then, keys_told, or_fault};
@@ -9,7 +7,7 @@ ghost use Rattle.linker_config.specs.Values.{or_default};
 ghost use Rattle.linker_config.specs.Listening.{admin_told, loopback, named_of, namerd_told};
 ghost use Rattle.linker_config.specs.Namers.{namers_told};
 ghost use Rattle.linker_config.specs.Router.{routed_of, routers_told};
-ghost use Rattle.linker_config.specs.Config.{config_of, said_of, top_keys, IsJson};
+ghost use Rattle.linker_config.specs.Config.{config_of, said_of, top_keys};
 ghost use Rattle.linker_config.specs.Answers.{Reads, Says, SaysBy};
 
 use crate::config::{Config, Port, Text};
@@ -37,7 +35,8 @@ use std::alloc::Global;
 /// none of ([`ConfigFault::Unknown`]); the first key that is required and missing ([`ConfigFault::Missing`]); and then the values, in the order of the table
 /// ([`ConfigFault::Bad`]).
 pub fn read_config(alloc: Global, text: &[u8]) -> Result<Config, ConfigFault>
-    ensures { Reads text.now result }
+    ensures reads { Reads text.now result }
+    ensures workers { IfOk result (λ config. (1 ≤ config.workers) × (config.workers ≤ 256)) }
 {
     match Value::from_slice(alloc, text) {
         Ok(tree) => config(alloc, &tree),
@@ -54,7 +53,8 @@ pub fn read_config(alloc: Global, text: &[u8]) -> Result<Config, ConfigFault>
 /// The configuration of a tree.
 #[tactic(auto, unfolding(crate::specs::Config::config_of))]
 fn config(alloc: Global, tree: &Value) -> Result<Config, ConfigFault>
-    ensures { SaysBy said_of (config_of (view tree.now)) result }
+    ensures told { SaysBy said_of (config_of (view tree.now)) result }
+    ensures workers { IfOk result (λ config. (1 ≤ config.workers) × (config.workers ≤ 256)) }
 {
     check_top_keys(alloc, tree)?;
     let admin = admin_or_usual(alloc, tree)?;

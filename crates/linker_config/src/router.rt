@@ -1,5 +1,5 @@
 //! The router.
-ghost use Rattle.std.specs.Prelude.{◌≡◌, ◌≤◌, ◌∷◌, [], codes, Ok, IfOk};
+ghost use Rattle.std.specs.Prelude.{◌≤◌, ◌∷◌, [], codes, Ok, IfOk};
 ghost use Rattle.serde_json.specs.View.{view};
 ghost use Rattle.serde_json.specs.Find.{get};
 ghost use Rattle.name_tree.specs.Computed.{path_of};
@@ -7,7 +7,7 @@ ghost use Rattle.dtab_table.specs.Computed.{table_of};
 ghost use Rattle.dtab_table.specs.Dtab.{rules_of};
 ghost use Rattle.dtab_table.specs.TableCanon.{AreSoundRules};
 ghost use Rattle.linker_config.specs.Keys.{inside, keys_told, or_fault};
-ghost use Rattle.linker_config.specs.Values.{exactly, needed_text, or_default, text_at};
+ghost use Rattle.linker_config.specs.Values.{or_default, text_at};
 ghost use Rattle.linker_config.specs.Listening.{loopback, servers_told};
 ghost use Rattle.linker_config.specs.Identifier.{identifier_told};
 ghost use Rattle.linker_config.specs.Client.{client_told, usual_limits};

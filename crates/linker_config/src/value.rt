@@ -3,7 +3,7 @@ ghost use Rattle.std.specs.Prelude.{◌≡◌, ◌≢◌, ◌≤◌, option_map,
 ghost use Rattle.serde_json.specs.Find.{as_array, as_str};
 ghost use Rattle.serde_json.specs.View.{items_view, view};
 ghost use Rattle.linker_config.specs.Keys.{inside};
-ghost use Rattle.linker_config.specs.Values.{at_most_one as at_most_one_of, exactly, needed_text, number_at as number_at_key, number_in as number_of, only as only_of, text_by};
+ghost use Rattle.linker_config.specs.Values.{exactly, needed_text, number_at as number_at_key, number_in as number_of, only as only_of, text_by};
 ghost use Rattle.linker_config.specs.Answers.{Says};
 
 use crate::fault::ConfigFault;
