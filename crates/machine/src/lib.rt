@@ -47,6 +47,8 @@ mod ready;
 mod reply;
 mod settings;
 mod state;
+#[cfg(test)]
+mod tests;
 
 pub use ask::Ask;
 pub use candidates::{Candidates, Taken};
