@@ -38,6 +38,8 @@ mod carried;
 mod command;
 mod line;
 mod reply;
+#[cfg(test)]
+mod tests;
 mod words;
 
 pub use carried::{carry_out, script_settings};
