@@ -88,7 +88,9 @@ fn main(rt: HostRuntime) -> io::Result<()> {
                 client: b"/a",
                 residual: b"/",
             };
-            sent = forward_head(alloc, &head, &to)?.len();
+            if to.is_sound() {
+                sent = forward_head(alloc, &head, &to)?.len();
+            }
         }
         best = best.min(start.elapsed(&rt)?.as_micros());
     }

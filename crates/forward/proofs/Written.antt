@@ -1,25 +1,18 @@
 -- The head that is written is read as it was meant.
-use Rattle.std.proofs.Common.{◌≡◌, ◌≢◌, ℕ, ◌-◌, ◌^◌, ◌<◌, ◌≤◌, ◌&&◌, ◌||◌, not, arith, Bool, true, false, cond, eqb, ltb, List, [], ◌∷◌, ◌++◌, length, map, filter, take, drop, get_or, reverse, codes, Option, Some, None, Ok, IsSomeAnd, refl, sym, ap, ◌∙◌, subst, All, IsTrue, append_assoc, append-nil, length-append}
+use Rattle.std.proofs.Common.{◌≡◌, ◌≢◌, ℕ, ◌-◌, ◌<◌, ◌≤◌, ◌&&◌, ◌||◌, not, arith, Bool, true, false, cond, eqb, ltb, List, [], ◌∷◌, ◌++◌, length, map, filter, take, drop, get_or, codes, Option, Some, None, Ok, IsSomeAnd, refl, sym, ap, ◌∙◌, subst, All, IsTrue, append_assoc, append-nil, length-append}
 use Rattle.std.specs.Str.{bytes_eq}
 use Rattle.std.specs.Fmt.{decimal}
-use Rattle.std.specs.List.{flat_map, list_all, list_any, position_or_len, slice_split}
-use Rattle.std.specs.Option.{option_map, option_eq, option_and_then}
-use Rattle.std.specs.Char.{is_ascii_digit}
-use Rattle.std.specs.Str.Parse.{AllDigits, digits_value}
+use Rattle.std.specs.List.{flat_map, list_all, list_any, position_or_len}
+use Rattle.std.specs.Option.{option_map}
 use Rattle.std.proofs.Math.ListN.{get_or-append}
 use Rattle.std.proofs.Math.Seq.{drop-append_seam, drop-length, take-append_seam, get_or-append_seam}
 use Rattle.std.proofs.lemmas.Bool.Decides.{nat_tests}
-use Rattle.std.proofs.lemmas.Fmt.{decimal_is_IsNumeral}
-use Rattle.std.proofs.lemmas.List.{map-append, take_all, reverse-reverse}
+use Rattle.std.proofs.lemmas.List.{map-append, take_all}
 use Rattle.std.proofs.lemmas.List.Concat.{flat_map-cons}
 use Rattle.std.proofs.lemmas.List.Elements.{All-append, All-cons, All-filter, All-head, All-map, All-nil, All-weaker, filter-append}
-use Rattle.std.proofs.lemmas.List.Sorted.{All-permutation, IsPermutation-reverse}
-use Rattle.std.proofs.lemmas.List.Splits.{slice_split_none}
-use Rattle.std.proofs.lemmas.List.Sums.{AllPass-from_list_all, list_all-from_AllPass, position_or_len_is}
-use Rattle.std.proofs.lemmas.Str.Parse.{digit_at}
-use Rattle.httparse.specs.Grammar.{crlf as cr_lf, print_field, print_request, is_ows, is_token_byte, is_uri_byte, is_value_byte, skip_ows, trim_ows, IsField, IsRequestHead, IsToken, RequestHead, Field as Line}
+use Rattle.std.proofs.lemmas.List.Sums.{AllPass-from_list_all, position_or_len_is}
+use Rattle.httparse.specs.Grammar.{crlf as cr_lf, print_field, print_request, is_token_byte, is_uri_byte, is_value_byte, trim_ows, IsField, IsRequestHead, IsToken, RequestHead, Field as Line}
 use Rattle.httparse.specs.Spans.{name_and_value}
-use Rattle.httparse.specs.Ascii.{comma}
 use Rattle.httparse.proofs.GrammarLemmas.{print_request-append}
 use Rattle.name_tree.specs.Path.{canon_path}
 use Rattle.dtab_table.specs.Rules.{Rule}
@@ -30,10 +23,11 @@ use Rattle.http_wire.specs.declared.head.Head.{Head}
 use Rattle.http_wire.specs.declared.frames.Framing.{Framing}
 use Rattle.http_wire.specs.Fields.{is_named, same_ignoring_case, values_of}
 use Rattle.http_wire.specs.FirstLine.{ends_in_other_version, first_line, is_other_version, is_version, last_nine, line_at, skip_empty_lines, without_return}
-use Rattle.http_wire.specs.Framing.{agreed, framed, length_framing, number_of, pieces_of, says}
+use Rattle.http_wire.specs.Framing.{framed, length_framing}
 use Rattle.http_wire.specs.Heads.{most, window, BeginsWith, IsSoundField}
 use Rattle.http_wire.specs.Parsed.{pair_of}
 use Rattle.http_wire.specs.Sound.{IsSoundHead}
+use Rattle.http_wire.proofs.Lengths.{led, length_agreed, trimmed_digits}
 use Rattle.http_wire.proofs.Looks.{differ, skip-other, token_byte_low, uri_byte_low}
 use Rattle.forward.specs.declared.going.Going.{Going}
 use Rattle.forward.specs.Dropped.{goes_on, has_name_of, kept, kept_but, named_in_connection, never_kept}
@@ -240,8 +234,8 @@ sound_pairs head to sound way =
     (sound_table (rules_of to.local.now) way.local))
     (All-cons IsSoundPair (codes "l5d-dst-service", canon_path to.service.now) ((codes "l5d-dst-client", to.client.now) ∷ residual_pairs to.residual.now)
     (service_name, path_text to.service.now way.service)
-    (All-cons IsSoundPair (codes "l5d-dst-client", to.client.now) (residual_pairs to.residual.now) (client_name, way.sound.client)
-    (sound_residual to.residual.now way.sound.residual)))
+    (All-cons IsSoundPair (codes "l5d-dst-client", to.client.now) (residual_pairs to.residual.now) (client_name, way.client)
+    (sound_residual to.residual.now way.residual)))
     (one (codes "Connection") (codes "close") connection_name (AllPass-from_list_all is_value_byte (codes "close") refl))
 
 good_field : (p : Pair) → IsSoundPair p → IsField (line_field p)
@@ -397,65 +391,6 @@ kept_none k listed name (f ∷ fs) within same =
         let other : is_named name (back (pair_of f)) ≡ false = same f ∙ apart listed f k on within in
         ap (λ (t : Bool). map (λ (g : Field). g.value) (cond t (back (pair_of f) ∷ filter (is_named name) (map back (map pair_of (filter (goes_on never_kept listed) fs))))
         (filter (is_named name) (map back (map pair_of (filter (goes_on never_kept listed) fs)))))) other ∙ later
-
--- a text with no blank stays as it is
-unblank : (text : List ℕ) → All (λ b. is_ows b ≡ false) text → skip_ows text ≡ text
-unblank [] clean = refl
-unblank (b ∷ bs) clean = ap (λ (t : Bool). cond t (skip_ows bs) (b ∷ bs)) (All-head (λ x. is_ows x ≡ false) b bs clean)
-
-untrimmed : (text : List ℕ) → All (λ b. is_ows b ≡ false) text → trim_ows text ≡ text
-unfolding trim_ows
-untrimmed text clean =
-    let turned = All-permutation (λ b. is_ows b ≡ false) text (reverse text) (IsPermutation-reverse text) clean in
-    ap (λ (t : List ℕ). reverse (skip_ows (reverse t))) (unblank text clean) ∙ (ap reverse (unblank (reverse text) turned) ∙ reverse-reverse text)
-
-led : (text : List ℕ) → trim_ows (32 ∷ text) ≡ trim_ows text
-unfolding trim_ows
-led text = refl
-
--- the digits of a length
-all_digits : (ds : List ℕ) → AllDigits 10 ds → All (λ b. IsTrue (is_ascii_digit b)) ds
-all_digits [] all = All-nil (λ b. IsTrue (is_ascii_digit b))
-all_digits (d ∷ ds) all =
-    All-cons (λ b. IsTrue (is_ascii_digit b)) d ds (digit d (digit_at (d ∷ []) 0 (all.0, tt) (omega arith))) (all_digits ds all.1)
-  where
-    digit : (x : ℕ) → (48 ≤ x) × (x ≤ 57) → IsTrue (is_ascii_digit x)
-    digit x range = let low = range.0 in let high = range.1 in grind (arith, nat_tests, low, high)
-
-no_blank_digit : (b : ℕ) → IsTrue (is_ascii_digit b) → is_ows b ≡ false
-no_blank_digit b digit = grind (arith, nat_tests, digit)
-
-no_comma_digit : (b : ℕ) → IsTrue (is_ascii_digit b) → eqb b comma ≡ false
-no_comma_digit b digit = grind (arith, nat_tests, digit)
-
-number_is : (n : ℕ) → n < 2 ^ 63 → number_of (decimal n) ≡ Some n
-number_is n small =
-    let numeral = decimal_is_IsNumeral n (omega (arith, small)) in
-    let some : ltb 0 (length (decimal n)) ≡ true = (let long = numeral.0.0 in grind (arith, nat_tests, long)) in
-    let digits : list_all is_ascii_digit (decimal n) ≡ true = list_all-from_AllPass is_ascii_digit (decimal n) (all_digits (decimal n) numeral.0.1) in
-    let fits : ltb (digits_value 10 (decimal n)) (2 ^ 63) ≡ true = rw numeral.1 (grind (arith, nat_tests, small)) in
-    (λ i. cond (some i && digits i && fits i) (Some (numeral.1 i)) None)
-
-same_number : (n : ℕ) → eqb n n ≡ true
-same_number n = grind (arith, nat_tests)
-
-length_agreed : (n : ℕ) → n < 2 ^ 63 → agreed (pieces_of (decimal n ∷ [])) ≡ Some n
-unfolding says
-length_agreed n small =
-    let digits = all_digits (decimal n) (decimal_is_IsNumeral n (omega (arith, small))).0.1 in
-    let bare = untrimmed (decimal n) (All-weaker (λ b. IsTrue (is_ascii_digit b)) (λ b. is_ows b ≡ false) no_blank_digit (decimal n) digits) in
-    let whole : slice_split (λ (b : ℕ). eqb b comma) (decimal n) ≡ decimal n ∷ [] =
-    slice_split_none (λ (b : ℕ). eqb b comma) (decimal n) (All-weaker (λ b. IsTrue (is_ascii_digit b)) (λ b. eqb b comma ≡ false) no_comma_digit (decimal n) digits) in
-    let pieces : pieces_of (decimal n ∷ []) ≡ decimal n ∷ [] = ap (λ (ps : List (List ℕ)). map trim_ows ps ++ []) whole ∙ ap (λ (t : List ℕ). t ∷ []) bare in
-    let number = number_is n small in
-    let said : says n (decimal n) ≡ true = ap (λ (o : Option ℕ). option_eq eqb o (Some n)) number ∙ same_number n in
-    ap agreed pieces
-    ∙ (ap (option_and_then (λ (m : ℕ). cond (says m (decimal n) && true) (Some m) None)) number ∙ ap (λ (t : Bool). cond (t && true) (Some n) None) said)
-
-trimmed_digits : (n : ℕ) → n < 2 ^ 63 → trim_ows (32 ∷ decimal n) ≡ decimal n
-trimmed_digits n small =
-    let digits = all_digits (decimal n) (decimal_is_IsNumeral n (omega (arith, small))).0.1 in
-    led (decimal n) ∙ untrimmed (decimal n) (All-weaker (λ b. IsTrue (is_ascii_digit b)) (λ b. is_ows b ≡ false) no_blank_digit (decimal n) digits)
 
 framing_told : (f : Framing) → IsRequestFraming f
     → framed 1 (told (codes "transfer-encoding") (framing_pairs f)) (told (codes "content-length") (framing_pairs f)) ≡ Ok f

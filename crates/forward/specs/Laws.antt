@@ -1,6 +1,6 @@
 -- What is read of a head that is written here.
 use Rattle.std.specs.Prelude.{◌≡◌, ◌^◌, ◌<◌, ◌≤◌, [], ◌∷◌, length, codes, Ok}
-use Rattle.httparse.specs.Grammar.{trim_ows}
+use Rattle.httparse.specs.Grammar.{AllPass, is_value_byte, trim_ows}
 use Rattle.name_tree.specs.Canon.{AreByteLabels}
 use Rattle.dtab_table.specs.Dtab.{rules_of}
 use Rattle.dtab_table.specs.TableCanon.{AreSoundRules}
@@ -21,13 +21,15 @@ IsRequestFraming (Framing.Length n) = n < 2 ^ 63
 IsRequestFraming Framing.Chunked = Unit {0}
 IsRequestFraming Framing.ToEnd = ⊥
 
--- a way as requests go: its host has no blank at an end, its labels are of bytes, and its table is one that was read or made
+-- a way as requests go: its host has no blank at an end, its paths are of bytes, and its table is one that was read or made
 pub record IsPlainWay (to : Going) : Type 0 where
   pub sound : IsSoundWay to
   pub host : trim_ows to.host.now ≡ to.host.now
   pub framing : IsRequestFraming to.framing
   pub local : AreSoundRules (rules_of to.local.now)
   pub service : AreByteLabels to.service.now
+  pub client : AllPass is_value_byte to.client.now
+  pub residual : AllPass is_value_byte to.residual.now
 
 -- the bytes are one head and nothing behind it, which has the method, the target, the framing and the one host that were meant, and no table
 -- of a client

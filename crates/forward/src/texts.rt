@@ -3,7 +3,7 @@ ghost use Rattle.std.specs.Prelude.{◌≡◌, ◌↔◌, IsTrue};
 ghost use Rattle.std.specs.List.{list_all};
 ghost use Rattle.httparse.specs.Grammar.{is_uri_byte};
 ghost use Rattle.http_wire.specs.Sound.{IsSoundTarget};
-ghost use Rattle.forward.specs.Sound.{IsSoundWay};
+ghost use Rattle.forward.specs.Sound.{is_clear_byte, IsSoundWay};
 
 use crate::going::Going;
 use httparse::{is_header_value, is_uri_token};
@@ -17,14 +17,21 @@ impl Going<'_> {
         if !is_header_value(self.host) {
             return false;
         }
-        if !is_header_value(self.client) {
+        if !is_clear(self.client) {
             return false;
         }
-        if !is_header_value(self.residual) {
+        if !is_clear(self.residual) {
             return false;
         }
         is_target(self.target)
     }
+}
+
+/// Whether a text has no control byte before the space.
+fn is_clear(text: &[u8]) -> bool
+    ensures { result ≡ list_all is_clear_byte text.now }
+{
+    text.iter().all(|byte| *byte >= b' ')
 }
 
 /// Whether a text may stand in a request line.

@@ -16,3 +16,4 @@ pub mod Settled
 pub mod Sound
 pub mod Targets
 pub mod Tokens
+pub mod Lengths

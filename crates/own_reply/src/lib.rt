@@ -5,7 +5,7 @@
 //!
 //! # What is proved
 //! [`own_reply`] gives exactly the bytes that `specs/Reply.antt` says, for each error, closing or not, with a body or
-//! without.
+//! without. [`own_replies_are_replies`] is the law that each is read as a reply whose one Content-Length is the length of its body.
 //!
 //! # Example
 //! ```
@@ -17,9 +17,11 @@
 use std::alloc::AllocError;
 
 mod error;
+mod laws;
 mod reply;
 
 pub use error::OwnError;
+pub use laws::own_replies_are_replies;
 pub use reply::own_reply;
 
 /// A value, unless there was no memory for it.
