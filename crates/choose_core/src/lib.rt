@@ -36,6 +36,8 @@ mod marked;
 mod marks;
 mod pruning;
 mod sieve;
+#[cfg(test)]
+mod tests;
 
 pub use draw::pair;
 pub use laws::equal_weights_do_not_matter;
