@@ -38,6 +38,8 @@ mod naming;
 mod reading;
 mod routed;
 mod router;
+#[cfg(test)]
+mod tests;
 mod value;
 
 pub use config::{Config, Port, Text};
