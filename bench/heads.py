@@ -15,15 +15,67 @@ CRATES_USED = ("line_base", "http_wire", "dtab_index", "name_tree", "dtab_table"
 PROGRAM = r'''//! Times the reading of heads.
 #![tactic(auto)]
 
+ghost use Rattle.http_wire.specs.Sound.{IsSoundHead};
+
 use dtab_table::Dtab;
 use forward::{Going, forward_head};
-use http_wire::{Framing, Rest, read_request_head};
+use http_wire::{Framing, Head, Rest, read_request_head};
 use line_base::{MemPeer, MemSink, MemSource};
 use name_tree::Path;
+use std::alloc::{AllocError, Global};
 use std::io;
 use std::time::Instant;
 
 const REQUEST: &str = "GET /x?y=1 HTTP/1.1\r\nHost: Web\r\nUser-Agent: curl/8.5.0\r\nAccept: */*\r\nl5d-dtab: /svc/web => /$/inet/127.0.0.1/9001\r\nConnection: x-gone, keep-alive\r\nX-Gone: 1\r\nX-Kept: 2\r\nAccept-Language: de\r\nAccept-Encoding: gzip, br\r\nCookie: a=b; c=d\r\n\r\n";
+
+/// A head that lists very many names beside very many fields.
+fn hostile_head(alloc: Global) -> Result<Vec<u8>, AllocError> {
+    let mut bytes = Vec::new(alloc);
+    bytes.extend_from_slice(b"GET / HTTP/1.1\r\nConnection: ")?;
+    for n in 0..16300u32 {
+        bytes.push(b'a' + (n % 13) as u8)?;
+        bytes.push(b',')?;
+    }
+    bytes.extend_from_slice(b"\n")?;
+    for n in 0..10900u32 {
+        bytes.push(b'N' + (n % 13) as u8)?;
+        bytes.extend_from_slice(b":\n")?;
+    }
+    bytes.extend_from_slice(b"\n")?;
+    Ok(bytes)
+}
+
+/// Reads a head and writes it as it goes on: how many bytes that is.
+fn sent_for(alloc: Global, bytes: &[u8]) -> Result<usize, AllocError> {
+    let source = MemSource::of(Vec::new(alloc), Vec::new(alloc), Vec::new(alloc));
+    let mut peer = MemPeer::of(source, MemSink::of(alloc, Vec::new(alloc), Vec::new(alloc)));
+    let mut rest = Rest::room(alloc)?;
+    rest.add(bytes)?;
+    match read_request_head(alloc, &mut peer, &mut rest) {
+        Ok(head) => written(alloc, &head),
+        Err(_) => Ok(0),
+    }
+}
+
+/// How long a head is as it goes on.
+fn written(alloc: Global, head: &Head) -> Result<usize, AllocError>
+    requires { IsSoundHead head.now }
+{
+    let to = Going {
+        host: b"web",
+        target: b"/",
+        framing: Framing::Nothing,
+        local: &Dtab::empty(alloc),
+        service: &Path::new(alloc),
+        client: b"/a",
+        residual: b"/",
+    };
+    if !to.is_sound() {
+        return Ok(0);
+    }
+    let bytes = forward_head(alloc, head, &to)?;
+    Ok(bytes.len())
+}
 
 fn main(rt: HostRuntime) -> io::Result<()> {
     let alloc = rt.alloc();
@@ -59,39 +111,13 @@ fn main(rt: HostRuntime) -> io::Result<()> {
     let read = read_request_head(alloc, &mut slow, &mut rest).is_ok();
     let took = start.elapsed(&rt)?.as_millis();
     println!(rt; "one head of {size} bytes by single bytes: {read}, {took} ms")?;
-    let mut hostile = Vec::new(alloc);
-    hostile.extend_from_slice(b"GET / HTTP/1.1\r\nConnection: ")?;
-    for n in 0..16300u32 {
-        hostile.push(b'a' + (n % 13) as u8)?;
-        hostile.push(b',')?;
-    }
-    hostile.extend_from_slice(b"\n")?;
-    for n in 0..10900u32 {
-        hostile.push(b'N' + (n % 13) as u8)?;
-        hostile.extend_from_slice(b":\n")?;
-    }
-    hostile.extend_from_slice(b"\n")?;
+    let hostile = hostile_head(alloc)?;
     let size = hostile.len();
     let mut best = u128::MAX;
     let mut sent = 0usize;
     for _ in 0..20u32 {
-        rest.clear();
-        rest.add(hostile.as_slice())?;
         let start = Instant::now(&rt)?;
-        if let Ok(head) = read_request_head(alloc, &mut peer, &mut rest) {
-            let to = Going {
-                host: b"web",
-                target: b"/",
-                framing: Framing::Nothing,
-                local: &Dtab::empty(alloc),
-                service: &Path::new(alloc),
-                client: b"/a",
-                residual: b"/",
-            };
-            if to.is_sound() {
-                sent = forward_head(alloc, &head, &to)?.len();
-            }
-        }
+        sent = sent_for(alloc, hostile.as_slice())?;
         best = best.min(start.elapsed(&rt)?.as_micros());
     }
     println!(rt; "one hostile head of {size} bytes read and forwarded as {sent} bytes, {best} us at best")
