@@ -1,4 +1,5 @@
-//! The interleaving core: several passes that change, ask and remember in any order, and the one history that they leave.
+//! The interleaving core: several passes that change, ask and remember in any order, and the one history that they leave. These are the definitions and their
+//! law; nothing runs here yet.
 //!
 //! A world has the list of what was published, and for each pass what it has seen of that, its calls with their points, the call that is not
 //! answered yet, and the delegation that it worked out last (`specs/World.antt`). A step is one of one pass, or a meeting of two: a change is
