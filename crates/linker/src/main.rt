@@ -54,3 +54,6 @@ fn main(rt: HostRuntime) -> ExitCode {
     }
     exit.code
 }
+
+#[cfg(test)]
+mod tests;

@@ -1,0 +1,366 @@
+//! The program over sources and sinks in memory: scripts with their replies, words, limits, and faults at each call in turn.
+use crate::adapters::{ReaderSource, WriterSink};
+use crate::program::linker;
+use line_base::{Failed, MemSink, MemSource, Sink, Source};
+use std::alloc::{AllocError, Global};
+use std::test::Fail;
+
+/// A script that answers each kind of line, and what it writes.
+const SAMPLE: &str = "dtab /svc => /$/inet/127.0.0.1/8080\n\npick /svc/a\npick /b\n";
+
+const SAMPLE_OUT: &str = "ok\n127.0.0.1:8080 /$/inet/127.0.0.1/8080 /a\nnegative\n";
+
+/// What is written, and the status.
+fn run(
+    rt: &HostRuntime,
+    words: &[&str],
+    source: MemSource,
+    sink: MemSink,
+) -> Result<(MemSink, u8), AllocError> {
+    let alloc = rt.alloc();
+    let mut owned = Vec::new(alloc);
+    for word in words {
+        owned.push(String::from_str(alloc, word)?)?;
+    }
+    let mut source = source;
+    let mut sink = sink;
+    let status = linker(rt, owned.as_slice(), &mut source, &mut sink);
+    Ok((sink, status))
+}
+
+fn source(alloc: Global, script: &str) -> Result<MemSource, AllocError> {
+    Ok(MemSource::of(
+        Vec::from_slice(alloc, script.as_bytes())?,
+        Vec::new(alloc),
+        Vec::new(alloc),
+    ))
+}
+
+fn sink(alloc: Global) -> MemSink {
+    MemSink::of(alloc, Vec::new(alloc), Vec::new(alloc))
+}
+
+/// What `replay` writes for a script, and its status.
+fn replayed(rt: &HostRuntime, script: &str) -> Result<(String, u8), Fail> {
+    let alloc = rt.alloc();
+    let (sink, status) = run(rt, &["replay"], source(alloc, script)?, sink(alloc))?;
+    let mut text = String::new(alloc);
+    for byte in sink.held() {
+        text.push(char::from(*byte))?;
+    }
+    Ok((text, status))
+}
+
+#[test]
+fn scripts_and_replies(rt: HostRuntime) -> Result<(), Fail> {
+    let nine = "127.0.0.1:9 /$/inet/127.0.0.1/9 /\n";
+    let rows = [
+        (
+            "dtab /svc => /$/inet/127.0.0.1/8080\npick /svc/a",
+            "ok\n127.0.0.1:8080 /$/inet/127.0.0.1/8080 /a\n",
+            0,
+        ),
+        (SAMPLE, SAMPLE_OUT, 0),
+        ("", "", 0),
+        ("pick /svc/a", "negative\n", 0),
+        (
+            "pick /svc/a\nnonsense\npick /svc/a",
+            "negative\nerror line 2\n",
+            3,
+        ),
+        ("dtab /a => /a\npick /a", "ok\ntoo-deep\n", 0),
+        (
+            "dtab /svc => /$/inet/127.0.0.1/1; /svc => /$/inet/127.0.0.1/2\npick /svc",
+            "ok\n127.0.0.1:2 /$/inet/127.0.0.1/2 /\n",
+            0,
+        ),
+        (
+            "dtab /svc => /$/inet/127.0.0.1/1; /svc => ~\npick /svc",
+            "ok\n127.0.0.1:1 /$/inet/127.0.0.1/1 /\n",
+            0,
+        ),
+        (
+            "dtab /s => $ | /$/inet/127.0.0.1/9\npick /s",
+            "ok\nempty\n",
+            0,
+        ),
+        (
+            "dtab /s => ! | /$/inet/127.0.0.1/9\npick /s",
+            "ok\nfailing\n",
+            0,
+        ),
+        // The later table stands alone, and an empty one is a table too.
+        (
+            "dtab /a => !\ndtab /b => $\npick /a\npick /b\ndtab\npick /b",
+            "ok\nok\nnegative\nempty\nok\nnegative\n",
+            0,
+        ),
+        // Blank lines count, a CR before an LF is dropped, and words may have spaces and tabs round them.
+        (
+            "\n \t\r\n\r\n\tpick  /a \r\n  dtab \t/a=>!;\r\npick\t/a\t\nx",
+            "negative\nok\nfailing\nerror line 7\n",
+            3,
+        ),
+        // A CR with no LF behind it stays: a blank of a path, and no part of a word.
+        ("pick /a\r", "negative\n", 0),
+        ("pick /a \r", "error line 1\n", 3),
+        ("pick /a /b", "error line 1\n", 3),
+        ("dtab /a => ", "error line 1\n", 3),
+        (
+            "dtab /s/*/x => /$/inet/127.0.0.1/9\npick /s/a/x/y\npick /s/x\npick /s/a/b/x",
+            "ok\n127.0.0.1:9 /$/inet/127.0.0.1/9 /y\nnegative\nnegative\n",
+            0,
+        ),
+    ];
+    for (script, written, status) in rows {
+        let (text, ended) = replayed(&rt, script)?;
+        assert_eq!(rt; text.as_str(), written, "of {script:?}");
+        assert_eq!(rt; ended, status, "of {script:?}");
+    }
+    let (text, _) = replayed(&rt, "dtab /s => ~ | /$/inet/127.0.0.1/9\npick /s")?;
+    assert_eq!(rt;
+        text.as_str(),
+        format!(in rt.alloc(); "ok\n{nine}")?.as_str()
+    );
+    Ok(())
+}
+
+/// Services, marks, versions, weights, views and tables of a pick's own.
+#[test]
+fn state_and_replies(rt: HostRuntime) -> Result<(), Fail> {
+    let rows = [
+        // An address with five failures is left out until its moment, and its mark stays at the limit then.
+        (
+            "addrs web 127.0.0.1:1 127.0.0.1:2 127.0.0.1:3\ndtab /svc => /#/io.l5d.fs\nfail 127.0.0.1:2 0\nfail 127.0.0.1:2 0\nfail 127.0.0.1:2 0\nfail 127.0.0.1:2 0\nfail 127.0.0.1:2 0\npick /svc/web 0 0 0 0\npick /svc/web 0 0 9223372036854775808 0\npick /svc/web 4999 0 6148914691236517206 0\npick /svc/web 5000 0 6148914691236517206 0",
+            "ok 3\nok\nmark 1 0\nmark 2 0\nmark 3 0\nmark 4 0\nmark 5 5000\n127.0.0.1:1 /#/io.l5d.fs/web /\n127.0.0.1:3 /#/io.l5d.fs/web /\n127.0.0.1:1 /#/io.l5d.fs/web /\n127.0.0.1:2 /#/io.l5d.fs/web /\n",
+        ),
+        // Where all are dead, all take part.
+        (
+            "addrs one 127.0.0.1:7\ndtab /svc => /#/io.l5d.fs\nfail 127.0.0.1:7 100\nfail 127.0.0.1:7 100\nfail 127.0.0.1:7 100\nfail 127.0.0.1:7 100\nfail 127.0.0.1:7 100\npick /svc/one 200 0 0 0\nfail 127.0.0.1:7 6000\ngood 127.0.0.1:7 6001\nfail 127.0.0.1:8 0",
+            "ok 1\nok\nmark 1 0\nmark 2 0\nmark 3 0\nmark 4 0\nmark 5 5100\n127.0.0.1:7 /#/io.l5d.fs/one /\nmark 5 11000\nmark 0 0\nnot-kept\n",
+        ),
+        // A version never comes twice.
+        (
+            "create web /svc => /a\ncreate web\nput web 7 /svc => /b\nput web 1 /svc => /b\ndelete web 1\ndelete web *\nput web * /x => /y\ncreate web /svc => /c\nget web\nget x\nlist",
+            "version 1\nexists 1\nstale 1\nversion 2\nstale 2\ndeleted\nmissing\nversion 3\nversion 3 dtab /svc=>/c\nmissing\nnames web\n",
+        ),
+        // A service without addresses is empty, and not negative.
+        (
+            "addrs web\ndtab /svc => /#/io.l5d.fs | /$/inet/127.0.0.1/9\npick /svc/web\ndrop web\npick /svc/web\ndrop web",
+            "ok 0\nok\nempty\ndropped\n127.0.0.1:9 /$/inet/127.0.0.1/9 /web\nmissing\n",
+        ),
+        (
+            "dtab /s => 0.3 * /$/inet/127.0.0.1/1 & 0.7 * /$/inet/127.0.0.1/2\npick /s 0 0 0 0\npick /s 0 5534023222112865484 0 0\npick /s 0 5534023222112865485 0 0",
+            "ok\n127.0.0.1:1 /$/inet/127.0.0.1/1 /\n127.0.0.1:1 /$/inet/127.0.0.1/1 /\n127.0.0.1:2 /$/inet/127.0.0.1/2 /\n",
+        ),
+        (
+            "addrs web 127.0.0.1:1*3 127.0.0.1:2\ndtab /svc => /#/io.l5d.fs\npick /svc/web 0 0 13835058055282163711 0\npick /svc/web 0 0 13835058055282163712 0",
+            "ok 2\nok\n127.0.0.1:1 /#/io.l5d.fs/web /\n127.0.0.1:2 /#/io.l5d.fs/web /\n",
+        ),
+        // The weight of a branch without addresses does not count, and a table of a pick's own wins.
+        (
+            "addrs gone\ndtab /s => 9 * /#/io.l5d.fs/gone & /$/inet/127.0.0.1/1 & /$/inet/127.0.0.1/2\npick /s 0 9223372036854775807 0 0\npick /s 0 9223372036854775808 0 0\npick /s 0 0 0 0 /s => /$/inet/127.0.0.1/3",
+            "ok 0\nok\n127.0.0.1:1 /$/inet/127.0.0.1/1 /\n127.0.0.1:2 /$/inet/127.0.0.1/2 /\n127.0.0.1:3 /$/inet/127.0.0.1/3 /\n",
+        ),
+        // A mark goes with its address, and is not there when the address comes back.
+        (
+            "addrs web 127.0.0.1:1\nfail 127.0.0.1:1 0\naddrs web\naddrs web 127.0.0.1:1\nfail 127.0.0.1:1 0",
+            "ok 1\nmark 1 0\nok 0\nok 1\nmark 1 0\n",
+        ),
+        (
+            "dtab /svc => /$/inet/127.0.0.1/8080\nview /svc/\\x2F",
+            "ok\n{\"lookups\":[{\"depth\":0,\"outcome\":\"bound\",\"path\":\"/svc/\\\\x2f\"},{\"depth\":1,\"outcome\":\"bound\",\"path\":\"/$/inet/127.0.0.1/8080/\\\\x2f\"}],\"outcome\":\"bound\"}\n",
+        ),
+    ];
+    for (script, written) in rows {
+        let (text, ended) = replayed(&rt, script)?;
+        assert_eq!(rt; text.as_str(), written, "of {script:?}");
+        assert_eq!(rt; ended, 0, "of {script:?}");
+    }
+    Ok(())
+}
+
+/// `/c0 => /c1` and so on, and the last to an address.
+fn chain(alloc: Global, links: u32) -> Result<String, AllocError> {
+    let mut script = String::from_str(alloc, "dtab ")?;
+    for link in 0..links {
+        let next = link + 1;
+        write!(script, "/c{link} => /c{next};")?;
+    }
+    write!(script, "/c{links} => /$/inet/127.0.0.1/80\npick /c0")?;
+    Ok(script)
+}
+
+/// `/a0 => /a1 | /a1` and so on: each level doubles the lookups.
+fn doubling(alloc: Global, levels: u32) -> Result<String, AllocError> {
+    let mut script = String::from_str(alloc, "dtab ")?;
+    for level in 0..levels {
+        let next = level + 1;
+        write!(script, "/a{level} => /a{next} | /a{next};")?;
+    }
+    script.push_str("\npick /a0")?;
+    Ok(script)
+}
+
+/// `/a0 => /a1 & /a1` and so on, and the last to an address.
+fn unions(alloc: Global, levels: u32) -> Result<String, AllocError> {
+    let mut script = String::from_str(alloc, "dtab ")?;
+    for level in 0..levels {
+        let next = level + 1;
+        write!(script, "/a{level} => /a{next} & /a{next};")?;
+    }
+    write!(script, "/a{levels} => /$/inet/127.0.0.1/80\npick /a0")?;
+    Ok(script)
+}
+
+/// `pick` of one label of so many bytes.
+fn long_label(alloc: Global, bytes: usize) -> Result<String, AllocError> {
+    let mut script = String::from_str(alloc, "pick /")?;
+    for _ in 0..bytes {
+        script.push('a')?;
+    }
+    Ok(script)
+}
+
+/// `dtab` and a table of so many entries.
+fn entries(alloc: Global, count: u32) -> Result<String, AllocError> {
+    let mut script = String::from_str(alloc, "dtab ")?;
+    for entry in 0..count {
+        write!(script, "/e{entry} => ~;")?;
+    }
+    Ok(script)
+}
+
+/// `dtab`, so many blanks, and a table of so many bytes.
+fn table_behind(alloc: Global, blanks: usize, bytes: usize) -> Result<String, AllocError> {
+    let mut script = String::from_str(alloc, "dtab")?;
+    for _ in 0..blanks {
+        script.push(' ')?;
+    }
+    script.push_str("/a=>/")?;
+    for _ in 5..bytes {
+        script.push('b')?;
+    }
+    Ok(script)
+}
+
+#[test]
+fn limits(rt: HostRuntime) -> Result<(), Fail> {
+    let alloc = rt.alloc();
+    let rows = [
+        (
+            chain(alloc, 98)?,
+            "ok\n127.0.0.1:80 /$/inet/127.0.0.1/80 /\n",
+            0,
+        ),
+        (chain(alloc, 99)?, "ok\ntoo-deep\n", 0),
+        (doubling(alloc, 12)?, "ok\nnegative\n", 0),
+        (doubling(alloc, 13)?, "ok\ntoo-wide\n", 0),
+        (
+            unions(alloc, 11)?,
+            "ok\n127.0.0.1:80 /$/inet/127.0.0.1/80 /\n",
+            0,
+        ),
+        (unions(alloc, 12)?, "ok\ntoo-wide\n", 0),
+        (long_label(alloc, 2047)?, "negative\n", 0),
+        (long_label(alloc, 2048)?, "too-deep\n", 0),
+        (long_label(alloc, 65_535)?, "too-deep\n", 0),
+        (long_label(alloc, 65_536)?, "error line 1\n", 3),
+        (entries(alloc, 1024)?, "ok\n", 0),
+        (entries(alloc, 1025)?, "error line 1\n", 3),
+        // A table begins behind the gap, and the limit is on its text alone.
+        (table_behind(alloc, 1, 65_536)?, "ok\n", 0),
+        (table_behind(alloc, 1, 65_537)?, "error line 1\n", 3),
+        (table_behind(alloc, 70_000, 65_536)?, "ok\n", 0),
+        (table_behind(alloc, 70_000, 65_537)?, "error line 1\n", 3),
+    ];
+    for (script, written, status) in rows.iter() {
+        let (text, ended) = replayed(&rt, script.as_str())?;
+        assert_eq!(rt; text.as_str(), *written);
+        assert_eq!(rt; ended, *status);
+    }
+    Ok(())
+}
+
+#[test]
+fn words(rt: HostRuntime) -> Result<(), Fail> {
+    let alloc = rt.alloc();
+    let rows: [(&[&str], &str, u8); 6] = [
+        (&[], "error words 1\n", 2),
+        (&["storm"], "error words 1\n", 2),
+        (&[""], "error words 1\n", 2),
+        (&["--help"], "error words 1\n", 2),
+        (&["replay", "x"], "error words 2\n", 2),
+        (&["replay", "replay", "x"], "error words 2\n", 2),
+    ];
+    for (words, written, status) in rows {
+        let (sink, ended) = run(&rt, words, source(alloc, SAMPLE)?, sink(alloc))?;
+        assert_eq!(rt; sink.held(), written.as_bytes());
+        assert_eq!(rt; ended, status);
+    }
+    Ok(())
+}
+
+/// One byte a read, and each read failing in turn: nothing is carried out then.
+#[test]
+fn reads_in_pieces_and_failing(rt: HostRuntime) -> Result<(), Fail> {
+    let alloc = rt.alloc();
+    let bytes = SAMPLE.len();
+    for failing in 0..bytes + 2 {
+        let source = MemSource::of(
+            Vec::from_slice(alloc, SAMPLE.as_bytes())?,
+            Vec::from_elem(alloc, 1usize, bytes)?,
+            vec![in alloc; failing as u64]?,
+        );
+        let (sink, status) = run(&rt, &["replay"], source, sink(alloc))?;
+        if failing <= bytes {
+            assert_eq!(rt; (sink.held(), status), (b"error read\n".as_slice(), 4));
+        } else {
+            assert_eq!(rt; (sink.held(), status), (SAMPLE_OUT.as_bytes(), 0));
+        }
+    }
+    Ok(())
+}
+
+/// One byte a write, and each write failing in turn: a front of the replies is written.
+#[test]
+fn writes_in_pieces_and_failing(rt: HostRuntime) -> Result<(), Fail> {
+    let alloc = rt.alloc();
+    let bytes = SAMPLE_OUT.len();
+    for failing in 0..bytes + 1 {
+        let sink = MemSink::of(
+            alloc,
+            Vec::from_elem(alloc, 1usize, bytes)?,
+            vec![in alloc; failing as u64]?,
+        );
+        let (sink, status) = run(&rt, &["replay"], source(alloc, SAMPLE)?, sink)?;
+        if failing < bytes {
+            assert_eq!(rt;
+                (sink.held(), status),
+                (&SAMPLE_OUT.as_bytes()[..failing], 5)
+            );
+        } else {
+            assert_eq!(rt; (sink.held(), status), (SAMPLE_OUT.as_bytes(), 0));
+        }
+    }
+    Ok(())
+}
+
+/// A reader's end is an end and no fault, and a writer that takes nothing is at fault.
+#[test]
+fn over_readers_and_writers(rt: HostRuntime) {
+    let text: &[u8] = b"ab";
+    let mut source = ReaderSource::of(text);
+    let mut into = [0u8; 4];
+    assert_eq!(rt; source.read(&mut into), Ok(2));
+    assert_eq!(rt; source.read(&mut []), Ok(0));
+    assert_eq!(rt; source.read(&mut into), Ok(0));
+    assert_eq!(rt; &into[..2], b"ab".as_slice());
+    let mut room = [0u8; 3];
+    let full: &mut [u8] = &mut room;
+    let mut sink = WriterSink::of(full);
+    assert_eq!(rt; sink.write(b"cd"), Ok(2));
+    assert_eq!(rt; sink.write(b""), Ok(0));
+    assert_eq!(rt; sink.write(b"ef"), Ok(1));
+    assert_eq!(rt; sink.write(b"f"), Err(Failed));
+}
