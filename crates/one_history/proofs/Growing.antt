@@ -4,7 +4,7 @@ use Rattle.std.specs.Prelude.{All}
 use Rattle.std.proofs.lemmas.List.{append-nil}
 use Rattle.std.proofs.lemmas.List.Elements.{All-cons, All-head, All-tail, All-push, All-nil, All-weaker}
 use Rattle.one_history.specs.Entries.{entry_at, Behind, changes_with, others_with, entries_from, changes_after, others_after, changes_made, others_made, entries, Follow}
-use Rattle.one_history.specs.Calls.{Placed, Called}
+use Rattle.one_history.specs.Calls.{Placed, Called, CountsStay, CallCounts}
 
 pub take_grown : {A : Type 0} (n : ℕ) (xs zs : List A) → n ≤ length xs → take n (xs ++ zs) ≡ take n xs
 take_grown zero xs zs within = refl
@@ -87,6 +87,23 @@ module _ {O C : Type 0} (is_change : O → Bool) (publishes : List O → ℕ →
       ap (λ es. entry_at found first.1 ++ es) (entries_push caller seen c' o' items item)
       ∙ sym (append_assoc (entry_at found first.1) (entries_from is_change publishes caller seen c' o' items) (entry_at (publishes (take item.1 seen) caller (changes_after is_change publishes caller seen c' o' items) (others_after is_change publishes caller seen c' o' items) item.0) item.1))
 
+  -- how many changes that is, and how many others
+  changes_push : (caller : ℕ) (seen : List O) (c o : ℕ) (items : List (C × ℕ)) (item : C × ℕ)
+      → changes_after is_change publishes caller seen c o (items ++ item ∷ [])
+      ≡ changes_with is_change publishes (publishes (take item.1 seen) caller (changes_after is_change publishes caller seen c o items) (others_after is_change publishes caller seen c o items) item.0) (changes_after is_change publishes caller seen c o items)
+  changes_push caller seen c o [] item = refl
+  changes_push caller seen c o (first ∷ items) item =
+      let found = publishes (take first.1 seen) caller c o first.0 in
+      changes_push caller seen (changes_with is_change publishes found c) (others_with is_change publishes found o) items item
+
+  others_push : (caller : ℕ) (seen : List O) (c o : ℕ) (items : List (C × ℕ)) (item : C × ℕ)
+      → others_after is_change publishes caller seen c o (items ++ item ∷ [])
+      ≡ others_with is_change publishes (publishes (take item.1 seen) caller (changes_after is_change publishes caller seen c o items) (others_after is_change publishes caller seen c o items) item.0) (others_after is_change publishes caller seen c o items)
+  others_push caller seen c o [] item = refl
+  others_push caller seen c o (first ∷ items) item =
+      let found = publishes (take first.1 seen) caller c o first.0 in
+      others_push caller seen (changes_with is_change publishes found c) (others_with is_change publishes found o) items item
+
   behind_next : (found : Option O) (seen : List O) (at next : ℕ) (rest : List (O × ℕ)) → at ≤ length seen → length seen ≤ next
       → All (λ entry. slice_get seen entry.1 ≡ Some entry.0) (entry_at found at ++ rest) → Behind found at next
   behind_next None seen at next rest within late stands = omega (arith, within, late)
@@ -141,3 +158,36 @@ module _ {O C : Type 0} (is_change : O → Bool) (publishes : List O → ℕ →
       let is : seen ++ more ≡ seen' = called.before.1 in
       let new = with_call caller seen more items (call, at) placed called.late (rw is called.within) (rw is called.stands) in
       subst (λ (l : List O). Placed is_change publishes caller l items') is (subst (λ (l : List (C × ℕ)). Placed is_change publishes caller (seen ++ more) l) (sym called.item) new)
+
+  -- what items published, and how much, while the list grows
+  pub counts_stay : CountsStay is_change publishes
+  counts_stay caller seen more items within =
+      (entries_grown caller seen more 0 0 items within, changes_grown caller seen more 0 0 items within, others_grown caller seen more 0 0 items within)
+
+  -- and with one call more
+  abbrev Counted : (caller : ℕ) (seen whole : List O) (items all : List (C × ℕ)) (item : C × ℕ) → Type 0
+  Counted caller seen whole items all item =
+      let changes = changes_made is_change publishes caller seen items in
+      let others = others_made is_change publishes caller seen items in
+      let found = publishes (take item.1 whole) caller changes others item.0 in
+      (entries is_change publishes caller whole all ≡ entries is_change publishes caller seen items ++ entry_at found item.1)
+      × (changes_made is_change publishes caller whole all ≡ changes_with is_change publishes found changes)
+      × (others_made is_change publishes caller whole all ≡ others_with is_change publishes found others)
+
+  counted : (caller : ℕ) (seen more : List O) (items : List (C × ℕ)) (item : C × ℕ) → All (λ i. i.1 ≤ length seen) items
+      → Counted caller seen (seen ++ more) items (items ++ item ∷ []) item
+  counted caller seen more items item within =
+      let es = entries_grown caller seen more 0 0 items within in
+      let c = changes_grown caller seen more 0 0 items within in
+      let o = others_grown caller seen more 0 0 items within in (
+        entries_push caller (seen ++ more) 0 0 items item ∙ rw (es, c, o) refl,
+        changes_push caller (seen ++ more) 0 0 items item ∙ rw (c, o) refl,
+        others_push caller (seen ++ more) 0 0 items item ∙ rw (c, o) refl,
+      )
+
+  pub call_counts : CallCounts is_change publishes
+  call_counts caller seen seen' items items' call at within called =
+      let more = called.before.0 in
+      let is : seen ++ more ≡ seen' = called.before.1 in
+      subst (λ (l : List O). Counted caller seen l items items' (call, at)) is
+      (subst (λ (l : List (C × ℕ)). Counted caller seen (seen ++ more) items l (call, at)) (sym called.item) (counted caller seen more items (call, at) within))

@@ -1,11 +1,11 @@
 -- Callers that made as many changes as a list has made all that it has.
 use Rattle.std.proofs.Common.{◌≡◌, ◌≢◌, ℕ, suc, ◌+◌, ◌-◌, ◌<◌, ◌≤◌, ◌==◌, Bool, true, false, List, [], ◌∷◌, ◌++◌, length, take, Some, None, Option, slice_get, refl, arith, ap, sym, ◌∙◌, subst}
-use Rattle.std.specs.Prelude.{All, ⊤, ◌&&◌, if◌then◌else◌, map, filter, slice_index_or}
+use Rattle.std.specs.Prelude.{All, ⊤, ◌&&◌, if◌then◌else◌, map, filter, slice_index_or, Contains}
 use Rattle.std.proofs.lemmas.Bool.Decides.{nat_tests}
-use Rattle.std.proofs.lemmas.List.Elements.{All-cons, All-head, All-tail, All-nil, All-weaker}
+use Rattle.std.proofs.lemmas.List.Elements.{All-cons, All-head, All-tail, All-nil, All-weaker, Contains-append_right}
 use Rattle.one_history.specs.Entries.{entry_at, Behind, changes_with, others_with, entries_from, changes_after, changes_made, entries, Follow}
 use Rattle.one_history.specs.Calls.{Placed}
-use Rattle.one_history.specs.Order.{own_changes, InOrder, changes_of_all, Distinct, OfCaller}
+use Rattle.one_history.specs.Order.{own_changes, InOrder, changes_of_all, Distinct, OfCaller, CountShowsCallers}
 
 -- what holds of two things of each holds of what follows from both
 all_with : {A : Type 0} (P Q R : A → Type 0) → ((x : A) → P x → Q x → R x) → (xs : List A) → All P xs → All Q xs → All R xs
@@ -303,3 +303,31 @@ module _ {O C : Type 0} (is_change : O → Bool) (publishes : List O → ℕ →
         made_by_each ops callers of placed (omega (arith, all, le)),
         omega (arith, all, le, made_by_all ops callers of placed),
       )
+
+  -- what one of the callers owns is of a caller
+  owner_there : (ns : List ℕ) (op : O) → 1 ≤ owners ns op → Contains ns (caller_of op)
+  owner_there [] op one = absurd (omega (arith, one))
+  owner_there (n ∷ ns) op one = there_case (caller_of op == n) refl (λ few. owner_there ns op few) where
+    there_case : (t : Bool) → (caller_of op == n) ≡ t → (1 ≤ owners ns op → Contains ns (caller_of op)) → Contains (n ∷ ns) (caller_of op)
+    there_case true is rest = let e : n ≡ caller_of op = grind (arith, nat_tests) in (0, omega arith, e)
+    there_case false is rest =
+        let none = not_owner n op (λ e. differ (caller_of op) n is e) in
+        Contains-append_right (n ∷ []) ns (caller_of op) (rest (omega (arith, one, none)))
+
+  owned_next : (ns : List ℕ) (op : O) (ops : List O) (t : Bool) → is_change op ≡ t → one_if t ≤ owners ns op → All (λ x. Contains ns (caller_of x)) (filter is_change ops)
+      → All (λ x. Contains ns (caller_of x)) (filter is_change (op ∷ ops))
+  owned_next ns op ops true is one rest = rw is (All-cons (λ (x : O). Contains ns (caller_of x)) op (filter is_change ops) (owner_there ns op one) rest)
+  owned_next ns op ops false is one rest = rw is rest
+
+  -- where the own changes of all are as many as the list's, each of these is of a caller
+  all_of_callers : (ns : List ℕ) (ops : List O) → Distinct ns → length (filter is_change ops) ≤ own_of_all ns ops → All (λ op. Contains ns (caller_of op)) (filter is_change ops)
+  all_of_callers ns [] d le = All-nil (λ (op : O). Contains ns (caller_of op))
+  all_of_callers ns (op ∷ ops) d le =
+      let n = length_filter is_change op ops (is_change op) refl in
+      let own = own_next ns op ops in
+      let most = owners_at_most ns op ops d (is_change op) refl in
+      let rest = all_owned ns ops d in
+      owned_next ns op ops (is_change op) refl (omega (arith, le, n, own, rest)) (all_of_callers ns ops d (omega (arith, le, n, own, most)))
+
+  pub count_shows_callers : CountShowsCallers is_change publishes caller_of
+  count_shows_callers ops callers distinct of placed le = all_of_callers (map (λ p. p.0) callers) ops distinct (omega (arith, le, made_by_all ops callers of placed))

@@ -1,7 +1,7 @@
 -- How the items of a caller stand in the list that it has seen, and what a call does to them.
 use Rattle.std.specs.Prelude.{◌≡◌, ℕ, ◌≤◌, Bool, List, [], ◌∷◌, ◌++◌, length, take, All, Option, Some, slice_get}
 use mathlib.Core.List.{IsPrefix}
-use Rattle.one_history.specs.Entries.{entries, changes_made, others_made, Follow}
+use Rattle.one_history.specs.Entries.{entries, entry_at, changes_made, changes_with, others_made, others_with, Follow}
 
 module _ {O C : Type 0} (is_change : O → Bool) (publishes : List O → ℕ → ℕ → ℕ → C → Option O) where
   -- the items of a caller stand in order within what it has seen, and what they published stands there, each operation at its item's point
@@ -28,3 +28,21 @@ module _ {O C : Type 0} (is_change : O → Bool) (publishes : List O → ℕ →
   abbrev pub CallPlaces : Type 0
   CallPlaces = (caller : ℕ) (seen seen' : List O) (items items' : List (C × ℕ)) (call : C) (at : ℕ) → Placed caller seen items
       → Called caller seen seen' items items' call at → Placed caller seen' items'
+
+  -- while the list grows, what items published stays, with how many changes and how many others that is
+  abbrev pub CountsStay : Type 0
+  CountsStay = (caller : ℕ) (seen more : List O) (items : List (C × ℕ)) → All (λ item. item.1 ≤ length seen) items
+      → (entries is_change publishes caller (seen ++ more) items ≡ entries is_change publishes caller seen items)
+      × (changes_made is_change publishes caller (seen ++ more) items ≡ changes_made is_change publishes caller seen items)
+      × (others_made is_change publishes caller (seen ++ more) items ≡ others_made is_change publishes caller seen items)
+
+  -- and each call adds what it published: one change where that is a change, one other where it is another operation, and nothing where it published nothing
+  abbrev pub CallCounts : Type 0
+  CallCounts = (caller : ℕ) (seen seen' : List O) (items items' : List (C × ℕ)) (call : C) (at : ℕ) → All (λ item. item.1 ≤ length seen) items
+      → Called caller seen seen' items items' call at →
+      let changes = changes_made is_change publishes caller seen items in
+      let others = others_made is_change publishes caller seen items in
+      let found = publishes (take at seen') caller changes others call in
+      (entries is_change publishes caller seen' items' ≡ entries is_change publishes caller seen items ++ entry_at found at)
+      × (changes_made is_change publishes caller seen' items' ≡ changes_with is_change publishes found changes)
+      × (others_made is_change publishes caller seen' items' ≡ others_with is_change publishes found others)

@@ -1,5 +1,5 @@
 -- Whose changes a list of published operations has.
-use Rattle.std.specs.Prelude.{◌≡◌, ◌≢◌, ℕ, ◌+◌, ◌≤◌, ◌==◌, ◌&&◌, Bool, List, [], ◌∷◌, ◌++◌, map, filter, length, All, ⊤, Option, Some, false}
+use Rattle.std.specs.Prelude.{◌≡◌, ◌≢◌, ℕ, ◌+◌, ◌≤◌, ◌==◌, ◌&&◌, Bool, List, [], ◌∷◌, ◌++◌, map, filter, length, All, Contains, ⊤, Option, Some, false}
 use Rattle.std.specs.Option.{option_to_list}
 use Rattle.one_history.specs.Entries.{entries, changes_made, others_made}
 use Rattle.one_history.specs.Calls.{Placed}
@@ -32,12 +32,18 @@ module _ {O C : Type 0} (is_change : O → Bool) (publishes : List O → ℕ →
   abbrev pub OfCaller : ℕ → Type 0
   OfCaller caller = (before : List O) (changes others : ℕ) (call : C) (op : O) → publishes before caller changes others call ≡ Some op → caller_of op ≡ caller
 
-  -- callers of which no two are one, whose items are placed in a list, made no more changes than the list has. Where they made as many, the list has no change
-  -- but theirs, and those of each are just those that its items published, in their order
+  -- callers of which no two are one, whose items are placed in a list, made no more changes than the list has. Where they made as many, those of each that the
+  -- list has are just those that its items published, in their order
   abbrev pub CountShowsOrder : Type 0
   CountShowsOrder = (ops : List O) (callers : Callers) → Distinct (map (λ p. p.0) callers) → All (λ p. OfCaller p.0) callers
       → All (λ p. Placed is_change publishes p.0 ops p.1) callers → length (filter is_change ops) ≤ changes_of_all ops callers
       → All (λ p. InOrder p.0 ops p.1) callers × (length (filter is_change ops) ≡ changes_of_all ops callers)
+
+  -- and then the list has no change but theirs
+  abbrev pub CountShowsCallers : Type 0
+  CountShowsCallers = (ops : List O) (callers : Callers) → Distinct (map (λ p. p.0) callers) → All (λ p. OfCaller p.0) callers
+      → All (λ p. Placed is_change publishes p.0 ops p.1) callers → length (filter is_change ops) ≤ changes_of_all ops callers
+      → All (λ op. Contains (map (λ p. p.0) callers) (caller_of op)) (filter is_change ops)
 
   -- items stay in order while others publish
   abbrev pub OthersLeaveOrder : Type 0

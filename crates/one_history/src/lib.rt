@@ -12,9 +12,11 @@
 //! The definitions speak of any operations and any calls, so a model of all schedules and the running router cite the same ones.
 //!
 //! # What is proved
-//! [`placed_items_stay`]: items stay placed while the list grows. [`calls_place_items`]: each call places one item more. [`counts_show_order`]: callers of which no
-//! two are one, whose items are placed in one list, made no more changes than the list has; where they made as many, the list has no other
-//! change, and each caller's stand in it as its items published them. So a count that threads keep shows that nothing was published twice or by nobody.
+//! [`placed_items_stay`]: items stay placed while the list grows. [`calls_place_items`]: each call places one item more. [`counts_stay`]: what items published, and
+//! how many changes and others that is, stays while the list grows. [`calls_count`]: one call raises the number of changes by one exactly where it
+//! published a change, and that of others likewise. [`counts_show_order`]: callers of which no two are one, whose items are placed in one list, made no more
+//! changes than the list has; where they made as many, each caller's stand in it as its items published them. [`counts_show_callers`]: the list
+//! has no other change then. So a count that threads keep shows that nothing was published twice or by nobody.
 //! [`callers_stay_in_order`]: a caller's items stay in order while others publish, and with one more call at the end.
 //!
 //! # Example
@@ -28,4 +30,4 @@
 
 mod laws;
 
-pub use laws::{callers_stay_in_order, calls_place_items, counts_show_order, placed_items_stay};
+pub use laws::{callers_stay_in_order, calls_count, calls_place_items, counts_show_callers, counts_show_order, counts_stay, placed_items_stay};
