@@ -2,11 +2,13 @@
 use Rattle.std.specs.Prelude.{◌≡◌, ℕ, true, List, ◌++◌, Some}
 use Rattle.addr_book.specs.Namer.{named_in}
 use Rattle.machine.specs.Values.{SettingsValue, ChangeValue}
+use Rattle.machine.specs.Ready.{ReadyValue, IsReadyFor}
 use Rattle.bind_cache.specs.Kept.{Kept, IsRight}
 use Rattle.one_history.specs.Order.{OfCaller}
 use Rattle.router_log.specs.Operation.{Operation, changed, kept, is_change, caller_of, place_of}
-use Rattle.router_log.specs.Value.{value_of, opening_value, Fits, AllFit, IsRightValue, standing_rules}
+use Rattle.router_log.specs.Value.{Value, value_of, opening_value, applied, Fits, AllFit, IsRightValue, standing_rules}
 use Rattle.router_log.specs.Call.{changing, publishes, is_kept}
+use Rattle.router_log.specs.Taking.{with_change, with_kept}
 
 -- where all of it fitted, what is kept is right for the state
 abbrev pub ValuesAreRight : Type 0
@@ -37,3 +39,15 @@ KeptFits =
     (settings : SettingsValue) (ops more : List Operation) (k : Kept) → k.place ≡ place_of ops
     → IsRight (standing_rules settings (value_of settings ops).state) (named_in (value_of settings ops).state.book) k
     → is_kept settings (ops ++ more) k ≡ true → (caller others : ℕ) → Fits settings (value_of settings (ops ++ more)) (kept caller others k)
+
+-- a value that takes in a change that its state accepts, as it was prepared from this state, becomes what the published change leaves
+abbrev pub TakingChanges : Type 0
+TakingChanges =
+    (settings : SettingsValue) (value : Value) (caller serial : ℕ) (change : ChangeValue) (ready : ReadyValue) → IsReadyFor settings value.state change ready
+    → with_change settings value change ready ≡ applied settings value (changed caller serial change)
+
+-- and so does one that takes in a delegation that fits it
+abbrev pub TakingKeeps : Type 0
+TakingKeeps =
+    (settings : SettingsValue) (value : Value) (caller serial : ℕ) (k : Kept) → Fits settings value (kept caller serial k)
+    → with_kept value k ≡ applied settings value (kept caller serial k)

@@ -31,6 +31,10 @@ with_change settings value change ready =
 abbrev pub may_stand : List Kept → Kept → Bool
 may_stand ks k = nat_le k.cost most_cost && is_none (found_in ks k.path k.local)
 
--- a delegation is kept, where it may stand
+-- a delegation is kept beside others, where it may stand
+abbrev pub kept_beside : List Kept → Kept → List Kept
+kept_beside ks k = if may_stand ks k then kept_in ks k else ks
+
+-- so it is in a value
 abbrev pub with_kept : Value → Kept → Value
-with_kept value k = record { state = value.state; cache = if may_stand value.cache k then kept_in value.cache k else value.cache }
+with_kept value k = record { state = value.state; cache = kept_beside value.cache k }

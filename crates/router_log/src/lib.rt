@@ -7,11 +7,13 @@
 //! worked out at this very place of the history, and has no like.
 //!
 //! A model of all schedules and the running router cite these definitions, with those of `one_history`, which say how a caller's calls
-//! stand in the list. There is nothing to run here.
+//! stand in the list. Two calls take in what was published: [`take_change`] for a state with the cache beside it, [`take_kept`] for a cache.
 //!
 //! # What is proved
 //! [`published_values_are_right`]: whatever was published, a delegation that is kept is the one that the state gives, and a state's place is the number of
-//! changes before it. [`published_operations_fit`]: what calls publish is such that this stays so.
+//! changes before it. [`published_operations_fit`]: what calls publish is such that this stays so. [`take_change`] leaves the prepared state, and drops of
+//! the cache what its change touches; [`take_kept`] keeps a delegation where it may stand. Where the operation fits, [`taking_is_applying`]: that is
+//! what the list of operations comes to with one more.
 //!
 //! # Example
 //! ```text
@@ -23,7 +25,9 @@
 #![tactic(auto)]
 
 mod changing;
+mod keeping;
 mod laws;
 
 pub use changing::take_change;
-pub use laws::{published_operations_fit, published_values_are_right};
+pub use keeping::take_kept;
+pub use laws::{published_operations_fit, published_values_are_right, taking_is_applying};
