@@ -1,9 +1,8 @@
 -- That items are placed is a fact: there is one proof of it at most, where operations are plain values.
-use Rattle.std.proofs.Common.{◌≡◌, ℕ, ◌≤◌, ◌<◌, Bool, List, [], ◌∷◌, length, take, Some, None, Option, slice_get}
-use Rattle.std.specs.Prelude.{All, ⊤}
+use Rattle.std.proofs.Common.{ℕ, Bool, List, [], ◌∷◌, take, Some, None, Option}
 use Rattle.std.specs.Coded.{Coded, coded_option, prop_coded, ×_prop, Π_prop, →_prop, Unit-prop, le_prop}
 use Rattle.std.proofs.Props.{props}
-use Rattle.one_history.specs.Entries.{Behind, Follow, entries, changes_with, others_with}
+use Rattle.one_history.specs.Entries.{Behind, Follow, changes_with, others_with}
 use Rattle.one_history.specs.Calls.{Placed}
 
 pub Behind-prop : {O : Type 0} (found : Option O) (at next : ℕ) → IsProp (Behind found at next)

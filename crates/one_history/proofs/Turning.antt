@@ -1,13 +1,13 @@
 -- Items stay in order while others publish, and with one more call.
-use Rattle.std.proofs.Common.{◌≡◌, ℕ, zero, suc, ◌+◌, ◌<◌, ◌≤◌, ◌==◌, Bool, true, false, List, [], ◌∷◌, ◌++◌, length, take, map, Some, None, Option, slice_get, refl, arith, ap, sym, ◌∙◌, subst, length-append}
-use Rattle.std.specs.Prelude.{All, ◌&&◌, if◌then◌else◌, filter}
+use Rattle.std.proofs.Common.{◌≡◌, ℕ, ◌==◌, Bool, true, false, List, [], ◌∷◌, ◌++◌, length, take, map, Some, None, Option, slice_get, refl, arith, ap, sym, ◌∙◌, length-append}
+use Rattle.std.specs.Prelude.{◌&&◌, if◌then◌else◌, filter}
 use Rattle.std.specs.Option.{option_to_list}
 use Rattle.std.proofs.lemmas.List.{append-nil, map-append}
 use Rattle.std.proofs.lemmas.List.Elements.{filter-append}
 use Rattle.std.proofs.lemmas.Bool.Decides.{Decides-eqb}
 use Rattle.std.proofs.Math.Seq.{take-length}
-use Rattle.one_history.specs.Entries.{entry_at, entries_from, changes_after, others_after, changes_made, others_made, entries}
-use Rattle.one_history.specs.Calls.{Placed, Called}
+use Rattle.one_history.specs.Entries.{entry_at, changes_made, others_made, entries}
+use Rattle.one_history.specs.Calls.{Called}
 use Rattle.one_history.specs.Order.{own_changes, InOrder, OfCaller, OthersLeaveOrder, CallKeepsOrder}
 use Rattle.one_history.proofs.Growing.{take_grown, entries_grown, changes_grown, others_grown, placed_grown, entries_push, placed_called}
 
