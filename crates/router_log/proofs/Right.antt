@@ -4,7 +4,6 @@ use Rattle.std.specs.Prelude.{fold, if◌then◌else◌}
 use Rattle.std.specs.FinMap.{get, insert, remove, contains_key, get-insert, get-remove}
 use Rattle.std.proofs.lemmas.Cmp.{nat_list_cmp_total}
 use Rattle.std.specs.Str.{bytes_eq}
-use Rattle.dtab_table.specs.Rules.{Rule}
 use Rattle.ns_store.specs.Contents.{Space, Spaces}
 use Rattle.addr_book.specs.declared.addr.Weighted.{Weighted}
 use Rattle.addr_book.specs.Namer.{named_in}
@@ -17,7 +16,7 @@ use Rattle.bind_cache.specs.Cache.{AreRight, after_service}
 use Rattle.bind_cache.proofs.Staying.{nothing_is_right, keeps_right, table_stays_right, service_stays_right, changes_one_service, addresses_name_nothing}
 use Rattle.router_log.specs.Operation.{Operation, changed, kept}
 use Rattle.router_log.proofs.Ties.{tied}
-use Rattle.router_log.specs.Value.{Value, applied, value_of, opening_value, Fits, AllFit, first_rules, after_rules, kept_after, standing_rules, IsRightValue}
+use Rattle.router_log.specs.Value.{Value, applied, value_of, opening_value, Fits, AllFit, first_rules, retold, untouched_by, standing_rules, IsRightValue}
 
 got_inserted : (spaces : Spaces) (name : List ℕ) (space : Space) (q : List ℕ) (t : Bool) → bytes_eq name q ≡ t → get (insert spaces name space) q ≡ cond t (Some space) (get spaces q)
 got_inserted spaces name space q t is = get-insert nat_list_cmp_total spaces name space q ∙ ap (λ (b : Bool). cond b (Some space) (get spaces q)) (tied q name ∙ is)
@@ -26,30 +25,27 @@ got_removed : (spaces : Spaces) (name q : List ℕ) (t : Bool) → bytes_eq name
 got_removed spaces name q t is = get-remove nat_list_cmp_total spaces name q ∙ ap (λ (b : Bool). cond b None (get spaces q)) (tied q name ∙ is)
 
 module _ (settings : SettingsValue) where
-  -- a namespace has these rules then, and the others are as they were
-  pub record RulesSet (state next : StateValue) (name : List ℕ) (rules : List Rule) : Type 0 where
-    pub book : next.book ≡ state.book
-    pub here : bytes_eq name settings.space ≡ true → first_rules settings next ≡ rules
-    pub other : bytes_eq name settings.space ≡ false → first_rules settings next ≡ first_rules settings state
+  -- one namespace has another table then, and the others are as they were
+  record IsRetold (state next : StateValue) (name : List ℕ) : Type 0 where
+    book : next.book ≡ state.book
+    other : bytes_eq name settings.space ≡ false → first_rules settings next ≡ first_rules settings state
 
-  rules_right : (state next : StateValue) (name : List ℕ) (rules : List Rule) (ks : List Kept) (t : Bool) → bytes_eq name settings.space ≡ t → RulesSet state next name rules
-      → AreRight (standing_rules settings state) (named_in state.book) ks → AreRight (standing_rules settings next) (named_in next.book) (after_rules settings state name rules ks)
-  rules_right state next name rules ks true is set right =
-      rw (set.book, set.here is, is) (table_stays_right (first_rules settings state) rules settings.base (named_in state.book) ks right)
-  rules_right state next name rules ks false is set right = rw (set.book, set.other is, is) right
+  retold_right : (state next : StateValue) (name : List ℕ) (ks : List Kept) (t : Bool) → bytes_eq name settings.space ≡ t → IsRetold state next name
+      → AreRight (standing_rules settings state) (named_in state.book) ks → AreRight (standing_rules settings next) (named_in next.book) (retold settings state next name ks)
+  retold_right state next name ks true is set right =
+      rw (set.book, is) (table_stays_right (first_rules settings state) (first_rules settings next) settings.base (named_in state.book) ks right)
+  retold_right state next name ks false is set right = rw (set.book, set.other is, is) right
 
-  pub set_inserted : (state : StateValue) (name : List ℕ) (space : Space) (next : StateValue) → next.book ≡ state.book → next.store.spaces ≡ insert state.store.spaces name space
-      → RulesSet state next name space.rules
+  set_inserted : (state : StateValue) (name : List ℕ) (space : Space) (next : StateValue) → next.book ≡ state.book → next.store.spaces ≡ insert state.store.spaces name space
+      → IsRetold state next name
   set_inserted state name space next book spaces = record {
     book = book;
-    here = λ is. ap (λ (m : Spaces). space_rules (get m settings.space)) spaces ∙ ap space_rules (got_inserted state.store.spaces name space settings.space true is);
     other = λ is. ap (λ (m : Spaces). space_rules (get m settings.space)) spaces ∙ ap space_rules (got_inserted state.store.spaces name space settings.space false is);
   }
 
-  pub set_removed : (state : StateValue) (name : List ℕ) (next : StateValue) → next.book ≡ state.book → next.store.spaces ≡ remove state.store.spaces name → RulesSet state next name []
+  set_removed : (state : StateValue) (name : List ℕ) (next : StateValue) → next.book ≡ state.book → next.store.spaces ≡ remove state.store.spaces name → IsRetold state next name
   set_removed state name next book spaces = record {
     book = book;
-    here = λ is. ap (λ (m : Spaces). space_rules (get m settings.space)) spaces ∙ ap space_rules (got_removed state.store.spaces name settings.space true is);
     other = λ is. ap (λ (m : Spaces). space_rules (get m settings.space)) spaces ∙ ap space_rules (got_removed state.store.spaces name settings.space false is);
   }
 
@@ -61,16 +57,16 @@ module _ (settings : SettingsValue) where
       service_stays_right (standing_rules settings state) service state.book (after_set state.book service list) ks ((changes_one_service state.book service).0 list) right
 
   change_right : (state : StateValue) (change : ChangeValue) (ks : List Kept) → AreRight (standing_rules settings state) (named_in state.book) ks
-      → AreRight (standing_rules settings (changed_state settings state change)) (named_in (changed_state settings state change).book) (kept_after settings state change ks)
+      → AreRight (standing_rules settings (changed_state settings state change)) (named_in (changed_state settings state change).book) (untouched_by settings state (changed_state settings state change) change ks)
   change_right state (create name rules) ks right =
       let next = changed_state settings state (create name rules) in
-      rules_right state next name rules ks (bytes_eq name settings.space) refl (set_inserted state name (record { version = state.store.next; rules = rules }) next refl refl) right
+      retold_right state next name ks (bytes_eq name settings.space) refl (set_inserted state name (record { version = state.store.next; rules = rules }) next refl refl) right
   change_right state (put name expected rules) ks right =
       let next = changed_state settings state (put name expected rules) in
-      rules_right state next name rules ks (bytes_eq name settings.space) refl (set_inserted state name (record { version = state.store.next; rules = rules }) next refl refl) right
+      retold_right state next name ks (bytes_eq name settings.space) refl (set_inserted state name (record { version = state.store.next; rules = rules }) next refl refl) right
   change_right state (delete name expected) ks right =
       let next = changed_state settings state (delete name expected) in
-      rules_right state next name [] ks (bytes_eq name settings.space) refl (set_removed state name next refl refl) right
+      retold_right state next name ks (bytes_eq name settings.space) refl (set_removed state name next refl refl) right
   change_right state (set_addrs service list) ks right = addrs_right state service list ks (contains_key state.book.services service) refl right
   change_right state (drop_service service) ks right =
       service_stays_right (standing_rules settings state) service state.book (after_drop state.book service) ks (changes_one_service state.book service).1 right

@@ -23,24 +23,25 @@ opening_value = record { state = opening; cache = [] }
 abbrev pub first_rules : SettingsValue → StateValue → List Rule
 first_rules settings state = space_rules (get state.store.spaces settings.space)
 
--- what is kept after the table of a namespace was replaced by these rules: only that of the first namespace touches anything
-abbrev pub after_rules : SettingsValue → StateValue → List ℕ → List Rule → List Kept → List Kept
-after_rules settings state name rules ks = if bytes_eq name settings.space then after_table (first_rules settings state) rules ks else ks
+-- where the table of a namespace was replaced: only that of the first namespace touches what is kept
+abbrev pub retold : SettingsValue → StateValue → StateValue → List ℕ → List Kept → List Kept
+retold settings state next name ks = if bytes_eq name settings.space then after_table (first_rules settings state) (first_rules settings next) ks else ks
 
--- what is kept after an accepted change: it drops exactly what it touches. Marks touch nothing, nor do other addresses of a service that is there
-abbrev pub kept_after : SettingsValue → StateValue → ChangeValue → List Kept → List Kept
-kept_after settings state (create name rules) ks = after_rules settings state name rules ks
-kept_after settings state (put name expected rules) ks = after_rules settings state name rules ks
-kept_after settings state (delete name expected) ks = after_rules settings state name [] ks
-kept_after settings state (set_addrs service list) ks = if contains_key state.book.services service then ks else after_service service ks
-kept_after settings state (drop_service service) ks = after_service service ks
-kept_after settings state (report addr good moment) ks = ks
+-- what stays kept where a change took one state to another: it drops exactly what it touches. Marks touch nothing, nor do other addresses of a service
+-- that is there
+abbrev pub untouched_by : SettingsValue → StateValue → StateValue → ChangeValue → List Kept → List Kept
+untouched_by settings state next (create name rules) ks = retold settings state next name ks
+untouched_by settings state next (put name expected rules) ks = retold settings state next name ks
+untouched_by settings state next (delete name expected) ks = retold settings state next name ks
+untouched_by settings state next (set_addrs service list) ks = if contains_key state.book.services service then ks else after_service service ks
+untouched_by settings state next (drop_service service) ks = after_service service ks
+untouched_by settings state next (report addr good moment) ks = ks
 
 -- what an operation leaves. A change that the state refuses leaves all as it is
 abbrev pub applied : SettingsValue → Value → Operation → Value
 applied settings value (changed caller serial change) =
     if is_accepted value.state change
-    then record { state = after settings value.state change; cache = kept_after settings value.state change value.cache }
+    then record { state = after settings value.state change; cache = untouched_by settings value.state (after settings value.state change) change value.cache }
     else value
 applied settings value (kept caller serial k) = record { state = value.state; cache = kept_in value.cache k }
 

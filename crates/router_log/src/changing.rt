@@ -8,7 +8,7 @@ ghost use Rattle.machine.specs.Code.{settings_of, state_of, change_of, ready_of}
 ghost use Rattle.machine.specs.Ready.{absorbed};
 ghost use Rattle.bind_cache.specs.Bindings.{bindings_of};
 ghost use Rattle.bind_cache.specs.Cache.{after_service};
-ghost use Rattle.router_log.specs.Taking.{untouched_by, retold};
+ghost use Rattle.router_log.specs.Value.{untouched_by, retold};
 
 use addr_book::Name;
 use bind_cache::Cache;
