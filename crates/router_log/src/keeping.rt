@@ -10,16 +10,15 @@ use std::alloc::AllocError;
 use std::sync::Arc;
 
 /// Keeps a delegation where it may stand: where it took at most [`MOST_COST`] lookups, and none is kept for its path and table. Else it is
-/// left out. An `Err` changes nothing; it comes where no memory is left or the delegation is shared too often.
+/// left out. An `Err` changes nothing; it comes where the delegation has as many owners as an [`Arc`] counts.
 ///
-/// The cache shares it. It costs one look-up of its key, however many are kept.
+/// The cache shares it. It costs one look-up of its key, however many are kept, and takes no memory.
 pub fn take_kept(cache: &mut Cache, binding: &Arc<Binding>) -> Result<(), AllocError>
     ensures cache { OnOk result (bindings_of cache.new ≡ kept_beside (bindings_of cache.old) (kept_of (arc_value binding.now))) }
     ensures err { OnErr result (bindings_of cache.new ≡ bindings_of cache.old) }
 {
-    let shared = Arc::try_clone(binding)?;
-    if shared.cost() <= MOST_COST && cache.find(shared.path(), shared.local()).is_none() {
-        cache.keep(shared);
+    if binding.cost() <= MOST_COST && cache.find(binding.path(), binding.local()).is_none() {
+        cache.keep(Arc::try_clone(binding)?);
     }
     Ok(())
 }
