@@ -30,4 +30,7 @@
 
 mod laws;
 
-pub use laws::{callers_stay_in_order, calls_count, calls_place_items, counts_show_callers, counts_show_order, counts_stay, placed_items_stay};
+pub use laws::{
+    callers_stay_in_order, calls_count, calls_place_items, counts_show_callers, counts_show_order,
+    counts_stay, placed_items_stay,
+};
