@@ -1,5 +1,5 @@
 -- What a delegation finds.
-use Rattle.std.specs.Prelude.{ℕ, ◌+◌, ◌<◌, ◌≤◌, List, [], ◌∷◌, Option, Some, None}
+use Rattle.std.specs.Prelude.{ℕ, ◌+◌, ◌<◌, ◌≤◌, List, [], ◌∷◌}
 use Rattle.name_tree.specs.Canon.{most_members, weight_bound}
 use Rattle.addr_book.specs.declared.leaf.Leaf.{Leaf}
 
@@ -18,16 +18,6 @@ mutual
 abbrev pub members : List (ℕ × Found) → FoundList
 members [] = no_member
 members (m ∷ ms) = member m.0 m.1 (members ms)
-
-abbrev mutual
-  -- the first leaf in order: that of a union is that of its first member
-  pub first_leaf : Found → Option Leaf
-  first_leaf (one leaf) = Some leaf
-  first_leaf (many ms) = first_of_members ms
-
-  pub first_of_members : FoundList → Option Leaf
-  first_of_members no_member = None
-  first_of_members (member n f ms) = first_leaf f
 
 -- how many members a union has
 abbrev pub count_members : FoundList → ℕ

@@ -1,5 +1,5 @@
 //! What a delegation binds a path to.
-ghost use Rattle.std.specs.Prelude.{◌≡◌, option_copied};
+ghost use Rattle.std.specs.Prelude.{◌≡◌};
 
 use crate::leaf::Leaf;
 
@@ -45,27 +45,5 @@ impl BoundList {
         ensures { members_of self.now ≡ listed_items result.now }
     {
         self.items.as_slice()
-    }
-}
-
-impl Bound {
-    ghost use Rattle.addr_book.specs.Bound.{found_of};
-    ghost use Rattle.addr_book.specs.Found.{first_leaf};
-
-    /// The first leaf in order: that of a union is that of its first branch. `None` where that is a union without
-    /// branches, to which no delegation binds a path.
-    pub fn first_leaf(&self) -> Option<&Leaf>
-        ensures { option_copied result ≡ first_leaf (found_of self.now) }
-    {
-        let mut bound = self;
-        loop {
-            match bound {
-                Bound::One(leaf) => return Some(leaf),
-                Bound::Many(list) => match list.items().first() {
-                    None => return None,
-                    Some(item) => bound = &item.bound,
-                },
-            }
-        }
     }
 }

@@ -1,6 +1,6 @@
 -- Each union that a delegation finds has a member, and no weight in it is 0.
 use Rattle.std.proofs.Common.{◌≡◌, ◌-◌, ℕ, zero, suc, ◌<◌, Bool, true, false, List, [], ◌∷◌, ◌++◌, Option, Some, None, length, inl, inr, refl, sym, subst, arith}
-use Rattle.std.specs.Prelude.{nat_lt, if◌then◌else◌, IsSome}
+use Rattle.std.specs.Prelude.{nat_lt, if◌then◌else◌}
 use Rattle.std.proofs.lemmas.Bool.Decides.{nat_tests}
 use Rattle.name_tree.specs.Path.{Labels, canon_path}
 use Rattle.name_tree.specs.Value.{TreeValue, TreeValues, Branches, leaf, neg, fail, empty, alt, union, none, more, no_branch, branch}
@@ -8,7 +8,7 @@ use Rattle.dtab_table.specs.Dtab.{rewrites}
 use Rattle.dtab_table.specs.Rules.{Rule}
 use Rattle.addr_book.specs.declared.leaf.Leaf.{Leaf}
 use Rattle.bind_core.specs.declared.outcome.Outcome.{Outcome}
-use Rattle.addr_book.specs.Found.{Found, one, many, no_member, member, members, first_leaf, IsFilled, AreFilled}
+use Rattle.addr_book.specs.Found.{Found, one, many, no_member, member, members, IsFilled, AreFilled}
 use Rattle.bind_core.specs.Delegation.{Ending, Told, Evaluated, negative, failing, no_replica, too_deep, too_wide, bound, IfBound, or_else, is_too_deep, is_failing, is_empty, some_end, found_at, found_in, kept, together, walk, walk_all, walk_each, first_of, named_ending, Names, visited, lookup, outcome_of, most_deep, most_wide, most_path_bytes}
 use Rattle.bind_core.specs.Outcome.{ending_of}
 use Rattle.bind_core.proofs.Trees.{zero_or}
@@ -101,9 +101,3 @@ outcome_of-filled rules names path =
 
 pub filled_outcome : (rules : List Rule) (names : Names) (path : Labels) (o : Outcome) → ending_of o ≡ outcome_of rules names path → IfBound IsFilled (ending_of o)
 filled_outcome rules names path o is = subst (IfBound IsFilled) (sym is) (outcome_of-filled rules names path)
-
--- so it has a first leaf
-pub first_leaf-filled : (f : Found) → IsFilled f → IsSome (first_leaf f)
-first_leaf-filled (one x) h = refl
-first_leaf-filled (many no_member) h = absurd (omega (arith, h.0))
-first_leaf-filled (many (member n f ms)) h = first_leaf-filled f h.1.1
