@@ -226,12 +226,42 @@ fn chooses_a_branch_of_those_that_are_left(rt: HostRuntime) -> Result<(), Fail> 
     let two = leaf(alloc, Cluster::Inet(at_port(2)))?;
     let gone = leaf(alloc, Cluster::Fs(Name::of(alloc, b"gone")?))?;
     let live = union_of_two(alloc, 300_000, one, 700_000, two)?;
-    // The weight of the branch of which nothing is left does not count, and the other one uses up its part of the word.
-    let bound = union_of_two(alloc, 900_000_000_000, gone, 1, live)?;
+    // The weight of the branch of which nothing is left does not count. The other one, of weight 2, uses up its part of the word: twice the
+    // word, without what is above 2^64, goes on to the union below.
+    let bound = union_of_two(alloc, 900_000_000_000, gone, 2, live)?;
     let book = Book::start(alloc)?;
-    assert_eq!(rt; port_of(&bound, &book, 0), Some(1));
-    assert_eq!(rt; port_of(&bound, &book, 5_534_023_222_112_865_484), Some(1));
-    assert_eq!(rt; port_of(&bound, &book, 5_534_023_222_112_865_485), Some(2));
-    assert_eq!(rt; port_of(&bound, &book, HALF), Some(2));
+    let rows = [
+        (0, 1),
+        (2_767_011_611_056_432_742, 1),
+        (2_767_011_611_056_432_743, 2),
+        (HALF - 1, 2),
+        (HALF, 1),
+    ];
+    for (word, port) in rows {
+        assert_eq!(rt; port_of(&bound, &book, word), Some(port), "of {word}");
+    }
+    Ok(())
+}
+
+#[test]
+fn chooses_in_the_union_below_with_what_is_left_of_the_word(rt: HostRuntime) -> Result<(), Fail> {
+    let alloc = rt.alloc();
+    let one = leaf(alloc, Cluster::Inet(at_port(1)))?;
+    let two = leaf(alloc, Cluster::Inet(at_port(2)))?;
+    let three = leaf(alloc, Cluster::Inet(at_port(3)))?;
+    let below = union_of_two(alloc, 300_000, one, 700_000, two)?;
+    let bound = union_of_two(alloc, 1, three, 1, below)?;
+    let book = Book::start(alloc)?;
+    let rows = [
+        (0, 3),
+        (HALF - 1, 3),
+        (HALF, 1),
+        (HALF + 2_767_011_611_056_432_742, 1),
+        (HALF + 2_767_011_611_056_432_743, 2),
+        (u64::MAX, 2),
+    ];
+    for (word, port) in rows {
+        assert_eq!(rt; port_of(&bound, &book, word), Some(port), "of {word}");
+    }
     Ok(())
 }
