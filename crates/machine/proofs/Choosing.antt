@@ -151,15 +151,15 @@ module _ (state : StateValue) (limits : Limits) (ask : AskValue) (service : List
   live_is : live_in state limits ask.moment (Fs service) ≡ live_of state.marks ask.moment limits list
   live_is = ap (λ o. live_of state.marks ask.moment limits (list_of o)) is
 
-  drawn_at : (at : (ℕ × ℕ) → ℕ) (i : ℕ) (x : Weighted) → i ≡ at (pair_of (live_of state.marks ask.moment limits list) ask.first_word ask.second_word)
+  drawn_at : (at : (ℕ × ℕ) → ℕ) (i : ℕ) (x : Weighted) → i ≡ at (pair_of (live_of state.marks ask.moment limits list) ask.first_draw ask.second_draw)
       → slice_get (live_of state.marks ask.moment limits list) i ≡ Some x
-      → item_at (live_in state limits ask.moment (Fs service)) (at (pair_of (live_in state limits ask.moment (Fs service)) ask.first_word ask.second_word)) ≡ x
+      → item_at (live_in state limits ask.moment (Fs service)) (at (pair_of (live_in state limits ask.moment (Fs service)) ask.first_draw ask.second_draw)) ≡ x
   drawn_at at i x place here =
-      ap (λ (xs : List Weighted). item_at xs (at (pair_of xs ask.first_word ask.second_word))) live_is
+      ap (λ (xs : List Weighted). item_at xs (at (pair_of xs ask.first_draw ask.second_draw))) live_is
       ∙ (ap (item_at (live_of state.marks ask.moment limits list)) (sym place)
       ∙ get_or_from_slice_get (live_of state.marks ask.moment limits list) i x _ here)
 
-  pub drawn_in : (i j : ℕ) (first second : Weighted) → (i, j) ≡ pair_of (live_of state.marks ask.moment limits list) ask.first_word ask.second_word
+  pub drawn_in : (i j : ℕ) (first second : Weighted) → (i, j) ≡ pair_of (live_of state.marks ask.moment limits list) ask.first_draw ask.second_draw
       → slice_get (live_of state.marks ask.moment limits list) i ≡ Some first → slice_get (live_of state.marks ask.moment limits list) j ≡ Some second
       → IsDrawn state limits ask service first second
   drawn_in i j first second pair here there = record {

@@ -61,7 +61,7 @@ between_at slots leaf list places =
 abbrev pub between_of : StateValue → Limits → AskValue → Leaf → Between
 between_of state limits ask leaf =
     let list = live_in state limits ask.moment leaf.cluster in
-    between_at state.book.slots leaf list (pair_of list ask.first_word ask.second_word)
+    between_at state.book.slots leaf list (pair_of list ask.first_draw ask.second_draw)
 
 -- those of the leaf that the ask's first word chooses in what pruning leaves, if it leaves something
 abbrev pub candidates_in : StateValue → Limits → AskValue → Found → Option Between

@@ -39,7 +39,7 @@ look_value (look.View path local) = view path (rules_of local)
 
 abbrev pub ask_of : Ask → AskValue
 ask_of ask =
-    record { path = ask.path; own = rules_of ask.local; moment = ask.moment; branch_word = slice_index ask.words 0; first_word = slice_index ask.words 1; second_word = slice_index ask.words 2 }
+    record { path = ask.path; own = rules_of ask.local; moment = ask.moment; branch_word = slice_index ask.words 0; first_draw = slice_index ask.words 1; second_draw = slice_index ask.words 2 }
 
 abbrev pub reply_value : Reply → ReplyValue
 reply_value (reply.Version n) = version n

@@ -55,8 +55,8 @@ pub record AskValue : Type 0 where
   pub own : List Rule
   pub moment : ℕ
   pub branch_word : ℕ
-  pub first_word : ℕ
-  pub second_word : ℕ
+  pub first_draw : ℕ
+  pub second_draw : ℕ
 
 -- the answer to a change or a look
 pub data ReplyValue : Type 0 where

@@ -62,7 +62,7 @@ numbers_of _ _ _ _ = None
 
 abbrev pub ask_line : Option Labels → Option Numbers → Option (List Rule) → LineValue
 ask_line (Some path) (Some n) (Some rules) =
-    ask (record { path = path; own = rules; moment = n.moment; branch_word = n.branch; first_word = n.first; second_word = n.second })
+    ask (record { path = path; own = rules; moment = n.moment; branch_word = n.branch; first_draw = n.first; second_draw = n.second })
 ask_line _ _ _ = bad
 
 -- ---- what follows a command, from the gap behind it on
@@ -108,7 +108,7 @@ long_pick_in text =
 
 -- a pick of a path at the moment 0, with the words 0 and no table of its own
 abbrev pub plain_ask : Labels → AskValue
-plain_ask path = record { path = path; own = []; moment = 0; branch_word = 0; first_word = 0; second_word = 0 }
+plain_ask path = record { path = path; own = []; moment = 0; branch_word = 0; first_draw = 0; second_draw = 0 }
 
 -- PATH alone, or the long form
 abbrev pub pick_in : List ℕ → LineValue
