@@ -5,7 +5,7 @@ use Rattle.addr_book.specs.Book.{is_used}
 use Rattle.choose_core.specs.Marks.{MarkMap, mark_at, with_mark}
 use Rattle.machine.specs.Values.{SettingsValue, StateValue, ChangeValue, create, put, delete, set_addrs, drop_service, report, ReplyValue, not_kept}
 use Rattle.machine.specs.State.{refusal, good_refusal, changed, with_marks, mark_after}
-use Rattle.machine.specs.Ready.{PartValue, store_then, book_then, reported, prepared_of, absorbed, with_part, AbsorbingIsChanging, EqualStatesStayEqual}
+use Rattle.machine.specs.Ready.{PartValue, store_then, book_then, reported, prepared_of, absorbed, with_part, AbsorbingIsChanging}
 
 first_of_and : (a b : Bool) → (a && b) ≡ true → a ≡ true
 first_of_and true b e = refl
@@ -32,9 +32,6 @@ absorbing_is_changing settings state change ready for =
     ap (absorbed state) for.prepared
     ∙ (absorbed_changed settings state change (first_of_and (is_none (refusal state change)) _ for.accepted)
     ∙ sym (ap (λ b. cond b (changed settings state change) state) for.accepted))
-
-pub equal_states_stay_equal : EqualStatesStayEqual
-equal_states_stay_equal state other ready same = ap (λ s. absorbed s ready) same
 
 -- at another place
 pub moved_part : (state : StateValue) (part : PartValue) (place : ℕ) (new : StateValue) → new ≡ with_part state part state.place

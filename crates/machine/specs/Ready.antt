@@ -58,7 +58,3 @@ pub record IsReadyFor (settings : SettingsValue) (state : StateValue) (change : 
 abbrev pub AbsorbingIsChanging : Type 0
 AbsorbingIsChanging = (settings : SettingsValue) (state : StateValue) (change : ChangeValue) (ready : ReadyValue)
     → IsReadyFor settings state change ready → absorbed state ready ≡ after settings state change
-
--- states that are equal are so again after they absorbed one prepared change
-abbrev pub EqualStatesStayEqual : Type 0
-EqualStatesStayEqual = (state other : StateValue) (ready : ReadyValue) → state ≡ other → absorbed state ready ≡ absorbed other ready

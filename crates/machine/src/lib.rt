@@ -11,9 +11,12 @@
 //! services and marks; `specs/Looking.antt` what looks are answered, and `specs/Choosing.antt` which replica an ask is given. Each call gives
 //! exactly that. Refusals come in their order, the last of them exactly where the history has no place left; a refused change leaves all as it is,
 //! and so does want of memory, which alone is free to come. What a state is that absorbs a prepared change is a function of the two
-//! (`specs/Ready.antt`), and on the state that the change was prepared for that is what the change leaves ([`absorbing_is_changing`]).
-//! Marks are those of addresses that some service has, and an address that leaves takes its mark with it. No pick copies a table or a list of
-//! addresses.
+//! (`specs/Ready.antt`): the clause `ok` of [`State::absorb`] says so on any state, and so two equal states that absorb one prepared change are
+//! equal again. On the state that the change was prepared for it is what the change leaves ([`absorbing_is_changing`]). Marks are those of
+//! addresses that some service has, and an address that leaves takes its mark with it.
+//!
+//! # Cost
+//! No pick copies a table or a list of addresses: delegation reads tables where they lie, and [`State::candidates_of`] takes no memory.
 //!
 //! # Example
 //! ```
