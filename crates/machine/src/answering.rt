@@ -56,7 +56,7 @@ impl State {
         }
     }
 
-    /// Answers a look. A `Get` or an `Addrs` copies what it gives; only a `View` ticks `steps`.
+    /// Answers a look. A `Get` or an `Addrs` copies what it gives, and a `View` is a delegation with its trace.
     pub fn answer<L: Ledger>(
         &self,
         alloc: Global,

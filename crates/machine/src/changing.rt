@@ -23,8 +23,8 @@ impl State {
     /// Answers a change, and prepares it where it is accepted. Nothing is changed.
     ///
     /// A change is refused for the first of its causes; where there is none, [`Reply::HistorySpent`] comes exactly at the place 2^64 - 1.
-    /// A report takes no memory. A change of namespaces copies its own table and the list of namespaces, and one of services copies the
-    /// parts of the book that it touches.
+    /// A change of namespaces copies its own table and the list of namespaces, and one of services copies the parts of the book that it
+    /// touches.
     pub fn prepare(
         &self,
         alloc: Global,
