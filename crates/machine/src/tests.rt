@@ -3,8 +3,9 @@ ghost use Rattle.std.specs.Prelude.{◌≡◌, ◌<◌};
 ghost use Rattle.machine.specs.Code.{change_of};
 ghost use Rattle.machine.specs.State.{IsSoundChange};
 
-use crate::{Ask, Change, Chosen, Look, Mem, Ready, Reply, Settings, State};
+use crate::{Ask, Change, Chosen, Look, Mem, Ready, Reply, Settings, State, Taken};
 use addr_book::{Addr, Name, read_addrs};
+use bind_core::{Outcome, Wanted};
 use choose_core::Limits;
 use dtab_table::{Dtab, read_dtab};
 use line_base::Steps;
@@ -79,55 +80,35 @@ fn port_for(alloc: Global, state: &State, path: &str, local: &str) -> Result<u16
     }
 }
 
-/// A number that tells a reply: what it counts, or one above 900 for a refusal.
-fn number_in(reply: &Reply) -> u64 {
-    match reply {
-        Reply::Version(version) => *version,
-        Reply::Table { version, .. } => *version,
-        Reply::Names(names) => names.items().len() as u64,
-        Reply::Addrs(list) => list.items().len() as u64,
-        Reply::Counts { changes, .. } => *changes,
-        Reply::Viewed { trace, .. } => trace.items().len() as u64,
-        Reply::NotKept => 901,
-        Reply::HistorySpent => 902,
-        _ => 900,
-    }
-}
-
 /// What a state answers to a look.
-fn told(alloc: Global, state: &State, look: &Look) -> Result<u64, Fail> {
+fn told(alloc: Global, state: &State, look: &Look) -> Result<Reply, Fail> {
     let look = look.copied(alloc)?;
-    let reply = answer::<Brand>(alloc, state, &settings(alloc)?, &look, Blank::new(1))?;
-    Ok(number_in(&reply))
+    Ok(answer::<Brand>(alloc, state, &settings(alloc)?, &look, Blank::new(1))?)
 }
 
 /// What a state answers to a change.
-fn changed(alloc: Global, state: &mut State, change: &Change) -> Result<u64, Fail>
+fn changed(alloc: Global, state: &mut State, change: &Change) -> Result<Reply, Fail>
     requires { IsSoundChange (change_of change.now) }
 {
-    let reply = state.apply(alloc, &settings(alloc)?, change)?;
-    Ok(number_in(&reply))
+    Ok(state.apply(alloc, &settings(alloc)?, &change.copied(alloc)?)?)
 }
 
 /// Creates the namespace `default` with a table.
-fn create(alloc: Global, state: &mut State, table: &str) -> Result<u64, Fail> {
+fn create(alloc: Global, state: &mut State, table: &str) -> Result<Reply, Fail> {
     let name = name(alloc, "default")?;
     let dtab = read_dtab(alloc, table.as_bytes())?;
-    let reply = state.apply(alloc, &settings(alloc)?, &Change::Create { name, dtab })?;
-    Ok(number_in(&reply))
+    changed(alloc, state, &Change::Create { name, dtab })
 }
 
 /// Sets the addresses of the service `web`.
-fn set_web(alloc: Global, state: &mut State, addrs: &str) -> Result<u64, Fail> {
+fn set_web(alloc: Global, state: &mut State, addrs: &str) -> Result<Reply, Fail> {
     let service = name(alloc, "web")?;
     let list = read_addrs(alloc, addrs.as_bytes())?;
-    let change = Change::SetAddrs { service, list };
-    let _copy = change.copied(alloc)?;
-    changed(alloc, state, &change)
+    changed(alloc, state, &Change::SetAddrs { service, list })
 }
 
 /// A failing report at moment 0 on a port of 127.0.0.1.
-fn fail(alloc: Global, state: &mut State, port: u16) -> Result<u64, Fail> {
+fn fail(alloc: Global, state: &mut State, port: u16) -> Result<Reply, Fail> {
     let addr = Addr {
         ip: 0x7f00_0001,
         port,
@@ -183,46 +164,63 @@ fn nothing_is_accepted_at_the_last_place(rt: HostRuntime) -> Result<(), Fail> {
     let mut state = State::start(rt.alloc())?;
     state.place = u64::MAX;
     let reply = set_web(rt.alloc(), &mut state, "127.0.0.1 1\n")?;
-    assert_eq!(rt; reply, 902);
+    assert!(rt; matches!(reply, Reply::HistorySpent), "{reply:?}");
     let reply = fail(rt.alloc(), &mut state, 1)?;
-    assert_eq!(rt; reply, 901);
+    assert!(rt; matches!(reply, Reply::NotKept), "{reply:?}");
     Ok(())
 }
 
-/// What is told of a namespace, of the list of them, and of a path in its table.
-fn told_of_tables(alloc: Global, state: &State) -> Result<(u64, u64, u64), Fail> {
+#[test]
+fn tables_are_told(rt: HostRuntime) -> Result<(), Fail> {
+    let alloc = rt.alloc();
+    let state = failed(alloc)?;
     let name = name(alloc, "default")?;
-    let version = told(alloc, state, &Look::Get { name })?;
-    let names = told(alloc, state, &Look::List)?;
+    let reply = told(alloc, &state, &Look::Get { name })?;
+    assert!(rt;
+        matches!(&reply, Reply::Table { version: 1, dtab } if dtab.len() == 1),
+        "{reply:?}"
+    );
+    let reply = told(alloc, &state, &Look::List)?;
+    assert!(rt;
+        matches!(&reply, Reply::Names(names) if names.items().len() == 1),
+        "{reply:?}"
+    );
     let path = read_path(alloc, b"/svc/web")?;
     let local = Dtab::empty(alloc);
-    let lookups = told(alloc, state, &Look::View { path, local })?;
-    Ok((version, names, lookups))
-}
-
-/// What is told of a service, and how many changes there were.
-fn told_of_services(alloc: Global, state: &State) -> Result<(u64, u64), Fail> {
-    let service = name(alloc, "web")?;
-    let addrs = told(alloc, state, &Look::Addrs { service })?;
-    let changes = told(alloc, state, &Look::Counts)?;
-    Ok((addrs, changes))
+    let reply = told(alloc, &state, &Look::View { path, local })?;
+    assert!(rt;
+        matches!(&reply, Reply::Viewed { outcome: Outcome::Bound(_), trace } if trace.items().len() == 2),
+        "{reply:?}"
+    );
+    Ok(())
 }
 
 #[test]
-fn looks_are_answered(rt: HostRuntime) -> Result<(), Fail> {
-    let state = failed(rt.alloc())?;
-    let (version, names, lookups) = told_of_tables(rt.alloc(), &state)?;
-    assert_eq!(rt; version, 1);
-    assert_eq!(rt; names, 1);
-    assert_eq!(rt; lookups, 2);
-    let (addrs, changes) = told_of_services(rt.alloc(), &state)?;
-    assert_eq!(rt; addrs, 2);
-    assert_eq!(rt; changes, 4);
+fn services_are_told(rt: HostRuntime) -> Result<(), Fail> {
+    let alloc = rt.alloc();
+    let state = failed(alloc)?;
+    let service = name(alloc, "web")?;
+    let reply = told(alloc, &state, &Look::Addrs { service })?;
+    assert!(rt;
+        matches!(&reply, Reply::Addrs(list) if list.items().len() == 2),
+        "{reply:?}"
+    );
+    let reply = told(alloc, &state, &Look::Counts)?;
+    let is_told = matches!(
+        reply,
+        Reply::Counts {
+            changes: 4,
+            marks: 1,
+            namespaces: 1,
+            services: 1,
+        }
+    );
+    assert!(rt; is_told, "{reply:?}");
     Ok(())
 }
 
 /// Prepares another table for the namespace `default`, and absorbs it.
-fn put(alloc: Global, state: &mut State, table: &str) -> Result<u64, Fail> {
+fn put(alloc: Global, state: &mut State, table: &str) -> Result<Reply, Fail> {
     let name = name(alloc, "default")?;
     let dtab = read_dtab(alloc, table.as_bytes())?;
     let change = Change::Put {
@@ -232,17 +230,88 @@ fn put(alloc: Global, state: &mut State, table: &str) -> Result<u64, Fail> {
     };
     let (reply, ready) = state.prepare(alloc, &settings(alloc)?, &change)?;
     state.absorb(&ready.ok_or("refused")?)?;
-    Ok(number_in(&reply))
+    Ok(reply)
 }
 
 #[test]
 fn prepared_changes_are_absorbed(rt: HostRuntime) -> Result<(), Fail> {
     let mut state = State::start(rt.alloc())?;
     create(rt.alloc(), &mut state, "/svc => /a")?;
-    let version = put(rt.alloc(), &mut state, "/svc => /$/inet/127.0.0.1/7")?;
-    assert_eq!(rt; version, 2);
+    let reply = put(rt.alloc(), &mut state, "/svc => /$/inet/127.0.0.1/7")?;
+    assert!(rt; matches!(reply, Reply::Version(2)), "{reply:?}");
     let port = port_for(rt.alloc(), &state, "/svc/web", "")?;
     assert_eq!(rt; port, 7);
+    Ok(())
+}
+
+/// The replica of the service `web` that is taken, where the third word and the loads of the two are these; the other words are 0.
+fn taken<L: Ledger>(
+    alloc: Global,
+    state: &State,
+    word: u64,
+    first: u64,
+    second: u64,
+    blank: Blank,
+) -> Result<Taken, Fail>
+    requires name { blank.name ≡ L.name }
+    requires parts { blank.parts ≡ L.parts }
+    requires some { 0 < blank.parts }
+{
+    let settings = settings(alloc)?;
+    let mut ask = ask(alloc, "/svc/web", "")?;
+    ask.words = [0, 0, word];
+    let mut steps = Steps::<L>::start(blank);
+    let delegated = state.delegate(
+        alloc,
+        &settings,
+        &ask.path,
+        &ask.local,
+        Wanted::Neither,
+        &mut steps,
+    )?;
+    match state.candidates_of(&settings, &delegated.outcome, &ask) {
+        Ok(candidates) => Ok(candidates.taken(first, second)),
+        Err(_) => Err("no replica".into()),
+    }
+}
+
+/// The port and the slot of the replica that is taken.
+fn place_taken(
+    alloc: Global,
+    state: &State,
+    word: u64,
+    first: u64,
+    second: u64,
+) -> Result<(u16, Option<u32>), Fail> {
+    let taken = taken::<Brand>(alloc, state, word, first, second, Blank::new(1))?;
+    Ok((taken.addr.port, taken.slot))
+}
+
+#[test]
+fn the_lesser_load_is_taken(rt: HostRuntime) -> Result<(), Fail> {
+    let mut state = State::start(rt.alloc())?;
+    create(rt.alloc(), &mut state, "/svc => /#/io.l5d.fs")?;
+    set_web(
+        rt.alloc(),
+        &mut state,
+        "127.0.0.1 1 * 3\n127.0.0.1 2\n127.0.0.1 3\n",
+    )?;
+    let half: u64 = 1 << 63;
+    let rows = [
+        (0, 2, 1, 1, 0),
+        (0, 3, 1, 1, 0),
+        (0, 4, 1, 2, 1),
+        (half - 1, 4, 1, 2, 1),
+        (half, 4, 1, 3, 2),
+    ];
+    for (word, first, second, port, slot) in rows {
+        let taken = place_taken(rt.alloc(), &state, word, first, second)?;
+        assert_eq!(rt;
+            taken,
+            (port, Some(slot)),
+            "of {word} at {first} and {second}"
+        );
+    }
     Ok(())
 }
 
