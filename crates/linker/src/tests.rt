@@ -5,7 +5,7 @@ use line_base::{Failed, MemSink, MemSource, Sink, Source};
 use std::alloc::{AllocError, Global};
 use std::test::Fail;
 
-/// A script that answers each kind of line, and what it writes.
+/// A script with a table, a blank line and two picks, and what it writes.
 const SAMPLE: &str = "dtab /svc => /$/inet/127.0.0.1/8080\n\npick /svc/a\npick /b\n";
 
 const SAMPLE_OUT: &str = "ok\n127.0.0.1:8080 /$/inet/127.0.0.1/8080 /a\nnegative\n";
