@@ -1,14 +1,18 @@
 #!/usr/bin/env python3
-"""Runs `linker replay` on the sample with memory refused: at each call in turn, once alone and once with all calls after it.
+"""Runs `linker replay` on samples with memory refused: at each call in turn, once alone and once with all calls after it.
 
 Each run must end with status 7, having written whole replies from the front of what it writes with ample memory, and `error memory` or nothing
 behind them. It needs a C compiler, `cc`, for the malloc that refuses.
 
-usage: bench/starve.py [--program crates/linker/out/linker] [--script examples/first.script]
+The samples are examples/first.script, and examples/lines.script, which has each kind of line.
+
+usage: bench/starve.py [--program crates/linker/out/linker] [--script SCRIPT]
 """
 import argparse, os, subprocess, sys, tempfile
 
 HERE = os.path.dirname(os.path.abspath(__file__))
+
+SAMPLES = [os.path.join(HERE, "..", "examples", name) for name in ("first.script", "lines.script")]
 
 REFUSING_MALLOC = r"""
 #include <errno.h>
@@ -37,37 +41,44 @@ void *realloc(void *old, size_t size) {
 """
 
 
+def starve(program, library, script):
+    """Refuses memory at each call that the program makes on a script."""
+
+    def run(**refuse):
+        done = subprocess.run([program, "replay"], input=script, capture_output=True, env={"LD_PRELOAD": library, **refuse})
+        return done.returncode, done.stdout
+
+    ample = run()
+    if ample[0] != 0:
+        sys.exit(f"with ample memory the status is {ample[0]}")
+    for name, only in (("that call alone", True), ("that call and all after it", False)):
+        at = 1
+        while True:
+            first = str(at)
+            status, output = run(REFUSE_FIRST=first, **({"REFUSE_LAST": first} if only else {}))
+            if (status, output) == ample:
+                break
+            replies = output.removesuffix(b"error memory\n")
+            if status != 7 or not ample[1].startswith(replies) or (replies and not replies.endswith(b"\n")):
+                sys.exit(f"call {at} refused, {name}: status {status}, output {output!r}")
+            at += 1
+        print(f"{name}: refused at each of {at - 1} calls; each run ended with status 7 after whole replies")
+
+
 def main():
     parser = argparse.ArgumentParser(description=__doc__, formatter_class=argparse.RawDescriptionHelpFormatter)
     parser.add_argument("--program", default=os.path.join(HERE, "..", "crates", "linker", "out", "linker"))
-    parser.add_argument("--script", default=os.path.join(HERE, "..", "examples", "first.script"))
+    parser.add_argument("--script", help="this script in the place of the samples")
     options = parser.parse_args()
-    with open(options.script, "rb") as file:
-        script = file.read()
 
     with tempfile.TemporaryDirectory() as folder:
         library = os.path.join(folder, "refuse.so")
         subprocess.run(["cc", "-shared", "-fPIC", "-O1", "-x", "c", "-o", library, "-"], input=REFUSING_MALLOC.encode(), check=True)
-
-        def run(**refuse):
-            done = subprocess.run([options.program, "replay"], input=script, capture_output=True, env={"LD_PRELOAD": library, **refuse})
-            return done.returncode, done.stdout
-
-        ample = run()
-        if ample[0] != 0:
-            sys.exit(f"with ample memory the status is {ample[0]}")
-        for name, only in (("that call alone", True), ("that call and all after it", False)):
-            at = 1
-            while True:
-                first = str(at)
-                status, output = run(REFUSE_FIRST=first, **({"REFUSE_LAST": first} if only else {}))
-                if (status, output) == ample:
-                    break
-                replies = output.removesuffix(b"error memory\n")
-                if status != 7 or not ample[1].startswith(replies) or (replies and not replies.endswith(b"\n")):
-                    sys.exit(f"call {at} refused, {name}: status {status}, output {output!r}")
-                at += 1
-            print(f"{name}: refused at each of {at - 1} calls; each run ended with status 7 after whole replies")
+        for path in [options.script] if options.script else SAMPLES:
+            with open(path, "rb") as file:
+                script = file.read()
+            print(f"{os.path.relpath(path)}:")
+            starve(options.program, library, script)
 
 
 if __name__ == "__main__":
