@@ -88,7 +88,7 @@ placed (p ∷ ps) path z Q step h =
     ⊎_elim (λ (here : (matches p.0 path ≡ true) × (p.1 ≡ z)). step 0 p refl here.0 here.1) (placed ps path z Q (λ place. step (suc place))) (onto_cases (matches p.0 path) p.1 (rising_matches ps path) z h)
 
 module _ (all : List Placed) (shapes : List (List Bool)) (at_key : ℕ → List ℕ) (path : List Label) (filed : AreFiled all shapes at_key) where
-  looked_at : (p : Placed) → matches p.0 path ≡ true → candidates at_key (shape_of p.0) path ≡ at_key (key_of p.0)
+  pub looked_at : (p : Placed) → matches p.0 path ≡ true → candidates at_key (shape_of p.0) path ≡ at_key (key_of p.0)
   looked_at p fit =
       let long : length (shape_of p.0) ≤ length path = omega (arith, long_enough p.0 path fit, length-map p.0 is_star) in
       rw (le-leb _ _ long, front_same p.0 path fit) refl

@@ -4,3 +4,4 @@ pub mod Fronts
 pub mod Hashing
 pub mod Members
 pub mod Shapes
+pub mod There

@@ -1,9 +1,9 @@
 -- How prefixes are filed, and what is looked at for a path.
-use Rattle.std.specs.Prelude.{◌≡◌, ℕ, ◌<◌, Bool, nat_eq, nat_le, if◌then◌else◌, List, [], ◌∷◌, length, Option, Some, None, Vec, Contains}
-use Rattle.std.specs.List.{slice_get, flat_map}
+use Rattle.std.specs.Prelude.{◌≡◌, ℕ, ◌<◌, Bool, false, nat_eq, nat_le, if◌then◌else◌, List, [], ◌∷◌, length, Option, Some, None, Vec, Contains}
+use Rattle.std.specs.List.{slice_get, flat_map, list_any}
 use Rattle.std.specs.HashMap.{HashMap, get}
 use Rattle.std.specs.declared.alloc.Global.{Global}
-use Rattle.dtab_index.specs.Index.{Label, Placed, matches}
+use Rattle.dtab_index.specs.Index.{Label, Placed, matches, matches_there}
 use Rattle.dtab_index.specs.Key.{key_of, shape_of, front_by}
 
 -- the places that are filed by a key
@@ -44,3 +44,16 @@ AreRising (p ∷ ps) = AreAbove p.1 ps × AreRising ps
 -- each prefix has its shape in the list of shapes, and its place under its key
 abbrev pub AreFiled : List Placed → List (List Bool) → (ℕ → List ℕ) → Type 0
 AreFiled all shapes at_key = (place : ℕ) (p : Placed) → slice_get all place ≡ Some p → Contains shapes (shape_of p.0) × Contains (at_key (key_of p.0)) place
+
+-- whether a prefix that may stand at a place is at one of some positions, and matches a path
+abbrev pub is_found : ℕ → ℕ → List Label → Option Placed → Bool
+is_found from to path None = false
+is_found from to path (Some p) = matches_there from to path p
+
+-- whether one of the prefixes at some places is at one of some positions, and matches a path
+abbrev pub some_found_at : ℕ → ℕ → List Placed → List Label → List ℕ → Bool
+some_found_at from to all path places = list_any (λ place. is_found from to path (slice_get all place)) places
+
+-- and so shape by shape
+abbrev pub some_found_by : ℕ → ℕ → List Placed → (ℕ → List ℕ) → List Label → List (List Bool) → Bool
+some_found_by from to all at_key path shapes = list_any (λ stars. some_found_at from to all path (candidates at_key stars path)) shapes

@@ -5,7 +5,7 @@ ghost use Rattle.std.specs.Bool.{OnTrue};
 ghost use Rattle.std.specs.List.{slice_get};
 ghost use Rattle.std.specs.Option.{option_to_list};
 ghost use Rattle.dtab_index.specs.Key.{key_of, shape_of};
-ghost use Rattle.dtab_index.specs.Filing.{places_at, candidates, position_of, matching_at};
+ghost use Rattle.dtab_index.specs.Filing.{places_at, candidates, position_of, matching_at, is_found, some_found_at};
 ghost use Rattle.dtab_index.specs.Prefix.{patterns_of, placed_of, stars_of};
 
 use crate::Mem;
@@ -93,5 +93,33 @@ fn position(entries: &[Entry], place: usize, path: &[Vec<u8>]) -> Option<u32>
         Some(entry.at)
     } else {
         None
+    }
+}
+
+/// Whether one of the prefixes at some places is at a position from one to before another, and matches a path.
+pub(crate) fn some_found_at(
+    entries: &[Entry],
+    places: &[usize],
+    from: u32,
+    to: u32,
+    path: &[Vec<u8>],
+) -> bool
+    ensures { result ≡ some_found_at from to (map placed_of entries.now) (map (λ l. l.items) path.now) places.now }
+{
+    for place in places {
+        if is_found(entries, *place, from, to, path) {
+            return true;
+        }
+    }
+    false
+}
+
+/// Whether the prefix at a place is at a position from one to before another, and matches a path.
+fn is_found(entries: &[Entry], place: usize, from: u32, to: u32, path: &[Vec<u8>]) -> bool
+    ensures { result ≡ is_found from to (map (λ l. l.items) path.now) (slice_get (map placed_of entries.now) place) }
+{
+    match entries.get(place) {
+        Some(entry) => from <= entry.at && entry.at < to && entry.matches(path),
+        None => false,
     }
 }

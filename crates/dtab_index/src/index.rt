@@ -1,7 +1,7 @@
 //! Prefixes of paths, and which of them match a path.
 
 use crate::Mem;
-use crate::filing::{candidates, gather, note_place, note_shape};
+use crate::filing::{candidates, gather, note_place, note_shape, some_found_at};
 use crate::key::prefix_key;
 use crate::prefix::{Entry, Shape};
 use std::alloc::Global;
@@ -32,7 +32,7 @@ impl Model for Index {
 
 impl Index {
     ghost use Rattle.std.specs.Prelude.{◌≡◌, [], ◌∷◌, ◌++◌, map, IfOk, OnOk, OnErr};
-    ghost use Rattle.dtab_index.specs.Index.{matching, AreBelow};
+    ghost use Rattle.dtab_index.specs.Index.{matching, some_matches_there, AreBelow};
     ghost use Rattle.dtab_index.specs.Prefix.{patterns_of};
 
     /// The index with no prefix. It takes no memory.
@@ -78,5 +78,21 @@ impl Index {
         found.dedup();
         found.reverse();
         Ok(found)
+    }
+
+    /// Whether one of the prefixes at the positions from one to before another matches a path of these labels. It takes no memory.
+    ///
+    /// The cost is one pass over the path and one look-up for each shape that the index has, and a comparison for each prefix that has
+    /// the path's labels, up to the first that is one of them.
+    pub fn matches_any(&self, from: u32, to: u32, path: &[Vec<u8>]) -> bool
+        ensures { result ≡ some_matches_there from to self.now (map (λ l. l.items) path.now) }
+    {
+        for shape in &self.shapes {
+            let places = candidates(&self.buckets, shape.stars.as_slice(), path);
+            if some_found_at(self.entries.as_slice(), places, from, to, path) {
+                return true;
+            }
+        }
+        false
     }
 }
