@@ -10,3 +10,4 @@ pub mod TableLaws
 pub mod TableSounds
 pub mod TableSpelled
 pub mod TableWriting
+pub mod There

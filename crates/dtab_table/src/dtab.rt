@@ -14,6 +14,9 @@ use name_tree::Path;
 use std::alloc::Global;
 use std::sync::ledger::Ledger;
 
+/// Of how many entries each is compared with a path, in place of a look-up.
+const FEW_ENTRIES: usize = 4;
+
 /// A delegation table: a list of entries. Of two that match a path, the later one is tried first.
 ///
 /// Contracts see what it says as `rules_of dtab`, the list of its prefixes and trees. Beside the entries it keeps an index of their
@@ -90,14 +93,20 @@ impl Dtab {
         Dtab::of(alloc, EntryList::of(entries))
     }
 
-    /// Whether the prefix of some entry, from one place to before another, counted from 0, matches a path. It takes no memory, and
-    /// compares the path with each of these prefixes.
+    /// Whether the prefix of some entry, from one place to before another, counted from 0, matches a path. It takes no memory.
+    ///
+    /// A few entries are compared with the path one by one. More are found by one look-up in the table's index for each shape of its
+    /// prefixes, however many they are.
     pub fn matches_any(&self, from: usize, to: usize, path: &Path) -> bool
         requires order { from ≤ to }
         requires within { to ≤ length (rules_of self.now) }
         ensures { result ≡ some_matches (take (to - from) (drop from (rules_of self.now))) path.now }
     {
-        some_entry_matches(&self.entries[from..to], path)
+        if to - from <= FEW_ENTRIES {
+            return some_entry_matches(&self.entries[from..to], path);
+        }
+        self.index
+            .matches_any(from as u32, to as u32, path.labels())
     }
 
     /// What the table rewrites a path to: the trees of all entries whose prefix matches, the last entry first, each with the

@@ -268,6 +268,24 @@ fn joins_copies_and_compares(rt: HostRuntime) -> Result<(), Fail> {
         let from = from.min(to);
         assert_eq!(rt; both.matches_any(from, to, &path), want, "{text:?}");
     }
+    let text = b"/a => /1; /b/* => /2; /a/x => /3; /c => /4; /d => /5; /e/f => /6";
+    let many = read_dtab(rt.alloc(), text).map_err(|_| "refused")?;
+    assert_eq!(rt; many.len(), 6);
+    let rows: [(usize, usize, &[u8], bool); 7] = [
+        (0, 6, b"/e/f/g", true),
+        (0, 5, b"/e/f/g", false),
+        (0, 5, b"/a", true),
+        (1, 6, b"/a", false),
+        (1, 6, b"/a/x", true),
+        (0, 6, b"/b/q", true),
+        (0, 6, b"/b", false),
+    ];
+    for (from, to, text, want) in rows {
+        let path = read_path(rt.alloc(), text).map_err(|_| "refused")?;
+        let to = to.min(6);
+        let from = from.min(to);
+        assert_eq!(rt; many.matches_any(from, to, &path), want, "{text:?}");
+    }
     assert!(rt; both.entry(0).same(first.entry(0)));
     assert!(rt; both.entry(2).same(second.entry(0)));
     assert!(rt; !both.entry(0).same(both.entry(1)));

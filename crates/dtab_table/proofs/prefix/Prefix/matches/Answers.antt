@@ -1,4 +1,4 @@
-use Rattle.std.proofs.Common.{◌≡◌, ◌≤◌, ◌∙◌, List, Bool, length, map, ap, sym, arith}
+use Rattle.std.proofs.Common.{◌≤◌, ◌∙◌, List, length, map, ap, sym, arith}
 use Rattle.dtab_index.specs.Index.{matches}
 use Rattle.dtab_table.specs.Pattern.{Pattern, pattern_of}
 use Rattle.dtab_table.proofs.Matches.{too_few, label_fits, label_differs, all_fit}
