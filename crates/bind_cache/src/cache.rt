@@ -111,8 +111,9 @@ impl Cache {
     /// Drops the bindings of which a path that was looked up is matched by a rule that changed between two tables. Call it where the second takes
     /// the place of the first as the table of the proxy's namespace.
     ///
-    /// It compares the rules that both have at their fronts and ends once, and then each path that was looked up for a binding with the
-    /// rules between these.
+    /// It compares the rules that both have at their fronts and ends once. Then it asks for each path that was looked up for a binding
+    /// whether a rule between these matches it: a few rules are compared with the path, more take one look-up for each shape of the
+    /// table's prefixes.
     pub fn touch_table(&mut self, old: &Dtab, new: &Dtab)
         ensures { bindings_of self.new ≡ after_table (rules_of old.now) (rules_of new.now) (bindings_of self.old) }
     {
