@@ -1,13 +1,13 @@
 -- Branches of a union of which pruning leaves something, one by one, and the branch that a number chooses.
-use Rattle.std.proofs.Common.{◌≡◌, ℕ, zero, suc, ◌+◌, ◌-◌, ◌*◌, ◌/◌, ◌%◌, ◌^◌, ◌<◌, ◌≤◌, List, [], ◌∷◌, length, get_or, drop, Bool, true, false, cond, Option, Some, None, refl, sym, ap, subst, ◌∙◌, arith}
-use Rattle.std.specs.Prelude.{is_some, slice_get, option_and_then, nat_lt}
+use Rattle.std.proofs.Common.{◌≡◌, ℕ, zero, suc, ◌+◌, ◌-◌, ◌*◌, ◌/◌, ◌%◌, ◌^◌, ◌<◌, ◌≤◌, List, [], ◌∷◌, length, get_or, drop, true, false, cond, Option, Some, None, refl, sym, ap, subst, ◌∙◌, arith, add-zero}
+use Rattle.std.specs.Prelude.{is_some, slice_get, option_and_then}
 use Rattle.std.proofs.lemmas.Bool.{lt-ltb, le-ltb}
-use Rattle.addr_book.specs.declared.bound.Bound.{Bound, One, Many}
+use Rattle.addr_book.specs.declared.bound.Bound.{Bound, Many}
 use Rattle.addr_book.specs.declared.bound.BoundItem.{BoundItem}
 use Rattle.addr_book.specs.declared.bound.BoundList.{BoundList}
 use Rattle.addr_book.specs.declared.leaf.Leaf.{Leaf}
 use Rattle.addr_book.specs.Book.{Services}
-use Rattle.addr_book.specs.Found.{Found, one, many, FoundList, no_member, member, count_members, IsFilled, AreFilled, IsBounded, AreBounded}
+use Rattle.addr_book.specs.Found.{Found, many, FoundList, no_member, member, count_members, IsFilled, AreFilled, IsBounded, AreBounded}
 use Rattle.addr_book.specs.Bound.{found_of, members_of, listed_items}
 use Rattle.choose_core.specs.Branch.{pruned, pruned_members, kept_member, kept_union, total_weight, branch_of, branch_over, chosen}
 use Rattle.choose_core.specs.Good.{IsGood}
@@ -152,6 +152,33 @@ module _ (services : Services) (bound : Bound) (list : BoundList) (items : List 
   union_goes_on word a b over item a_is b_is found =
       sym (found.chooses (a * b % 2 ^ 64))
       ∙ ((λ i. branch_over (left_of services items) (a_is i * b_is i / 2 ^ 64) (a_is i * b_is i % 2 ^ 64)) ∙ sym (union_chosen services bound list items word is items_are))
+
+-- ---- a union of one branch
+pub one_item : (items : List BoundItem) (x : BoundItem) → 1 ≤ length items → length items < 2 → x ≡ get_or items 0 x → items ≡ x ∷ []
+one_item [] x more few is = absurd (omega arith)
+one_item (y ∷ []) x more few is = ap (λ (z : BoundItem). z ∷ []) (sym is)
+one_item (y ∷ z ∷ items) x more few is = absurd (omega arith)
+
+module _ (services : Services) (bound : Bound) (list : BoundList) (items : List BoundItem) (only : BoundItem) (is : bound ≡ Many list) (items_are : members_of list ≡ listed_items items) (alone : items ≡ only ∷ []) where
+  -- something is left of it where something is left of its branch
+  pub alone_left : is_some (pruned services (found_of only.bound)) ≡ is_some (pruned services (found_of bound))
+  alone_left = sym (union_left services bound list items is items_are ∙ (ap (λ xs. is_some (kept_union (left_of services xs))) alone ∙ same (pruned services (found_of only.bound))))
+    where
+      same : (left : Option Found) → is_some (kept_union (kept_member only.weight left no_member)) ≡ is_some left
+      same None = refl
+      same (Some found) = refl
+
+  -- the word goes on into it, as a part of all words
+  pub alone_goes_on : (word : ℕ) → word < 2 ^ 64 → 0 < only.weight
+      → chosen services (found_of only.bound) (word * only.weight % 2 ^ 64) ≡ chosen services (found_of bound) word
+  alone_goes_on word fits some = sym (union_chosen services bound list items word is items_are ∙ (ap (λ xs. over (left_of services xs)) alone ∙ same (pruned services (found_of only.bound))))
+    where
+      over : FoundList → Option Leaf
+      over fs = branch_over fs (word * total_weight fs / 2 ^ 64) (word * total_weight fs % 2 ^ 64)
+
+      same : (left : Option Found) → over (kept_member only.weight left no_member) ≡ option_and_then (λ found. branch_of found (word * only.weight % 2 ^ 64)) left
+      same None = refl
+      same (Some found) = rw (add-zero only.weight) (over_here services only.weight (word * only.weight / 2 ^ 64) (word * only.weight % 2 ^ 64) found no_member (scaled_below word only.weight fits some))
 
 -- ---- a union that is made of branches
 pub union_good : (list : BoundList) (items : List BoundItem) → members_of list ≡ listed_items items → 1 ≤ length items → length items ≤ 65536 → AreFilled (listed_items items) → AreBounded (listed_items items) → IsGood (Many list)

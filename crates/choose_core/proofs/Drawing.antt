@@ -1,6 +1,6 @@
 -- Places by cumulative weight, and the pair that is drawn.
-use Rattle.std.proofs.Common.{◌≡◌, ℕ, zero, suc, ◌+◌, ◌-◌, ◌*◌, ◌/◌, ◌^◌, ◌<◌, ◌≤◌, ◌≢◌, List, [], ◌∷◌, ◌++◌, length, get_or, take, drop, map, Bool, true, false, cond, refl, sym, ap, subst, ◌∙◌, arith, inl, inr, lit<}
-use Rattle.std.specs.Prelude.{sum, remove, filter, nat_lt, nat_le, All}
+use Rattle.std.proofs.Common.{◌≡◌, ℕ, zero, suc, ◌+◌, ◌-◌, ◌*◌, ◌^◌, ◌<◌, ◌≤◌, ◌≢◌, List, [], ◌∷◌, length, get_or, drop, Bool, true, false, cond, refl, sym, ap, subst, ◌∙◌, arith, inl, inr, lit<}
+use Rattle.std.specs.Prelude.{sum, remove, filter, nat_lt, nat_le, slice_get, Some}
 use Rattle.std.proofs.lemmas.Bool.{cases_lt, le-leb, lt-leb, lt-ltb, le-ltb}
 use Rattle.std.proofs.lemmas.Bool.Decides.{nat_tests}
 use Rattle.std.proofs.lemmas.List.Sums.{sum_by-cons, sum_by-remove}
@@ -11,7 +11,7 @@ use Rattle.std.proofs.Math.Nat.{mul-lt-mul_of_pos_left, mul_comm}
 use Rattle.addr_book.specs.declared.addr.Weighted.{Weighted}
 use Rattle.addr_book.specs.AddrList.{IsWeight, HaveWeights}
 use Rattle.choose_core.proofs.Passing.{read_passes, read_stays}
-use Rattle.choose_core.specs.Pair.{weights_of, place_over, scaled, place_in_whole, first_place, second_place, pair_of}
+use Rattle.choose_core.specs.Pair.{weights_of, place_over, scaled, place_in_whole, first_place, second_place, pair_of, IsPair}
 
 pub sum-cons : (w : ℕ) (ws : List ℕ) → sum (w ∷ ws) ≡ w + sum ws
 sum-cons w ws = sum_by-cons (λ x. x) w ws
@@ -284,19 +284,25 @@ module _ (list : List Weighted) (w1 w2 : ℕ) (first : w1 < 2 ^ 64) (second : w2
   pub j_within : 0 < sum (weights_of list) - get_or (weights_of list) (first_place (weights_of list) w1) 0 → second_place (weights_of list) (first_place (weights_of list) w1) w2 < length list
   j_within some = rw (← weights_more list) (second_within (weights_of list) (first_place (weights_of list) w1) w2 (rw weights_more i_within) second some)
 
--- the places are those of the pair, within the list, and apart where there are two
-abbrev pub Paired : ℕ → ℕ → ℕ → ℕ → List Weighted → Type 0
-Paired w1 w2 i j list = (◌≡◌ {A = ℕ × ℕ} (i, j) (pair_of list w1 w2)) × (i < length list) × (j < length list) × (2 ≤ length list → i ≢ j)
-
 module _ (list : List Weighted) (w1 w2 at : ℕ) (first : w1 < 2 ^ 64) (second : w2 < 2 ^ 64) (have : HaveWeights list) (more : 0 < length list) (at_is : at ≡ first_place (weights_of list) w1) where
   pub at_within : at < length list
   at_within = rw at_is (i_within list w1 w2 first second have more)
 
-  pub paired_alone : sum (weights_of list) - get_or (weights_of list) (first_place (weights_of list) w1) 0 ≡ 0 → Paired w1 w2 at at list
+  pub paired_alone : sum (weights_of list) - get_or (weights_of list) (first_place (weights_of list) w1) 0 ≡ 0 → IsPair w1 w2 (at, at) list
   paired_alone none =
       let only = alone_pair list w1 w2 first second have more none in
-      ((λ i. (at_is i, at_is i)) ∙ sym only.0, at_within, at_within, λ two. absurd (omega (arith, only.1)))
+      record { pair = (λ i. (at_is i, at_is i)) ∙ sym only.0; first = at_within; second = at_within; apart = λ two. absurd (omega (arith, only.1)) }
 
-  pub paired_several : (other : ℕ) → other ≡ second_place (weights_of list) (first_place (weights_of list) w1) w2 → 0 < sum (weights_of list) - get_or (weights_of list) (first_place (weights_of list) w1) 0 → Paired w1 w2 at other list
+  pub paired_several : (other : ℕ) → other ≡ second_place (weights_of list) (first_place (weights_of list) w1) w2 → 0 < sum (weights_of list) - get_or (weights_of list) (first_place (weights_of list) w1) 0 → IsPair w1 w2 (at, other) list
   paired_several other other_is some =
-      ((λ i. (at_is i, other_is i)) ∙ sym (several_pair list w1 w2 first second have more some), at_within, rw other_is (j_within list w1 w2 first second have more some), λ two. rw (at_is, other_is) (second_apart (weights_of list) (first_place (weights_of list) w1) w2))
+      record {
+        pair = (λ i. (at_is i, other_is i)) ∙ sym (several_pair list w1 w2 first second have more some);
+        first = at_within;
+        second = rw other_is (j_within list w1 w2 first second have more some);
+        apart = λ two. rw (at_is, other_is) (second_apart (weights_of list) (first_place (weights_of list) w1) w2);
+      }
+
+-- the addresses at the places of a pair
+pub drawn_at : (list : List Weighted) (w1 w2 : ℕ) (places : ℕ × ℕ) → IsPair w1 w2 places list → (x y : Weighted) → slice_get list places.0 ≡ Some x → slice_get list places.1 ≡ Some y
+    → (slice_get list (pair_of list w1 w2).0 ≡ Some x) × (slice_get list (pair_of list w1 w2).1 ≡ Some y)
+drawn_at list w1 w2 places is x y first second = (sym (ap (λ p. slice_get list p.0) is.pair) ∙ first, sym (ap (λ p. slice_get list p.1) is.pair) ∙ second)

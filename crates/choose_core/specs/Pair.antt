@@ -1,5 +1,5 @@
 -- The two addresses of a live list that are compared.
-use Rattle.std.specs.Prelude.{ℕ, zero, suc, ◌+◌, ◌-◌, ◌*◌, ◌/◌, ◌^◌, nat_lt, nat_le, if◌then◌else◌, List, [], ◌∷◌, map, sum, slice_index, remove}
+use Rattle.std.specs.Prelude.{◌≡◌, ◌≢◌, ◌<◌, ◌≤◌, ℕ, ◌+◌, ◌-◌, ◌*◌, ◌/◌, ◌^◌, nat_lt, nat_le, if◌then◌else◌, List, [], ◌∷◌, length, map, sum, slice_index, remove}
 use Rattle.addr_book.specs.declared.addr.Weighted.{Weighted}
 
 abbrev pub weights_of : List Weighted → List ℕ
@@ -34,3 +34,10 @@ pair_of (item ∷ next ∷ rest) w1 w2 =
     let ws = weights_of (item ∷ next ∷ rest) in
     let i = first_place ws w1 in
     (i, second_place ws i w2)
+
+-- the places are those of the pair, within the list, and apart where it has two
+pub record IsPair (w1 w2 : ℕ) (places : ℕ × ℕ) (list : List Weighted) : Type 0 where
+  pub pair : places ≡ pair_of list w1 w2
+  pub first : places.0 < length list
+  pub second : places.1 < length list
+  pub apart : 2 ≤ length list → places.0 ≢ places.1

@@ -1,11 +1,12 @@
 //! The pair of addresses whose loads are compared.
-ghost use Rattle.std.specs.Prelude.{◌≡◌, ◌≢◌, ◌<◌, ◌≤◌, length, sum, slice_index, remove};
+ghost use Rattle.std.specs.Prelude.{◌≡◌, ◌≢◌, ◌<◌, ◌≤◌, length, sum, slice_index, slice_get, Some, remove};
 ghost use Rattle.addr_book.specs.AddrList.{HaveWeights};
 ghost use Rattle.choose_core.specs.Live.{live_of};
 ghost use Rattle.choose_core.specs.Sieve.{passing};
-ghost use Rattle.choose_core.specs.Pair.{weights_of, place_over, place_in_whole, pair_of, scaled};
+ghost use Rattle.choose_core.specs.Pair.{weights_of, place_over, place_in_whole, pair_of, scaled, IsPair};
 
 use crate::mark::Limits;
+use crate::live::passing_at;
 use crate::marks::Marks;
 use crate::sieve::Sieve;
 use addr_book::Weighted;
@@ -18,8 +19,8 @@ const WORDS: u128 = 1 << 64;
 ///
 /// For words that are drawn evenly, an address is the first with a probability of its weight over the sum of the weights.
 ///
-/// It goes over the list three times: for the sum, for the first place, and for the second. Marks are looked up where some address has
-/// failures.
+/// It goes over the list four times: for who is alive, for the sum, for the first place, and for the second. Marks are looked up where some
+/// address has failures: once for each address, and in each pass where some addresses of the list are dead and others alive.
 pub fn pair(
     list: &[Weighted],
     marks: &Marks,
@@ -36,9 +37,40 @@ pub fn pair(
     ensures second { result.1 < length (live_of marks.now moment limits list.now) }
     ensures apart { 2 ≤ length (live_of marks.now moment limits list.now) → result.0 ≢ result.1 }
 {
+    places(list, &Sieve::of(list, marks, moment, limits), w1, w2)
+}
+
+/// The two addresses at the places that [`pair`] draws.
+///
+/// Besides the passes of [`pair`] it goes over the list as far as each of the two where some of its addresses are dead and others alive.
+pub fn drawn_pair(
+    list: &[Weighted],
+    marks: &Marks,
+    moment: u64,
+    limits: Limits,
+    w1: u64,
+    w2: u64,
+) -> (Weighted, Weighted)
+    requires some { 1 ≤ length list.now }
+    requires few { length list.now ≤ 1024 }
+    requires weights { HaveWeights list.now }
+    ensures first { slice_get (live_of marks.now moment limits list.now) (pair_of (live_of marks.now moment limits list.now) w1 w2).0 ≡ Some result.0 }
+    ensures second { slice_get (live_of marks.now moment limits list.now) (pair_of (live_of marks.now moment limits list.now) w1 w2).1 ≡ Some result.1 }
+{
     let sieve = Sieve::of(list, marks, moment, limits);
-    let total = total_weight(list, &sieve);
-    let first = draw(list, &sieve, scaled(w1, total));
+    let (first, second) = places(list, &sieve, w1, w2);
+    (passing_at(list, &sieve, first), passing_at(list, &sieve, second))
+}
+
+/// The two places that two words draw among the addresses of a list that pass.
+fn places(list: &[Weighted], sieve: &Sieve, w1: u64, w2: u64) -> (usize, usize)
+    requires some { 0 < length (passing sieve.now list.now) }
+    requires few { length list.now ≤ 1024 }
+    requires weights { HaveWeights list.now }
+    ensures { IsPair w1 w2 result (passing sieve.now list.now) }
+{
+    let total = total_weight(list, sieve);
+    let first = draw(list, sieve, scaled(w1, total));
     let rest = total - first.weight;
     if rest == 0 {
         // No other address takes part: each would weigh something.
@@ -46,7 +78,7 @@ pub fn pair(
     }
     (
         first.at,
-        draw_other(list, &sieve, first.at, scaled(w2, rest)),
+        draw_other(list, sieve, first.at, scaled(w2, rest)),
     )
 }
 

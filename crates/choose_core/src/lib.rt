@@ -1,7 +1,7 @@
 //! The choice of a replica: which branch of a bound, which addresses are alive, which two are compared, and which of these is taken.
 //!
 //! [`branch`] chooses a leaf of a [`Bound`](addr_book::Bound) by the weights of its branches. Of the leaf's addresses those that are alive
-//! take part, or all where none is ([`live_count`], [`live_at`]); [`pair`] draws two of them by their weights, and [`lesser`] says which of
+//! take part, or all where none is ([`live_count`], [`live_at`]); [`pair`] and [`drawn_pair`] draw two of them by their weights, and [`lesser`] says which of
 //! the two is taken by its load. [`Marks`] count the failures of each address: an address with too many in a row is dead for a while, as
 //! in Linkerd's failure accrual by consecutive failures. All randomness is handed in as words of 64 bits, and the time as a moment.
 //!
@@ -17,8 +17,7 @@
 //! let limits = Limits { failures: 5, backoff: 5_000 };
 //! let leaf = branch(&bound, &book, words[0]);
 //! let list = book.cluster(&service).unwrap_or(&[]);
-//! let (i, j) = pair(list, &marks, moment, limits, words[1], words[2]);
-//! let (first, second) = (live_at(list, &marks, moment, limits, i), live_at(list, &marks, moment, limits, j));
+//! let (first, second) = drawn_pair(list, &marks, moment, limits, words[1], words[2]);
 //! let taken = if lesser(3, first.weight, 2, second.weight) { first } else { second };
 //! // A reply came, or none.
 //! let mark = marks.report(taken.addr, false, moment, limits);
@@ -39,7 +38,7 @@ mod sieve;
 #[cfg(test)]
 mod tests;
 
-pub use draw::pair;
+pub use draw::{drawn_pair, pair};
 pub use laws::equal_weights_do_not_matter;
 pub use live::{live_at, live_count};
 pub use load::lesser;

@@ -10,7 +10,8 @@ use addr_book::Weighted;
 
 /// How many addresses of a list are alive at a moment; all of them count where none is alive.
 ///
-/// It takes no time where no address has failures, and looks each mark of the list up at most twice otherwise.
+/// It takes no time where no address has failures. Otherwise it looks each mark of the list up about once, and once more where some of its
+/// addresses are dead and others alive.
 pub fn live_count(list: &[Weighted], marks: &Marks, moment: u64, limits: Limits) -> usize
     ensures { result ≡ length (live_of marks.now moment limits list.now) }
 {
@@ -19,16 +20,24 @@ pub fn live_count(list: &[Weighted], marks: &Marks, moment: u64, limits: Limits)
 
 /// The address at a place among those that are alive at a moment, or among all where none is alive, in the list's order.
 ///
-/// It takes no time where no address has failures. Otherwise it looks up the marks of the list as far as the address.
+/// It takes no time where no address has failures. Otherwise it looks each mark of the list up about once, and those as far as the address
+/// once more where some of the list's addresses are dead and others alive.
 pub fn live_at(list: &[Weighted], marks: &Marks, moment: u64, limits: Limits, at: usize) -> Weighted
     requires { at < length (live_of marks.now moment limits list.now) }
     ensures { slice_get (live_of marks.now moment limits list.now) at ≡ Some result }
 {
-    let sieve = Sieve::of(list, marks, moment, limits);
+    passing_at(list, &Sieve::of(list, marks, moment, limits), at)
+}
+
+/// The address at a place among those of a list that pass, which has one there.
+pub(crate) fn passing_at(list: &[Weighted], sieve: &Sieve, at: usize) -> Weighted
+    requires { at < length (passing sieve.now list.now) }
+    ensures { slice_get (passing sieve.now list.now) at ≡ Some result }
+{
     if sieve.takes_all() {
         return item_at(list, at);
     }
-    match nth_passing(list, &sieve, at) {
+    match nth_passing(list, sieve, at) {
         Some(item) => item,
         None => unreachable!(),
     }

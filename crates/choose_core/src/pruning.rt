@@ -16,8 +16,10 @@ const WORDS: u128 = 1 << 64;
 ///
 /// For a word that is drawn evenly, each branch is chosen with a probability of its weight over the sum of the weights that are left.
 ///
-/// It goes over the branches of each union on its way twice, once for the sum and once for the branch, and looks for a leaf that is left in
-/// each. So a leaf's service is looked up in the book at most twice for each union that it stands in, and of a bound without a union once.
+/// A union of one branch on its way costs nothing but a multiplication. Over the branches of each other union on its way it goes twice,
+/// once for the sum and once for the branch, and looks for a leaf that is left in each: so it visits what lies below such a union at most
+/// twice, and looks a leaf's service up in the book at most twice for each of these unions above it, and once more where it is chosen. The
+/// stack is as deep as the bound.
 pub fn branch<'a>(bound: &'a Bound, book: &Book, word: u64) -> Option<&'a Leaf>
     requires filled { IsFilled (found_of bound.now) }
     requires bounded { IsBounded (found_of bound.now) }
@@ -35,6 +37,12 @@ pub fn branch<'a>(bound: &'a Bound, book: &Book, word: u64) -> Option<&'a Leaf>
             },
             Bound::Many(list) => {
                 let items = list.items();
+                if let [only] = items {
+                    // Each word falls into the part of the one branch.
+                    bound = &only.bound;
+                    word = word.wrapping_mul(only.weight);
+                    continue;
+                }
                 let product = u128::from(word) * u128::from(left_weight(items, book));
                 match left_over(items, book, (product / WORDS) as u64) {
                     None => return None,

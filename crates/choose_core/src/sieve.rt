@@ -1,9 +1,9 @@
 //! Which addresses of a list take part in a choice.
-ghost use Rattle.std.specs.Prelude.{◌≡◌};
+ghost use Rattle.std.specs.Prelude.{◌≡◌, ◌||◌};
 ghost use Rattle.std.specs.List.{list_all};
 ghost use Rattle.choose_core.specs.Mark.{is_dead_mark};
 ghost use Rattle.choose_core.specs.Marks.{mark_at};
-ghost use Rattle.choose_core.specs.Live.{live_of};
+ghost use Rattle.choose_core.specs.Live.{is_alive, live_of};
 
 use crate::mark::Limits;
 use crate::marks::Marks;
@@ -22,12 +22,12 @@ pub(crate) struct Sieve<'a> {
 impl<'a> Sieve<'a> {
     ghost use Rattle.choose_core.specs.Sieve.{passes, passing};
 
-    /// The sieve for a list, through which its live list passes. It looks marks up until it comes to an address that is alive, and none
-    /// where no address has failures.
+    /// The sieve for a list, through which its live list passes. It looks each address's mark up about once, so that later passes over a
+    /// list look up none unless some of its addresses are dead and others alive. Where no address has failures it looks up none.
     pub(crate) fn of(list: &[Weighted], marks: &'a Marks, moment: u64, limits: Limits) -> Sieve<'a>
         ensures { passing result list.now ≡ live_of marks.now moment limits list.now }
     {
-        let all = marks.count() == 0 || are_dead(list, marks, moment, limits);
+        let all = marks.count() == 0 || are_alike(list, marks, moment, limits);
         Sieve {
             marks,
             moment,
@@ -51,10 +51,25 @@ impl<'a> Sieve<'a> {
     }
 }
 
+/// Whether the addresses of a list are all dead or all alive.
+fn are_alike(list: &[Weighted], marks: &Marks, moment: u64, limits: Limits) -> bool
+    ensures { result ≡ (list_all (λ item. is_dead_mark (mark_at marks.now item.addr) moment limits) list.now || list_all (is_alive marks.now moment limits) list.now) }
+{
+    are_dead(list, marks, moment, limits) || are_alive(list, marks, moment, limits)
+}
+
 /// Whether all addresses of a list are dead. It stops at the first that is alive.
 fn are_dead(list: &[Weighted], marks: &Marks, moment: u64, limits: Limits) -> bool
     ensures { result ≡ list_all (λ item. is_dead_mark (mark_at marks.now item.addr) moment limits) list.now }
 {
     list.iter()
         .all(|item| marks.is_dead(item.addr, moment, limits))
+}
+
+/// Whether all addresses of a list are alive. It stops at the first that is dead.
+fn are_alive(list: &[Weighted], marks: &Marks, moment: u64, limits: Limits) -> bool
+    ensures { result ≡ list_all (is_alive marks.now moment limits) list.now }
+{
+    list.iter()
+        .all(|item| !marks.is_dead(item.addr, moment, limits))
 }

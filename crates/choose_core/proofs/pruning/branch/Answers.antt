@@ -1,9 +1,12 @@
-use Rattle.std.proofs.Common.{◌≡◌, ℕ, ◌<◌, ◌*◌, ◌/◌, ◌%◌, ◌^◌, ◌+◌, ◌≤◌, false, sym, ◌∙◌, ap, refl, arith, lit<, length, subst}
-use Rattle.std.specs.Prelude.{is_some}
+use Rattle.std.proofs.Common.{◌*◌, ◌/◌, ◌^◌, ◌≤◌, sym, ◌∙◌, ap, arith, subst, List}
+use Rattle.std.specs.Prelude.{slice_get}
 use Rattle.std.proofs.lemmas.Option.{get_or_from_slice_get}
+use Rattle.addr_book.specs.declared.bound.BoundItem.{BoundItem}
+use Rattle.addr_book.specs.Bound.{listed_items}
+use Rattle.addr_book.specs.Found.{AreFilled}
 use Rattle.addr_book.proofs.Bounds.{smaller}
-use Rattle.choose_core.specs.Branch.{kept_union, total_weight}
-use Rattle.choose_core.proofs.Branches.{left_of, union_bounded, union_filled, union_left, union_nothing, union_goes_on, nothing_left, some_kept, bounded_at, filled_at}
+use Rattle.choose_core.specs.Branch.{total_weight}
+use Rattle.choose_core.proofs.Branches.{left_of, union_bounded, union_filled, union_left, union_nothing, union_goes_on, nothing_left, some_kept, bounded_at, filled_at, one_item, alone_left, alone_goes_on}
 use Rattle.choose_core.proofs.pruning.branch.Goals as goal
 
 pub left_weight-requires-clause-few : goal.left_weight-requires-clause-few
@@ -25,6 +28,24 @@ returns-in-None-clause-none c =
     let filled = union_filled c.loop-bound.bound.now c.in-Many.list c.items-items.result.now c.in-Many.is c.items-items.ensures c.loop-bound.invariant.filled in
     let gone = nothing_left c.args.book.now.services c.items-items.result.now c.loop-bound.word c.loop-bound.invariant.fits filled none in
     sym gone ∙ (sym (union_left c.args.book.now.services c.loop-bound.bound.now c.in-Many.list c.items-items.result.now c.in-Many.is c.items-items.ensures) ∙ c.loop-bound.invariant.left)
+
+pub loop-bound-preserved-in-len1 : goal.loop-bound-preserved-in-len1
+loop-bound-preserved-in-len1 c =
+    let items = c.items-items.result.now in
+    let alone = one_item items c.only-item.result c.in-len1.len_at_least c.in-len1.len_below c.only-item.is in
+    let here = ap (λ xs. slice_get xs 0) alone in
+    let filled = union_filled c.loop-bound.bound.now c.in-Many.list items c.in-Many.is c.items-items.ensures c.loop-bound.invariant.filled in
+    let bounded = (union_bounded c.loop-bound.bound.now c.in-Many.list items c.in-Many.is c.items-items.ensures c.loop-bound.invariant.bounded).1 in
+    record {
+      fits = omega arith;
+      filled = filled_at items 0 c.only-item.result filled here;
+      bounded = (bounded_at items 0 c.only-item.result bounded here).1;
+      leaf =
+          alone_goes_on c.args.book.now.services c.loop-bound.bound.now c.in-Many.list items c.only-item.result c.in-Many.is c.items-items.ensures alone c.loop-bound.word c.loop-bound.invariant.fits
+          (subst (λ (xs : List BoundItem). AreFilled (listed_items xs)) alone filled).0
+          ∙ c.loop-bound.invariant.leaf;
+      left = alone_left c.args.book.now.services c.loop-bound.bound.now c.in-Many.list items c.only-item.result c.in-Many.is c.items-items.ensures alone ∙ c.loop-bound.invariant.left;
+    }
 
 pub loop-bound-smaller : goal.loop-bound-smaller
 loop-bound-smaller c =
