@@ -18,10 +18,7 @@ use Rattle.machine.specs.Decided.{IsDecidedAnyhow}
 use Rattle.machine.proofs.Sounds.{sound_set, sound_removed}
 
 module _ (state : StateValue) (name : List ℕ) (ready : ReadyStore) (sound : AreSoundSpaces state.store.spaces) where
-  module _ (rules copy : List Rule) (next : ℕ) (is_next : next ≡ state.store.next) (is : prepared_of ready ≡ after_set state.store name copy) (copied : copy ≡ rules) (table : AreSoundRules rules) where
-    stored : prepared_of ready ≡ after_set state.store name rules
-    stored = is ∙ ap (after_set state.store name) copied
-
+  module _ (rules : List Rule) (next : ℕ) (is_next : next ≡ state.store.next) (stored : prepared_of ready ≡ after_set state.store name rules) (table : AreSoundRules rules) where
     sound_stored : AreSoundSpaces (prepared_of ready).spaces
     sound_stored = subst (λ (s : Store). AreSoundSpaces s.spaces) (sym stored) (sound_set state.store.spaces name (record { version = state.store.next; rules = rules }) sound table)
 

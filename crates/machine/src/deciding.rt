@@ -50,7 +50,7 @@ impl State {
         ensures { IfOk result (IsDecidedAnyhow (state_of self.now) (create name.now (rules_of dtab.now))) }
     {
         let version = self.store.next_version();
-        match self.store.prepare_create(alloc, name, dtab.copied(alloc)?) {
+        match self.store.prepare_create(alloc, name, dtab) {
             Ok(ready) => Ok(Decided::Accepted(Reply::Version(version), Part::Store(ready))),
             Err(fault) => Ok(Decided::Refused(store_reply(fault)?)),
         }
@@ -68,10 +68,7 @@ impl State {
         ensures { IfOk result (IsDecidedAnyhow (state_of self.now) (put name.now expected (rules_of dtab.now))) }
     {
         let version = self.store.next_version();
-        match self
-            .store
-            .prepare_put(alloc, name, expected, dtab.copied(alloc)?)
-        {
+        match self.store.prepare_put(alloc, name, expected, dtab) {
             Ok(ready) => Ok(Decided::Accepted(Reply::Version(version), Part::Store(ready))),
             Err(fault) => Ok(Decided::Refused(store_reply(fault)?)),
         }

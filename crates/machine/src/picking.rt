@@ -23,7 +23,7 @@ use crate::settings::Settings;
 use crate::state::State;
 use addr_book::{Addr, Bound, Cluster, Leaf, Name, ONE_WEIGHT, Weighted};
 use bind_core::{Outcome, Wanted};
-use choose_core::{Limits, branch, live_at, pair};
+use choose_core::{Limits, branch, drawn_pair};
 use line_base::Steps;
 use std::alloc::Global;
 use std::sync::ledger::Ledger;
@@ -160,17 +160,8 @@ impl State {
         match self.book.cluster(service) {
             None => unreachable!(),
             Some(list) => {
-                let (i, j) = pair(
-                    list,
-                    &self.marks,
-                    ask.moment,
-                    limits,
-                    ask.words[1],
-                    ask.words[2],
-                );
-                let first = live_at(list, &self.marks, ask.moment, limits, i);
-                let second = live_at(list, &self.marks, ask.moment, limits, j);
-                (first, second)
+                let [_, first, second] = ask.words;
+                drawn_pair(list, &self.marks, ask.moment, limits, first, second)
             }
         }
     }

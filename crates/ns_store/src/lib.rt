@@ -15,7 +15,7 @@
 //! ```
 //! let name = Name::of(alloc, b"default")?;
 //! let mut store = Store::start(alloc)?;
-//! let ready = store.prepare_create(alloc, &name, read_dtab(alloc, b"/svc => /a")?)?;
+//! let ready = store.prepare_create(alloc, &name, &read_dtab(alloc, b"/svc => /a")?)?;
 //! store.absorb(&ready)?;
 //! // Version 1, with the table `/svc => /a`.
 //! let found = store.get(&name);

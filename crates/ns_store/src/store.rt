@@ -20,7 +20,8 @@ pub const MOST_NAMES: usize = 256;
 /// `contents_of store`.
 ///
 /// A change is prepared first, which may be refused, and is then made by [`absorb`](Store::absorb). Preparing copies the list of
-/// namespaces, for each two counts that go up by one, and no table: stores share the tables, and the list too once one absorbs the other.
+/// namespaces, for each two counts that go up by one, and no table but the change's own: stores share the tables, and the list too once one
+/// absorbs the other.
 #[derive(Debug, Drop)]
 pub struct Store {
     spaces: Arc<Spaces>,
@@ -102,7 +103,8 @@ impl Store {
         }
     }
 
-    /// Prepares the store with a new namespace, which gets the next version. The table is taken over as it is.
+    /// Prepares the store with a new namespace, which gets the next version. The table is copied, once the change is not
+    /// refused.
     ///
     /// # Errors
     /// In this order: [`StoreFault::Exists`] with the version of the namespace that has the name, [`StoreFault::TooManyNames`] where there
@@ -111,9 +113,9 @@ impl Store {
         &self,
         alloc: Global,
         name: &Name,
-        dtab: Dtab,
+        dtab: &Dtab,
     ) -> Result<ReadyStore, StoreFault>
-        ensures store { IfOk result (λ ready. prepared_of ready ≡ after_set (contents_of self.now) name.now (rules_of dtab)) }
+        ensures store { IfOk result (λ ready. prepared_of ready ≡ after_set (contents_of self.now) name.now (rules_of dtab.now)) }
         ensures taken { OnOk result (create_refusal (contents_of self.now) name.now ≡ None) }
         ensures refused { IfErr result (λ fault. fault ≢ StoreFault.OutOfMemory → create_refusal (contents_of self.now) name.now ≡ Some fault) }
     {
@@ -126,7 +128,8 @@ impl Store {
         self.set(alloc, name, dtab)
     }
 
-    /// Prepares the store with another table for a namespace, which gets the next version. The table is taken over as it is.
+    /// Prepares the store with another table for a namespace, which gets the next version. The table is copied, once the change is not
+    /// refused.
     ///
     /// # Errors
     /// In this order: [`StoreFault::Missing`] where the namespace is not there, [`StoreFault::Stale`] with its version where `version` is
@@ -136,9 +139,9 @@ impl Store {
         alloc: Global,
         name: &Name,
         version: Option<u64>,
-        dtab: Dtab,
+        dtab: &Dtab,
     ) -> Result<ReadyStore, StoreFault>
-        ensures store { IfOk result (λ ready. prepared_of ready ≡ after_set (contents_of self.now) name.now (rules_of dtab)) }
+        ensures store { IfOk result (λ ready. prepared_of ready ≡ after_set (contents_of self.now) name.now (rules_of dtab.now)) }
         ensures taken { OnOk result (put_refusal (contents_of self.now) name.now version ≡ None) }
         ensures refused { IfErr result (λ fault. fault ≢ StoreFault.OutOfMemory → put_refusal (contents_of self.now) name.now version ≡ Some fault) }
     {
@@ -200,9 +203,9 @@ impl Store {
     }
 
     /// Prepares the store with a table for a namespace, which gets the next version.
-    fn set(&self, alloc: Global, name: &Name, dtab: Dtab) -> Result<ReadyStore, StoreFault>
-        requires { fin.len (after_set (contents_of self.now) name.now (rules_of dtab)).spaces ≤ 256 }
-        ensures store { IfOk result (λ ready. prepared_of ready ≡ after_set (contents_of self.now) name.now (rules_of dtab)) }
+    fn set(&self, alloc: Global, name: &Name, dtab: &Dtab) -> Result<ReadyStore, StoreFault>
+        requires { fin.len (after_set (contents_of self.now) name.now (rules_of dtab.now)).spaces ≤ 256 }
+        ensures store { IfOk result (λ ready. prepared_of ready ≡ after_set (contents_of self.now) name.now (rules_of dtab.now)) }
         ensures taken { OnOk result (spent_refusal (contents_of self.now) ≡ None) }
         ensures refused { IfErr result (λ fault. fault ≢ StoreFault.OutOfMemory → spent_refusal (contents_of self.now) ≡ Some fault) }
     {
@@ -210,7 +213,7 @@ impl Store {
             return Err(StoreFault::VersionsSpent);
         }
         let mut spaces = self.spaces.copied()?;
-        spaces.set(name, self.next, Arc::new(alloc, dtab)?)?;
+        spaces.set(name, self.next, Arc::new(alloc, dtab.copied(alloc)?)?)?;
         Ok(ReadyStore {
             next: Store {
                 spaces: Arc::new(alloc, spaces)?,

@@ -21,9 +21,9 @@ fn carry_out(
     step: Step,
 ) -> Result<Option<u64>, StoreFault> {
     let ready = match step {
-        Step::Create(table) => store.prepare_create(alloc, name, read(alloc, table)?)?,
+        Step::Create(table) => store.prepare_create(alloc, name, &read(alloc, table)?)?,
         Step::Put(version, table) => {
-            store.prepare_put(alloc, name, version, read(alloc, table)?)?
+            store.prepare_put(alloc, name, version, &read(alloc, table)?)?
         }
         Step::Delete(version) => store.prepare_delete(alloc, name, version)?,
     };
@@ -146,7 +146,7 @@ fn absorbs_what_another_store_prepared(rt: HostRuntime) -> Result<(), Fail> {
         carry_out(rt.alloc(), &mut second, &mail, Step::Create(b"/m => /n")),
         Ok(Some(1))
     );
-    let ready = first.prepare_create(rt.alloc(), &web, read(rt.alloc(), b"/a => /b")?)?;
+    let ready = first.prepare_create(rt.alloc(), &web, &read(rt.alloc(), b"/a => /b")?)?;
     first.absorb(&ready)?;
     second.absorb(&ready)?;
     for store in [&first, &second] {
