@@ -44,7 +44,7 @@ pub use live::{live_at, live_count};
 pub use load::lesser;
 pub use mark::{Limits, Mark};
 pub use marks::{MOST_MARKS, Marks};
-pub use pruning::branch;
+pub use pruning::{branch, is_open};
 
 /// A value, unless there was no memory for it.
 pub type Mem<T> = Result<T, AllocError>;

@@ -56,8 +56,8 @@ pub fn branch<'a>(bound: &'a Bound, book: &Book, word: u64) -> Option<&'a Leaf>
     }
 }
 
-/// Whether a leaf has an address to go to.
-fn is_open(leaf: &Leaf, book: &Book) -> bool
+/// Whether a leaf has an address to go to. It takes one look-up in the book, and no memory.
+pub fn is_open(leaf: &Leaf, book: &Book) -> bool
     ensures { result ≡ is_open book.now.services leaf.now.cluster }
 {
     match &leaf.cluster {

@@ -1,6 +1,6 @@
 -- A leaf that is chosen has an address, and the addresses that are drawn are its service's.
 use Rattle.std.proofs.Common.{◌≡◌, ℕ, zero, suc, ◌-◌, ◌≤◌, List, [], ◌∷◌, length, Bool, true, false, Option, Some, None, cond, map, refl, sym, ap, subst, ◌∙◌, arith, IfSome, nat_cmp}
-use Rattle.std.specs.Prelude.{slice_get, option_and_then, nat_lt, filter, ◌||◌}
+use Rattle.std.specs.Prelude.{slice_get, option_and_then, option_map, nat_lt, filter, ◌||◌}
 use Rattle.std.specs.Ordering.{eq_by_cmp}
 use Rattle.std.specs.Cmp.{eq_by_cmp_equiv}
 use Rattle.std.specs.Cmp.Lexicographic.{slice_cmp}
@@ -21,8 +21,10 @@ use Rattle.choose_core.specs.Live.{is_alive, some_or_all, live_of}
 use Rattle.choose_core.specs.Marks.{MarkMap}
 use Rattle.choose_core.specs.Pair.{pair_of}
 use Rattle.addr_book.specs.Uses.{list_of}
-use Rattle.machine.specs.Values.{StateValue, AskValue}
-use Rattle.machine.specs.Choosing.{item_at, live_in}
+use Rattle.bind_core.specs.Delegation.{bound}
+use Rattle.machine.specs.declared.chosen.Why.TheVariants.{Empty}
+use Rattle.machine.specs.Values.{SettingsValue, StateValue, AskValue, replica, not_picked}
+use Rattle.machine.specs.Choosing.{item_at, live_in, between_of, Offer, some_offer, offer_at, ending_in, offer_of, taken_of, is_first_taken, pick_at, pick_of, chosen_of}
 use Rattle.machine.specs.Candidates.{IsDrawn}
 
 module _ (services : Services) where
@@ -168,3 +170,18 @@ module _ (state : StateValue) (limits : Limits) (ask : AskValue) (service : List
     first_used = live_used state.book.services service list state.marks ask.moment limits i first is here;
     second_used = live_used state.book.services service list state.marks ask.moment limits j second is there;
   }
+
+-- ---- a path that came to one leaf
+module _ (settings : SettingsValue) (state : StateValue) (ask : AskValue) (leaf : Leaf) (is : bound (one leaf) ≡ ending_in settings state ask) where
+  abbrev offered : Bool → Offer
+  offered has = some_offer (option_map (between_of state settings.limits ask) (option_and_then (λ left. branch_of left ask.branch_word) (cond has (Some (one leaf)) None)))
+
+  of_leaf : offer_of settings state ask ≡ offered (is_open state.book.services leaf.cluster)
+  of_leaf = ap (offer_at state settings.limits ask) (sym is)
+
+  pub shut_leaf : is_open state.book.services leaf.cluster ≡ false → chosen_of (pick_of settings state ask 0 0) ≡ not_picked Empty
+  shut_leaf shut = ap (λ offer. chosen_of (pick_at 0 0 offer)) (of_leaf ∙ ap offered shut)
+
+  pub open_leaf : is_open state.book.services leaf.cluster ≡ true
+      → chosen_of (pick_of settings state ask 0 0) ≡ chosen_of (replica (taken_of (between_of state settings.limits ask leaf) (is_first_taken 0 0 (between_of state settings.limits ask leaf))))
+  open_leaf has = ap (λ offer. chosen_of (pick_at 0 0 offer)) (of_leaf ∙ ap offered has)

@@ -8,7 +8,8 @@ ghost use Rattle.addr_book.specs.Bound.{found_of};
 ghost use Rattle.addr_book.specs.Namer.{named_in};
 ghost use Rattle.choose_core.specs.Branch.{is_open, has_some};
 ghost use Rattle.choose_core.specs.Good.{IsGood};
-ghost use Rattle.bind_core.specs.Delegation.{cost_of};
+ghost use Rattle.addr_book.specs.Found.{one as one_leaf};
+ghost use Rattle.bind_core.specs.Delegation.{cost_of, bound as bound_to};
 ghost use Rattle.bind_core.specs.Outcome.{ending_of};
 ghost use Rattle.machine.specs.Code.{settings_of, state_of, ask_of, chosen_value};
 ghost use Rattle.machine.specs.Looking.{effective};
@@ -23,7 +24,7 @@ use crate::settings::Settings;
 use crate::state::State;
 use addr_book::{Addr, Bound, Cluster, Leaf, Name, ONE_WEIGHT, Weighted};
 use bind_core::{Outcome, Wanted};
-use choose_core::{Limits, branch, drawn_pair};
+use choose_core::{Limits, branch, drawn_pair, is_open};
 use line_base::Steps;
 use std::alloc::Global;
 use std::sync::ledger::Ledger;
@@ -79,7 +80,8 @@ impl State {
 
     /// Picks a replica where no address has any load.
     ///
-    /// No table and no list of addresses is copied; it takes the memory of a delegation and of the two paths that it gives.
+    /// No table and no list of addresses is copied; it takes the memory of a delegation, and of the two paths that it gives where the path came
+    /// to a union.
     pub fn choose<L: Ledger>(
         &self,
         alloc: Global,
@@ -98,7 +100,41 @@ impl State {
             Wanted::Neither,
             steps,
         )?;
-        self.choose_in(alloc, settings, &delegated.outcome, ask)
+        self.choose_from(alloc, settings, delegated.outcome, ask)
+    }
+
+    /// Picks a replica as [`choose_in`](State::choose_in) does. The paths of an outcome that is one leaf are given as they are.
+    fn choose_from(
+        &self,
+        alloc: Global,
+        settings: &Settings,
+        outcome: Outcome,
+        ask: &Ask,
+    ) -> Mem<Chosen>
+        requires { ending_of outcome ≡ ending_in (settings_of settings.now) (state_of self.now) (ask_of ask.now) }
+        ensures { IfOk result (λ said. chosen_value said ≡ chosen_of (pick_of (settings_of settings.now) (state_of self.now) (ask_of ask.now) 0 0)) }
+    {
+        match outcome {
+            Outcome::Bound(Bound::One(leaf)) => Ok(self.choose_of(settings, leaf, ask)),
+            outcome => self.choose_in(alloc, settings, &outcome, ask),
+        }
+    }
+
+    /// Picks a replica of the one leaf that an ask's path came to, whose paths are given as they are.
+    #[tactic(auto, using(crate::proofs::Choosing::shut_leaf, crate::proofs::Choosing::open_leaf))]
+    fn choose_of(&self, settings: &Settings, leaf: Leaf, ask: &Ask) -> Chosen
+        requires { bound_to (one_leaf leaf) ≡ ending_in (settings_of settings.now) (state_of self.now) (ask_of ask.now) }
+        ensures { chosen_value result ≡ chosen_of (pick_of (settings_of settings.now) (state_of self.now) (ask_of ask.now) 0 0) }
+    {
+        if !is_open(&leaf, &self.book) {
+            return Chosen::None(Why::Empty);
+        }
+        let addr = self.between(&leaf, ask, settings.limits).taken(0, 0).addr;
+        Chosen::Picked {
+            addr,
+            client: leaf.client,
+            residual: leaf.residual,
+        }
     }
 
     /// Picks a replica where no address has any load, and the ask's path came to an outcome in this state. It takes the memory of the two
