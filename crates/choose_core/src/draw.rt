@@ -5,8 +5,8 @@ ghost use Rattle.choose_core.specs.Live.{live_of};
 ghost use Rattle.choose_core.specs.Sieve.{passing};
 ghost use Rattle.choose_core.specs.Pair.{weights_of, place_over, place_in_whole, pair_of, scaled, IsPair};
 
-use crate::mark::Limits;
 use crate::live::passing_at;
+use crate::mark::Limits;
 use crate::marks::Marks;
 use crate::sieve::Sieve;
 use addr_book::Weighted;
@@ -59,7 +59,10 @@ pub fn drawn_pair(
 {
     let sieve = Sieve::of(list, marks, moment, limits);
     let (first, second) = places(list, &sieve, w1, w2);
-    (passing_at(list, &sieve, first), passing_at(list, &sieve, second))
+    (
+        passing_at(list, &sieve, first),
+        passing_at(list, &sieve, second),
+    )
 }
 
 /// The two places that two words draw among the addresses of a list that pass.
