@@ -1,125 +1,305 @@
 #!/usr/bin/env python3
-"""How many content bytes of a body go through a second: passed on to a dialer and back to a peer, over memory, by a length, and in chunks of
-1 KiB and of 64 KiB; beside a plain copy of the same bytes.
+"""How many content bytes of a body go through a second: passed on and passed back, over memory, by a length, and in chunks of 1 KiB and of 64 KiB;
+beside a plain copy of the same bytes, piece by piece; and how much memory it takes at most, for bodies of 64 MiB and of 1 GiB.
 
-It builds a small program over the crates `line_base`, `http_wire` and `body_wire` in a folder of its own, which wants the toolchain's command rt, and
-runs it. The dialer and the peer in memory copy what they are handed, once each, so that a plain copy of the same bytes is measured beside.
+The two ends are in memory: one copies the bytes from a block that it gives over and over, and the other into room of its own, as a socket does.
+It wants the toolchain's command rt, by which it proves, builds and runs a small program over the crates of bodies.
 
 usage: bench/bodies.py
 """
-import os, shutil, subprocess, sys, tempfile
-
-HERE = os.path.dirname(os.path.abspath(__file__))
-CRATES = os.path.join(HERE, "..", "crates")
-CRATES_USED = ("line_base", "http_wire", "body_wire")
+from over_crates import output_of
 
 PROGRAM = r'''//! Times the passing of bodies.
 #![tactic(auto)]
 
+ghost use Rattle.std.specs.Prelude.{◌≡◌, ◌≤◌, ◌<◌, ◌↔◌, length, None, Some, List, ℕ, Option};
+
 use body_wire::{pass_back, pass_body};
 use http_wire::{Framing, Rest};
-use line_base::{Dialer, MemDialer, MemPeer, MemSink, MemSource};
+use line_base::{Dialer, Failed, Peer};
 use std::alloc::{AllocError, Global};
-use std::io;
 use std::time::Instant;
+use std::{fs, io};
 
-const CONTENT: usize = 67108864;
+/// The content bytes of a block.
+const BLOCK: usize = 65536;
 
-/// Content in chunks of this size, with its last chunk, or bare where the size is 0.
-fn body_of(alloc: Global, size: usize) -> Result<Vec<u8>, AllocError> {
-    if size == 0 {
-        return Vec::from_elem(alloc, b'x', CONTENT);
+/// How a body goes.
+#[derive(Clone, Copy)]
+enum Way {
+    Onward,
+    Back,
+    Copied,
+}
+
+/// A body of so many blocks of content, in chunks of this size, or by its length where that is 0.
+#[derive(Clone, Copy)]
+struct Body {
+    chunk: usize,
+    blocks: u32,
+}
+
+impl Body {
+    fn content(self) -> u64 {
+        u64::from(self.blocks) * 65536
     }
-    let chunk = Vec::from_elem(alloc, b'x', size)?;
+
+    fn framing(self) -> Framing {
+        if self.chunk == 0 {
+            Framing::Length(self.content())
+        } else {
+            Framing::Chunked
+        }
+    }
+
+    /// The bytes of a block.
+    fn block(self, alloc: Global) -> Result<Vec<u8>, AllocError> {
+        if self.chunk == 0 {
+            return Vec::from_elem(alloc, b'x', BLOCK);
+        }
+        let mut block = Vec::new(alloc);
+        for _ in 0..BLOCK / self.chunk {
+            push_chunk(&mut block, self.chunk)?;
+        }
+        Ok(block)
+    }
+
+    /// The bytes behind the last block.
+    fn last(self, alloc: Global) -> Result<Vec<u8>, AllocError> {
+        Vec::from_slice(alloc, if self.chunk == 0 { b"" } else { b"0\r\n\r\n" })
+    }
+}
+
+/// Puts a chunk of so many bytes behind the others.
+fn push_chunk(bytes: &mut Vec<u8>, size: usize) -> Result<(), AllocError> {
+    let alloc = *bytes.allocator();
     let line = format!(in alloc; "{size:x}\r\n")?;
-    let mut body = Vec::new(alloc);
-    for _ in 0..CONTENT / size.max(1) {
-        body.extend_from_slice(line.as_bytes())?;
-        body.extend_from_slice(chunk.as_slice())?;
-        body.extend_from_slice(b"\r\n")?;
-    }
-    body.extend_from_slice(b"0\r\n\r\n")?;
-    Ok(body)
+    bytes.extend_from_slice(line.as_bytes())?;
+    bytes.append(&mut Vec::from_elem(alloc, b'x', size)?)?;
+    bytes.extend_from_slice(b"\r\n")
 }
 
-fn framing_of(size: usize) -> Framing {
-    if size == 0 {
-        Framing::Length(67108864)
-    } else {
-        Framing::Chunked
+/// The other end of a connection. It gives a block so many times, and then what is behind, and copies what it takes into its room.
+#[derive(Drop)]
+struct End {
+    block: Vec<u8>,
+    times: u32,
+    last: Vec<u8>,
+    at: usize,
+    room: [u8; 16384],
+    seen: u8,
+    ends: u64,
+    is_open: bool,
+}
+
+impl End {
+    fn of(alloc: Global, body: Body) -> Result<End, AllocError> {
+        Ok(End {
+            block: body.block(alloc)?,
+            times: body.blocks,
+            last: body.last(alloc)?,
+            at: 0,
+            room: [0; 16384],
+            seen: 0,
+            ends: 0,
+            is_open: false,
+        })
+    }
+
+    /// Gives some bytes. 0 is the end, where there is room.
+    fn give(&mut self, into: &mut [u8]) -> usize
+        ensures within { result ≤ length into.new }
+        ensures others { (self.new.ends ≡ self.old.ends) × (self.new.is_open ≡ self.old.is_open) }
+    {
+        if self.times > 0 && self.at >= self.block.len() {
+            self.times -= 1;
+            self.at = 0;
+        }
+        let block = if self.times > 0 { self.block.as_slice() } else { self.last.as_slice() };
+        let start = self.at.min(block.len());
+        let count = (block.len() - start).min(into.len());
+        into[..count].copy_from_slice(&block[start..start + count]);
+        self.at = start + count;
+        count
+    }
+
+    /// Takes some bytes, and at least one, where there is one.
+    fn take(&mut self, bytes: &[u8]) -> usize
+        ensures within { result ≤ length bytes.now }
+        ensures some { 0 < length bytes.now → 0 < result }
+        ensures others { (self.new.ends ≡ self.old.ends) × (self.new.is_open ≡ self.old.is_open) }
+    {
+        let count = bytes.len().min(self.room.len());
+        self.room[..count].copy_from_slice(&bytes[..count]);
+        count
+    }
+
+    /// Looks at bytes, so that no compiler leaves out what wrote them.
+    fn look_at(&mut self, bytes: &[u8]) {
+        for byte in bytes {
+            self.seen ^= *byte;
+        }
+    }
+
+    /// Looks at its room.
+    fn look(&mut self) -> u8 {
+        let room = self.room;
+        self.look_at(&room);
+        self.seen
     }
 }
 
-/// An open dialer with this reply.
-fn dialed(alloc: Global, reply: Vec<u8>) -> Result<MemDialer, AllocError> {
-    let mut replies = Vec::new(alloc);
-    match replies.push(reply) {
-        Ok(()) => {}
-        Err(_) => return Err(AllocError),
+impl Peer for End {
+    ghost left = { λ _. None };
+
+    ghost given = { λ _. None };
+
+    ghost read_faults = { λ _. 0 };
+
+    ghost write_faults = { λ _. 0 };
+
+    ghost ends = { λ e. e.ends };
+
+    fn read(&mut self, into: &mut [u8]) -> Result<usize, Failed> {
+        let count = self.give(into);
+        if count == 0 && !into.is_empty() {
+            self.ends = self.ends.saturating_add(1);
+        }
+        Ok(count)
     }
-    let mut dialer = MemDialer::of(alloc, replies, Vec::new(alloc), Vec::new(alloc));
-    let _ = dialer.dial(2130706433, 9001);
-    Ok(dialer)
+
+    fn write(&mut self, bytes: &[u8]) -> Result<usize, Failed> {
+        Ok(self.take(bytes))
+    }
+}
+
+impl Dialer for End {
+    ghost log = { λ _. None };
+
+    ghost left = { λ _. None };
+
+    ghost is_open = { λ e. e.is_open };
+
+    ghost faults = { λ _. 0 };
+
+    fn dial(&mut self, _ip: u32, _port: u16) -> Result<(), Failed> {
+        self.is_open = true;
+        Ok(())
+    }
+
+    fn send(&mut self, bytes: &[u8]) -> Result<usize, Failed> {
+        Ok(self.take(bytes))
+    }
+
+    fn recv(&mut self, into: &mut [u8]) -> Result<usize, Failed> {
+        Ok(self.give(into))
+    }
+
+    fn hang(&mut self) {
+        self.is_open = false;
+    }
+}
+
+/// Copies all bytes piece by piece, and gives their number.
+fn copied(from: &mut End, piece: &mut [u8], to: &mut End) -> u64 {
+    let mut count = 0u64;
+    for _ in 0..u64::MAX {
+        let got = from.give(piece);
+        if got == 0 {
+            break;
+        }
+        count = count.wrapping_add(to.take(&piece[..got]) as u64);
+    }
+    count
+}
+
+/// Passes a body on, and gives the number of its content bytes, or 0.
+fn onward(alloc: Global, body: Body, from: &mut End, to: &mut End) -> Result<u64, AllocError> {
+    let mut rest = Rest::room(alloc)?;
+    let mut out = Vec::new(alloc);
+    match to.dial(0x7f000001, 9001) {
+        Ok(()) => Ok(pass_body(from, &mut rest, body.framing(), &mut out, to).unwrap_or(0)),
+        Err(_) => Ok(0),
+    }
+}
+
+/// Passes a body back, and gives the number of its content bytes, or 0.
+fn back(alloc: Global, body: Body, from: &mut End, to: &mut End) -> Result<u64, AllocError> {
+    let mut rest = Rest::room(alloc)?;
+    let mut out = Vec::new(alloc);
+    match from.dial(0x7f000001, 9001) {
+        Ok(()) => Ok(pass_back(from, &mut rest, body.framing(), true, &mut out, to).unwrap_or(0)),
+        Err(_) => Ok(0),
+    }
+}
+
+/// Moves a body, and gives how many bytes were counted.
+fn moved(alloc: Global, way: Way, body: Body, from: &mut End, to: &mut End) -> Result<u64, AllocError> {
+    match way {
+        Way::Onward => onward(alloc, body, from, to),
+        Way::Back => back(alloc, body, from, to),
+        Way::Copied => {
+            let mut piece = Vec::from_elem(alloc, 0, 16384)?;
+            let count = copied(from, piece.as_mut_slice(), to);
+            to.look_at(piece.as_slice());
+            Ok(count)
+        }
+    }
+}
+
+/// Moves a body some times, and writes how many microseconds the fastest took.
+fn time(rt: &HostRuntime, name: &str, way: Way, body: Body) -> io::Result<()> {
+    let alloc = rt.alloc();
+    let mut best = u128::MAX;
+    let mut count = 0;
+    let mut seen = 0u8;
+    for _ in 0..5u32 {
+        let mut from = End::of(alloc, body)?;
+        let mut to = End::of(alloc, body)?;
+        let start = Instant::now(rt)?;
+        count = moved(alloc, way, body, &mut from, &mut to)?;
+        best = best.min(start.elapsed(rt)?.as_micros());
+        seen ^= to.look();
+    }
+    println!(rt; "bodies,{name},{},{},{count},{best},{seen}", body.chunk, body.blocks)
+}
+
+/// Writes the most memory that the program has had.
+fn tell_memory(rt: &HostRuntime) -> io::Result<()> {
+    let status = fs::read_to_string(rt, "/proc/self/status")?;
+    for line in status.lines() {
+        if line.starts_with("VmHWM:") {
+            println!(rt; "bodies {line}")?;
+        }
+    }
+    Ok(())
 }
 
 fn main(rt: HostRuntime) -> io::Result<()> {
-    let alloc = rt.alloc();
-    for size in [0usize, 1024, 65536] {
-        let source = MemSource::of(body_of(alloc, size)?, Vec::new(alloc), Vec::new(alloc));
-        let mut peer = MemPeer::of(source, MemSink::of(alloc, Vec::new(alloc), Vec::new(alloc)));
-        let mut dialer = dialed(alloc, Vec::new(alloc))?;
-        let mut rest = Rest::room(alloc)?;
-        let mut out = Vec::new(alloc);
-        let start = Instant::now(&rt)?;
-        let passed = pass_body(&mut peer, &mut rest, framing_of(size), &mut out, &mut dialer).is_ok();
-        let took = start.elapsed(&rt)?.as_micros();
-        println!(rt; "bodies onward {size}: {passed} {took} us")?;
-        let source = MemSource::of(Vec::new(alloc), Vec::new(alloc), Vec::new(alloc));
-        let mut peer = MemPeer::of(source, MemSink::of(alloc, Vec::new(alloc), Vec::new(alloc)));
-        let mut dialer = dialed(alloc, body_of(alloc, size)?)?;
-        let start = Instant::now(&rt)?;
-        let passed = pass_back(&mut dialer, &mut rest, framing_of(size), true, &mut out, &mut peer).is_ok();
-        let took = start.elapsed(&rt)?.as_micros();
-        println!(rt; "bodies back {size}: {passed} {took} us")?;
+    for blocks in [1024u32, 16384] {
+        for chunk in [0usize, 1024, 65536] {
+            let body = Body { chunk, blocks };
+            time(&rt, "onward", Way::Onward, body)?;
+            time(&rt, "back", Way::Back, body)?;
+            time(&rt, "copied", Way::Copied, body)?;
+        }
+        tell_memory(&rt)?;
     }
-    let bytes = body_of(alloc, 0)?;
-    let mut room = Vec::from_elem(alloc, 0u8, 16384)?;
-    let mut copy = Vec::new(alloc);
-    let start = Instant::now(&rt)?;
-    let mut at = 0;
-    while at + 16384 <= bytes.len() {
-        room.clear();
-        room.extend_from_slice(&bytes[at..at + 16384])?;
-        copy.extend_from_slice(room.as_slice())?;
-        at += 16384;
-    }
-    let took = start.elapsed(&rt)?.as_micros();
-    println!(rt; "bodies copy: true {took} us")
+    Ok(())
 }
 '''
 
 
+FRAMINGS = {"0": "by a length", "1024": "in chunks of 1 KiB", "65536": "in chunks of 64 KiB"}
+
+
 def main():
-    if not shutil.which("rt"):
-        sys.exit("bodies.py: the toolchain's command rt is not on the PATH")
-    with tempfile.TemporaryDirectory(prefix="bodies-") as work:
-        for crate in CRATES_USED:
-            shutil.copytree(os.path.join(CRATES, crate), os.path.join(work, "crates", crate))
-        os.makedirs(os.path.join(work, "crates", "bodies", "src"))
-        with open(os.path.join(work, "crates", "bodies", "src", "main.rt"), "w") as file:
-            file.write(PROGRAM)
-        with open(os.path.join(work, "crates.txt"), "w") as file:
-            lines = open(os.path.join(HERE, "..", "crates.txt")).read().splitlines()
-            file.write("".join(line + "\n" for line in lines if line.split(":")[0] in CRATES_USED))
-            file.write("bodies: line_base http_wire body_wire\n")
-        done = subprocess.run(["rt", "run"], cwd=os.path.join(work, "crates", "bodies"), capture_output=True, text=True)
-        lines = [line for line in done.stdout.splitlines() if line.startswith("bodies ")]
-        for line in lines:
-            what, _, took = line.removeprefix("bodies ").rpartition(": true ")
-            print(f"{what}: {67.108864 / int(took.split()[0]) * 1000:.2f} GB/s" if what else line)
-        if not lines:
-            print(done.stdout + done.stderr)
-        sys.exit(done.returncode)
+    for line in output_of("bodies", PROGRAM, ["line_base", "http_wire", "body_wire"]).splitlines():
+        match line.replace(",", " ").split():
+            case ["bodies", "VmHWM:", most, unit]:
+                print(f"memory so far: {most} {unit} at most")
+            case ["bodies", way, chunk, blocks, _, took, _]:
+                print(f"{way} {FRAMINGS[chunk]}, {int(blocks) // 16} MiB: {int(blocks) * 65536 / int(took) / 1000:.1f} GB a second")
 
 
 if __name__ == "__main__":
