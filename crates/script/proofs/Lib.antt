@@ -1,2 +1,4 @@
+pub mod Counting
 pub mod Naming
+pub mod Turning
 pub mod Walking

@@ -1,6 +1,9 @@
 pub mod Carried
 pub mod Command
 pub mod Line
+pub mod Ran
 pub mod Reply
 pub mod Said
+pub mod Storm
+pub mod Turns
 pub mod Words

@@ -19,7 +19,7 @@ use std::alloc::{AllocError, Global};
 use std::sync::ledger::Ledger;
 
 /// The namespace of scripts.
-fn default_name(alloc: Global) -> Mem<Name>
+pub(crate) fn default_name(alloc: Global) -> Mem<Name>
     ensures { IfOk result (λ name. name ≡ default_name) }
 {
     match Name::of(alloc, b"default") {

@@ -1,7 +1,7 @@
 //! Scripts for a router: the lines that ask for changes, looks and picks, what they do, and the texts of the replies.
 //!
 //! [`read_line`] reads a line as a [`Line`], [`carry_out`] carries it out on a state of the router, and [`reply_text`] writes the reply to it.
-//! [`script_settings`] is what the router of scripts is set up with.
+//! [`script_settings`] is what the router of scripts is set up with. [`storm`] makes a run of generated changes and picks, and sums it up in a line.
 //!
 //! # Lines
 //! Words stand between spaces and tabs. TABLE goes from its first other byte to the end of the line.
@@ -19,7 +19,8 @@
 //!
 //! # What is proved
 //! A line is read exactly as `specs/Line.antt` has it, and [`LineFault::BadLine`] comes exactly where it is outside the grammar. What a line is answered
-//! and the state that it leaves are exactly those of `specs/Carried.antt`. The text of a reply is exactly that of `specs/Reply.antt`.
+//! and the state that it leaves are exactly those of `specs/Carried.antt`. The text of a reply is exactly that of `specs/Reply.antt`. The turns of a
+//! generated run are exactly those of `specs/Turns.antt`, and its line is that of `specs/Storm.antt`.
 //!
 //! # Example
 //! ```
@@ -38,13 +39,17 @@ mod carried;
 mod command;
 mod line;
 mod reply;
+mod run;
 #[cfg(test)]
 mod tests;
+mod turn;
+mod turn_parts;
 mod words;
 
 pub use carried::{carry_out, script_settings};
 pub use line::{Line, read_line};
 pub use reply::{Said, reply_text};
+pub use run::storm;
 pub use words::LineFault;
 
 /// A value, unless there was no memory for it.

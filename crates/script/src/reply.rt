@@ -109,7 +109,7 @@ fn text_of_reply(alloc: Global, reply: &Reply) -> Mem<Bytes>
 }
 
 /// Puts a space and a number behind some bytes. An `Err` may leave a part there.
-fn append_number(number: u64, out: &mut Bytes) -> Mem<()>
+pub(crate) fn append_number(number: u64, out: &mut Bytes) -> Mem<()>
     ensures { OnOk result (out.new.items ≡ with_number out.old.items number) }
 {
     let text = format!(in *out.allocator(); " {number}")?;
@@ -117,7 +117,7 @@ fn append_number(number: u64, out: &mut Bytes) -> Mem<()>
 }
 
 /// A word and a number.
-fn numbered(alloc: Global, word: &[u8], number: u64) -> Mem<Bytes>
+pub(crate) fn numbered(alloc: Global, word: &[u8], number: u64) -> Mem<Bytes>
     ensures { IfOk result (λ text. text.items ≡ with_number word.now number) }
 {
     let mut out = word.to_vec(alloc)?;

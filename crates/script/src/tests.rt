@@ -1,5 +1,5 @@
 //! Lines at their limits, and replies.
-use crate::{Line, LineFault, Said, read_line, reply_text};
+use crate::{Line, LineFault, Said, read_line, reply_text, script_settings, storm};
 use addr_book::{Addr, Name};
 use choose_core::Mark;
 use dtab_table::read_dtab;
@@ -143,5 +143,24 @@ fn writes_replies(rt: HostRuntime) -> Result<(), Fail> {
             b"too-deep"
         )?
     );
+    Ok(())
+}
+
+#[test]
+fn sums_generated_runs_up(rt: HostRuntime) -> Result<(), Fail> {
+    let rows: [(u32, u64, &str); 2] = [
+        (0, 7, "changes 1 refused 0 picked 0 none 0 ports 0"),
+        (
+            1_000,
+            1,
+            "changes 334 refused 168 picked 242 none 257 ports 809971",
+        ),
+    ];
+    let alloc = rt.alloc();
+    let settings = script_settings(alloc)?;
+    for (turns, seed, want) in rows {
+        let line = storm(alloc, &settings, turns, seed)?;
+        assert!(rt; line.as_slice() == want.as_bytes(), "{turns} {seed}");
+    }
     Ok(())
 }
