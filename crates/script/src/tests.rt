@@ -42,6 +42,42 @@ fn tells_lines_apart(rt: HostRuntime) {
     }
 }
 
+#[test]
+fn lines_outside_the_language(rt: HostRuntime) -> Result<(), Fail> {
+    let alloc = rt.alloc();
+    let rows = [
+        // A moment has all three words behind it.
+        "pick /a 0",
+        "pick /a 0 1",
+        "pick /a 0 1 2",
+        // Numbers have no leading zeros, and are below 2^64.
+        "pick /a 00 1 2 3",
+        "pick /a 0 1 2 03",
+        "pick /a 0 1 2 18446744073709551616",
+        "put web 01",
+        "fail 127.0.0.1:1 01",
+        "good 127.0.0.1:1 18446744073709551616",
+        "addrs web 127.0.0.1:01",
+    ];
+    for line in rows {
+        assert_eq!(rt; kind(alloc, line.as_bytes()), "bad", "{line:?}");
+    }
+    let drop = drop_line(alloc, 255)?;
+    assert_eq!(rt; kind(alloc, drop.as_slice()), "change");
+    let drop = drop_line(alloc, 256)?;
+    assert_eq!(rt; kind(alloc, drop.as_slice()), "bad");
+    Ok(())
+}
+
+/// A line that drops a service with a name of so many bytes.
+fn drop_line(alloc: Global, bytes: usize) -> Result<Vec<u8>, Fail> {
+    let mut line = b"drop ".to_vec(alloc)?;
+    for _byte in 0..bytes {
+        line.push(b'a')?;
+    }
+    Ok(line)
+}
+
 /// A line of a command, then so many blanks, so many `;`, which are a table with no entry, and a blank at the end.
 fn table_line(
     alloc: Global,
