@@ -63,7 +63,7 @@ pick_by s turn words =
     let branch = pcg64 words in
     let first = pcg64 branch.1 in
     let second = pcg64 first.1 in
-    (picking (record { path = codes "svc" ∷ service_name s ∷ []; own = []; moment = turn; branch_word = branch.0; first_word = first.0; second_word = second.0 }), second.1)
+    (picking (record { path = codes "svc" ∷ service_name s ∷ []; own = []; moment = turn; branch_word = branch.0; first_draw = first.0; second_draw = second.0 }), second.1)
 
 -- the turn of a word, and the words behind it. The word's lowest three bits are the kind, of which 4 to 7 are picks, the next four bits a service, and the
 -- next twelve a number
