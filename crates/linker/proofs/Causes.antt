@@ -1,9 +1,10 @@
 -- What each status shows.
-use Rattle.std.proofs.Common.{◌≡◌, ℕ, ◌<◌, List, length, length-append, refl, sym, ap, subst, ◌∙◌, arith, true, false, inl, inr, lit<}
-use Rattle.std.specs.Prelude.{Option, None, Some, ◌⊎◌, IsSome, Contains}
+use Rattle.std.proofs.Common.{◌≡◌, ℕ, ◌<◌, Bool, List, length, length-append, refl, sym, ap, subst, ◌∙◌, arith, true, false, inl, inr, lit<}
+use Rattle.std.specs.Prelude.{Option, None, Some, Result, Ok, Err, ◌⊎◌, IsSome, Contains}
 use Rattle.std.specs.Io.KnownBytes.{Consumes}
 use Rattle.linker.specs.Replay.{replay_of}
-use Rattle.linker.specs.Run.{Course, words_refused, read_failed, too_long, script_read, unread, Input, Output, Took, ReadsLong, Ended, Ran, Yields, status_of, replay_status, statuses}
+use Rattle.linker.specs.Run.{Course, words_refused, read_failed, too_long, script_read, line_told, no_memory, Input, Filed, Output, Reads, Checks, Takes, ReadsLong, Ended, Ran, Yields, status_of, status_if, statuses}
+use Rattle.linker.specs.Words.{Asked, replay, check, command_of}
 
 -- a run that did not yield has the status of its course
 ended_code : (course : Course) (old new : Output) (status : ℕ) → Ended course old new status → (status ≡ status_of course) ⊎ Yields status old new
@@ -21,60 +22,97 @@ nothing_taken : (old : Option (List ℕ)) (bytes : List ℕ) → IsSome old → 
 nothing_taken None bytes some p = cc some
 nothing_taken (Some xs) bytes some p = omega (arith, length-append bytes xs, ap length p)
 
--- more was read than a script may have: no other course shows that
-long_course : (words : List (List ℕ)) (old new : Input) (course : Course) → IsSome old.left → ReadsLong old new → Took words old new course → status_of course ≡ 8
-long_course words old new course some long (inl refused) =
-    let taken = subst (λ (i : Input). Consumes old.left i.left long.0) refused.3 long.1 in
-    absurd (omega (arith, nothing_taken old.left long.0 some taken, long.2))
-long_course words old new (words_refused place) some long (inr took) = absurd took.1
-long_course words old new read_failed some long (inr took) = absurd (omega (arith, taken_length old.left new.left long.0 took.1.1.0 some long.1 took.1.1.1, long.2, took.1.1.2))
-long_course words old new too_long some long (inr took) = refl
-long_course words old new (script_read script) some long (inr took) = absurd (omega (arith, taken_length old.left new.left long.0 script some long.1 took.1.0, long.2, took.1.2))
-long_course words old new unread some long (inr took) = absurd (omega (arith, taken_length old.left new.left long.0 took.1.0.0 some long.1 took.1.0.1, long.2, took.1.0.2))
+-- more was read than a script may have: no other course of a script shows that
+long_script : (old new : Input) (course : Course) → IsSome old.left → ReadsLong old new → Reads old new course → status_of course ≡ 8
+long_script old new (words_refused place) some long took = absurd took
+long_script old new read_failed some long took = absurd (omega (arith, taken_length old.left new.left long.0 took.1.0 some long.1 took.1.1, long.2, took.1.2))
+long_script old new too_long some long took = refl
+long_script old new (script_read script) some long took = absurd (omega (arith, taken_length old.left new.left long.0 script some long.1 took.0, long.2, took.2))
+long_script old new (line_told good line) some long took = absurd took
+long_script old new no_memory some long took = absurd (omega (arith, taken_length old.left new.left long.0 took.0.0 some long.1 took.0.1, long.2, took.0.2))
 
-pub long_cause : (words : List (List ℕ)) (old new : Input) (old_out new_out : Output) (status : ℕ) → Ran words old new old_out new_out status → IsSome old.left → ReadsLong old new → (status ≡ 8) ⊎ Yields status old_out new_out
-long_cause words old new old_out new_out status ran some long = ended (ended_code ran.0 old_out new_out status ran.2)
-  where
-    ended : (status ≡ status_of ran.0) ⊎ Yields status old_out new_out → (status ≡ 8) ⊎ Yields status old_out new_out
-    ended (inl is) = inl (is ∙ long_course words old new ran.0 some long ran.1)
-    ended (inr yields) = inr yields
+-- an input that was left alone was not read
+not_read : (old new : Input) → IsSome old.left → ReadsLong old new → new ≡ old → ⊥
+not_read old new some long same =
+    let taken = subst (λ (i : Input). Consumes old.left i.left long.0) same long.1 in
+    omega (arith, nothing_taken old.left long.0 some taken, long.2)
+
+long_course : (asked : Result Asked ℕ) (old new : Input) (old_files new_files : Filed) (course : Course) → IsSome old.left → ReadsLong old new → Takes asked old new old_files new_files course → status_of course ≡ 8
+long_course (Err place) old new old_files new_files course some long took = absurd (not_read old new some long took.1)
+long_course (Ok replay) old new old_files new_files course some long took = long_script old new course some long took.0
+long_course (Ok (check path)) old new old_files new_files course some long took = absurd (not_read old new some long took.1)
+
+-- the input's count rose only where a read failed
+failed_script : (old new : Input) (course : Course) → old.faults < new.faults → Reads old new course → status_of course ≡ 4
+failed_script old new (words_refused place) rose took = absurd took
+failed_script old new read_failed rose took = refl
+failed_script old new too_long rose took = absurd (omega (arith, took.1, rose))
+failed_script old new (script_read script) rose took = absurd (omega (arith, took.4, rose))
+failed_script old new (line_told good line) rose took = absurd took
+failed_script old new no_memory rose took = absurd (omega (arith, took.1, rose))
+
+failed_input : (asked : Result Asked ℕ) (old new : Input) (old_files new_files : Filed) (course : Course) → old.faults < new.faults → Takes asked old new old_files new_files course → status_of course ≡ 4
+failed_input (Err place) old new old_files new_files course rose took = absurd (omega (arith, ap (λ (i : Input). i.faults) took.1, rose))
+failed_input (Ok replay) old new old_files new_files course rose took = failed_script old new course rose took.0
+failed_input (Ok (check path)) old new old_files new_files course rose took = absurd (omega (arith, ap (λ (i : Input). i.faults) took.1, rose))
+
+-- the folder's count rose only where it could not be read
+failed_config : (path : List ℕ) (old new : Filed) (course : Course) → old.faults < new.faults → Checks path old new course → status_of course ≡ 4
+failed_config path old new (words_refused place) rose took = absurd took
+failed_config path old new read_failed rose took = refl
+failed_config path old new too_long rose took = absurd took
+failed_config path old new (script_read script) rose took = absurd took
+failed_config path old new (line_told good line) rose took = absurd (omega (arith, took.1, rose))
+failed_config path old new no_memory rose took = absurd (omega (arith, took, rose))
+
+failed_folder : (asked : Result Asked ℕ) (old new : Input) (old_files new_files : Filed) (course : Course) → old_files.faults < new_files.faults → Takes asked old new old_files new_files course → status_of course ≡ 4
+failed_folder (Err place) old new old_files new_files course rose took = absurd (omega (arith, ap (λ (f : Filed). f.faults) took.2, rose))
+failed_folder (Ok replay) old new old_files new_files course rose took = absurd (omega (arith, ap (λ (f : Filed). f.faults) took.1, rose))
+failed_folder (Ok (check path)) old new old_files new_files course rose took = failed_config path old_files new_files course rose took.0
+
+status_there : (good : Bool) → Contains statuses (status_if good)
+status_there true = (0, lit< tt, refl)
+status_there false = (2, lit< tt, refl)
 
 course_status : (course : Course) → Contains statuses (status_of course)
 course_status (words_refused place) = (1, lit< tt, refl)
 course_status read_failed = (3, lit< tt, refl)
 course_status too_long = (6, lit< tt, refl)
-course_status (script_read script) = elim (replay_of script).1 as (λ good. Contains statuses (replay_status good)) [ true ↦ (0, lit< tt, refl) | false ↦ (2, lit< tt, refl) ]
-course_status unread = (5, lit< tt, refl)
+course_status (script_read script) = status_there (replay_of script).1
+course_status (line_told good line) = status_there good
+course_status no_memory = (5, lit< tt, refl)
 
-pub known_status : (words : List (List ℕ)) (old new : Input) (old_out new_out : Output) (status : ℕ) → Ran words old new old_out new_out status → Contains statuses status
-known_status words old new old_out new_out status ran = ended (ended_code ran.0 old_out new_out status ran.2)
-  where
-    ended : (status ≡ status_of ran.0) ⊎ Yields status old_out new_out → Contains statuses status
-    ended (inl is) = subst (Contains statuses) (sym is) (course_status ran.0)
-    ended (inr (inl memory)) = subst (Contains statuses) (sym memory) (5, lit< tt, refl)
-    ended (inr (inr failed)) = subst (Contains statuses) (sym failed.0) (4, lit< tt, refl)
+module _ (words : List (List ℕ)) (old new : Input) (old_files new_files : Filed) (old_out new_out : Output) (status : ℕ) (ran : Ran words old new old_files new_files old_out new_out status) where
+  -- the status is that of the course, unless the run yields
+  by_course : (due : ℕ) → status_of ran.0 ≡ due → (status ≡ due) ⊎ Yields status old_out new_out
+  by_course due is = ended (ended_code ran.0 old_out new_out status ran.2)
+    where
+      ended : (status ≡ status_of ran.0) ⊎ Yields status old_out new_out → (status ≡ due) ⊎ Yields status old_out new_out
+      ended (inl code) = inl (code ∙ is)
+      ended (inr yields) = inr yields
 
--- the output's count rose only where a write failed
-pub write_cause : (words : List (List ℕ)) (old new : Input) (old_out new_out : Output) (status : ℕ) → Ran words old new old_out new_out status → old_out.faults < new_out.faults → status ≡ 5
-write_cause words old new old_out new_out status ran rose = ended ran.2
-  where
-    ended : Ended ran.0 old_out new_out status → status ≡ 5
-    ended (inl whole) = absurd (omega (arith, whole.2, rose))
-    ended (inr (inl short)) = absurd (omega (arith, short.1, rose))
-    ended (inr (inr failed)) = failed.0
+  pub long_cause : IsSome old.left → ReadsLong old new → (status ≡ 8) ⊎ Yields status old_out new_out
+  long_cause some long = by_course 8 (long_course (command_of words) old new old_files new_files ran.0 some long ran.1)
 
--- the input's count rose only where a read failed
-failed_course : (words : List (List ℕ)) (old new : Input) (course : Course) → old.faults < new.faults → Took words old new course → status_of course ≡ 4
-failed_course words old new course rose (inl refused) = absurd (omega (arith, ap (λ (i : Input). i.faults) refused.3, rose))
-failed_course words old new (words_refused place) rose (inr took) = absurd took.1
-failed_course words old new read_failed rose (inr took) = refl
-failed_course words old new too_long rose (inr took) = absurd (omega (arith, took.1.1, rose))
-failed_course words old new (script_read script) rose (inr took) = absurd (omega (arith, took.1.4, rose))
-failed_course words old new unread rose (inr took) = absurd (omega (arith, took.1.1, rose))
+  pub read_cause : old.faults < new.faults → (status ≡ 4) ⊎ Yields status old_out new_out
+  read_cause rose = by_course 4 (failed_input (command_of words) old new old_files new_files ran.0 rose ran.1)
 
-pub read_cause : (words : List (List ℕ)) (old new : Input) (old_out new_out : Output) (status : ℕ) → Ran words old new old_out new_out status → old.faults < new.faults → (status ≡ 4) ⊎ Yields status old_out new_out
-read_cause words old new old_out new_out status ran rose = ended (ended_code ran.0 old_out new_out status ran.2)
-  where
-    ended : (status ≡ status_of ran.0) ⊎ Yields status old_out new_out → (status ≡ 4) ⊎ Yields status old_out new_out
-    ended (inl is) = inl (is ∙ failed_course words old new ran.0 rose ran.1)
-    ended (inr yields) = inr yields
+  pub folder_cause : old_files.faults < new_files.faults → (status ≡ 4) ⊎ Yields status old_out new_out
+  folder_cause rose = by_course 4 (failed_folder (command_of words) old new old_files new_files ran.0 rose ran.1)
+
+  -- the output's count rose only where a write failed
+  pub write_cause : old_out.faults < new_out.faults → status ≡ 5
+  write_cause rose = ended ran.2
+    where
+      ended : Ended ran.0 old_out new_out status → status ≡ 5
+      ended (inl whole) = absurd (omega (arith, whole.2, rose))
+      ended (inr (inl short)) = absurd (omega (arith, short.1, rose))
+      ended (inr (inr failed)) = failed.0
+
+  pub known_status : Contains statuses status
+  known_status = ended (ended_code ran.0 old_out new_out status ran.2)
+    where
+      ended : (status ≡ status_of ran.0) ⊎ Yields status old_out new_out → Contains statuses status
+      ended (inl is) = subst (Contains statuses) (sym is) (course_status ran.0)
+      ended (inr (inl memory)) = subst (Contains statuses) (sym memory) (5, lit< tt, refl)
+      ended (inr (inr failed)) = subst (Contains statuses) (sym failed.0) (4, lit< tt, refl)

@@ -2,3 +2,4 @@ pub mod Known
 pub mod Plays
 pub mod Runs
 pub mod Causes
+pub mod OneLine

@@ -1,12 +1,13 @@
 -- How runs end.
 use Rattle.std.proofs.Common.{◌≡◌, ℕ, ◌≤◌, List, [], ◌++◌, refl, sym, ap, subst, ◌∙◌, arith, inl, inr}
-use Rattle.std.specs.Prelude.{Option, Some, None}
+use Rattle.std.specs.Prelude.{Option, Result, Ok, Err}
 use Rattle.std.proofs.lemmas.List.{append-nil}
 use Rattle.std.specs.Io.KnownBytes.{Appends}
 use Rattle.std.proofs.KnownBytes.{Appends-trans, Appends-nil, Consumes-nil}
 use Rattle.linker.specs.declared.run.Status.{Status}
 use Rattle.linker.specs.declared.run.Status.TheVariants as status
-use Rattle.linker.specs.Run.{Course, words_refused, read_failed, too_long, script_read, unread, Begins, Input, Output, Ended, Ran, faulty_word, output_of, status_of, memory_line}
+use Rattle.linker.specs.Run.{Course, words_refused, read_failed, too_long, script_read, line_told, no_memory, Begins, Input, Filed, Output, Takes, Ended, Ran, output_of, status_of, memory_line}
+use Rattle.linker.specs.Words.{Asked, replay, check, command_of}
 use Rattle.linker.specs.Told.{code_of, Tells}
 use Rattle.linker.proofs.Plays.{front_of, rose_later}
 
@@ -36,16 +37,20 @@ begins_nothing (script_read script) = (0, refl)
 begins_nothing (words_refused place) = refl
 begins_nothing read_failed = refl
 begins_nothing too_long = refl
-begins_nothing unread = refl
+begins_nothing (line_told good line) = refl
+begins_nothing no_memory = refl
 
 -- memory was wanting before anything was written
 pub tells_memory_first : (course : Course) (result : Status) (old new : Output) → Tells memory_line status.Memory old new result → Ended course old new (code_of result)
 tells_memory_first course result old new told = tells_memory course result old old new [] (output_of course) refl (Appends-nil old.held) refl (begins_nothing course) told
 
+-- nothing is read yet
+nothing_read : (asked : Result Asked ℕ) (input : Input) (files : Filed) → (course : Course) × Takes asked input input files files course
+nothing_read (Err place) input files = (words_refused place, (refl, refl, refl))
+nothing_read (Ok replay) input files = (no_memory, ((([], Consumes-nil input.left, omega arith), refl), refl))
+nothing_read (Ok (check path)) input files = (no_memory, (refl, refl, refl))
+
 -- memory was wanting for the words themselves
-pub no_words : (words : List (List ℕ)) (input : Input) (old new : Output) (result : Status) → Tells memory_line status.Memory old new result → Ran words input input old new (code_of result)
-no_words words input old new result told = by_words (faulty_word words) refl
-  where
-    by_words : (found : Option ℕ) → faulty_word words ≡ found → Ran words input input old new (code_of result)
-    by_words (Some place) is = (words_refused place, inl (place, is, refl, refl), tells_memory_first (words_refused place) result old new told)
-    by_words None is = (unread, inr (is, (([], Consumes-nil input.left, omega arith), refl)), tells_memory_first unread result old new told)
+pub no_words : (words : List (List ℕ)) (input : Input) (files : Filed) (old new : Output) (result : Status) → Tells memory_line status.Memory old new result → Ran words input input files files old new (code_of result)
+no_words words input files old new result told =
+    let first = nothing_read (command_of words) input files in (first.0, first.1, tells_memory_first first.0 result old new told)

@@ -1,3 +1,5 @@
+pub mod Check
 pub mod Replay
 pub mod Run
 pub mod Told
+pub mod Words

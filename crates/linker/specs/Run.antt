@@ -1,15 +1,17 @@
 -- What a run of the program does: by its words, by what it reads, and by what becomes of its writing.
-use Rattle.std.specs.Prelude.{◌≡◌, ◌⊎◌, ℕ, ◌<◌, ◌≤◌, Bool, true, false, nat_le, if◌then◌else◌, List, [], ◌∷◌, ◌++◌, length, map, take, drop, codes, string_bytes, String, Option, Some, None, Result, Ok, Err}
+use Rattle.std.specs.Prelude.{◌≡◌, ◌⊎◌, ℕ, ◌<◌, ◌≤◌, Bool, true, false, nat_le, if◌then◌else◌, List, [], ◌∷◌, ◌++◌, length, map, take, drop, codes, string_bytes, String, Option, Some, Result, Ok, Err}
 use Rattle.std.specs.Global.{Global}
-use Rattle.std.specs.Str.{bytes_eq}
 use Rattle.std.specs.Vec.Iter.{into_iter_items}
 use Rattle.std.specs.declared.vec.IntoIter.{IntoIter}
 use Rattle.std.specs.Fmt.{decimal}
 use Rattle.std.specs.Io.KnownBytes.{Appends, Consumes, IsAtEnd}
 use Rattle.line_base.specs.Counts.{Rose}
+use Rattle.line_base.specs.Files.{File}
 use Rattle.addr_book.specs.FileLine.{lines_of}
 use Rattle.machine.specs.State.{opening}
+use Rattle.linker.specs.Check.{TellsPath}
 use Rattle.linker.specs.Replay.{played, replay_of}
+use Rattle.linker.specs.Words.{Asked, replay, check, command_of}
 
 -- the most bytes of a script
 abbrev pub most_script : ℕ
@@ -20,24 +22,20 @@ abbrev pub words_of : {E : Type 0} → Result (IntoIter (String Global) Global) 
 words_of (Ok arguments) = map (λ (w : String Global). string_bytes w) (drop 1 (into_iter_items arguments))
 words_of (Err error) = [] ∷ []
 
--- the first word that fits no command, counted from 1, or one more than there are: None where they fit. The one command is `replay` alone
-abbrev pub faulty_word : List (List ℕ) → Option ℕ
-faulty_word [] = Some 1
-faulty_word (w ∷ []) = if bytes_eq w (codes "replay") then None else Some 1
-faulty_word (w ∷ v ∷ ws) = if bytes_eq w (codes "replay") then Some 2 else Some 1
-
 -- how far a run comes before it writes
 pub data Course : Type 0 where
   -- the words fit no command, and nothing is read
   words_refused : ℕ → Course
-  -- a read failed
+  -- the input or the folder could not be read
   read_failed : Course
   -- there is more than a script may have
   too_long : Course
   -- this script was read, to its end
   script_read : List ℕ → Course
-  -- there was no memory for what was read
-  unread : Course
+  -- all that there is to tell is this line, and whether what it tells of is right
+  line_told : Bool → List ℕ → Course
+  -- there was no memory before it was known what to write
+  no_memory : Course
 
 -- what a course writes, and the status that it ends with
 abbrev pub output_of : Course → List ℕ
@@ -45,24 +43,32 @@ output_of (words_refused place) = codes "error words " ++ decimal place ++ 10 �
 output_of read_failed = codes "error read\n"
 output_of too_long = codes "error long\n"
 output_of (script_read script) = (replay_of script).0
-output_of unread = []
+output_of (line_told good line) = line
+output_of no_memory = []
 
-abbrev pub replay_status : Bool → ℕ
-replay_status true = 0
-replay_status false = 3
+-- the status where what was read is right, or is not
+abbrev pub status_if : Bool → ℕ
+status_if true = 0
+status_if false = 3
 
 abbrev pub status_of : Course → ℕ
 status_of (words_refused place) = 2
 status_of read_failed = 4
 status_of too_long = 8
-status_of (script_read script) = replay_status (replay_of script).1
-status_of unread = 7
+status_of (script_read script) = status_if (replay_of script).1
+status_of (line_told good line) = status_if good
+status_of no_memory = 7
 
 -- what the input tells of itself: the bytes that are left, its faults, and its ends
 pub record Input : Type 0 where
   pub left : Option (List ℕ)
   pub faults : ℕ
   pub ends : ℕ
+
+-- what the folder tells of itself: its files, and its faults
+pub record Filed : Type 0 where
+  pub files : Option (List File)
+  pub faults : ℕ
 
 -- so many bytes were read, and no more than a script may have
 abbrev pub ReadsFew : Input → Input → Type 0
@@ -72,17 +78,30 @@ ReadsFew old new = (taken : List ℕ) × Consumes old.left new.left taken × (le
 abbrev pub ReadsLong : Input → Input → Type 0
 ReadsLong old new = (taken : List ℕ) × Consumes old.left new.left taken × (most_script < length taken)
 
--- the course that the input shows, before and after it was read: its count of faults rose exactly where a read failed
+-- the course of a script that the input shows, before and after it was read: its count of faults rose exactly where a read failed
 abbrev pub Reads : Input → Input → Course → Type 0
 Reads old new (words_refused place) = ⊥
 Reads old new read_failed = Rose old.faults new.faults × ReadsFew old new
 Reads old new too_long = ReadsLong old new × (new.faults ≡ old.faults)
 Reads old new (script_read script) = Consumes old.left new.left script × IsAtEnd new.left × (length script ≤ most_script) × Rose old.ends new.ends × (new.faults ≡ old.faults)
-Reads old new unread = ReadsFew old new × (new.faults ≡ old.faults)
+Reads old new (line_told good line) = ⊥
+Reads old new no_memory = ReadsFew old new × (new.faults ≡ old.faults)
 
--- the course that the words and the input show: nothing is read where the words fit no command
-abbrev pub Took : List (List ℕ) → Input → Input → Course → Type 0
-Took words old new course = ((place : ℕ) × (faulty_word words ≡ Some place) × (course ≡ words_refused place) × (new ≡ old)) ⊎ ((faulty_word words ≡ None) × Reads old new course)
+-- the course of a configuration at a path that the folder shows: its count of faults rose exactly where it could not be read
+abbrev pub Checks : List ℕ → Filed → Filed → Course → Type 0
+Checks path old new (words_refused place) = ⊥
+Checks path old new read_failed = Rose old.faults new.faults
+Checks path old new too_long = ⊥
+Checks path old new (script_read script) = ⊥
+Checks path old new (line_told good line) = TellsPath old.files path good line × (new.faults ≡ old.faults)
+Checks path old new no_memory = new.faults ≡ old.faults
+
+-- the course that the words show, with the input and the folder before and after the run: a command reads what it is about and nothing else, and nothing
+-- is read where the words fit none
+abbrev pub Takes : Result Asked ℕ → Input → Input → Filed → Filed → Course → Type 0
+Takes (Err place) old_in new_in old_files new_files course = (course ≡ words_refused place) × (new_in ≡ old_in) × (new_files ≡ old_files)
+Takes (Ok replay) old_in new_in old_files new_files course = Reads old_in new_in course × (new_files ≡ old_files)
+Takes (Ok (check path)) old_in new_in old_files new_files course = Checks path old_files new_files course × (new_in ≡ old_in) × (new_files.files ≡ old_files.files)
 
 -- known bytes grow by a front of these
 abbrev pub AppendsFront : Option (List ℕ) → Option (List ℕ) → List ℕ → Type 0
@@ -98,7 +117,8 @@ Begins (script_read script) front = (count : ℕ) × (played opening 1 (take cou
 Begins (words_refused place) front = front ≡ []
 Begins read_failed front = front ≡ []
 Begins too_long front = front ≡ []
-Begins unread front = front ≡ []
+Begins (line_told good line) front = front ≡ []
+Begins no_memory front = front ≡ []
 
 -- the bytes are such a front of what the course writes, and then the line that tells that memory is wanting
 abbrev pub IsCutShort : Course → List ℕ → Type 0
@@ -118,8 +138,9 @@ Ended course old new status =
     ⊎ ((status ≡ 5) × Rose old.faults new.faults × (bytes : List ℕ) × ((bytes ≡ output_of course) ⊎ IsCutShort course bytes) × AppendsFront old.held new.held bytes))
 
 -- the whole of a run
-abbrev pub Ran : List (List ℕ) → Input → Input → Output → Output → ℕ → Type 0
-Ran words old_in new_in old_out new_out status = (course : Course) × Took words old_in new_in course × Ended course old_out new_out status
+abbrev pub Ran : List (List ℕ) → Input → Input → Filed → Filed → Output → Output → ℕ → Type 0
+Ran words old_in new_in old_files new_files old_out new_out status =
+    (course : Course) × Takes (command_of words) old_in new_in old_files new_files course × Ended course old_out new_out status
 
 -- memory was wanting, or a write failed: each status yields to these two
 abbrev pub Yields : ℕ → Output → Output → Type 0
@@ -128,6 +149,12 @@ Yields status old new = (status ≡ 7) ⊎ ((status ≡ 5) × Rose old.faults ne
 -- a script was read to its end, and every line of it is good, or one is not
 abbrev pub ReadsScript : Bool → Input → Input → Type 0
 ReadsScript good old new = (script : List ℕ) × Reads old new (script_read script) × ((replay_of script).1 ≡ good)
+
+-- what the command is about was read, and is right, or is not
+abbrev pub Shows : Result Asked ℕ → Input → Input → Filed → Bool → Type 0
+Shows (Err place) old new files good = ⊥
+Shows (Ok replay) old new files good = ReadsScript good old new
+Shows (Ok (check path)) old new files good = (line : List ℕ) × TellsPath files.files path good line
 
 -- the course of a whole script
 abbrev pub course_of : List ℕ → Course
@@ -138,10 +165,16 @@ abbrev pub Completes : Course → Output → Output → ℕ → Type 0
 Completes course old new status = (status ≡ 7) ⊎ ((status ≡ status_of course) × Appends old.held new.held (output_of course))
 
 -- where nothing fails, an input that tells its bytes is carried out in full
-abbrev pub IsComplete : List (List ℕ) → Input → Input → Output → Output → ℕ → Type 0
-IsComplete words old_in new_in old_out new_out status =
-    (script : List ℕ) → faulty_word words ≡ None → old_in.left ≡ Some script → (Rose old_in.faults new_in.faults → ⊥) → (Rose old_out.faults new_out.faults → ⊥)
+abbrev pub ReplaysAll : List (List ℕ) → Input → Input → Output → Output → ℕ → Type 0
+ReplaysAll words old_in new_in old_out new_out status =
+    (script : List ℕ) → command_of words ≡ Ok replay → old_in.left ≡ Some script → (Rose old_in.faults new_in.faults → ⊥) → (Rose old_out.faults new_out.faults → ⊥)
     → Completes (course_of script) old_out new_out status
+
+-- where nothing fails, a configuration is told of
+abbrev pub ChecksAll : List (List ℕ) → Filed → Filed → Output → Output → ℕ → Type 0
+ChecksAll words old_files new_files old_out new_out status =
+    (path : List ℕ) → command_of words ≡ Ok (check path) → (Rose old_files.faults new_files.faults → ⊥) → (Rose old_out.faults new_out.faults → ⊥)
+    → (status ≡ 7) ⊎ ((good : Bool) × (line : List ℕ) × TellsPath old_files.files path good line × Completes (line_told good line) old_out new_out status)
 
 -- the statuses that there are
 abbrev pub statuses : List ℕ

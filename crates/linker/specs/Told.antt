@@ -38,7 +38,7 @@ Flushes bytes others old new = (written : List ℕ) × (bytes ≡ written ++ oth
 abbrev pub code_of : Status → ℕ
 code_of status.Done = 0
 code_of status.Words = 2
-code_of status.Line = 3
+code_of status.Wrong = 3
 code_of status.Read = 4
 code_of status.Write = 5
 code_of status.Memory = 7

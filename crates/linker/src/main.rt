@@ -1,31 +1,39 @@
 //! `linker`: a service proxy that routes HTTP/1.1 requests by logical name.
 //!
 //! `linker replay` reads a script from standard input and carries its lines out on one state of a router: changes of namespaces, services and
-//! marks, looks, and picks. Each is answered with a line; the crate `script` says which lines there are. [`program::linker`] is the whole program over
-//! any source and sink, and [`start::run_arguments`] calls it with the words; `main` makes these of the standard streams and its arguments, and ends with
-//! the code that it is given.
+//! marks, looks, and picks. Each is answered with a line; the crate `script` says which lines there are. `linker check CONFIG` tells whether a router's
+//! configuration is right, or what its first fault is; the crate `linker_config` reads it.
+//!
+//! [`program::linker`] is the whole program over any folder, source and sink, and [`start::run_arguments`] calls it with the words; `main` makes these of the
+//! file system, the standard streams and its arguments, and ends with the code that it is given.
 //!
 //! # What is proved
-//! At status 0 the output has grown by the replay of what was read, as `specs/Replay.antt` defines it over the whole language of scripts; each other status has its cause; and where nothing fails, a script is carried out in
-//! full. These are clauses of [`program::linker`]. The code to exit with is the status for exactly the words after the program's name: a clause of
-//! [`start::run_arguments`].
+//! At status 0 the output has grown by the replay of what was read, as `specs/Replay.antt` defines it over the whole language of scripts, or by the one line
+//! of the configuration that was found, as `specs/Check.antt` says; each other status has its cause; and where nothing fails, a script is carried out in
+//! full, and a configuration is told of. These are clauses of [`program::linker`]. The code to exit with is the status for exactly the words after the
+//! program's name: a clause of [`start::run_arguments`].
 //!
-//! # Example
+//! # Examples
 //! ```text
 //! $ printf 'dtab /svc => /$/inet/127.0.0.1/8080\npick /svc/a\n' | linker replay
 //! ok
 //! 127.0.0.1:8080 /$/inet/127.0.0.1/8080 /a
+//! $ linker check examples/linker.json
+//! ok router 127.0.0.1:4140 namerd 127.0.0.1:4180 admin 127.0.0.1:9990
 //! ```
 #![tactic(auto)]
 
 use adapters::{ReaderSource, WriterSink};
+use files::FileSystem;
 use start::run_arguments;
 use std::alloc::AllocError;
 use std::process::ExitCode;
 use std::{env, io};
 
 mod adapters;
+mod check;
 mod ends;
+mod files;
 mod player;
 mod program;
 mod reply;
@@ -43,12 +51,15 @@ type Bytes = Vec<u8>;
 const USAGE: &str = "usage: linker replay < SCRIPT
   The lines of a script: dtab TABLE, create NAME TABLE, put NAME VERSION TABLE, delete NAME VERSION, get NAME, list, addrs NAME ADDRESS ..,
   drop NAME, fail ADDRESS MOMENT, good ADDRESS MOMENT, pick PATH [MOMENT WORD WORD WORD TABLE], view PATH. Each is answered with a line.
+usage: linker check CONFIG
+  CONFIG is the path of a router's configuration in JSON. A line tells that it is right, or its first fault.
 ";
 
 fn main(rt: HostRuntime) -> ExitCode {
+    let mut folder = FileSystem::of(&rt);
     let mut input = ReaderSource::of(rt.reader());
     let mut out = WriterSink::of(io::writer(&rt));
-    let exit = run_arguments(&rt, env::args(&rt), &mut input, &mut out);
+    let exit = run_arguments(&rt, env::args(&rt), &mut folder, &mut input, &mut out);
     if exit.tells_usage {
         let _ = eprint!(rt; "{USAGE}");
     }

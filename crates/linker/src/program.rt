@@ -1,50 +1,60 @@
-//! The top call: all that the program does, over any input and output.
-ghost use Rattle.std.specs.Prelude.{◌≡◌, ◌⊎◌, ◌<◌, ℕ, Contains, IsSome, Some, None, true, false, map, string_bytes};
+//! The top call: all that the program does, over any folder, input and output.
+ghost use Rattle.std.specs.Prelude.{◌≡◌, ◌⊎◌, ◌<◌, Contains, IsErr, IsSome, true, false, map, string_bytes};
 ghost use Rattle.line_base.specs.Counts.{Rose};
-ghost use Rattle.linker.specs.Run.{Ran, Input, Output, faulty_word, statuses, ReadsScript, ReadsLong, Yields, IsComplete};
+ghost use Rattle.linker.specs.Run.{Ran, Input, Filed, Output, statuses, Shows, ReadsLong, Yields, ReplaysAll, ChecksAll};
+ghost use Rattle.linker.specs.Words.{command_of};
 
 use crate::run::run;
-use line_base::{Sink, Source};
+use line_base::{Folder, Sink, Source};
 use std::marker::Brand;
 use std::sync::ledger::Blank;
 
 /// Does what the words after the program's name say, and gives the status to end with.
 ///
-/// The one command is `replay`: it reads a script from the input, to its end and at most 67,108,864 bytes of it, carries out its lines in order,
-/// and writes a reply line for each. A bad line ends it. Where something is wrong, the last line that is written tells what.
+/// | words | what it does |
+/// |---|---|
+/// | `replay` | reads a script from the input, to its end and at most 67,108,864 bytes of it, carries out its lines in order, and writes a reply line for each; a bad line ends it |
+/// | `check CONFIG` | reads the configuration at the path CONFIG, at most 1,048,576 bytes of it, and writes a line that says that it is right and where its router listens, or what its first fault is |
+///
+/// A path is a word that is not empty and does not begin with `-`. Where something is wrong, the last line that is written tells what.
 ///
 /// | status | where | last line |
 /// |---|---|---|
 /// | 0 | all was done | |
 /// | 2 | the words fit no command; P is the first that doesn't, counted from 1, or one more than there are | `error words P` |
 /// | 3 | line N of the script is bad; the replies of the lines before it are written | `error line N` |
-/// | 4 | a read failed | `error read` |
+/// | 3 | the configuration has a fault; `docs/CONFIGURATION.md` has them | `error config ..` |
+/// | 4 | the input or the folder could not be read | `error read` |
 /// | 5 | a write failed; this comes before every other status | |
 /// | 7 | there was no memory | `error memory` |
 /// | 8 | the script is longer than 67,108,864 bytes | `error long` |
-pub fn linker<R: AllocGlobal, S: Source, K: Sink>(
+pub fn linker<R: AllocGlobal, F: Folder, S: Source, K: Sink>(
     rt: &R,
     words: &[String],
+    folder: &mut F,
     input: &mut S,
     out: &mut K,
 ) -> u8
-    // What was read, what was written, and the status go together: at 0 the output has grown by the replay of what was read.
+    // What was read, what was written, and the status go together: at 0 the output has grown by the replay of what was read, or by the line that tells of the
+    // configuration that was found.
     ensures ran { Ran (map string_bytes words.now)
         (record { left = S.left input.old; faults = S.faults input.old; ends = S.ends input.old }) (record { left = S.left input.new; faults = S.faults input.new; ends = S.ends input.new })
+        (record { files = F.files folder.old; faults = F.faults folder.old }) (record { files = F.files folder.new; faults = F.faults folder.new })
         (record { held = K.held out.old; faults = K.faults out.old }) (record { held = K.held out.new; faults = K.faults out.new }) result }
 
     // 2 exactly where the words fit no command.
-    ensures words { result ≡ 2 → IsSome (faulty_word (map string_bytes words.now)) }
-    ensures refused { IsSome (faulty_word (map string_bytes words.now)) → (result ≡ 2) ⊎ Yields result (record { held = K.held out.old; faults = K.faults out.old }) (record { held = K.held out.new; faults = K.faults out.new }) }
+    ensures words { result ≡ 2 → IsErr (command_of (map string_bytes words.now)) }
+    ensures refused { IsErr (command_of (map string_bytes words.now)) → (result ≡ 2) ⊎ Yields result (record { held = K.held out.old; faults = K.faults out.old }) (record { held = K.held out.new; faults = K.faults out.new }) }
 
-    // 0 and 3 only where the input was read to its end: each line of it is good, or one is bad.
-    ensures done { result ≡ 0 → ReadsScript true (record { left = S.left input.old; faults = S.faults input.old; ends = S.ends input.old }) (record { left = S.left input.new; faults = S.faults input.new; ends = S.ends input.new }) }
-    ensures line { result ≡ 3 → ReadsScript false (record { left = S.left input.old; faults = S.faults input.old; ends = S.ends input.old }) (record { left = S.left input.new; faults = S.faults input.new; ends = S.ends input.new }) }
+    // 0 and 3 only where the input was read to its end and each line of it is good, or one is bad; and where the configuration is right, or is not.
+    ensures done { result ≡ 0 → Shows (command_of (map string_bytes words.now)) (record { left = S.left input.old; faults = S.faults input.old; ends = S.ends input.old }) (record { left = S.left input.new; faults = S.faults input.new; ends = S.ends input.new }) (record { files = F.files folder.old; faults = F.faults folder.old }) true }
+    ensures wrong { result ≡ 3 → Shows (command_of (map string_bytes words.now)) (record { left = S.left input.old; faults = S.faults input.old; ends = S.ends input.old }) (record { left = S.left input.new; faults = S.faults input.new; ends = S.ends input.new }) (record { files = F.files folder.old; faults = F.faults folder.old }) false }
 
-    // 5 exactly where the output's count of faults rose, and 4 exactly where the input's did, but for want of memory.
-    ensures read { result ≡ 4 → Rose (S.faults input.old) (S.faults input.new) }
+    // 5 exactly where the output's count of faults rose, and 4 exactly where the input's or the folder's did, but for want of memory.
+    ensures read { result ≡ 4 → Rose (S.faults input.old) (S.faults input.new) ⊎ Rose (F.faults folder.old) (F.faults folder.new) }
     ensures write { result ≡ 5 → Rose (K.faults out.old) (K.faults out.new) }
     ensures read_fault { S.faults input.old < S.faults input.new → (result ≡ 4) ⊎ Yields result (record { held = K.held out.old; faults = K.faults out.old }) (record { held = K.held out.new; faults = K.faults out.new }) }
+    ensures folder_fault { F.faults folder.old < F.faults folder.new → (result ≡ 4) ⊎ Yields result (record { held = K.held out.old; faults = K.faults out.old }) (record { held = K.held out.new; faults = K.faults out.new }) }
     ensures write_fault { K.faults out.old < K.faults out.new → result ≡ 5 }
 
     // 8 exactly where more was read than a script may have.
@@ -52,11 +62,14 @@ pub fn linker<R: AllocGlobal, S: Source, K: Sink>(
     ensures longer { IsSome (S.left input.old) → ReadsLong (record { left = S.left input.old; faults = S.faults input.old; ends = S.ends input.old }) (record { left = S.left input.new; faults = S.faults input.new; ends = S.ends input.new })
         → (result ≡ 8) ⊎ Yields result (record { held = K.held out.old; faults = K.faults out.old }) (record { held = K.held out.new; faults = K.faults out.new }) }
 
-    // Where nothing fails, an input that tells its bytes is carried out in full.
-    ensures complete { IsComplete (map string_bytes words.now)
+    // Where nothing fails, an input that tells its bytes is carried out in full, and a configuration is told of.
+    ensures replays { ReplaysAll (map string_bytes words.now)
         (record { left = S.left input.old; faults = S.faults input.old; ends = S.ends input.old }) (record { left = S.left input.new; faults = S.faults input.new; ends = S.ends input.new })
+        (record { held = K.held out.old; faults = K.faults out.old }) (record { held = K.held out.new; faults = K.faults out.new }) result }
+    ensures checks { ChecksAll (map string_bytes words.now)
+        (record { files = F.files folder.old; faults = F.faults folder.old }) (record { files = F.files folder.new; faults = F.faults folder.new })
         (record { held = K.held out.old; faults = K.faults out.old }) (record { held = K.held out.new; faults = K.faults out.new }) result }
     ensures status { Contains statuses result }
 {
-    run::<S, K, Brand>(rt.alloc(), words, input, out, Blank::new(1)).code()
+    run::<F, S, K, Brand>(rt.alloc(), words, folder, input, out, Blank::new(1)).code()
 }

@@ -1,13 +1,14 @@
 //! The program, from its words to its status.
 ghost use Rattle.std.specs.Prelude.{◌≡◌, ◌<◌, ◌≤◌, length, map, string_bytes, IfOk};
-ghost use Rattle.linker.specs.Run.{Ran, Course, words_refused, script_read, output_of, Reads, Ended, Input, Output};
+ghost use Rattle.linker.specs.Run.{Ran, Course, words_refused, script_read, output_of, status_if, Reads, Checks, Ended, Input, Filed, Output};
 ghost use Rattle.linker.specs.Told.{code_of, Tells};
 
 use crate::Mem;
+use crate::check::{CheckEnd, check};
 use crate::ends::{ReadEnd, read_all, write_all};
 use crate::player::{PlayEnd, play};
 use crate::words::{Command, read_words};
-use line_base::{Sink, Source, Steps};
+use line_base::{Folder, Sink, Source, Steps};
 use std::alloc::Global;
 use std::sync::ledger::{Blank, Ledger};
 
@@ -21,9 +22,9 @@ pub enum Status {
     Done = 0,
     /// The words fit no command.
     Words = 2,
-    /// A line of the script is bad.
-    Line = 3,
-    /// A read failed.
+    /// What was read is wrong: a line of the script is bad, or the configuration has a fault.
+    Wrong = 3,
+    /// The input or the folder could not be read.
     Read = 4,
     /// A write failed.
     Write = 5,
@@ -34,6 +35,17 @@ pub enum Status {
 }
 
 impl Status {
+    /// All was done with what is right, and else it is wrong.
+    fn of_right(is_right: bool) -> Status
+        ensures { code_of result ≡ status_if is_right }
+    {
+        if is_right {
+            Status::Done
+        } else {
+            Status::Wrong
+        }
+    }
+
     /// The number of the status, with which the program ends.
     pub fn code(self) -> u8
         ensures { result ≡ code_of self }
@@ -81,7 +93,7 @@ fn carry_out<K: Sink, L: Ledger>(
 {
     match play(alloc, script, out, steps) {
         PlayEnd::Done => Status::Done,
-        PlayEnd::BadLine => Status::Line,
+        PlayEnd::BadLine => Status::Wrong,
         PlayEnd::WriteFault => Status::Write,
         PlayEnd::OutOfMemory => tell(out, b"error memory\n", Status::Memory),
     }
@@ -106,10 +118,34 @@ fn replay<S: Source, K: Sink, L: Ledger>(
     }
 }
 
+/// Tells of the configuration at a path.
+fn check_config<F: Folder, K: Sink>(
+    alloc: Global,
+    folder: &mut F,
+    path: &str,
+    out: &mut K,
+) -> Status
+    ensures checked { (course : Course)
+        × Checks path.now (record { files = F.files folder.old; faults = F.faults folder.old }) (record { files = F.files folder.new; faults = F.faults folder.new }) course
+        × Ended course (record { held = K.held out.old; faults = K.faults out.old }) (record { held = K.held out.new; faults = K.faults out.new }) (code_of result) }
+    ensures files { F.files folder.new ≡ F.files folder.old }
+{
+    match check(alloc, folder, path) {
+        Ok(verdict) => tell(
+            out,
+            verdict.line.as_slice(),
+            Status::of_right(verdict.is_right),
+        ),
+        Err(CheckEnd::Fault) => tell(out, b"error read\n", Status::Read),
+        Err(CheckEnd::OutOfMemory) => tell(out, b"error memory\n", Status::Memory),
+    }
+}
+
 /// Does what the words say.
-pub fn run<S: Source, K: Sink, L: Ledger>(
+pub fn run<F: Folder, S: Source, K: Sink, L: Ledger>(
     alloc: Global,
     words: &[String],
+    folder: &mut F,
     input: &mut S,
     out: &mut K,
     blank: Blank,
@@ -119,11 +155,13 @@ pub fn run<S: Source, K: Sink, L: Ledger>(
     requires some { 0 < blank.parts }
     ensures { Ran (map string_bytes words.now)
         (record { left = S.left input.old; faults = S.faults input.old; ends = S.ends input.old }) (record { left = S.left input.new; faults = S.faults input.new; ends = S.ends input.new })
+        (record { files = F.files folder.old; faults = F.faults folder.old }) (record { files = F.files folder.new; faults = F.faults folder.new })
         (record { held = K.held out.old; faults = K.faults out.old }) (record { held = K.held out.new; faults = K.faults out.new }) (code_of result) }
 {
     let mut steps = Steps::<L>::start(blank);
     match read_words(words) {
         Ok(Command::Replay) => replay(alloc, input, out, &mut steps),
+        Ok(Command::Check(path)) => check_config(alloc, folder, path, out),
         Err(place) => refuse_words(alloc, out, place),
     }
 }

@@ -1,19 +1,36 @@
-//! The program over sources and sinks in memory: scripts with their replies, words, limits, and faults at each call in turn.
+//! The program over folders, sources and sinks in memory: scripts with their replies, configurations, words, limits, and faults at each call in turn. And
+//! the adapters over std.
 use crate::adapters::{ReaderSource, WriterSink};
+use crate::files::FileSystem;
 use crate::program::linker;
-use line_base::{Failed, MemSink, MemSource, Sink, Source};
+use line_base::{Failed, Folder, FolderFault, Found, MemFile, MemFolder, MemSink, MemSource, Sink, Source};
 use std::alloc::{AllocError, Global};
+use std::os::unix::fs::symlink;
 use std::test::Fail;
+use std::{env, fs, process};
 
 /// A script with a table, a blank line and two picks, and what it writes.
 const SAMPLE: &str = "dtab /svc => /$/inet/127.0.0.1/8080\n\npick /svc/a\npick /b\n";
 
 const SAMPLE_OUT: &str = "ok\n127.0.0.1:8080 /$/inet/127.0.0.1/8080 /a\nnegative\n";
 
-/// What is written, and the status.
+/// What is written, and the status, where there is no file.
 fn run(
     rt: &HostRuntime,
     words: &[&str],
+    source: MemSource,
+    sink: MemSink,
+) -> Result<(MemSink, u8), AllocError> {
+    let alloc = rt.alloc();
+    let folder = MemFolder::of(alloc, Vec::new(alloc), Vec::new(alloc));
+    run_with(rt, words, folder, source, sink)
+}
+
+/// What is written, and the status.
+fn run_with(
+    rt: &HostRuntime,
+    words: &[&str],
+    folder: MemFolder,
     source: MemSource,
     sink: MemSink,
 ) -> Result<(MemSink, u8), AllocError> {
@@ -22,9 +39,10 @@ fn run(
     for word in words {
         owned.push(String::from_str(alloc, word)?)?;
     }
+    let mut folder = folder;
     let mut source = source;
     let mut sink = sink;
-    let status = linker(rt, owned.as_slice(), &mut source, &mut sink);
+    let status = linker(rt, owned.as_slice(), &mut folder, &mut source, &mut sink);
     Ok((sink, status))
 }
 
@@ -285,18 +303,118 @@ fn limits(rt: HostRuntime) -> Result<(), Fail> {
 #[test]
 fn words(rt: HostRuntime) -> Result<(), Fail> {
     let alloc = rt.alloc();
-    let rows: [(&[&str], &str, u8); 6] = [
+    let rows: [(&[&str], &str, u8); 14] = [
         (&[], "error words 1\n", 2),
-        (&["storm"], "error words 1\n", 2),
+        (&["storms"], "error words 1\n", 2),
+        (&["serve", "c.json"], "error words 1\n", 2),
         (&[""], "error words 1\n", 2),
         (&["--help"], "error words 1\n", 2),
         (&["replay", "x"], "error words 2\n", 2),
+        (&["replay", "--help"], "error words 2\n", 2),
         (&["replay", "replay", "x"], "error words 2\n", 2),
+        (&["check"], "error words 2\n", 2),
+        (&["check", ""], "error words 2\n", 2),
+        (&["check", "-"], "error words 2\n", 2),
+        (&["check", "--help", "c.json"], "error words 2\n", 2),
+        (&["check", "c.json", "x"], "error words 3\n", 2),
+        // A path may have a `-` elsewhere; there is no such file.
+        (&["check", "./-"], "error config absent\n", 3),
     ];
     for (words, written, status) in rows {
         let (sink, ended) = run(&rt, words, source(alloc, SAMPLE)?, sink(alloc))?;
         assert_eq!(rt; sink.held(), written.as_bytes());
         assert_eq!(rt; ended, status);
+    }
+    Ok(())
+}
+
+/// A folder that has one file, `c.json`.
+fn one_file(alloc: Global, text: &[u8], failing: &[u64]) -> Result<MemFolder, AllocError> {
+    let file = MemFile::of(
+        String::from_str(alloc, "conf")?,
+        String::from_str(alloc, "c.json")?,
+        Vec::from_slice(alloc, text)?,
+    );
+    Ok(MemFolder::of(
+        alloc,
+        vec![in alloc; file]?,
+        Vec::from_slice(alloc, failing)?,
+    ))
+}
+
+const GOOD_LINE: &str = "ok router 127.0.0.1:4140 namerd 127.0.0.1:4180 admin 127.0.0.1:9990\n";
+
+#[test]
+fn configurations(rt: HostRuntime) -> Result<(), Fail> {
+    let alloc = rt.alloc();
+    let rows = [
+        // The folder of the services is not looked at, and is not there.
+        (
+            "{\"namers\":[{\"kind\":\"io.l5d.fs\",\"rootDir\":\"disco\"}],\"routers\":[{\"protocol\":\"http\",\"dtab\":\"/svc => /#/io.l5d.fs\",\"servers\":[{\"port\":4140}]}]}",
+            GOOD_LINE,
+            0,
+        ),
+        (
+            "{\"admin\":{\"ip\":\"0.0.0.0\",\"port\":1},\"namerd\":{\"ip\":\"10.0.0.255\",\"port\":65535},\"routers\":[{\"protocol\":\"http\",\"servers\":[{\"ip\":\"192.168.1.2\",\"port\":80}]}]}",
+            "ok router 192.168.1.2:80 namerd 10.0.0.255:65535 admin 0.0.0.0:1\n",
+            0,
+        ),
+        ("{}", "error config routers missing\n", 3),
+        ("{\"routerz\":[]}", "error config routerz unknown\n", 3),
+        (
+            "{\"routers\":[{\"protocol\":\"thrift\"}]}",
+            "error config routers[0].protocol bad\n",
+            3,
+        ),
+        ("[", "error config json\n", 3),
+        ("", "error config json\n", 3),
+    ];
+    for (text, written, status) in rows {
+        let (sink, ended) = run_with(
+            &rt,
+            &["check", "conf/c.json"],
+            one_file(alloc, text.as_bytes(), &[])?,
+            source(alloc, "")?,
+            sink(alloc),
+        )?;
+        assert_eq!(rt; sink.held(), written.as_bytes(), "of {text:?}");
+        assert_eq!(rt; ended, status, "of {text:?}");
+    }
+    Ok(())
+}
+
+/// A configuration that is not there, the longest one and one that is longer, a folder that fails, and each write failing in turn.
+#[test]
+fn configurations_that_are_not_read(rt: HostRuntime) -> Result<(), Fail> {
+    let alloc = rt.alloc();
+    let text = b"{\"routers\":[{\"protocol\":\"http\"}]}";
+    let mut longest = Vec::from_slice(alloc, text)?;
+    longest.resize(1_048_576, b' ')?;
+    let mut longer = Vec::from_slice(alloc, longest.as_slice())?;
+    longer.push(b' ')?;
+    let rows = [
+        ("conf/c.json", one_file(alloc, longest.as_slice(), &[])?, GOOD_LINE, 0),
+        ("conf/c.json", one_file(alloc, longer.as_slice(), &[])?, "error config long\n", 3),
+        ("conf/d.json", one_file(alloc, text, &[])?, "error config absent\n", 3),
+        ("conf", one_file(alloc, text, &[])?, "error config absent\n", 3),
+        ("conf/c.json", one_file(alloc, text, &[0])?, "error read\n", 4),
+    ];
+    for (path, folder, written, status) in rows {
+        let (sink, ended) = run_with(&rt, &["check", path], folder, source(alloc, "")?, sink(alloc))?;
+        assert_eq!(rt; sink.held(), written.as_bytes());
+        assert_eq!(rt; ended, status, "of {written:?}");
+    }
+    let bytes = GOOD_LINE.len();
+    for failing in 0..bytes + 1 {
+        let sink = MemSink::of(
+            alloc,
+            Vec::from_elem(alloc, 1usize, bytes)?,
+            vec![in alloc; failing as u64]?,
+        );
+        let folder = one_file(alloc, text, &[])?;
+        let (sink, status) = run_with(&rt, &["check", "conf/c.json"], folder, source(alloc, "")?, sink)?;
+        let due = if failing < bytes { 5 } else { 0 };
+        assert_eq!(rt; (sink.held(), status), (&GOOD_LINE.as_bytes()[..failing.min(bytes)], due));
     }
     Ok(())
 }
@@ -363,4 +481,43 @@ fn over_readers_and_writers(rt: HostRuntime) {
     assert_eq!(rt; sink.write(b""), Ok(0));
     assert_eq!(rt; sink.write(b"ef"), Ok(1));
     assert_eq!(rt; sink.write(b"f"), Err(Failed));
+}
+
+/// Files and folders of the system: what is there, what is not, and what can't be read.
+#[test]
+fn over_the_file_system(rt: HostRuntime) -> Result<(), Fail> {
+    let alloc = rt.alloc();
+    let temp = env::temp_dir(&rt)?;
+    let root = format!(in alloc; "{}/linker-test-{}", temp.as_str(), process::id(rt.process()))?;
+    let web = format!(in alloc; "{root}/web")?;
+    let inner = format!(in alloc; "{root}/inner")?;
+    let gone = format!(in alloc; "{root}/gone")?;
+    fs::create_dir_all(&rt, inner.as_str())?;
+    fs::write(&rt, web.as_str(), "127.0.0.1 9001\n")?;
+    for name in ["b", "a", "B"] {
+        fs::write(&rt, format!(in alloc; "{root}/{name}")?.as_str(), "")?;
+    }
+    symlink(&rt, "web", format!(in alloc; "{root}/link")?.as_str())?;
+    symlink(&rt, "gone", format!(in alloc; "{root}/loose")?.as_str())?;
+
+    let mut folder = FileSystem::of(&rt);
+    let names = folder.names(root.as_str());
+    let no_names = folder.names(gone.as_str());
+    let found = [
+        folder.read(web.as_str(), 15),
+        folder.read(web.as_str(), 14),
+        folder.read(gone.as_str(), 15),
+        folder.read(format!(in alloc; "{web}/x")?.as_str(), 15),
+        folder.read(inner.as_str(), 15),
+    ];
+    fs::remove_dir_all(&rt, root.as_str())?;
+
+    assert_eq!(rt; format!(in alloc; "{:?}", names?.items())?.as_str(), "[\"B\", \"a\", \"b\", \"link\", \"web\"]");
+    assert!(rt; matches!(no_names, Err(FolderFault::Failed)));
+    assert!(rt; matches!(&found[0], Ok(Found::Bytes(bytes)) if bytes.as_slice() == b"127.0.0.1 9001\n".as_slice()));
+    assert!(rt; matches!(found[1], Ok(Found::Longer)));
+    assert!(rt; matches!(found[2], Ok(Found::Absent)));
+    assert!(rt; matches!(found[3], Ok(Found::Absent)));
+    assert!(rt; matches!(found[4], Err(FolderFault::Failed)));
+    Ok(())
 }

@@ -1,37 +1,65 @@
-use Rattle.std.proofs.Common.{map}
+use Rattle.std.proofs.Common.{map, sym, subst}
 use Rattle.std.specs.Prelude.{string_bytes}
-use Rattle.linker.specs.Run.{Input, Output}
-use Rattle.linker.proofs.Causes.{long_cause, known_status, read_cause, write_cause}
+use Rattle.linker.specs.Run.{Input, Filed, Output, Ran}
+use Rattle.linker.proofs.Causes.{long_cause, known_status, read_cause, folder_cause, write_cause}
 use Rattle.linker.proofs.program.linker.Goals as goal
 
 pub returns-clause-longer : goal.returns-clause-longer
 returns-clause-longer g c =
     let old_in : Input = record { left = g.S.Source.left c.args.input.now; faults = g.S.Source.faults c.args.input.now; ends = g.S.Source.ends c.args.input.now } in
     let new_in : Input = record { left = g.S.Source.left c.run.new.input; faults = g.S.Source.faults c.run.new.input; ends = g.S.Source.ends c.run.new.input } in
+    let old_files : Filed = record { files = g.F.Folder.files c.args.folder.now; faults = g.F.Folder.faults c.args.folder.now } in
+    let new_files : Filed = record { files = g.F.Folder.files c.run.new.folder; faults = g.F.Folder.faults c.run.new.folder } in
     let old_out : Output = record { held = g.K.Sink.held c.args.out.now; faults = g.K.Sink.faults c.args.out.now } in
     let new_out : Output = record { held = g.K.Sink.held c.run.new.out; faults = g.K.Sink.faults c.run.new.out } in
-    long_cause (map string_bytes c.args.words.now) old_in new_in old_out new_out c.code.result (rw (← c.code.ensures) at c.run.ensures)
+    long_cause (map string_bytes c.args.words.now) old_in new_in old_files new_files old_out new_out c.code.result (rw (← c.code.ensures) at c.run.ensures)
 
 pub returns-clause-status : goal.returns-clause-status
 returns-clause-status g c =
     let old_in : Input = record { left = g.S.Source.left c.args.input.now; faults = g.S.Source.faults c.args.input.now; ends = g.S.Source.ends c.args.input.now } in
     let new_in : Input = record { left = g.S.Source.left c.run.new.input; faults = g.S.Source.faults c.run.new.input; ends = g.S.Source.ends c.run.new.input } in
+    let old_files : Filed = record { files = g.F.Folder.files c.args.folder.now; faults = g.F.Folder.faults c.args.folder.now } in
+    let new_files : Filed = record { files = g.F.Folder.files c.run.new.folder; faults = g.F.Folder.faults c.run.new.folder } in
     let old_out : Output = record { held = g.K.Sink.held c.args.out.now; faults = g.K.Sink.faults c.args.out.now } in
     let new_out : Output = record { held = g.K.Sink.held c.run.new.out; faults = g.K.Sink.faults c.run.new.out } in
-    known_status (map string_bytes c.args.words.now) old_in new_in old_out new_out c.code.result (rw (← c.code.ensures) at c.run.ensures)
+    known_status (map string_bytes c.args.words.now) old_in new_in old_files new_files old_out new_out c.code.result (rw (← c.code.ensures) at c.run.ensures)
 
 pub returns-clause-read_fault : goal.returns-clause-read_fault
 returns-clause-read_fault g c =
     let old_in : Input = record { left = g.S.Source.left c.args.input.now; faults = g.S.Source.faults c.args.input.now; ends = g.S.Source.ends c.args.input.now } in
     let new_in : Input = record { left = g.S.Source.left c.run.new.input; faults = g.S.Source.faults c.run.new.input; ends = g.S.Source.ends c.run.new.input } in
+    let old_files : Filed = record { files = g.F.Folder.files c.args.folder.now; faults = g.F.Folder.faults c.args.folder.now } in
+    let new_files : Filed = record { files = g.F.Folder.files c.run.new.folder; faults = g.F.Folder.faults c.run.new.folder } in
     let old_out : Output = record { held = g.K.Sink.held c.args.out.now; faults = g.K.Sink.faults c.args.out.now } in
     let new_out : Output = record { held = g.K.Sink.held c.run.new.out; faults = g.K.Sink.faults c.run.new.out } in
-    read_cause (map string_bytes c.args.words.now) old_in new_in old_out new_out c.code.result (rw (← c.code.ensures) at c.run.ensures)
+    read_cause (map string_bytes c.args.words.now) old_in new_in old_files new_files old_out new_out c.code.result (rw (← c.code.ensures) at c.run.ensures)
+
+pub returns-clause-folder_fault : goal.returns-clause-folder_fault
+returns-clause-folder_fault g c =
+    let old_in : Input = record { left = g.S.Source.left c.args.input.now; faults = g.S.Source.faults c.args.input.now; ends = g.S.Source.ends c.args.input.now } in
+    let new_in : Input = record { left = g.S.Source.left c.run.new.input; faults = g.S.Source.faults c.run.new.input; ends = g.S.Source.ends c.run.new.input } in
+    let old_files : Filed = record { files = g.F.Folder.files c.args.folder.now; faults = g.F.Folder.faults c.args.folder.now } in
+    let new_files : Filed = record { files = g.F.Folder.files c.run.new.folder; faults = g.F.Folder.faults c.run.new.folder } in
+    let old_out : Output = record { held = g.K.Sink.held c.args.out.now; faults = g.K.Sink.faults c.args.out.now } in
+    let new_out : Output = record { held = g.K.Sink.held c.run.new.out; faults = g.K.Sink.faults c.run.new.out } in
+    folder_cause (map string_bytes c.args.words.now) old_in new_in old_files new_files old_out new_out c.code.result (rw (← c.code.ensures) at c.run.ensures)
 
 pub returns-clause-write_fault : goal.returns-clause-write_fault
 returns-clause-write_fault g c =
     let old_in : Input = record { left = g.S.Source.left c.args.input.now; faults = g.S.Source.faults c.args.input.now; ends = g.S.Source.ends c.args.input.now } in
     let new_in : Input = record { left = g.S.Source.left c.run.new.input; faults = g.S.Source.faults c.run.new.input; ends = g.S.Source.ends c.run.new.input } in
+    let old_files : Filed = record { files = g.F.Folder.files c.args.folder.now; faults = g.F.Folder.faults c.args.folder.now } in
+    let new_files : Filed = record { files = g.F.Folder.files c.run.new.folder; faults = g.F.Folder.faults c.run.new.folder } in
     let old_out : Output = record { held = g.K.Sink.held c.args.out.now; faults = g.K.Sink.faults c.args.out.now } in
     let new_out : Output = record { held = g.K.Sink.held c.run.new.out; faults = g.K.Sink.faults c.run.new.out } in
-    write_cause (map string_bytes c.args.words.now) old_in new_in old_out new_out c.code.result (rw (← c.code.ensures) at c.run.ensures)
+    write_cause (map string_bytes c.args.words.now) old_in new_in old_files new_files old_out new_out c.code.result (rw (← c.code.ensures) at c.run.ensures)
+
+pub returns-clause-ran : goal.returns-clause-ran
+returns-clause-ran g c =
+    let old_in : Input = record { left = g.S.Source.left c.args.input.now; faults = g.S.Source.faults c.args.input.now; ends = g.S.Source.ends c.args.input.now } in
+    let new_in : Input = record { left = g.S.Source.left c.run.new.input; faults = g.S.Source.faults c.run.new.input; ends = g.S.Source.ends c.run.new.input } in
+    let old_files : Filed = record { files = g.F.Folder.files c.args.folder.now; faults = g.F.Folder.faults c.args.folder.now } in
+    let new_files : Filed = record { files = g.F.Folder.files c.run.new.folder; faults = g.F.Folder.faults c.run.new.folder } in
+    let old_out : Output = record { held = g.K.Sink.held c.args.out.now; faults = g.K.Sink.faults c.args.out.now } in
+    let new_out : Output = record { held = g.K.Sink.held c.run.new.out; faults = g.K.Sink.faults c.run.new.out } in
+    subst (Ran (map string_bytes c.args.words.now) old_in new_in old_files new_files old_out new_out) (sym c.code.ensures) c.run.ensures

@@ -1,5 +1,5 @@
 use Rattle.std.proofs.Common.{refl, ap, Err}
-use Rattle.linker.specs.Run.{Output, read_failed, too_long, unread}
+use Rattle.linker.specs.Run.{Output, read_failed, too_long, no_memory}
 use Rattle.linker.specs.declared.run.Status.TheVariants as status
 use Rattle.linker.proofs.Runs.{tells_end, tells_memory_first}
 use Rattle.linker.proofs.run.replay.Goals as goal
@@ -23,4 +23,4 @@ returns-in-Err-OutOfMemory g c =
     let old : Output = record { held = g.K.Sink.held c.args.out.now; faults = g.K.Sink.faults c.args.out.now } in
     let new : Output = record { held = g.K.Sink.held c.tell-in-Err-OutOfMemory.new.out; faults = g.K.Sink.faults c.tell-in-Err-OutOfMemory.new.out } in
     let e = c.in-Err-OutOfMemory.ensures in
-    (unread, (e.few (λ is. cc (is, c.in-Err-OutOfMemory.field-0-is)), e.kept (λ is. cc (is, c.in-Err-OutOfMemory.field-0-is))), tells_memory_first unread c.tell-in-Err-OutOfMemory.result old new c.tell-in-Err-OutOfMemory.ensures)
+    (no_memory, (e.few (λ is. cc (is, c.in-Err-OutOfMemory.field-0-is)), e.kept (λ is. cc (is, c.in-Err-OutOfMemory.field-0-is))), tells_memory_first no_memory c.tell-in-Err-OutOfMemory.result old new c.tell-in-Err-OutOfMemory.ensures)

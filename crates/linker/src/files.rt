@@ -1,0 +1,97 @@
+//! The file system as a folder.
+ghost use Rattle.std.specs.Prelude.{◌≡◌, None, IsErr};
+ghost use Rattle.line_base.specs.Files.{HasFolderCause};
+
+use crate::adapters::ReaderSource;
+use crate::ends::{ReadEnd, read_all};
+use line_base::{Folder, FolderFault, Found, NameList};
+use std::fs::{self, DirEntry};
+use std::io::{self, ErrorKind};
+use std::rt::Files;
+
+/// The file system of the process. A path that is relative begins at its working directory; a symbolic link stands for what it leads to.
+#[derive(Drop)]
+pub struct FileSystem<'a, R> {
+    rt: &'a R,
+    faults: u64,
+}
+
+impl<'a, R> FileSystem<'a, R> {
+    /// The file system that is reached by `rt`, with no fault so far.
+    pub fn of(rt: &'a R) -> FileSystem<'a, R>
+        ensures { result.faults ≡ 0 }
+    {
+        FileSystem { rt, faults: 0 }
+    }
+
+    /// What a call answers that ended with an error of this kind: want of memory, or a fault, which is counted.
+    fn fail<T>(&mut self, kind: ErrorKind) -> Result<T, FolderFault>
+        ensures err { IsErr result }
+        ensures cause { HasFolderCause self.old.faults self.new.faults result }
+    {
+        if kind == ErrorKind::OutOfMemory {
+            return Err(FolderFault::OutOfMemory);
+        }
+        self.faults = self.faults.saturating_add(1);
+        Err(FolderFault::Failed)
+    }
+}
+
+/// Whether an error says that there is no such file.
+fn is_absent(kind: ErrorKind) -> bool {
+    matches!(kind, ErrorKind::NotFound | ErrorKind::NotADirectory)
+}
+
+/// The name of a plain file among a folder's entries. A file that is gone by now is none, and one whose name is no UTF-8 is none that can be named.
+fn plain_name<R: Files + AllocGlobal + Drop>(rt: &R, entry: io::Result<DirEntry<R>>) -> io::Result<Option<String>> {
+    let entry = match entry {
+        Ok(entry) => entry,
+        Err(error) if error.kind() == ErrorKind::InvalidFilename => return Ok(None),
+        Err(error) => return Err(error),
+    };
+    match fs::metadata(rt, entry.path()) {
+        Ok(metadata) if metadata.is_file() => Ok(Some(String::from_str(rt.alloc(), entry.file_name())?)),
+        Ok(_) => Ok(None),
+        Err(error) if is_absent(error.kind()) => Ok(None),
+        Err(error) => Err(error),
+    }
+}
+
+/// The names of a folder's plain files, in the order of their bytes.
+fn plain_names<R: Files + AllocGlobal + Clone + Drop>(rt: &R, folder: &str) -> io::Result<NameList> {
+    let mut names = Vec::new(rt.alloc());
+    for entry in fs::read_dir(rt, folder)? {
+        if let Some(name) = plain_name(rt, entry)? {
+            names.push(name)?;
+        }
+    }
+    names.sort()?;
+    Ok(NameList::of(names))
+}
+
+impl<R: Files + AllocGlobal + Clone + Drop> Folder for FileSystem<'_, R> {
+    ghost files = { λ _. None };
+
+    ghost faults = { λ d. d.faults };
+
+    fn names(&mut self, folder: &str) -> Result<NameList, FolderFault> {
+        match plain_names(self.rt, folder) {
+            Ok(names) => Ok(names),
+            Err(error) => self.fail(error.kind()),
+        }
+    }
+
+    fn read(&mut self, path: &str, most: usize) -> Result<Found, FolderFault> {
+        let file = match fs::open(self.rt, path) {
+            Ok(file) => file,
+            Err(error) if is_absent(error.kind()) => return Ok(Found::Absent),
+            Err(error) => return self.fail(error.kind()),
+        };
+        match read_all(self.rt.alloc(), &mut ReaderSource::of(file), most) {
+            Ok(bytes) => Ok(Found::Bytes(bytes)),
+            Err(ReadEnd::Long) => Ok(Found::Longer),
+            Err(ReadEnd::Fault) => self.fail(ErrorKind::Other),
+            Err(ReadEnd::OutOfMemory) => self.fail(ErrorKind::OutOfMemory),
+        }
+    }
+}
