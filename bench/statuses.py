@@ -1,7 +1,7 @@
 #!/usr/bin/env python3
 """Runs the built program `linker` where each status but 7 is due, and compares the status and both outputs. (bench/starve.py has 7.)
 
-The input of status 4 is a folder, which can't be read; the output of status 5 is /dev/full, which takes nothing.
+The input of status 4 is a folder, which can't be read, and so is its configuration; the output of status 5 is /dev/full, which takes nothing.
 
 usage: bench/statuses.py [--program crates/linker/out/linker]
 """
@@ -11,6 +11,11 @@ HERE = os.path.dirname(os.path.abspath(__file__))
 
 # The most bytes of a script.
 MOST = 67_108_864
+
+# The most bytes of a configuration, a good one, and the line that tells so.
+MOST_CONFIG = 1_048_576
+CONFIG = b'{"routers":[{"protocol":"http"}]}'
+GOOD = b"ok router 127.0.0.1:4140 namerd 127.0.0.1:4180 admin 127.0.0.1:9990\n"
 
 # What is written to standard error where the words fit no command, and nowhere else.
 USAGE = b"usage: linker replay"
@@ -38,6 +43,12 @@ def main():
                 file.write(text)
             return open(path, "rb")
 
+        def config(text):
+            path = os.path.join(folder, "c.json")
+            with open(path, "wb") as file:
+                file.write(text)
+            return path
+
         def blanks(count):
             path = os.path.join(folder, "blanks")
             with open(path, "wb") as file:
@@ -50,7 +61,7 @@ def main():
         replies = b"ok\n127.0.0.1:80 /$/inet/127.0.0.1/80 /b\n"
         check("a script", ["replay"], script(sample), 0, replies)
         check("no script", ["replay"], subprocess.DEVNULL, 0, b"")
-        for words, place in [([], 1), ([""], 1), (["--help"], 1), (["replays"], 1), (["replay", "x"], 2), (["replay", "replay"], 2), ([b"\xff"], 1)]:
+        for words, place in [([], 1), ([""], 1), (["--help"], 1), (["replays"], 1), (["replay", "x"], 2), (["replay", "replay"], 2), ([b"\xff"], 1), (["check"], 2), (["check", "-"], 2), (["check", "c", "d"], 3)]:
             check(f"words {words}", words, script(sample), 2, b"error words %d\n" % place)
         check("a bad line", ["replay"], script(sample + b"picks /a\n" + sample), 3, replies + b"error line 3\n")
         descriptor = os.open(folder, os.O_RDONLY)
@@ -60,6 +71,20 @@ def main():
             check("an output that takes nothing", ["replay"], script(sample), 5, b"", full)
         check("the longest script", ["replay"], blanks(MOST), 0, b"")
         check("a byte more", ["replay"], blanks(MOST + 1), 8, b"error long\n")
+
+        def told(what, path, status, written, stdout=subprocess.PIPE):
+            check(what, ["check", path], subprocess.DEVNULL, status, written, stdout)
+
+        told("the example", os.path.join(HERE, "..", "examples", "linker.json"), 0, GOOD)
+        told("the longest configuration", config(CONFIG.ljust(MOST_CONFIG)), 0, GOOD)
+        told("a byte more", config(CONFIG.ljust(MOST_CONFIG + 1)), 3, b"error config long\n")
+        told("no configuration", os.path.join(folder, "none"), 3, b"error config absent\n")
+        told("a file in a file", os.path.join(config(CONFIG), "none"), 3, b"error config absent\n")
+        told("no JSON", config(b"["), 3, b"error config json\n")
+        told("no router", config(b"{}"), 3, b"error config routers missing\n")
+        told("a configuration that can't be read", folder, 4, b"error read\n")
+        with open("/dev/full", "wb") as full:
+            told("a line that can't be written", config(CONFIG), 5, b"", full)
 
     if wrong:
         sys.exit(f"wrong: {', '.join(wrong)}")
