@@ -74,7 +74,13 @@ fn judge_text(alloc: Global, text: &[u8]) -> Mem<Verdict>
     ensures { IfOk result (λ v. TellsText text.now v.is_right v.line.items) }
 {
     match read_config(alloc, text) {
-        Ok(config) => Ok(Verdict { is_right: true, line: check_line(alloc, &config)? }),
-        Err(fault) => Ok(Verdict { is_right: false, line: fault_line(alloc, &fault)? }),
+        Ok(config) => Ok(Verdict {
+            is_right: true,
+            line: check_line(alloc, &config)?,
+        }),
+        Err(fault) => Ok(Verdict {
+            is_right: false,
+            line: fault_line(alloc, &fault)?,
+        }),
     }
 }

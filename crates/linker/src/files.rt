@@ -43,14 +43,20 @@ fn is_absent(kind: ErrorKind) -> bool {
 }
 
 /// The name of a plain file among a folder's entries. A file that is gone by now is none, and one whose name is no UTF-8 is none that can be named.
-fn plain_name<R: Files + AllocGlobal + Drop>(rt: &R, entry: io::Result<DirEntry<R>>) -> io::Result<Option<String>> {
+fn plain_name<R: Files + AllocGlobal + Drop>(
+    rt: &R,
+    entry: io::Result<DirEntry<R>>,
+) -> io::Result<Option<String>> {
     let entry = match entry {
         Ok(entry) => entry,
         Err(error) if error.kind() == ErrorKind::InvalidFilename => return Ok(None),
         Err(error) => return Err(error),
     };
     match fs::metadata(rt, entry.path()) {
-        Ok(metadata) if metadata.is_file() => Ok(Some(String::from_str(rt.alloc(), entry.file_name())?)),
+        Ok(metadata) if metadata.is_file() => {
+            let name = String::from_str(rt.alloc(), entry.file_name())?;
+            Ok(Some(name))
+        }
         Ok(_) => Ok(None),
         Err(error) if is_absent(error.kind()) => Ok(None),
         Err(error) => Err(error),
@@ -58,7 +64,10 @@ fn plain_name<R: Files + AllocGlobal + Drop>(rt: &R, entry: io::Result<DirEntry<
 }
 
 /// The names of a folder's plain files, in the order of their bytes.
-fn plain_names<R: Files + AllocGlobal + Clone + Drop>(rt: &R, folder: &str) -> io::Result<NameList> {
+fn plain_names<R: Files + AllocGlobal + Clone + Drop>(
+    rt: &R,
+    folder: &str,
+) -> io::Result<NameList> {
     let mut names = Vec::new(rt.alloc());
     for entry in fs::read_dir(rt, folder)? {
         if let Some(name) = plain_name(rt, entry)? {

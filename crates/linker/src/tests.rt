@@ -3,7 +3,9 @@
 use crate::adapters::{ReaderSource, WriterSink};
 use crate::files::FileSystem;
 use crate::program::linker;
-use line_base::{Failed, Folder, FolderFault, Found, MemFile, MemFolder, MemSink, MemSource, Sink, Source};
+use line_base::{
+    Failed, Folder, FolderFault, Found, MemFile, MemFolder, MemSink, MemSource, Sink, Source,
+};
 use std::alloc::{AllocError, Global};
 use std::os::unix::fs::symlink;
 use std::test::Fail;
@@ -342,12 +344,27 @@ fn one_file(alloc: Global, text: &[u8], failing: &[u64]) -> Result<MemFolder, Al
     ))
 }
 
+/// What `check` writes, and its status.
+fn checked(rt: &HostRuntime, path: &str, folder: MemFolder) -> Result<(MemSink, u8), AllocError> {
+    let alloc = rt.alloc();
+    run_with(
+        rt,
+        &["check", path],
+        folder,
+        source(alloc, "")?,
+        sink(alloc),
+    )
+}
+
+const SHORTEST: &str = "{\"routers\":[{\"protocol\":\"http\"}]}";
+
 const GOOD_LINE: &str = "ok router 127.0.0.1:4140 namerd 127.0.0.1:4180 admin 127.0.0.1:9990\n";
 
 #[test]
 fn configurations(rt: HostRuntime) -> Result<(), Fail> {
     let alloc = rt.alloc();
     let rows = [
+        (SHORTEST, GOOD_LINE, 0),
         // The folder of the services is not looked at, and is not there.
         (
             "{\"namers\":[{\"kind\":\"io.l5d.fs\",\"rootDir\":\"disco\"}],\"routers\":[{\"protocol\":\"http\",\"dtab\":\"/svc => /#/io.l5d.fs\",\"servers\":[{\"port\":4140}]}]}",
@@ -370,52 +387,38 @@ fn configurations(rt: HostRuntime) -> Result<(), Fail> {
         ("", "error config json\n", 3),
     ];
     for (text, written, status) in rows {
-        let (sink, ended) = run_with(
-            &rt,
-            &["check", "conf/c.json"],
-            one_file(alloc, text.as_bytes(), &[])?,
-            source(alloc, "")?,
-            sink(alloc),
-        )?;
+        let folder = one_file(alloc, text.as_bytes(), &[])?;
+        let (sink, ended) = checked(&rt, "conf/c.json", folder)?;
         assert_eq!(rt; sink.held(), written.as_bytes(), "of {text:?}");
         assert_eq!(rt; ended, status, "of {text:?}");
     }
     Ok(())
 }
 
-/// A configuration that is not there, the longest one and one that is longer, a folder that fails, and each write failing in turn.
+/// A configuration that is not there, the longest one and one that is longer, and a folder that fails.
 #[test]
 fn configurations_that_are_not_read(rt: HostRuntime) -> Result<(), Fail> {
     let alloc = rt.alloc();
-    let text = b"{\"routers\":[{\"protocol\":\"http\"}]}";
-    let mut longest = Vec::from_slice(alloc, text)?;
-    longest.resize(1_048_576, b' ')?;
-    let mut longer = Vec::from_slice(alloc, longest.as_slice())?;
-    longer.push(b' ')?;
-    let rows = [
-        ("conf/c.json", one_file(alloc, longest.as_slice(), &[])?, GOOD_LINE, 0),
-        ("conf/c.json", one_file(alloc, longer.as_slice(), &[])?, "error config long\n", 3),
-        ("conf/d.json", one_file(alloc, text, &[])?, "error config absent\n", 3),
-        ("conf", one_file(alloc, text, &[])?, "error config absent\n", 3),
-        ("conf/c.json", one_file(alloc, text, &[0])?, "error read\n", 4),
-    ];
-    for (path, folder, written, status) in rows {
-        let (sink, ended) = run_with(&rt, &["check", path], folder, source(alloc, "")?, sink(alloc))?;
-        assert_eq!(rt; sink.held(), written.as_bytes());
-        assert_eq!(rt; ended, status, "of {written:?}");
-    }
-    let bytes = GOOD_LINE.len();
-    for failing in 0..bytes + 1 {
-        let sink = MemSink::of(
-            alloc,
-            Vec::from_elem(alloc, 1usize, bytes)?,
-            vec![in alloc; failing as u64]?,
-        );
-        let folder = one_file(alloc, text, &[])?;
-        let (sink, status) = run_with(&rt, &["check", "conf/c.json"], folder, source(alloc, "")?, sink)?;
-        let due = if failing < bytes { 5 } else { 0 };
-        assert_eq!(rt; (sink.held(), status), (&GOOD_LINE.as_bytes()[..failing.min(bytes)], due));
-    }
+    let mut text = Vec::from_slice(alloc, SHORTEST.as_bytes())?;
+    text.resize(1_048_576, b' ')?;
+    let longest = checked(&rt, "conf/c.json", one_file(alloc, text.as_slice(), &[])?)?;
+    text.push(b' ')?;
+    let longer = checked(&rt, "conf/c.json", one_file(alloc, text.as_slice(), &[])?)?;
+    let other = checked(&rt, "conf/d.json", one_file(alloc, b"", &[])?)?;
+    let failed = checked(&rt, "conf/c.json", one_file(alloc, b"", &[0])?)?;
+    assert_eq!(rt; (longest.0.held(), longest.1), (GOOD_LINE.as_bytes(), 0));
+    assert_eq!(rt;
+        (longer.0.held(), longer.1),
+        (b"error config long\n".as_slice(), 3)
+    );
+    assert_eq!(rt;
+        (other.0.held(), other.1),
+        (b"error config absent\n".as_slice(), 3)
+    );
+    assert_eq!(rt;
+        (failed.0.held(), failed.1),
+        (b"error read\n".as_slice(), 4)
+    );
     Ok(())
 }
 
@@ -488,7 +491,11 @@ fn over_readers_and_writers(rt: HostRuntime) {
 fn over_the_file_system(rt: HostRuntime) -> Result<(), Fail> {
     let alloc = rt.alloc();
     let temp = env::temp_dir(&rt)?;
-    let root = format!(in alloc; "{}/linker-test-{}", temp.as_str(), process::id(rt.process()))?;
+    let root = format!(in alloc;
+        "{}/linker-test-{}",
+        temp.as_str(),
+        process::id(rt.process())
+    )?;
     let web = format!(in alloc; "{root}/web")?;
     let inner = format!(in alloc; "{root}/inner")?;
     let gone = format!(in alloc; "{root}/gone")?;
@@ -512,9 +519,14 @@ fn over_the_file_system(rt: HostRuntime) -> Result<(), Fail> {
     ];
     fs::remove_dir_all(&rt, root.as_str())?;
 
-    assert_eq!(rt; format!(in alloc; "{:?}", names?.items())?.as_str(), "[\"B\", \"a\", \"b\", \"link\", \"web\"]");
+    assert_eq!(rt;
+        format!(in alloc; "{:?}", names?.items())?.as_str(),
+        "[\"B\", \"a\", \"b\", \"link\", \"web\"]"
+    );
     assert!(rt; matches!(no_names, Err(FolderFault::Failed)));
-    assert!(rt; matches!(&found[0], Ok(Found::Bytes(bytes)) if bytes.as_slice() == b"127.0.0.1 9001\n".as_slice()));
+    assert!(rt;
+        matches!(&found[0], Ok(Found::Bytes(bytes)) if bytes.as_slice() == b"127.0.0.1 9001\n".as_slice())
+    );
     assert!(rt; matches!(found[1], Ok(Found::Longer)));
     assert!(rt; matches!(found[2], Ok(Found::Absent)));
     assert!(rt; matches!(found[3], Ok(Found::Absent)));
