@@ -7,24 +7,24 @@ use Rattle.std.proofs.lemmas.List.{append-nil, take-append-drop, take-append-le,
 use Rattle.std.proofs.lemmas.List.Elements.{filter-append, All-nil}
 use Rattle.std.proofs.lemmas.Bool.Decides.{Decides-eqb}
 use Rattle.std.proofs.Math.Seq.{take-length}
-use Rattle.addr_book.specs.Namer.{named_in}
-use Rattle.bind_cache.specs.Kept.{Kept, IsRight}
+use Rattle.bind_cache.specs.Kept.{Kept}
 use Rattle.bind_cache.specs.Cache.{found_in}
 use Rattle.machine.specs.Values.{SettingsValue}
 use Rattle.one_history.specs.Entries.{changes_made, others_made}
 use Rattle.one_history.specs.Order.{InOrder, own_changes}
 use Rattle.one_history.proofs.Turning.{call_keeps_order, grown_in_order}
-use Rattle.router_log.specs.Operation.{Operation, kept, is_change, caller_of, place_of}
-use Rattle.router_log.specs.Value.{value_of, opening_value, standing_rules, Fits, AllFit}
+use Rattle.router_log.specs.Operation.{Operation, kept, is_change, caller_of}
+use Rattle.router_log.specs.Value.{value_of, opening_value, Fits, AllFit}
 use Rattle.router_log.specs.Call.{Call, asked, looked, changing, keeping, publishes, is_kept}
 use Rattle.router_log.proofs.Places.{fit_push, fit_front, place_is}
 use Rattle.router_log.proofs.Publishing.{of_caller, change_fits, kept_fits}
 use Rattle.router_log.proofs.Right.{values_right}
 use Rattle.weave.specs.World.{Question, pick, look, StepValue, publish, enter, answer, remember, meet, Item, PassValue, new_pass, WorldValue, opening_world, delegation_in, call_of, fresh_of, in_flight, publishes_now, with_call, called, seeing, entered, answered, remembered, published, entering, answering, remembering, seen_by, meeting, stepped, run_from}
 use Rattle.weave.specs.Laws.{IsPass, EveryScheduleIsOneHistory}
+use Rattle.weave.specs.Worlds.{WasRight, PassOk, AllOk, IsWorld}
 
 -- what stands in a list of which one member was replaced
-set_get : {X : Type 0} (xs : List X) (n : ℕ) (x : X) (j : ℕ) (y : X) → slice_get (slice_set xs n x) j ≡ Some y → ((j ≡ n) × (y ≡ x)) ⊎ ((j ≢ n) × (slice_get xs j ≡ Some y))
+pub set_get : {X : Type 0} (xs : List X) (n : ℕ) (x : X) (j : ℕ) (y : X) → slice_get (slice_set xs n x) j ≡ Some y → ((j ≡ n) × (y ≡ x)) ⊎ ((j ≢ n) × (slice_get xs j ≡ Some y))
 set_get [] n x j y h = absurd (cc)
 set_get (z ∷ zs) zero x zero y h = inl (refl, let e : x ≡ y = cc in sym e)
 set_get (z ∷ zs) zero x (suc j) y h = inr (λ e. omega (arith, e), h)
@@ -35,7 +35,7 @@ set_get (z ∷ zs) (suc n) x (suc j) y h =
       | inr other ↦ inr (λ e. other.0 (omega (arith, e)), other.1)
     ]
 
-none_of : {X : Type 0} (n j : ℕ) (x y : X) → slice_get (replicate n x) j ≡ Some y → y ≡ x
+pub none_of : {X : Type 0} (n j : ℕ) (x y : X) → slice_get (replicate n x) j ≡ Some y → y ≡ x
 none_of zero j x y h = absurd (cc)
 none_of (suc n) zero x y h = let e : x ≡ y = cc in sym e
 none_of (suc n) (suc j) x y h = none_of n j x y h
@@ -49,32 +49,13 @@ and_false true = refl
 and_false false = refl
 
 module _ (settings : SettingsValue) where
-  abbrev Own : ℕ → List Operation → List Operation
+  abbrev pub Own : ℕ → List Operation → List Operation
   Own number ops = own_changes is_change (publishes settings) caller_of number ops
 
-  abbrev Order : ℕ → List Operation → List Item → Type 0
+  abbrev pub Order : ℕ → List Operation → List Item → Type 0
   Order number ops items = InOrder is_change (publishes settings) caller_of number ops items
 
-  -- a delegation was right where it was worked out, in a beginning of what was published
-  record WasRight (ops : List Operation) (k : Kept) : Type 0 where
-    front : List Operation
-    rest : List Operation
-    is : front ++ rest ≡ ops
-    place : k.place ≡ place_of front
-    right : IsRight (standing_rules settings (value_of settings front).state) (named_in (value_of settings front).state.book) k
-
-  record PassOk (ops : List Operation) (number : ℕ) (p : PassValue) : Type 0 where
-    pass : IsPass settings ops number p
-    fresh : (k : Kept) → p.fresh ≡ Some k → WasRight ops k
-
-  abbrev AllOk : List Operation → List PassValue → Type 0
-  AllOk ops passes = (number : ℕ) (p : PassValue) → slice_get passes number ≡ Some p → PassOk ops number p
-
-  record IsWorld (w : WorldValue) : Type 0 where
-    fit : AllFit settings opening_value w.ops
-    all : AllOk w.ops w.passes
-
-  was_right_grown : (ops more : List Operation) (k : Kept) → WasRight ops k → WasRight (ops ++ more) k
+  pub was_right_grown : (ops more : List Operation) (k : Kept) → WasRight settings ops k → WasRight settings (ops ++ more) k
   was_right_grown ops more k h = record {
     front = h.front;
     rest = h.rest ++ more;
@@ -84,7 +65,7 @@ module _ (settings : SettingsValue) where
   }
 
   -- other passes stay as they are while one publishes
-  grown : (ops more : List Operation) (number : ℕ) (p : PassValue) → PassOk ops number p → Own number more ≡ [] → PassOk (ops ++ more) number p
+  pub grown : (ops more : List Operation) (number : ℕ) (p : PassValue) → PassOk settings ops number p → Own number more ≡ [] → PassOk settings (ops ++ more) number p
   grown ops more number p h none =
       let within = h.pass.within in
       record {
@@ -99,7 +80,7 @@ module _ (settings : SettingsValue) where
       }
 
   -- a pass that sees all that was published is in order in it
-  all_seen : (ops : List Operation) (number : ℕ) (p : PassValue) → IsPass settings ops number p → Order number ops p.items
+  pub all_seen : (ops : List Operation) (number : ℕ) (p : PassValue) → IsPass settings ops number p → Order number ops p.items
   all_seen ops number p h =
       subst (λ (seen : List Operation). Order number seen p.items) (take-append-drop p.seen ops)
       (grown_in_order is_change (publishes settings) caller_of number (take p.seen ops) (drop p.seen ops) p.items h.order h.none_later)
@@ -113,10 +94,10 @@ module _ (settings : SettingsValue) where
 
   -- one pass is replaced
   replaced : (ops : List Operation) (passes : List PassValue) (number : ℕ) (p : PassValue)
-      → ((j : ℕ) (q : PassValue) → j ≢ number → slice_get passes j ≡ Some q → PassOk ops j q) → PassOk ops number p → AllOk ops (slice_set passes number p)
+      → ((j : ℕ) (q : PassValue) → j ≢ number → slice_get passes j ≡ Some q → PassOk settings ops j q) → PassOk settings ops number p → AllOk settings ops (slice_set passes number p)
   replaced ops passes number p others own j q here =
       elim (set_get passes number p j q here) [
-        | inl same ↦ subst (λ (x : PassValue). PassOk ops j x) (sym same.1) (subst (λ n. PassOk ops n p) (sym same.0) own)
+        | inl same ↦ subst (λ (x : PassValue). PassOk settings ops j x) (sym same.1) (subst (λ n. PassOk settings ops n p) (sym same.0) own)
         | inr other ↦ others j q other.0 other.1
       ]
 
@@ -132,8 +113,8 @@ module _ (settings : SettingsValue) where
   fit_more ops (Some op) fit fits = fit_push settings opening_value ops op fit (fits op refl)
 
   -- a call of a pass
-  call_world : (w : WorldValue) (number : ℕ) (p : PassValue) (call : Call) → IsWorld w → slice_get w.passes number ≡ Some p
-      → ((op : Operation) → publishes_now settings number w.ops p call ≡ Some op → Fits settings (value_of settings w.ops) op) → IsWorld (called settings w number p call)
+  pub call_world : (w : WorldValue) (number : ℕ) (p : PassValue) (call : Call) → IsWorld settings w → slice_get w.passes number ≡ Some p
+      → ((op : Operation) → publishes_now settings number w.ops p call ≡ Some op → Fits settings (value_of settings w.ops) op) → IsWorld settings (called settings w number p call)
   call_world w number p call h here fits =
       let o = publishes_now settings number w.ops p call in
       let now = w.ops ++ option_to_list o in
@@ -151,7 +132,7 @@ module _ (settings : SettingsValue) where
       }
 
   -- a pass that learns all that was published
-  see_world : (w : WorldValue) (number : ℕ) (p : PassValue) → IsWorld w → slice_get w.passes number ≡ Some p → IsWorld (seeing settings w number p)
+  pub see_world : (w : WorldValue) (number : ℕ) (p : PassValue) → IsWorld settings w → slice_get w.passes number ≡ Some p → IsWorld settings (seeing settings w number p)
   see_world w number p h here =
       let old = h.all number p here in
       let new : PassValue = record { seen = length w.ops; items = p.items; flight = p.flight; fresh = p.fresh } in
@@ -161,11 +142,11 @@ module _ (settings : SettingsValue) where
       }
 
   -- a question publishes nothing
-  asks_nothing : (number : ℕ) (ops : List Operation) (p : PassValue) (question : Question) → publishes_now settings number ops p (call_of question) ≡ None
+  pub asks_nothing : (number : ℕ) (ops : List Operation) (p : PassValue) (question : Question) → publishes_now settings number ops p (call_of question) ≡ None
   asks_nothing number ops p (pick ask) = refl
   asks_nothing number ops p (look l) = refl
 
-  enter_world : (w : WorldValue) (number : ℕ) (p : PassValue) (question : Question) → IsWorld w → slice_get w.passes number ≡ Some p → IsWorld (entered settings w number p question)
+  pub enter_world : (w : WorldValue) (number : ℕ) (p : PassValue) (question : Question) → IsWorld settings w → slice_get w.passes number ≡ Some p → IsWorld settings (entered settings w number p question)
   enter_world w number p question h here =
       let old = h.all number p here in
       let new : PassValue = record { seen = length w.ops; items = p.items ++ (call_of question, length w.ops) ∷ []; flight = Some (length p.items); fresh = p.fresh } in
@@ -179,7 +160,7 @@ module _ (settings : SettingsValue) where
       }
 
   -- what a pick works out is right where its call stands
-  fresh_right : (ops : List Operation) (at : ℕ) (call : Call) (k : Kept) → AllFit settings opening_value ops → fresh_of settings (take at ops) call ≡ Some k → WasRight ops k
+  fresh_right : (ops : List Operation) (at : ℕ) (call : Call) (k : Kept) → AllFit settings opening_value ops → fresh_of settings (take at ops) call ≡ Some k → WasRight settings ops k
   fresh_right ops at (asked ask) k fit is =
       let front = take at ops in
       let state = (value_of settings front).state in
@@ -189,17 +170,17 @@ module _ (settings : SettingsValue) where
       let P : Bool → Type 0 = λ b. (if b then Some made else None) ≡ Some k → made ≡ k in
       let each : P (is_none (found_in (value_of settings front).cache ask.path ask.own)) =
       elim (is_none (found_in (value_of settings front).cache ask.path ask.own)) as P [ true ↦ (λ e. cc) | false ↦ (λ e. absurd (cc)) ] in
-      let right : WasRight ops made = record { front = front; rest = drop at ops; is = parts; place = place_is settings front fits; right = record { ending = refl; cost = refl; asked = refl } } in
-      subst (λ (x : Kept). WasRight ops x) (each is) right
+      let right : WasRight settings ops made = record { front = front; rest = drop at ops; is = parts; place = place_is settings front fits; right = record { ending = refl; cost = refl; asked = refl } } in
+      subst (λ (x : Kept). WasRight settings ops x) (each is) right
   fresh_right ops at (looked l) k fit is = absurd (cc)
   fresh_right ops at (changing change) k fit is = absurd (cc)
   fresh_right ops at (keeping x) k fit is = absurd (cc)
 
-  either_right : (ops : List Operation) (one other : Option Kept) (k : Kept) → ((x : Kept) → one ≡ Some x → WasRight ops x) → ((x : Kept) → other ≡ Some x → WasRight ops x) → option_or one other ≡ Some k → WasRight ops k
+  either_right : (ops : List Operation) (one other : Option Kept) (k : Kept) → ((x : Kept) → one ≡ Some x → WasRight settings ops x) → ((x : Kept) → other ≡ Some x → WasRight settings ops x) → option_or one other ≡ Some k → WasRight settings ops k
   either_right ops None other k first second is = second k is
   either_right ops (Some x) other k first second is = first k is
 
-  answer_world : (w : WorldValue) (number : ℕ) (p : PassValue) (item : Option Item) → IsWorld w → slice_get w.passes number ≡ Some p → IsWorld (answered settings w number p item).0
+  pub answer_world : (w : WorldValue) (number : ℕ) (p : PassValue) (item : Option Item) → IsWorld settings w → slice_get w.passes number ≡ Some p → IsWorld settings (answered settings w number p item).0
   answer_world w number p None h here = h
   answer_world w number p (Some item) h here =
       let old = h.all number p here in
@@ -214,7 +195,7 @@ module _ (settings : SettingsValue) where
       }
 
   -- a kept delegation fits
-  kept_here : (ops : List Operation) (number changes others : ℕ) (k : Kept) (op : Operation) → WasRight ops k → publishes settings ops number changes others (keeping k) ≡ Some op → Fits settings (value_of settings ops) op
+  pub kept_here : (ops : List Operation) (number changes others : ℕ) (k : Kept) (op : Operation) → WasRight settings ops k → publishes settings ops number changes others (keeping k) ≡ Some op → Fits settings (value_of settings ops) op
   kept_here ops number changes others k op was is =
       let P : Bool → Type 0 = λ b. is_kept settings ops k ≡ b → (if b then Some (kept number others k) else None) ≡ Some op → Fits settings (value_of settings ops) op in
       let each : P (is_kept settings ops k) =
@@ -228,20 +209,20 @@ module _ (settings : SettingsValue) where
       ] in
       each refl is
 
-  remember_world : (w : WorldValue) (number : ℕ) (p : PassValue) (fresh : Option Kept) → ((k : Kept) → fresh ≡ Some k → WasRight w.ops k) → IsWorld w → slice_get w.passes number ≡ Some p
-      → IsWorld (remembered settings w number p fresh).0
+  pub remember_world : (w : WorldValue) (number : ℕ) (p : PassValue) (fresh : Option Kept) → ((k : Kept) → fresh ≡ Some k → WasRight settings w.ops k) → IsWorld settings w → slice_get w.passes number ≡ Some p
+      → IsWorld settings (remembered settings w number p fresh).0
   remember_world w number p None was h here = see_world w number p h here
   remember_world w number p (Some k) was h here =
       call_world w number p (keeping k) h here
       (λ op is. kept_here w.ops number (changes_made is_change (publishes settings) number w.ops p.items) (others_made is_change (publishes settings) number w.ops p.items) k op (was k refl) is)
 
-  meet_world : (w : WorldValue) (other : ℕ) (q : Option PassValue) → IsWorld w → slice_get w.passes other ≡ q → IsWorld (seen_by settings w other q)
+  meet_world : (w : WorldValue) (other : ℕ) (q : Option PassValue) → IsWorld settings w → slice_get w.passes other ≡ q → IsWorld settings (seen_by settings w other q)
   meet_world w other None h here = h
   meet_world w other (Some q) h here = see_world w other q h here
 
-  one_step : (w : WorldValue) (s : StepValue) → IsWorld w → IsWorld (stepped settings w s).0
+  pub one_step : (w : WorldValue) (s : StepValue) → IsWorld settings w → IsWorld settings (stepped settings w s).0
   one_step w (publish number change) h =
-      let P : Option PassValue → Type 0 = λ o. slice_get w.passes number ≡ o → IsWorld (published settings w number o change).0 in
+      let P : Option PassValue → Type 0 = λ o. slice_get w.passes number ≡ o → IsWorld settings (published settings w number o change).0 in
       let each : P (slice_get w.passes number) =
       elim (slice_get w.passes number) as P [
         | None ↦ (λ here. h)
@@ -251,20 +232,20 @@ module _ (settings : SettingsValue) where
       ] in
       each refl
   one_step w (enter number question) h =
-      let P : Option PassValue → Type 0 = λ o. slice_get w.passes number ≡ o → IsWorld (entering settings w number o question).0 in
+      let P : Option PassValue → Type 0 = λ o. slice_get w.passes number ≡ o → IsWorld settings (entering settings w number o question).0 in
       let each : P (slice_get w.passes number) = elim (slice_get w.passes number) as P [ None ↦ (λ here. h) | Some p ↦ (λ here. enter_world w number p question h here) ] in
       each refl
   one_step w (answer number) h =
-      let P : Option PassValue → Type 0 = λ o. slice_get w.passes number ≡ o → IsWorld (answering settings w number o).0 in
+      let P : Option PassValue → Type 0 = λ o. slice_get w.passes number ≡ o → IsWorld settings (answering settings w number o).0 in
       let each : P (slice_get w.passes number) = elim (slice_get w.passes number) as P [ None ↦ (λ here. h) | Some p ↦ (λ here. answer_world w number p (in_flight p) h here) ] in
       each refl
   one_step w (remember number) h =
-      let P : Option PassValue → Type 0 = λ o. slice_get w.passes number ≡ o → IsWorld (remembering settings w number o).0 in
+      let P : Option PassValue → Type 0 = λ o. slice_get w.passes number ≡ o → IsWorld settings (remembering settings w number o).0 in
       let each : P (slice_get w.passes number) =
       elim (slice_get w.passes number) as P [ None ↦ (λ here. h) | Some p ↦ (λ here. remember_world w number p p.fresh (h.all number p here).fresh h here) ] in
       each refl
   one_step w (meet one other) h =
-      let P : Option PassValue → Option PassValue → Type 0 = λ o q. slice_get w.passes one ≡ o → IsWorld (meeting settings w one other o q).0 in
+      let P : Option PassValue → Option PassValue → Type 0 = λ o q. slice_get w.passes one ≡ o → IsWorld settings (meeting settings w one other o q).0 in
       let first : (q : Option PassValue) → P (slice_get w.passes one) q = λ q.
       elim (slice_get w.passes one) as (λ o. P o q) [
         | None ↦ (λ here. h)
@@ -272,11 +253,11 @@ module _ (settings : SettingsValue) where
       ] in
       first (slice_get w.passes other) refl
     where
-      both : (q : Option PassValue) (p : PassValue) → slice_get w.passes one ≡ Some p → IsWorld (meeting settings w one other (Some p) q).0
+      both : (q : Option PassValue) (p : PassValue) → slice_get w.passes one ≡ Some p → IsWorld settings (meeting settings w one other (Some p) q).0
       both None p here = h
       both (Some q) p here = meet_world (seeing settings w one p) other (slice_get (seeing settings w one p).passes other) (see_world w one p h here) refl
 
-  any_steps : (w : WorldValue) (steps : List StepValue) → IsWorld w → IsWorld (run_from settings w steps).0
+  any_steps : (w : WorldValue) (steps : List StepValue) → IsWorld settings w → IsWorld settings (run_from settings w steps).0
   any_steps w [] h = h
   any_steps w (s ∷ ss) h = any_steps (stepped settings w s).0 ss (one_step w s h)
 
@@ -286,11 +267,11 @@ module _ (settings : SettingsValue) where
     own = refl;
   }
 
-  begin : (passes : ℕ) → IsWorld (opening_world passes)
+  pub begin : (passes : ℕ) → IsWorld settings (opening_world passes)
   begin passes = record {
     fit = tt;
     all = λ number p here.
-        subst (λ (x : PassValue). PassOk [] number x) (sym (none_of passes number new_pass p here))
+        subst (λ (x : PassValue). PassOk settings [] number x) (sym (none_of passes number new_pass p here))
         (record {
           pass = record { within = omega arith; order = nothing_yet number; none_later = refl };
           fresh = λ k is. absurd (cc);

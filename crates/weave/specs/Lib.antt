@@ -1,2 +1,6 @@
+pub mod Code
+pub mod Generated
+pub mod Held
 pub mod Laws
 pub mod World
+pub mod Worlds
