@@ -283,7 +283,6 @@ fn generated_schedules(rt: HostRuntime) -> Result<(), Fail> {
     let rows = [
         (0, 7, "history 1 looks 0 kept 0"),
         (1_000, 1, "history 254 looks 127 kept 3"),
-        (100_000, 7, "history 25133 looks 12522 kept 466"),
     ];
     for (turns, seed, want) in rows {
         let line = woven::<Brand>(alloc, settings(alloc)?, turns, seed, Blank::new(1))?;
