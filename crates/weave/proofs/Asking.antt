@@ -1,5 +1,5 @@
 -- Questions that are asked and answered in the code's world.
-use Rattle.std.proofs.Common.{◌≡◌, get_or, ℕ, ◌+◌, ◌≤◌, List, [], ◌∷◌, ◌++◌, length, map, take, set, Some, None, Option, refl, arith, ap, sym, ◌∙◌, subst}
+use Rattle.std.proofs.Common.{◌≡◌, get_or, ℕ, List, [], ◌∷◌, ◌++◌, length, map, take, set, Some, None, Option, refl, arith, ap, sym, ◌∙◌, subst}
 use Rattle.std.specs.Prelude.{slice_get, option_map}
 use Rattle.std.specs.Option.{option_or}
 use Rattle.std.proofs.lemmas.List.{length-map}
@@ -18,7 +18,7 @@ use Rattle.weave.specs.declared.pass.Pass.{Pass}
 use Rattle.weave.specs.declared.pass.Flight.{Flight}
 use Rattle.weave.specs.declared.world.World.{World}
 use Rattle.weave.specs.Code.{item_of, pass_of, kept_in_arc, told_value, flight_told, flight_fresh}
-use Rattle.weave.specs.World.{Item, PassValue, WorldValue, Question, pick, look, ToldValue, nothing, call_of, entered, answered, in_flight, item_at, answer_of, fresh_of}
+use Rattle.weave.specs.World.{Item, PassValue, Question, pick, look, ToldValue, call_of, entered, answered, in_flight, item_at, answer_of, fresh_of}
 use Rattle.weave.specs.Held.{ops_of, world_of, value_in, FlightHolds, PassHolds, Holds, Becomes, IsMade}
 use Rattle.weave.proofs.Schedules.{enter_world, answer_world}
 use Rattle.weave.proofs.Moving.{get-map, changes_push, others_push, pass_with, same_pass, renewed, repeated, holds_from}

@@ -3,10 +3,10 @@ use Rattle.std.proofs.Common.{rules, codes, ◌≡◌, ℕ, suc, zero, ◌+◌, 
 use Rattle.std.proofs.lemmas.List.{append-nil}
 use Rattle.std.proofs.lemmas.List.Elements.{All-cons, All-nil, All-from_get_or}
 use Rattle.std.proofs.lemmas.Fmt.{IsAscii-decimal}
-use Rattle.std.specs.Prelude.{All, decimal}
+use Rattle.std.specs.Prelude.{decimal}
 use Rattle.name_tree.specs.Canon.{IsByteLabel}
 use Rattle.addr_book.specs.declared.addr.Weighted.{Weighted}
-use Rattle.addr_book.specs.AddrList.{AreDistinct, HaveWeights, IsWeight, has_addr, same_addr}
+use Rattle.addr_book.specs.AddrList.{AreDistinct, HaveWeights, IsWeight, has_addr}
 use Rattle.dtab_table.specs.TableCanon.{AreSoundRules}
 use Rattle.weave.specs.Generated.{local_addr, addrs_from, service_name, table_by}
 
@@ -30,13 +30,6 @@ pub HaveWeights-addrs_from : (n port : ℕ) → HaveWeights (addrs_from n port)
 HaveWeights-addrs_from zero port = All-nil (λ item. IsWeight item.weight)
 HaveWeights-addrs_from (suc n) port =
     All-cons (λ item. IsWeight item.weight) (local_item port) (addrs_from n (port + 1)) (omega arith, omega arith) (HaveWeights-addrs_from n (port + 1))
-
--- before the first address is put there, all are left
-pub none_put : (n port : ℕ) → addrs_from (n - 0) (port + 0) ≡ addrs_from n port
-none_put n port =
-    let all : n - 0 ≡ n = omega arith in
-    let start : port + 0 ≡ port = omega arith in
-    rw (all, start) refl
 
 -- one more was put there
 pub one_put : (items new : List Weighted) (n k port : ℕ) → k < n → new ≡ items ++ local_item (port + k) ∷ [] → items ++ addrs_from (n - k) (port + k) ≡ addrs_from n port

@@ -9,7 +9,7 @@ use Rattle.bind_core.specs.Delegation.{Ending}
 use Rattle.bind_cache.specs.Kept.{Kept}
 use Rattle.bind_cache.specs.Cache.{found_in, kept_in}
 use Rattle.bind_cache.specs.Bindings.{bindings_of}
-use Rattle.one_history.specs.Entries.{others_with, others_after, changes_with, changes_made, others_made}
+use Rattle.one_history.specs.Entries.{others_with, others_after, changes_with, others_made}
 use Rattle.router_log.specs.Operation.{Operation, changed, kept, is_change, kept_count}
 use Rattle.router_log.specs.Value.{Value, value_of, applied, Fits}
 use Rattle.router_log.specs.Call.{keeping, publishes, is_kept, is_large, is_late, is_had, are_spent}
@@ -17,7 +17,7 @@ use Rattle.router_log.proofs.Places.{value_push}
 use Rattle.weave.specs.declared.pass.Pass.{Pass}
 use Rattle.weave.specs.declared.world.World.{World}
 use Rattle.weave.specs.Code.{item_of, operation_of, pass_of, kept_in_arc}
-use Rattle.weave.specs.World.{Item, PassValue, ToldValue, was_kept, was_not_kept, with_call, called, publishes_now}
+use Rattle.weave.specs.World.{Item, PassValue, was_kept, was_not_kept, with_call, called, publishes_now}
 use Rattle.weave.specs.Held.{ops_of, world_of, value_in, Holds, Becomes}
 use Rattle.weave.proofs.Schedules.{kept_here}
 use Rattle.weave.proofs.Moving.{get-map, becomes, pass_with, same_pass, standing}

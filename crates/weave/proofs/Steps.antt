@@ -155,9 +155,6 @@ pub record IsRunning (settings : SettingsValue) (steps : List StepValue) (w : Wo
   pub world : (run_from settings first steps).0 ≡ (run_from settings (world_of w) ahead).0
   pub told : (run_from settings first steps).1 ≡ said ++ (run_from settings (world_of w) ahead).1
 
-pub begins : (w : World) (steps : List StepValue) → Holds w → IsRunning (settings_of w.settings) steps w [] steps (world_of w)
-begins w steps holds = record { same = refl; holds = holds; world = refl; told = refl }
-
 pub runs_on : (settings : SettingsValue) (steps : List StepValue) (first : WorldValue) (w next : World) (s : StepValue) (ss : List StepValue) (said : List ToldValue) (said_now : Told)
     → IsRunning settings steps w said (s ∷ ss) first → IsStep w next s said_now → IsRunning settings steps next (said ++ told_value said_now ∷ []) ss first
 runs_on settings steps first w next s ss said said_now r step =

@@ -1,4 +1,4 @@
-use Rattle.std.proofs.Common.{◌≡◌, ◌+◌, ◌∷◌, [], ◌++◌, length, sym, ap, subst, ◌∙◌, arith}
+use Rattle.std.proofs.Common.{◌∷◌, [], ◌++◌, length, sym, ap, subst, ◌∙◌, arith}
 use Rattle.addr_book.specs.declared.addr.Addr.{Addr}
 use Rattle.addr_book.specs.AddrList.{AreDistinct, HaveWeights}
 use Rattle.weave.proofs.Counting.{length-addrs_from, AreDistinct-addrs_from, HaveWeights-addrs_from, one_put, all_put}

@@ -1,4 +1,4 @@
-use Rattle.std.proofs.Common.{sym, ap, subst, ◌≡◌, ◌<◌, arith, length}
+use Rattle.std.proofs.Common.{sym, ap, subst, arith}
 use Rattle.std.specs.Arc.{arc_value}
 use Rattle.machine.specs.Values.{SettingsValue, StateValue}
 use Rattle.machine.specs.Code.{settings_of, state_of, change_of, ready_of}
