@@ -1,0 +1,14 @@
+pub mod Accepting
+pub mod Answering
+pub mod BytesRoom
+pub mod Calling
+pub mod Closing
+pub mod Entering
+pub mod Finding
+pub mod Numbers
+pub mod Passing
+pub mod Peeks
+pub mod Readers
+pub mod Remembering
+pub mod Short
+pub mod Starting

@@ -1,0 +1,61 @@
+-- What changes and delegations that are given back are answered, and what they do to their pass.
+use Rattle.std.specs.Prelude.{◌≡◌, ◌+◌, ◌++◌, if◌then◌else◌, List, length}
+use Rattle.std.specs.Option.{option_to_list}
+use mathlib.Core.List.{IsPrefix}
+use Rattle.bind_cache.specs.Kept.{Kept}
+use Rattle.machine.specs.Code.{reply_value}
+use Rattle.machine.specs.declared.reply.Reply.{Reply}
+use Rattle.machine.specs.State.{is_accepted, reply_of}
+use Rattle.machine.specs.Values.{SettingsValue, ChangeValue}
+use Rattle.router_log.specs.Call.{changing, keeping, publishes, is_large, is_late, is_had, are_spent, is_kept}
+use Rattle.router_log.specs.Operation.{Operation, place_of}
+use Rattle.router_log.specs.Value.{value_of}
+use Rattle.router.specs.declared.answer.Remembered.{Remembered}
+use Rattle.router.specs.declared.answer.Remembered.TheVariants as remembered
+use Rattle.router.specs.declared.naming.Naming.{Ghosts}
+use Rattle.router.specs.declared.pass.Pass.{Pass}
+use Rattle.router.specs.Passes.{number_in, seen_in, made_in, kept_in, refusals_in, Called, SameSeat, SawMore}
+use Rattle.router.specs.Picked.{IsWorkedOut}
+
+-- whether a delegation is kept, where these operations were published before
+abbrev pub remembered_as : SettingsValue → List Operation → Kept → Remembered
+remembered_as settings ops k =
+    if is_large k then remembered.Large k.cost k.bytes
+    else if is_late ops k then remembered.Late k.place (place_of ops)
+    else if is_had settings ops k then remembered.Had
+    else if are_spent ops then remembered.KeptSpent
+    else remembered.Kept
+
+module _ {J : Type 0} {g : Ghosts J} where
+  -- a pick of this pass worked it out: in a state that the pass has seen
+  abbrev pub WasWorkedOut : Pass J g → Kept → Type 0
+  WasWorkedOut p k = (ops : List Operation) × IsPrefix ops (seen_in p) × IsWorkedOut g.settings (value_of g.settings ops).state k
+
+  -- A change was asked for behind all that had been published, which begins with what the pass had seen. Where the state there accepts it, it was published
+  -- next, and else nothing was; and so it was answered
+  pub record IsChanged (old new : Pass J g) (change : ChangeValue) (reply : Reply) : Type 0 where
+    pub before : List Operation
+    pub called : Called old new (changing change) (length before)
+    pub seen : seen_in new ≡ before ++ option_to_list (publishes g.settings before (number_in old) (made_in old) (kept_in old) (changing change))
+    pub answered : reply_value reply ≡ reply_of g.settings (value_of g.settings before).state change
+    pub made : made_in new ≡ (if is_accepted (value_of g.settings before).state change then made_in old + 1 else made_in old)
+    pub kept : kept_in new ≡ kept_in old
+    pub refusals : refusals_in new ≡ refusals_in old
+    pub seat : SameSeat old new
+
+  -- a delegation was given back, to be kept
+  pub record IsRemembered (old new : Pass J g) (k : Kept) (said : Remembered) : Type 0 where
+    pub before : List Operation
+    pub called : Called old new (keeping k) (length before)
+    pub seen : seen_in new ≡ before ++ option_to_list (publishes g.settings before (number_in old) (made_in old) (kept_in old) (keeping k))
+    pub answered : said ≡ remembered_as g.settings before k
+    pub made : made_in new ≡ made_in old
+    pub kept : kept_in new ≡ (if is_kept g.settings before k then kept_in old + 1 else kept_in old)
+    pub refusals : refusals_in new ≡ refusals_in old
+    pub seat : SameSeat old new
+
+  -- both have seen one list then, which begins with what each had seen
+  pub record Met (a b a' b' : Pass J g) : Type 0 where
+    pub one : seen_in a' ≡ seen_in b'
+    pub first : SawMore a a'
+    pub second : SawMore b b'

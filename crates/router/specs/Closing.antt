@@ -1,0 +1,27 @@
+-- What the end of a router shows.
+use Rattle.std.specs.Prelude.{ℕ, ◌≡◌, List, All, map, slice_get, Some}
+use mathlib.Core.List.{IsPrefix}
+use Rattle.one_history.specs.Order.{InOrder}
+use Rattle.router_log.specs.Call.{publishes}
+use Rattle.router_log.specs.Operation.{Operation, is_change, caller_of, place_of}
+use Rattle.router_log.specs.Value.{AllFit, opening_value}
+use Rattle.router.specs.declared.naming.Naming.{Ghosts}
+use Rattle.router.specs.declared.pass.Pass.{Pass}
+use Rattle.router.specs.Passes.{number_in, seen_in, items_in}
+
+module _ {J : Type 0} {g : Ghosts J} where
+  abbrev pub numbers_of : List (Pass J g) → List ℕ
+  numbers_of ps = map number_in ps
+
+  -- what a pass has seen begins the list, its calls stand in order in that, and the list has no other change of its own
+  pub record IsOf (ops : List Operation) (p : Pass J g) : Type 0 where
+    pub seen : IsPrefix (seen_in p) ops
+    pub order : InOrder is_change (publishes g.settings) caller_of (number_in p) ops (items_in p)
+
+  -- there was one list of operations, with so many changes, each of which fitted where it was published, and was published by one of the passes
+  pub record IsClosed (place : ℕ) (passes : List (Pass J g)) : Type 0 where
+    pub ops : List Operation
+    pub place_is : place_of ops ≡ place
+    pub fit : AllFit g.settings opening_value ops
+    pub passes_are : All (IsOf ops) passes
+    pub callers : All (λ op. (i : ℕ) × (p : Pass J g) × (slice_get passes i ≡ Some p) × (caller_of op ≡ number_in p)) ops

@@ -1,0 +1,16 @@
+pub mod Asking
+pub mod Changing
+pub mod Chosen
+pub mod Closing
+pub mod Loads
+pub mod Names
+pub mod Opening
+pub mod Passes
+pub mod Peeked
+pub mod Picked
+pub mod Short
+pub mod Standing
+pub mod Update
+pub mod Values
+pub mod Views
+pub mod Whole

@@ -1,0 +1,99 @@
+//! What is asked of the value that a reader enters.
+ghost use Rattle.std.specs.Prelude.{◌≡◌, true, IfSome, IfNone, IfOk, OnErr};
+ghost use mathlib.Core.List.{IsPrefix};
+ghost use Rattle.snap_cell.specs.Views.{IsThere, Refused};
+ghost use Rattle.load_words.specs.Seats.{IsOf, slot_of, reads_of, taken_of};
+ghost use Rattle.machine.specs.Code.{look_value, reply_value, ask_of};
+ghost use Rattle.machine.specs.Looking.{look_of};
+ghost use Rattle.router_log.specs.Call.{looked, asked};
+ghost use Rattle.router_log.specs.Operation.{place_of};
+ghost use Rattle.router_log.specs.Value.{value_of};
+ghost use Rattle.router.specs.Peeked.{IsPeek};
+ghost use Rattle.router.specs.Picked.{IsAnswer, is_kept_for};
+ghost use Rattle.router.specs.Views.{BeganEmpty, settings_by, seen_by, Entered};
+
+use crate::Mem;
+use crate::answer::{Answer, Peek};
+use crate::call::Call;
+use crate::current::Current;
+use crate::names::Names;
+use crate::update::Update;
+use line_base::Steps;
+use load_words::{LoadSeat, Loads};
+use machine::{Ask, Look, Reply};
+use snap_cell::Reader;
+use std::alloc::Global;
+use std::snapshot::Snapshot;
+use std::sync::ledger::Ledger;
+
+/// Enters, and answers a look at that point: the place there, and the reply. `None` where the reader is not let in.
+pub(crate) fn look_through<L: Ledger>(
+    reader: &mut Reader<Current, Update, Call>,
+    alloc: Global,
+    look: &Look,
+    steps: &mut Steps<L>,
+) -> Option<(u64, Mem<Reply>)>
+    requires empty { BeganEmpty reader.old }
+    ensures entered { IfSome result (λ r. Entered reader.old reader.new (looked (look_value look.now))) }
+    ensures place { IfSome result (λ r. r.0 ≡ place_of (seen_by reader.new)) }
+    ensures reply { IfSome result (λ r. IfOk r.1 (λ reply. reply_value reply ≡ look_of (settings_by reader.old) (value_of (settings_by reader.old) (seen_by reader.new)).state (look_value look.now))) }
+    ensures there { IfSome result (λ r. IsThere reader.new) }
+    ensures none { IfNone result (Refused reader.old reader.new) }
+{
+    let call = Call::Looked(Snapshot::of(look));
+    let guard = reader.enter(Some(Snapshot::of(&call)))?;
+    Some(guard.get().look(alloc, look, steps))
+}
+
+/// Enters, and answers a pick at that point: the place there, and the answer. `None` where the reader is not let in.
+pub(crate) fn pick_through<L: Ledger>(
+    reader: &mut Reader<Current, Update, Call>,
+    alloc: Global,
+    ask: &Ask,
+    loads: &Loads,
+    seat: &mut LoadSeat,
+    steps: &mut Steps<L>,
+) -> Option<(u64, Mem<Answer>)>
+    requires empty { BeganEmpty reader.old }
+    requires seat { IsOf loads.now seat.old }
+    ensures entered { IfSome result (λ r. Entered reader.old reader.new (asked (ask_of ask.now))) }
+    ensures place { IfSome result (λ r. r.0 ≡ place_of (seen_by reader.new)) }
+    ensures answer { IfSome result (λ r. IfOk r.1 (IsAnswer (settings_by reader.old) (value_of (settings_by reader.old) (seen_by reader.new)) r.0 (ask_of ask.now) (reads_of seat.old) (reads_of seat.new))) }
+    ensures steps { is_kept_for (value_of (settings_by reader.old) (seen_by reader.new)) (ask_of ask.now) ≡ true → steps.new ≡ steps.old }
+    ensures err { IfSome result (λ r. OnErr r.1 (IsPrefix (reads_of seat.old) (reads_of seat.new))) }
+    ensures there { IfSome result (λ r. IsThere reader.new) }
+    ensures none { IfNone result (Refused reader.old reader.new) }
+    ensures unread { IfNone result (seat.new ≡ seat.old) }
+    ensures seat { IsOf loads.now seat.new }
+    ensures taken { taken_of seat.new ≡ taken_of seat.old }
+    ensures slot { slot_of seat.new ≡ slot_of seat.old }
+{
+    let call = Call::Asked(Snapshot::of(ask));
+    let guard = reader.enter(Some(Snapshot::of(&call)))?;
+    Some(guard.get().pick(alloc, ask, loads, seat, steps))
+}
+
+/// Enters, and answers a pick at that point by what is kept there: the place, and the answer. `None` where the reader is not let in.
+pub(crate) fn peek_through(
+    reader: &mut Reader<Current, Update, Call>,
+    ask: &Ask,
+    loads: &Loads,
+    seat: &mut LoadSeat,
+    names: &mut Names,
+) -> Option<(u64, Peek)>
+    requires empty { BeganEmpty reader.old }
+    requires seat { IsOf loads.now seat.old }
+    ensures entered { IfSome result (λ r. Entered reader.old reader.new (asked (ask_of ask.now))) }
+    ensures place { IfSome result (λ r. r.0 ≡ place_of (seen_by reader.new)) }
+    ensures answer { IfSome result (λ r. IsPeek (settings_by reader.old) (value_of (settings_by reader.old) (seen_by reader.new)) r.0 (ask_of ask.now) (reads_of seat.old) (reads_of seat.new) names.new r.1) }
+    ensures there { IfSome result (λ r. IsThere reader.new) }
+    ensures none { IfNone result (Refused reader.old reader.new) }
+    ensures unread { IfNone result (seat.new ≡ seat.old) }
+    ensures seat { IsOf loads.now seat.new }
+    ensures taken { taken_of seat.new ≡ taken_of seat.old }
+    ensures slot { slot_of seat.new ≡ slot_of seat.old }
+{
+    let call = Call::Asked(Snapshot::of(ask));
+    let guard = reader.enter(Some(Snapshot::of(&call)))?;
+    Some(guard.get().peek(ask, loads, seat, names))
+}

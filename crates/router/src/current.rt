@@ -1,0 +1,146 @@
+//! The value that all callers share: the state, and the delegations that are kept for it.
+ghost use Rattle.std.specs.Prelude.{◌≡◌, ◌∷◌, ◌++◌, [], OnOk, OnErr, IfOk, option_map, if◌then◌else◌};
+ghost use Rattle.std.specs.Arc.{arc_value};
+ghost use Rattle.std.specs.Coded.{Coded-set};
+ghost use Rattle.bind_core.specs.Outcome.{ending_of};
+ghost use Rattle.dtab_table.specs.Dtab.{rules_of};
+ghost use Rattle.machine.specs.Code.{settings_of, state_of, change_of, ready_of, look_value, reply_value};
+ghost use Rattle.machine.specs.Ready.{absorbed};
+ghost use Rattle.bind_cache.specs.Bindings.{bindings_of};
+ghost use Rattle.bind_cache.specs.Stored.{kept_of};
+ghost use Rattle.bind_cache.specs.Cache.{found_in, kept_in, after_service};
+ghost use Rattle.ns_store.specs.Store.{contents_of};
+ghost use Rattle.machine.specs.Looking.{space_rules, look_of};
+ghost use Rattle.std.specs.FinMap.{get, contains_key};
+ghost use Rattle.router_log.specs.Codes.{coded_value};
+ghost use Rattle.router_log.specs.Taking.{untouched_by, may_stand, retold};
+ghost use Rattle.router.specs.Update.{updates_in, taken_in, UpdateFits};
+
+use crate::Mem;
+use crate::update::{Past, Update};
+use bind_cache::{Binding, Cache};
+use bind_core::Outcome;
+use dtab_table::Dtab;
+use left_right::Absorb;
+use line_base::Steps;
+use machine::{Look, Reply, Settings, State};
+use name_tree::Path;
+use router_log::take_change;
+use snap_cell::Published;
+use std::alloc::{AllocError, Global};
+use std::mem;
+use std::snapshot::Snapshot;
+use std::sync::Arc;
+use std::sync::ledger::Ledger;
+
+/// The most lookups of a delegation that is kept.
+const MOST_COST: u32 = 256;
+
+/// One copy of the value. It is what the updates that it took in come to, from nothing.
+#[derive(Drop)]
+pub struct Current {
+    pub(crate) alloc: Global,
+    pub(crate) settings: Arc<Settings>,
+    pub(crate) state: State,
+    pub(crate) cache: Cache,
+    pub(crate) past: Snapshot<Past>,
+    ghost told: { record { state = state_of state; cache = bindings_of cache } ≡ taken_in (settings_of (arc_value settings)) (updates_in past.value) } by { Coded-set coded_value _ _ },
+}
+
+impl Current {
+    ghost use Rattle.std.specs.FinMap as fin;
+    ghost use Rattle.router_log.specs.Value.{opening_value};
+    ghost use Rattle.router.specs.Values.{settings_in, value_in};
+
+    /// The value in which nothing was changed and nothing is kept.
+    pub(crate) fn start(alloc: Global, settings: Arc<Settings>) -> Mem<Current>
+        ensures empty { IfOk result (λ current. updates_in current.past.value ≡ []) }
+        ensures settings { IfOk result (λ current. arc_value current.settings ≡ arc_value settings) }
+    {
+        Ok(Current {
+            alloc,
+            settings,
+            state: State::start(alloc)?,
+            cache: Cache::start(alloc)?,
+            past: Snapshot::of(&Past::Nothing),
+        })
+    }
+
+    /// The settings.
+    pub(crate) fn settings(&self) -> &Settings
+        ensures { settings_of result.now ≡ settings_in self.now }
+    {
+        &self.settings
+    }
+
+    /// The state.
+    pub(crate) fn state(&self) -> &State
+        ensures { state_of result.now ≡ (value_in self.now).state }
+    {
+        &self.state
+    }
+
+    /// The place of this value, and the answer to a look at it.
+    pub(crate) fn look<L: Ledger>(
+        &self,
+        alloc: Global,
+        look: &Look,
+        steps: &mut Steps<L>,
+    ) -> (u64, Mem<Reply>)
+        ensures place { result.0 ≡ (value_in self.now).state.place }
+        ensures reply { IfOk result.1 (λ reply. reply_value reply ≡ look_of (settings_in self.now) (value_in self.now).state (look_value look.now)) }
+    {
+        let reply = self.state.answer(alloc, &self.settings, look, steps);
+        (self.state.place(), reply)
+    }
+
+    /// What is kept for a path and a request's own table. It takes one hash of both.
+    pub(crate) fn find(&self, path: &Path, local: &Dtab) -> Option<&Outcome>
+        ensures { option_map (λ outcome. ending_of outcome.now) result ≡ found_in (value_in self.now).cache path.now (rules_of local.now) }
+    {
+        self.cache.find(path, local)
+    }
+}
+
+/// Takes in a delegation that is kept, where it may stand. An `Err` changes nothing.
+fn take_binding(cache: &mut Cache, binding: &Arc<Binding>) -> Mem<()>
+    ensures ok { OnOk result (bindings_of cache.new ≡ (if may_stand (bindings_of cache.old) (kept_of (arc_value binding.now))
+        then kept_in (bindings_of cache.old) (kept_of (arc_value binding.now)) else bindings_of cache.old)) }
+    ensures err { OnErr result (bindings_of cache.new ≡ bindings_of cache.old) }
+{
+    let shared = Arc::try_clone(binding)?;
+    if shared.cost() <= MOST_COST && cache.find(shared.path(), shared.local()).is_none() {
+        cache.keep(shared);
+    }
+    Ok(())
+}
+
+impl Absorb<Update> for Current {
+    type State = (Settings, [Update; 0]);
+
+    ghost state = { λ c. (arc_value c.settings, updates_in c.past.value) };
+
+    ghost applied = { λ s u. (s.0, s.1 ++ u ∷ []) };
+
+    fn absorb_first(&mut self, update: &Update, _other: &Current) -> Result<(), AllocError> {
+        match update {
+            Update::Changed { change, ready, .. } => take_change(
+                self.alloc,
+                &self.settings,
+                &mut self.state,
+                &mut self.cache,
+                change,
+                ready,
+            )?,
+            Update::Kept { binding, .. } => take_binding(&mut self.cache, binding)?,
+        }
+        let past = mem::replace(&mut self.past, Snapshot::of(&Past::Nothing));
+        let next = Past::Then(past, Snapshot::of(update));
+        self.past = Snapshot::of(&next);
+        Ok(())
+    }
+}
+
+impl Published<Update> for Current {
+    ghost fits = { λ s u. UpdateFits (settings_of s.0) (taken_in (settings_of s.0) s.1) u };
+}
