@@ -60,7 +60,7 @@ fn binding(alloc: Global, i: u32) -> Result<Arc<Binding>, AllocError> {
     };
     let service = path(alloc, format!(in alloc; "/svc/p{i}")?.as_str())?;
     let binding = Binding::of(alloc, &service, &Dtab::empty(alloc), found, 0)?;
-    Arc::new(alloc, binding)
+    Ok(Arc::new(alloc, binding)?)
 }
 
 fn fill(alloc: Global, cache: &mut Cache) -> Result<(), AllocError> {
