@@ -6,7 +6,7 @@ It wants the toolchain's command rt, by which it proves, builds and runs a small
 
 usage: bench/heads.py
 """
-from over_crates import output_of
+from over_crates import print_output_of
 
 PROGRAM = r'''//! Times the reading of heads.
 #![tactic(auto)]
@@ -142,12 +142,5 @@ fn main(rt: HostRuntime) -> io::Result<()> {
 }
 '''
 
-
-def main():
-    for line in output_of("heads", PROGRAM, ["line_base", "http_wire", "name_tree", "dtab_table", "forward"]).splitlines():
-        if line.startswith("heads: "):
-            print(line.removeprefix("heads: "))
-
-
 if __name__ == "__main__":
-    main()
+    print_output_of("heads", PROGRAM, ["line_base", "http_wire", "name_tree", "dtab_table", "forward"])

@@ -55,3 +55,10 @@ def output_of(name, program, named):
     if done.returncode != 0:
         sys.exit(f"{done.stdout}{done.stderr}{name}: rt run ended with status {done.returncode}")
     return done.stdout
+
+
+def print_output_of(name, program, named):
+    """Prints those lines of such a program that begin with its name and a colon, without these."""
+    for line in output_of(name, program, named).splitlines():
+        if line.startswith(f"{name}: "):
+            print(line.removeprefix(f"{name}: "))

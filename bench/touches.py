@@ -6,7 +6,7 @@ It wants the toolchain's command rt, by which it proves, builds and runs a small
 
 usage: bench/touches.py
 """
-from over_crates import output_of
+from over_crates import print_output_of
 
 PROGRAM = r'''//! Times what a change costs the cache.
 #![tactic(auto)]
@@ -122,12 +122,5 @@ fn main(rt: HostRuntime) -> io::Result<()> {
 }
 '''
 
-
-def main():
-    for line in output_of("touches", PROGRAM, ["name_tree", "dtab_table", "addr_book", "bind_core", "bind_cache"]).splitlines():
-        if line.startswith("touches: "):
-            print(line.removeprefix("touches: "))
-
-
 if __name__ == "__main__":
-    main()
+    print_output_of("touches", PROGRAM, ["name_tree", "dtab_table", "addr_book", "bind_core", "bind_cache"])
