@@ -1,5 +1,7 @@
+pub mod Accepts
 pub mod Clocks
 pub mod Counts
 pub mod Dials
 pub mod Files
 pub mod Memory
+pub mod Nets

@@ -1,7 +1,9 @@
 -- What the objects in memory hold.
 use Rattle.std.specs.Prelude.{◌≡◌, ℕ, ◌-◌, ◌^◌, ◌==◌, max, Bool, if◌then◌else◌, List, [], ◌∷◌, drop, Option, Contains, slice_index_or}
+use Rattle.line_base.specs.Accepts.{Listening}
 use Rattle.line_base.specs.Counts.{raised}
 use Rattle.line_base.specs.Files.{File}
+use Rattle.line_base.specs.Nets.{Networking}
 use Rattle.line_base.specs.declared.dialer.DialEvent.{DialEvent}
 
 -- when calls are to fail, and how many bytes each may move: calls are numbered from 0, and `calls` is the number of the next one
@@ -72,5 +74,18 @@ pub record Timing : Type 0 where
 -- folders: their files, a plan of their calls, and their faults
 pub record Filing : Type 0 where
   pub files : List File
+  pub plan : Plan
+  pub faults : ℕ
+
+-- a listener: what it tells, the peers that are to come, a plan of its accepts, and its faults
+pub record Hosting (P : Type 0) : Type 0 where
+  pub state : Listening P
+  pub coming : List P
+  pub plan : Plan
+  pub faults : ℕ
+
+-- a net: what it tells, a plan of its calls that listen, and its faults
+pub record Linking (P : Type 0) : Type 0 where
+  pub state : Networking P
   pub plan : Plan
   pub faults : ℕ

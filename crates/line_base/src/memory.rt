@@ -3,6 +3,8 @@
 mod clock;
 mod dialer;
 mod folder;
+mod listener;
+mod net;
 mod plan;
 mod stop;
 mod streams;
@@ -11,5 +13,7 @@ mod unread;
 pub use clock::MemClock;
 pub use dialer::MemDialer;
 pub use folder::{MemFile, MemFolder};
+pub use listener::MemListener;
+pub use net::{MemAddress, MemDials, MemEnded, MemNet, MemVisits};
 pub use stop::MemStop;
 pub use streams::{MemPeer, MemSink, MemSource};

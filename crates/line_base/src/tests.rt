@@ -2,9 +2,9 @@
 ghost use Rattle.std.specs.Prelude.{◌≡◌, ◌<◌};
 
 use crate::{
-    Clock, DialEvent, Dialer, Failed, Folder, FolderFault, Found, Mem, MemClock, MemDialer,
-    MemFile, MemFolder, MemPeer, MemSink, MemSource, MemStop, NameList, Peer, Sink, Source, Steps,
-    Stop,
+    Clock, DialEvent, Dialer, Failed, Folder, FolderFault, Found, Listener, Mem, MemAddress,
+    MemClock, MemDialer, MemDials, MemFile, MemFolder, MemNet, MemPeer, MemSink, MemSource,
+    MemStop, MemVisits, NameList, Net, NetFault, Peer, Sink, Source, Steps, Stop,
 };
 use std::alloc::Global;
 use std::marker::Brand;
@@ -263,5 +263,101 @@ fn folder_of_files(rt: HostRuntime) -> Result<(), Fail> {
         assert_eq!(rt; size_at(&mut folder, path, most), gives);
     }
     assert_eq!(rt; folder.faults(), 1);
+    Ok(())
+}
+
+/// Five answers of a listener: `p` for a peer, which goes back at once, `!` for a fault, and `-` where it is closed.
+fn answers<L: Listener>(listener: &mut L) -> [u8; 5] {
+    let mut answers = [b'.'; 5];
+    for answer in answers.iter_mut() {
+        *answer = match listener.accept() {
+            Ok(Some(peer)) => {
+                listener.finish(peer);
+                b'p'
+            }
+            Ok(None) => b'-',
+            Err(_) => b'!',
+        };
+    }
+    answers
+}
+
+/// Listens on port 80 of an address, at two places, and gives each listener back behind its five answers.
+fn listen_twice<N: Net>(net: &mut N, alloc: Global, ip: u32) -> Result<Vec<[u8; 5]>, NetFault> {
+    let listeners = match net.listen(ip, 80, 2) {
+        Ok(listeners) => listeners.into_items(),
+        Err(fault) => return Err(fault),
+    };
+    let mut told = Vec::new(alloc);
+    for listener in listeners {
+        let mut listener = listener;
+        if told.push(answers(&mut listener)).is_err() {
+            return Err(NetFault::OutOfMemory);
+        }
+        let (dialer, stop) = (net.dialer(), net.stopper());
+        if net.end(listener, Some(dialer), stop).is_err() {
+            return Err(NetFault::Failed);
+        }
+    }
+    Ok(told)
+}
+
+fn visitor(alloc: Global) -> MemPeer {
+    let source = MemSource::of(Vec::new(alloc), Vec::new(alloc), Vec::new(alloc));
+    MemPeer::of(source, MemSink::of(alloc, Vec::new(alloc), Vec::new(alloc)))
+}
+
+/// Two peers come to the first place of an address and one to the second; the accept 1 of the first fails. A later call goes on behind
+/// them, the call 1 fails, and to another address nobody comes.
+#[test]
+fn net_of_listeners(rt: HostRuntime) -> Result<(), Fail> {
+    let alloc = rt.alloc();
+    let first = MemVisits {
+        peers: vec![in alloc; visitor(alloc), visitor(alloc)]?,
+        failing: vec![in alloc; 1]?,
+    };
+    let second = MemVisits {
+        peers: vec![in alloc; visitor(alloc)]?,
+        failing: Vec::new(alloc),
+    };
+    let address = MemAddress {
+        ip: 7,
+        port: 80,
+        visits: vec![in alloc; first, second]?,
+    };
+    let dials = MemDials {
+        replies: Vec::new(alloc),
+        sizes: Vec::new(alloc),
+        failing: Vec::new(alloc),
+    };
+    let mut net = MemNet::of(
+        alloc,
+        vec![in alloc; address]?,
+        vec![in alloc; dials]?,
+        vec![in alloc; 1]?,
+    );
+    let rows = [
+        (7, Ok(vec![in alloc; *b"p!p--", *b"p----"]?), 0, 2),
+        (7, Err(NetFault::Failed), 1, 2),
+        (7, Ok(vec![in alloc; *b"-----", *b"-----"]?), 1, 4),
+        (8, Ok(vec![in alloc; *b"-----", *b"-----"]?), 1, 6),
+    ];
+    for (ip, gives, faults, clean) in rows {
+        assert_eq!(rt; listen_twice(&mut net, alloc, ip), gives);
+        assert_eq!(rt; (net.faults(), net.clean()), (faults, clean));
+    }
+    assert_eq!(rt; net.stops(), (6, 6));
+    let mut returned = Vec::new(alloc);
+    for ended in net.ended() {
+        let dialer = ended.dialer().is_some();
+        returned.push((
+            ended.listener().returned().len(),
+            dialer,
+            ended.stop().calls(),
+        ))?;
+    }
+    assert_eq!(rt; returned.len(), 6);
+    assert_eq!(rt; returned[0], (2, true, 0));
+    assert_eq!(rt; returned[1], (1, true, 0));
     Ok(())
 }
