@@ -1,12 +1,12 @@
 -- Pairs and loads where all weights are equal.
-use Rattle.std.proofs.Common.{◌≡◌, ℕ, zero, suc, ◌+◌, ◌-◌, ◌*◌, ◌/◌, ◌^◌, ◌<◌, ◌≤◌, List, [], ◌∷◌, ◌++◌, length, get_or, take, drop, map, refl, sym, ap, subst, ◌∙◌, arith, inl, inr, lit<}
+use Rattle.std.proofs.Common.{◌≡◌, ℕ, zero, suc, ◌+◌, ◌-◌, ◌*◌, ◌/◌, ◌^◌, ◌<◌, ◌≤◌, List, [], ◌∷◌, length, get_or, refl, sym, ap, ◌∙◌, arith, inl, inr}
 use Rattle.std.specs.Prelude.{sum, remove, All}
 use Rattle.std.proofs.lemmas.Bool.{cases_lt}
-use Rattle.std.proofs.lemmas.List.Elements.{All-head, All-tail, All-cons}
+use Rattle.std.proofs.lemmas.List.Elements.{All-head, All-tail}
 use Rattle.std.proofs.Math.Nat.{div-eq_of_lt, div-eq-sub-div, div-div-eq-div-mul, mul-div-mul_right, mul_assoc, mul-pos}
 use Rattle.addr_book.specs.declared.addr.Weighted.{Weighted}
-use Rattle.choose_core.specs.Pair.{weights_of, place_over, scaled, place_in_whole, first_place, second_place, pair_of}
-use Rattle.choose_core.specs.Laws.{plain_pair, EqualWeightsArePlain}
+use Rattle.choose_core.specs.Pair.{weights_of, place_over, scaled, place_in_whole, first_place, second_place}
+use Rattle.choose_core.specs.Laws.{EqualWeightsArePlain}
 use Rattle.choose_core.proofs.Drawing.{sum-cons, here_over, later_over, scaled_below, first_within, length-removed, rest_of_sum, weights_more}
 
 abbrev AllAre : ℕ → List ℕ → Type 0

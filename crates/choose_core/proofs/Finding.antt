@@ -1,26 +1,27 @@
 -- The places of addresses among marks in order, and what edits there do to the finite map of them.
-use Rattle.std.proofs.Common.{◌≡◌, ℕ, ◌+◌, ◌-◌, ◌<◌, ◌≤◌, List, [], ◌∷◌, length, get_or, set, map, Bool, true, false, cond, Option, Some, None, Result, Ok, Err, zero, suc, refl, sym, ap, subst, ◌∙◌, arith, IfOk, IfErr, not}
-use Rattle.std.specs.Prelude.{T, IsTrue, All, filter, is_some, IfSome, unwrap_or, ◌==◌}
-use Rattle.std.specs.declared.cmp.Ordering.TheVariants.{Less, Equal, Greater}
+use Rattle.std.proofs.Common.{◌≡◌, ℕ, ◌-◌, ◌<◌, ◌≤◌, List, [], ◌∷◌, length, get_or, set, map, Bool, true, false, cond, Option, Some, None, Result, Ok, Err, zero, suc, refl, sym, ap, subst, ◌∙◌, arith, IfOk, IfErr, not}
+use Rattle.std.specs.Prelude.{T, All, filter, is_some, IfSome, unwrap_or, ◌==◌, ◌&&◌, nat_lt}
+use Rattle.std.specs.declared.cmp.Ordering.TheVariants.{Equal}
 use Rattle.std.specs.Ordering.{eq_by_cmp}
 use Rattle.std.specs.List.{insert, remove}
 use Rattle.std.specs.List.Sorted.{IsSearchInRange, IsBinarySearchResult}
 use Rattle.std.specs.FinMap.{is_sorted, get, len, from_sorted, entries-from_sorted, get-from_sorted, get-empty, get-retain_keys, len-entries, len-remove, same_map, find}
 use Rattle.std.specs.FinMap as fin
 use Rattle.std.specs.FinMap.Entries.{where_key, find-where_key}
-use Rattle.std.proofs.lemmas.Bool.{eqb-false}
+use Rattle.std.proofs.lemmas.Bool.{eqb-false, le-ltb}
 use Rattle.std.proofs.lemmas.List.{length-map, length-set}
-use Rattle.std.proofs.lemmas.List.Elements.{All-head, All-tail, All-cons, All-from_recursion, recursion_from_All}
+use Rattle.std.proofs.lemmas.List.Elements.{All-head, All-tail, All-cons}
 use Rattle.addr_book.specs.declared.addr.Addr.{Addr}
 use Rattle.addr_book.specs.AddrList.{addr_cmp}
 use Rattle.addr_book.proofs.AddrLists.{addr_total}
 use Rattle.addr_book.proofs.AddrMaps.{addr_only}
 use Rattle.addr_book.proofs.Places.{searchable, find_there, put_there, without_there, find_nowhere, put_nowhere, sorted_put, map_put, sorted_without, map_without, map_without_none}
 use Rattle.choose_core.specs.declared.mark.Mark.{Mark}
+use Rattle.choose_core.specs.declared.mark.Limits.{Limits}
 use Rattle.choose_core.specs.declared.marked.Marked.{Marked}
-use Rattle.choose_core.specs.Mark.{no_mark}
+use Rattle.choose_core.specs.Mark.{no_mark, is_dead_mark}
 use Rattle.choose_core.specs.Marks.{MarkMap, no_marks, mark_at, with_mark}
-use Rattle.choose_core.specs.Marked.{entry_of, marks_of, IsInOrder, AreSound, IsPlace, IsGap}
+use Rattle.choose_core.specs.Marked.{entry_of, marks_of, AreOver, IsInOrder, IsPlace, IsGap}
 
 is_true : (b : Bool) → T b → b ≡ true
 is_true true h = refl
@@ -109,36 +110,35 @@ less_or_same false n = omega arith
 pub fewer_others : (marks : MarkMap) (addr : Addr) → fin.len marks < 8192 → fin.len (fin.remove marks addr) < 8192
 fewer_others marks addr few = omega (arith, few, len-remove addr_total marks addr, less_or_same (is_some (get marks addr)) (fin.len marks))
 
+-- ---- a fact that holds of each mark
+module _ (P : Marked → Type 0) where
+  pub all_set : (items : List Marked) (at : ℕ) (new : Marked) → P new → All P items → All P (set items at new)
+  all_set [] at new one h = h
+  all_set (x ∷ items) zero new one h = All-cons P new items one (All-tail P x items h)
+  all_set (x ∷ items) (suc at) new one h = All-cons P x (set items at new) (All-head P x items h) (all_set items at new one (All-tail P x items h))
+
+  pub all_insert : (items : List Marked) (at : ℕ) (new : Marked) → P new → All P items → All P (insert items at new)
+  all_insert [] zero new one h = All-cons P new [] one h
+  all_insert [] (suc at) new one h = All-cons P new [] one h
+  all_insert (x ∷ items) zero new one h = All-cons P new (x ∷ items) one h
+  all_insert (x ∷ items) (suc at) new one h = All-cons P x (insert items at new) (All-head P x items h) (all_insert items at new one (All-tail P x items h))
+
+  pub all_remove : (items : List Marked) (at : ℕ) → All P items → All P (remove items at)
+  all_remove [] zero h = h
+  all_remove [] (suc at) h = h
+  all_remove (x ∷ items) zero h = All-tail P x items h
+  all_remove (x ∷ items) (suc at) h = All-cons P x (remove items at) (All-head P x items h) (all_remove items at (All-tail P x items h))
+
+  pub all_filter : (p : Marked → Bool) (items : List Marked) → All P items → All P (filter p items)
+  all_filter p [] h = h
+  all_filter p (x ∷ items) h =
+      let rest = all_filter p items (All-tail P x items h) in
+      elim (p x) as (λ b. All P (cond b (x ∷ filter p items) (filter p items))) [
+        | true ↦ All-cons P x (filter p items) (All-head P x items h) rest
+        | false ↦ rest
+      ]
+
 -- ---- each mark that is kept has a failure
-pub failed_set : (items : List Marked) (at : ℕ) (new : Marked) → 1 ≤ new.mark.count → All (λ m. 1 ≤ m.mark.count) items → All (λ m. 1 ≤ m.mark.count) (set items at new)
-failed_set [] at new one h = h
-failed_set (x ∷ items) zero new one h = All-cons (λ m. 1 ≤ m.mark.count) new items one (All-tail (λ m. 1 ≤ m.mark.count) x items h)
-failed_set (x ∷ items) (suc at) new one h =
-    All-cons (λ m. 1 ≤ m.mark.count) x (set items at new) (All-head (λ m. 1 ≤ m.mark.count) x items h) (failed_set items at new one (All-tail (λ m. 1 ≤ m.mark.count) x items h))
-
-pub failed_insert : (items : List Marked) (at : ℕ) (new : Marked) → 1 ≤ new.mark.count → All (λ m. 1 ≤ m.mark.count) items → All (λ m. 1 ≤ m.mark.count) (insert items at new)
-failed_insert [] zero new one h = All-cons (λ m. 1 ≤ m.mark.count) new [] one h
-failed_insert [] (suc at) new one h = All-cons (λ m. 1 ≤ m.mark.count) new [] one h
-failed_insert (x ∷ items) zero new one h = All-cons (λ m. 1 ≤ m.mark.count) new (x ∷ items) one h
-failed_insert (x ∷ items) (suc at) new one h =
-    All-cons (λ m. 1 ≤ m.mark.count) x (insert items at new) (All-head (λ m. 1 ≤ m.mark.count) x items h) (failed_insert items at new one (All-tail (λ m. 1 ≤ m.mark.count) x items h))
-
-pub failed_remove : (items : List Marked) (at : ℕ) → All (λ m. 1 ≤ m.mark.count) items → All (λ m. 1 ≤ m.mark.count) (remove items at)
-failed_remove [] zero h = h
-failed_remove [] (suc at) h = h
-failed_remove (x ∷ items) zero h = All-tail (λ m. 1 ≤ m.mark.count) x items h
-failed_remove (x ∷ items) (suc at) h =
-    All-cons (λ m. 1 ≤ m.mark.count) x (remove items at) (All-head (λ m. 1 ≤ m.mark.count) x items h) (failed_remove items at (All-tail (λ m. 1 ≤ m.mark.count) x items h))
-
-pub failed_filter : (p : Marked → Bool) (items : List Marked) → All (λ m. 1 ≤ m.mark.count) items → All (λ m. 1 ≤ m.mark.count) (filter p items)
-failed_filter p [] h = h
-failed_filter p (x ∷ items) h =
-    let rest = failed_filter p items (All-tail (λ m. 1 ≤ m.mark.count) x items h) in
-    elim (p x) as (λ b. All (λ m. 1 ≤ m.mark.count) (cond b (x ∷ filter p items) (filter p items))) [
-      | true ↦ All-cons (λ m. 1 ≤ m.mark.count) x (filter p items) (All-head (λ m. 1 ≤ m.mark.count) x items h) rest
-      | false ↦ rest
-    ]
-
 found_failed : (items : List Marked) (addr : Addr) → All (λ m. 1 ≤ m.mark.count) items → IfSome (find addr_cmp addr (map entry_of items)) (λ mark. 1 ≤ mark.count)
 found_failed [] addr h = tt
 found_failed (x ∷ items) addr h =
@@ -193,3 +193,31 @@ length-put items at new most few = omega (arith, length-set items at new)
 pub inserted : {X : Type 0} (taken : Bool) (xs ys zs : List X) → taken ≡ true → xs ≡ cond taken ys zs → xs ≡ ys
 inserted true xs ys zs t e = e
 inserted false xs ys zs t e = cc
+
+-- ---- from a moment on no address is dead
+pub all_later : (items : List Marked) (until later : ℕ) → until ≤ later → AreOver items until → AreOver items later
+all_later items until later le over = λ k d lt. omega (arith, le, over k d lt)
+
+found_over : (items : List Marked) (until : ℕ) (addr : Addr) → AreOver items until → IfSome (find addr_cmp addr (map entry_of items)) (λ mark. mark.until ≤ until)
+found_over [] until addr h = tt
+found_over (x ∷ items) until addr h =
+    let rest = found_over items until addr (All-tail (λ m. m.mark.until ≤ until) x items h) in
+    let here = All-head (λ m. m.mark.until ≤ until) x items h in
+    elim (eq_by_cmp addr_cmp addr x.addr) as (λ b. IfSome (cond b (Some x.mark) (find addr_cmp addr (map entry_of items))) (λ mark. mark.until ≤ until)) [ true ↦ here | false ↦ rest ]
+
+over_or_none : (o : Option Mark) (until : ℕ) → IfSome o (λ mark. mark.until ≤ until) → (unwrap_or o no_mark).until ≤ until
+over_or_none None until h = omega arith
+over_or_none (Some mark) until h = h
+
+mark_over : (items : List Marked) → IsInOrder items → (until : ℕ) → AreOver items until → (addr : Addr) → (mark_at (marks_of items) addr).until ≤ until
+mark_over items h until over addr =
+    over_or_none (fin.get (marks_of items) addr) until
+    (subst (λ o. IfSome o (λ mark. mark.until ≤ until)) (sym (get-from_sorted addr_cmp (map entry_of items) addr (test items h))) (found_over items until addr over))
+
+is_over_mark : (mark : Mark) (moment : ℕ) (limits : Limits) → mark.until ≤ moment → is_dead_mark mark moment limits ≡ false
+is_over_mark mark moment limits le = elim (mark.count == limits.failures) as (λ b. (b && nat_lt moment mark.until) ≡ false) [ true ↦ le-ltb moment mark.until le | false ↦ refl ]
+
+pub none_dead_from : (items : List Marked) → IsInOrder items → (until moment : ℕ) → AreOver items until → until ≤ moment → (addr : Addr) (limits : Limits)
+    → is_dead_mark (mark_at (marks_of items) addr) moment limits ≡ false
+none_dead_from items h until moment over le addr limits =
+    let early = mark_over items h until over addr in is_over_mark (mark_at (marks_of items) addr) moment limits (omega (arith, early, le))

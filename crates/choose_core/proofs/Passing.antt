@@ -1,15 +1,12 @@
 -- Addresses that pass through a sieve, one by one along a list.
 use Rattle.std.proofs.Common.{◌≡◌, ℕ, zero, suc, ◌+◌, ◌<◌, List, [], ◌∷◌, length, get_or, drop, Bool, true, false, cond, None, refl, sym, ap, ◌∙◌, arith, not, add-one, drop-cons}
-use Rattle.std.specs.Prelude.{filter, slice_get, unwrap_or, ◌||◌, ◌&&◌, ◌==◌, nat_lt}
+use Rattle.std.specs.Prelude.{filter, slice_get, ◌||◌, ◌&&◌}
 use Rattle.std.specs.List.{list_all}
-use Rattle.std.proofs.lemmas.Bool.{le-ltb}
-use Rattle.std.specs.FinMap.{len, get-empty, empty_of_len}
 use Rattle.addr_book.specs.declared.addr.Weighted.{Weighted}
-use Rattle.addr_book.specs.AddrList.{addr_cmp}
-use Rattle.choose_core.specs.declared.mark.Mark.{Mark}
+use Rattle.addr_book.specs.declared.addr.Addr.{Addr}
 use Rattle.choose_core.specs.declared.mark.Limits.{Limits}
 use Rattle.choose_core.specs.declared.sieve.Sieve.{Sieve}
-use Rattle.choose_core.specs.Mark.{is_dead_mark, no_mark}
+use Rattle.choose_core.specs.Mark.{is_dead_mark}
 use Rattle.choose_core.specs.Marks.{MarkMap, mark_at}
 use Rattle.choose_core.specs.Live.{is_alive, some_or_all, live_of}
 use Rattle.choose_core.specs.Sieve.{passes, passing}
@@ -39,21 +36,15 @@ module _ {X : Type 0} (p : X → Bool) where
 abbrev pub sieved : Bool → MarkMap → ℕ → Limits → List Weighted → List Weighted
 sieved all marks moment limits list = filter (λ item. all || is_alive marks moment limits item) list
 
-never_dead : (moment : ℕ) (limits : Limits) → is_dead_mark no_mark moment limits ≡ false
-never_dead moment limits = elim (0 == limits.failures) as (λ b. (b && nat_lt moment 0) ≡ false) [ true ↦ le-ltb moment 0 (omega arith) | false ↦ refl ]
-
-all_alive : (marks : MarkMap) (moment : ℕ) (limits : Limits) → len marks ≡ 0 → (item : Weighted) → is_alive marks moment limits item ≡ true
-all_alive marks moment limits none item =
-    ap (λ m. not (is_dead_mark (mark_at m item.addr) moment limits)) (empty_of_len marks none)
-    ∙ (ap (λ o. not (is_dead_mark (unwrap_or o no_mark) moment limits)) (get-empty {X = Mark} addr_cmp item.addr) ∙ ap not (never_dead moment limits))
-
 or_all : (list : List Weighted) → some_or_all list list ≡ list
 or_all [] = refl
 or_all (item ∷ list) = refl
 
-pub none_failed : (marks : MarkMap) (moment : ℕ) (limits : Limits) (list : List Weighted) → len marks ≡ 0 → sieved true marks moment limits list ≡ live_of marks moment limits list
-none_failed marks moment limits list none =
-    let kept : filter (is_alive marks moment limits) list ≡ list = filter_all (is_alive marks moment limits) (all_alive marks moment limits none) list in
+-- all pass where no address is dead
+pub all_over : (marks : MarkMap) (moment : ℕ) (limits : Limits) (list : List Weighted) → ((addr : Addr) (limits : Limits) → is_dead_mark (mark_at marks addr) moment limits ≡ false)
+    → sieved true marks moment limits list ≡ live_of marks moment limits list
+all_over marks moment limits list none =
+    let kept : filter (is_alive marks moment limits) list ≡ list = filter_all (is_alive marks moment limits) (λ item. ap not (none item.addr limits)) list in
     filter_all (λ _. true) (λ _. refl) list ∙ sym (ap (λ some. some_or_all some list) kept ∙ or_all list)
 
 both_are : (a b : Bool) → (a && b) ≡ true → (a ≡ true) × (b ≡ true)

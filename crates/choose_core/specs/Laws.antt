@@ -1,5 +1,5 @@
 -- What weights come to where all are equal.
-use Rattle.std.specs.Prelude.{◌≡◌, ℕ, zero, suc, ◌+◌, ◌-◌, ◌*◌, ◌/◌, ◌^◌, ◌<◌, ◌≤◌, ◌↔◌, List, length, All}
+use Rattle.std.specs.Prelude.{◌≡◌, ℕ, zero, suc, ◌*◌, ◌/◌, ◌^◌, ◌<◌, ◌≤◌, ◌↔◌, List, length, All}
 use Rattle.addr_book.specs.declared.addr.Weighted.{Weighted}
 use Rattle.choose_core.specs.Pair.{pair_of, place_in_whole}
 

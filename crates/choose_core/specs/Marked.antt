@@ -24,6 +24,15 @@ pub record AreSound (items : List Marked) (capacity : ℕ) : Type 0 where
   pub few : length items ≤ 8192
   pub room : 8192 ≤ capacity
 
+-- from this moment on none of the addresses is dead, whatever the limits
+abbrev pub AreOver : List Marked → ℕ → Type 0
+AreOver items until = All (λ m. m.mark.until ≤ until) items
+
+-- what holds of marks and the moment that is kept beside them
+pub record AreKept (items : List Marked) (capacity until : ℕ) : Type 0 where
+  pub sound : AreSound items capacity
+  pub over : AreOver items until
+
 -- the address is at the place
 pub record IsPlace (items : List Marked) (addr : Addr) (at : ℕ) : Type 0 where
   pub within : at < length items

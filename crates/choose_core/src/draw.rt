@@ -19,8 +19,8 @@ const WORDS: u128 = 1 << 64;
 ///
 /// For words that are drawn evenly, an address is the first with a probability of its weight over the sum of the weights.
 ///
-/// It goes over the list four times: for who is alive, for the sum, for the first place, and for the second. Marks are looked up where some
-/// address has failures: once for each address, and in each pass where some addresses of the list are dead and others alive.
+/// It goes over the list four times: for who is alive, for the sum, for the first place, and for the second. Marks are looked up where an
+/// address may still be left out: once for each address, and in each pass where some addresses of the list are dead and others alive.
 pub fn pair(
     list: &[Weighted],
     marks: &Marks,

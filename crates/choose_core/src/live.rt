@@ -10,8 +10,8 @@ use addr_book::Weighted;
 
 /// How many addresses of a list are alive at a moment; all of them count where none is alive.
 ///
-/// It takes no time where no address has failures. Otherwise it looks each mark of the list up about once, and once more where some of its
-/// addresses are dead and others alive.
+/// It takes no time at a moment from which on no address is left out, as where none has failures. Otherwise it looks each mark of the list
+/// up about once, and once more where some of its addresses are dead and others alive.
 pub fn live_count(list: &[Weighted], marks: &Marks, moment: u64, limits: Limits) -> usize
     ensures { result ≡ length (live_of marks.now moment limits list.now) }
 {
@@ -20,8 +20,8 @@ pub fn live_count(list: &[Weighted], marks: &Marks, moment: u64, limits: Limits)
 
 /// The address at a place among those that are alive at a moment, or among all where none is alive, in the list's order.
 ///
-/// It takes no time where no address has failures. Otherwise it looks each mark of the list up about once, and those as far as the address
-/// once more where some of the list's addresses are dead and others alive.
+/// It takes no time at a moment from which on no address is left out, as where none has failures. Otherwise it looks each mark of the list
+/// up about once, and those as far as the address once more where some of the list's addresses are dead and others alive.
 pub fn live_at(list: &[Weighted], marks: &Marks, moment: u64, limits: Limits, at: usize) -> Weighted
     requires { at < length (live_of marks.now moment limits list.now) }
     ensures { slice_get (live_of marks.now moment limits list.now) at ≡ Some result }

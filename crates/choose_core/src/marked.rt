@@ -1,9 +1,9 @@
 //! Marked addresses in the order of the addresses.
-ghost use Rattle.std.specs.Prelude.{◌≡◌, ◌<◌, IfOk, IfErr};
+ghost use Rattle.std.specs.Prelude.{◌≡◌, ◌<◌, ◌≤◌, ℕ, IfOk, IfErr};
 ghost use Rattle.std.specs.FinMap as fin;
 ghost use Rattle.std.specs.Vec.{vec_capacity};
 ghost use Rattle.choose_core.specs.Marks.{with_mark};
-ghost use Rattle.choose_core.specs.Marked.{marks_of, AreSound, IsInOrder, IsPlace, IsGap};
+ghost use Rattle.choose_core.specs.Marked.{marks_of, AreOver, AreSound, IsInOrder, IsPlace, IsGap};
 
 use crate::mark::Mark;
 use addr_book::Addr;
@@ -30,6 +30,7 @@ pub(crate) fn set_there(items: &mut Vec<Marked>, at: usize, addr: Addr, mark: Ma
     requires sound { AreSound items.old.items (vec_capacity items.old) }
     ensures marks { marks_of items.new.items ≡ with_mark (marks_of items.old.items) addr mark }
     ensures sound { AreSound items.new.items (vec_capacity items.new) }
+    ensures over { (until : ℕ) → mark.until ≤ until → AreOver items.old.items until → AreOver items.new.items until }
 {
     if mark.is_none() {
         items.remove(at);
@@ -45,6 +46,7 @@ pub(crate) fn set_nowhere(items: &mut Vec<Marked>, at: usize, addr: Addr, mark: 
     requires room { fin.len (fin.remove (marks_of items.old.items) addr) < 8192 }
     ensures marks { marks_of items.new.items ≡ with_mark (marks_of items.old.items) addr mark }
     ensures sound { AreSound items.new.items (vec_capacity items.new) }
+    ensures over { (until : ℕ) → mark.until ≤ until → AreOver items.old.items until → AreOver items.new.items until }
 {
     if !mark.is_none() {
         let inserted = items.insert(at, Marked { addr, mark });

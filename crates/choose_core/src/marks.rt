@@ -1,8 +1,9 @@
 //! The marks of all addresses that have failures.
-ghost use Rattle.std.specs.Prelude.{◌≡◌, ◌<◌, ◌≤◌, IfOk, IfSome};
+ghost use Rattle.std.specs.Prelude.{◌≡◌, ◌<◌, ◌≤◌, false, IfOk, IfSome, IsTrue};
 ghost use Rattle.std.specs.FinMap as fin;
 ghost use Rattle.addr_book.specs.declared.addr.Addr.{Addr};
 ghost use Rattle.addr_book.specs.Book.{is_used};
+ghost use Rattle.choose_core.specs.declared.mark.Limits.{Limits};
 ghost use Rattle.choose_core.specs.Mark.{is_dead_mark, marked};
 ghost use Rattle.choose_core.specs.Marks.{no_marks, mark_at, with_mark};
 
@@ -21,9 +22,13 @@ pub const MOST_MARKS: usize = 8192;
 /// They lie in the order of their addresses, in room for 8,192 of them that is set aside at the start (192 KiB). A look-up takes about
 /// `log n` comparisons for `n` addresses that have failures, and none where no address has any, which is most of the time. A report that
 /// is the first failure of an address, or the first success after failures, moves the marks behind its own.
+///
+/// A moment is kept beside them from which on none of them leaves its address out, so a choice at that moment or later looks none up. It only
+/// moves on where a failure leaves an address out.
 #[derive(Debug, Drop)]
 pub struct Marks {
     items: Vec<Marked>,
+    until: u64,
 }
 
 impl Model for Marks {
@@ -34,11 +39,11 @@ impl Model for Marks {
 
     ghost coded = { marks_code };
 
-    ghost use Rattle.choose_core.specs.Marked.{marks_of, AreSound};
+    ghost use Rattle.choose_core.specs.Marked.{marks_of, AreKept};
 
     ghost view = { λ m. marks_of m.items.items };
 
-    ghost invariant = { λ m. AreSound m.items.items (vec_capacity m.items) };
+    ghost invariant = { λ m. AreKept m.items.items (vec_capacity m.items) m.until };
 }
 
 impl Marks {
@@ -48,6 +53,7 @@ impl Marks {
     {
         Ok(Marks {
             items: Vec::with_capacity(alloc, MOST_MARKS)?,
+            until: 0,
         })
     }
 
@@ -77,6 +83,13 @@ impl Marks {
         self.mark(addr).is_dead(moment, limits)
     }
 
+    /// Whether it is known, without a look-up, that no address is dead at a moment.
+    pub(crate) fn are_over(&self, moment: u64) -> bool
+        ensures { IsTrue result → (addr : Addr) (limits : Limits) → is_dead_mark (mark_at self.now addr) moment limits ≡ false }
+    {
+        self.until <= moment
+    }
+
     /// Takes a report on an address in, good or failing, and gives the mark that it leaves ([`Mark::after`]). It takes no memory.
     pub fn report(&mut self, addr: Addr, good: bool, moment: u64, limits: Limits) -> Mark
         requires failures { 1 ≤ limits.failures }
@@ -101,6 +114,7 @@ impl Marks {
         requires { fin.len (fin.remove self.old addr) < 8192 }
         ensures { self.new ≡ with_mark self.old addr mark }
     {
+        self.until = self.until.max(mark.until);
         match search(self.items.as_slice(), addr) {
             Ok(at) => set_there(&mut self.items, at, addr, mark),
             Err(at) => set_nowhere(&mut self.items, at, addr, mark),

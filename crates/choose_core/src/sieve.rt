@@ -23,11 +23,11 @@ impl<'a> Sieve<'a> {
     ghost use Rattle.choose_core.specs.Sieve.{passes, passing};
 
     /// The sieve for a list, through which its live list passes. It looks each address's mark up about once, so that later passes over a
-    /// list look up none unless some of its addresses are dead and others alive. Where no address has failures it looks up none.
+    /// list look up none unless some of its addresses are dead and others alive. Where no address is left out any more it looks up none.
     pub(crate) fn of(list: &[Weighted], marks: &'a Marks, moment: u64, limits: Limits) -> Sieve<'a>
         ensures { passing result list.now ≡ live_of marks.now moment limits list.now }
     {
-        let all = marks.count() == 0 || are_alike(list, marks, moment, limits);
+        let all = marks.are_over(moment) || are_alike(list, marks, moment, limits);
         Sieve {
             marks,
             moment,

@@ -1,6 +1,6 @@
-use Rattle.std.proofs.Common.{sym, ◌∙◌, refl, arith, lit<}
+use Rattle.std.proofs.Common.{sym, ◌∙◌}
 use Rattle.choose_core.specs.Sieve.{passes}
-use Rattle.choose_core.proofs.Drawing.{IsDrawing, draw_next, draw_same, drawn_weight}
+use Rattle.choose_core.proofs.Drawing.{draw_next, draw_same, drawn_weight}
 use Rattle.choose_core.proofs.draw.draw.Goals as goal
 use Rattle.choose_core.proofs.draw.draw.Goals.{then-passes+else-left-item, else-passes}
 

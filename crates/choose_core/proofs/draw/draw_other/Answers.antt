@@ -1,6 +1,6 @@
-use Rattle.std.proofs.Common.{sym, ◌∙◌, refl, arith, lit<}
+use Rattle.std.proofs.Common.{sym, ◌∙◌}
 use Rattle.choose_core.specs.Sieve.{passes}
-use Rattle.choose_core.proofs.Drawing.{IsDrawingOther, other_next, other_skip, other_same, other_here, other_end}
+use Rattle.choose_core.proofs.Drawing.{other_next, other_skip, other_same, other_here, other_end}
 use Rattle.choose_core.proofs.draw.draw_other.Goals as goal
 use Rattle.choose_core.proofs.draw.draw_other.Goals.{then-passes, else-passes, then-at-out+else-left-item, else-at-out}
 

@@ -1,10 +1,8 @@
-use Rattle.std.proofs.Common.{◌≡◌, ℕ, ◌+◌, ◌<◌, ◌≤◌, ap, sym, ◌∙◌, arith, List, length, true}
+use Rattle.std.proofs.Common.{◌≡◌, ◌≤◌, ap, sym, ◌∙◌, arith, true}
 use Rattle.std.specs.Prelude.{is_ok}
-use Rattle.std.specs.List.{insert}
 use Rattle.std.proofs.lemmas.List.Edits.{length-insert}
-use Rattle.choose_core.specs.declared.marked.Marked.{Marked}
 use Rattle.choose_core.specs.Marked.{marks_of}
-use Rattle.choose_core.proofs.Finding.{sorted_gap, map_gap, map_gone_gap, len_gap, failed_insert, one_at_least, where_none, where_some, inserted}
+use Rattle.choose_core.proofs.Finding.{sorted_gap, map_gap, map_gone_gap, len_gap, all_insert, one_at_least, where_none, where_some, inserted}
 use Rattle.choose_core.proofs.marked.set_nowhere.Goals as goal
 
 pub prove-unreachable-requires : goal.prove-unreachable-requires
@@ -34,7 +32,7 @@ returns-then-not-is_none-clause-sound c =
     let room = c.requires.sound.room in
     rw (inserted _ _ _ _ ok c.insert-inserted.ensures.items) (record {
       sorted = sorted_gap c.args.items.now.items c.requires.sound.sorted c.args.addr c.args.at c.requires.gap c.args.mark;
-      failed = failed_insert c.args.items.now.items c.args.at (record { addr = c.args.addr; mark = c.args.mark }) (one_at_least c.args.mark (sym c.is_none.ensures ∙ c.if-not-is_none.true)) c.requires.sound.failed;
+      failed = all_insert (λ m. 1 ≤ m.mark.count) c.args.items.now.items c.args.at (record { addr = c.args.addr; mark = c.args.mark }) (one_at_least c.args.mark (sym c.is_none.ensures ∙ c.if-not-is_none.true)) c.requires.sound.failed;
       few = grind (arith, len, fewer, longer);
       room = grind (arith, capacity, room);
     })
@@ -43,3 +41,8 @@ pub returns-else-not-is_none-clause-marks : goal.returns-else-not-is_none-clause
 returns-else-not-is_none-clause-marks c =
     map_gone_gap c.args.items.now.items c.requires.sound.sorted c.args.addr c.args.at c.requires.gap
     ∙ where_none (marks_of c.args.items.now.items) c.args.addr c.args.mark (sym c.is_none.ensures ∙ c.if-not-is_none.false)
+
+pub returns-then-not-is_none-clause-over : goal.returns-then-not-is_none-clause-over
+returns-then-not-is_none-clause-over c until early over =
+    let ok : is_ok c.insert-inserted.result ≡ true = sym c.is_ok-is_inserted.ensures.value ∙ c.if-prove.false in
+    rw (inserted _ _ _ _ ok c.insert-inserted.ensures.items) (all_insert (λ m. m.mark.until ≤ until) c.args.items.now.items c.args.at (record { addr = c.args.addr; mark = c.args.mark }) early over)

@@ -1,8 +1,6 @@
-use Rattle.std.proofs.Common.{◌≡◌, ℕ, ◌+◌, ◌≤◌, ap, sym, ◌∙◌, arith, cond, List}
-use Rattle.std.specs.FinMap as fin
-use Rattle.choose_core.specs.declared.marked.Marked.{Marked}
+use Rattle.std.proofs.Common.{◌≤◌, ap, sym, ◌∙◌, arith}
 use Rattle.choose_core.specs.Marked.{marks_of}
-use Rattle.choose_core.proofs.Finding.{sorted_place, map_place, sorted_gone, map_gone, failed_set, failed_remove, one_at_least, where_none, where_some, length-gone, length-put}
+use Rattle.choose_core.proofs.Finding.{sorted_place, map_place, sorted_gone, map_gone, all_set, all_remove, one_at_least, where_none, where_some, length-gone, length-put}
 use Rattle.choose_core.proofs.marked.set_there.Goals as goal
 
 pub returns-then-is_none-clause-marks : goal.returns-then-is_none-clause-marks
@@ -15,7 +13,7 @@ pub returns-then-is_none-clause-sound : goal.returns-then-is_none-clause-sound
 returns-then-is_none-clause-sound c =
     rw (c.remove.ensures.items, c.remove.ensures.capacity) (record {
       sorted = sorted_gone c.args.items.now.items c.requires.sound.sorted c.args.addr c.args.at c.requires.place c.remove.result;
-      failed = failed_remove c.args.items.now.items c.args.at c.requires.sound.failed;
+      failed = all_remove (λ m. 1 ≤ m.mark.count) c.args.items.now.items c.args.at c.requires.sound.failed;
       few = omega (arith, length-gone c.args.items.now.items c.args.at, c.requires.sound.few);
       room = c.requires.sound.room;
     })
@@ -28,7 +26,13 @@ returns-else-is_none-clause-marks c =
 pub returns-else-is_none-clause-sound : goal.returns-else-is_none-clause-sound
 returns-else-is_none-clause-sound c = record {
   sorted = sorted_place c.args.items.now.items c.requires.sound.sorted c.args.addr c.args.at c.requires.place c.args.mark;
-  failed = failed_set c.args.items.now.items c.args.at (record { addr = c.args.addr; mark = c.args.mark }) (one_at_least c.args.mark (sym c.is_none.ensures ∙ c.if-is_none.false)) c.requires.sound.failed;
+  failed = all_set (λ m. 1 ≤ m.mark.count) c.args.items.now.items c.args.at (record { addr = c.args.addr; mark = c.args.mark }) (one_at_least c.args.mark (sym c.is_none.ensures ∙ c.if-is_none.false)) c.requires.sound.failed;
   few = length-put c.args.items.now.items c.args.at (record { addr = c.args.addr; mark = c.args.mark }) 8192 c.requires.sound.few;
   room = c.requires.sound.room;
 }
+
+pub returns-then-is_none-clause-over : goal.returns-then-is_none-clause-over
+returns-then-is_none-clause-over c until early over = rw c.remove.ensures.items (all_remove (λ m. m.mark.until ≤ until) c.args.items.now.items c.args.at over)
+
+pub returns-else-is_none-clause-over : goal.returns-else-is_none-clause-over
+returns-else-is_none-clause-over c until early over = all_set (λ m. m.mark.until ≤ until) c.args.items.now.items c.args.at (record { addr = c.args.addr; mark = c.args.mark }) early over

@@ -1,7 +1,6 @@
-use Rattle.std.proofs.Common.{◌<◌, arith, ◌≡◌, ap, ◌∙◌, sym}
+use Rattle.std.proofs.Common.{◌<◌, arith}
 use Rattle.addr_book.specs.Bound.{found_of}
 use Rattle.addr_book.proofs.Bounds.{found_size, smaller}
-use Rattle.choose_core.proofs.Branches.{next_gone, next_left, is_left_there, is_left_nowhere}
 use Rattle.choose_core.proofs.pruning.+is_left.Goals as goal
 
 pub is_left-requires : goal.is_left-requires

@@ -1,4 +1,4 @@
-use Rattle.std.proofs.Common.{◌≡◌, ℕ, sym, ◌∙◌, ap, refl, true, length}
+use Rattle.std.proofs.Common.{sym, ◌∙◌, ap, refl, length}
 use Rattle.std.proofs.lemmas.Option.{slice_get_read}
 use Rattle.addr_book.specs.Bound.{found_of}
 use Rattle.choose_core.specs.Branch.{branch_over}

@@ -1,7 +1,7 @@
-use Rattle.std.proofs.Common.{◌≡◌, ℕ, ◌<◌, ◌*◌, ◌+◌, sym, ◌∙◌, ap, refl, arith, lit<, length}
+use Rattle.std.proofs.Common.{sym, ◌∙◌, ap, refl, arith, length}
 use Rattle.std.proofs.lemmas.Option.{slice_get_read}
 use Rattle.choose_core.specs.Branch.{total_weight}
-use Rattle.choose_core.proofs.Branches.{left_of, next_left, next_gone, bounded_at}
+use Rattle.choose_core.proofs.Branches.{next_left, next_gone, bounded_at}
 use Rattle.choose_core.proofs.pruning.left_weight.Goals as goal
 use Rattle.choose_core.proofs.pruning.left_weight.Goals.{then-is_left, else-is_left}
 
