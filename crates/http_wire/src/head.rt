@@ -57,10 +57,14 @@ impl FieldList {
     pub fn first(&self, name: &str) -> Option<&[u8]>
         ensures { option_copied result ≡ slice_get (values_of name.now self.now) 0 }
     {
-        match find_named(self.items(), name) {
-            Some(field) => Some(field.value.bytes()),
-            None => None,
-        }
+        first_value(self.items(), name.as_bytes())
+    }
+
+    /// The value of the first field that has the name that this one is, in any case.
+    pub fn first_named(&self, name: &FieldName) -> Option<&[u8]>
+        ensures { option_copied result ≡ slice_get (values_of name.now self.now) 0 }
+    {
+        first_value(self.items(), name.bytes())
     }
 }
 
@@ -71,11 +75,21 @@ fn count_named(fields: &[Field], name: &str) -> usize
     fields.iter().filter(|field| field.name.is(name)).count()
 }
 
+/// The value of the first of the fields that has this name.
+fn first_value<'a>(fields: &'a [Field], name: &[u8]) -> Option<&'a [u8]>
+    ensures { option_copied result ≡ slice_get (values_of name.now fields.now) 0 }
+{
+    match find_named(fields, name) {
+        Some(field) => Some(field.value.bytes()),
+        None => None,
+    }
+}
+
 /// The first of the fields that has this name.
-fn find_named<'a>(fields: &'a [Field], name: &str) -> Option<&'a Field>
+fn find_named<'a>(fields: &'a [Field], name: &[u8]) -> Option<&'a Field>
     ensures { option_copied result ≡ find (is_named name.now) fields.now }
 {
-    fields.iter().find(|field| field.name.is(name))
+    fields.iter().find(|field| field.name.is_spelt(name))
 }
 
 /// The head of a request (RFC 9112 sections 2 to 5).

@@ -55,7 +55,7 @@ pub use frames::{Framing, FramingFault};
 pub use head::{Field, FieldList, Head, ReplyHead};
 pub use host::{HostFault, read_host};
 pub use laws::{heads_are_unique, readings_exclude_one_another};
-pub use list::trimmed;
+pub use list::{before, trimmed};
 pub use reading::{HeadEnd, read_request_head};
 pub use reply_reading::read_reply_head;
 pub use rest::{FillFault, Rest};

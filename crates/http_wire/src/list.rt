@@ -12,9 +12,16 @@ const MOST_LENGTH: u64 = (1 << 63) - 1;
 pub(crate) fn first_piece(value: &[u8]) -> &[u8]
     ensures { result.now ≡ before_first (λ b. b == comma) value.now }
 {
-    match position_of(value, b',') {
-        Some(at) => &value[..at],
-        None => value,
+    before(value, b',')
+}
+
+/// The bytes before the first of this value, or all where there is none.
+pub fn before(bytes: &[u8], byte: u8) -> &[u8]
+    ensures { result.now ≡ before_first (λ b. b == byte) bytes.now }
+{
+    match position_of(bytes, byte) {
+        Some(at) => &bytes[..at],
+        None => bytes,
     }
 }
 

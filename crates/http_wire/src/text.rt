@@ -69,7 +69,14 @@ impl FieldName {
     pub fn is(&self, name: &str) -> bool
         ensures { result ≡ same_ignoring_case self.now name.now }
     {
-        same_bytes(self.bytes(), name.as_bytes())
+        self.is_spelt(name.as_bytes())
+    }
+
+    /// Whether these bytes spell it, in any case.
+    pub fn is_spelt(&self, name: &[u8]) -> bool
+        ensures { result ≡ same_ignoring_case self.now name.now }
+    {
+        same_bytes(self.bytes(), name)
     }
 }
 

@@ -24,7 +24,6 @@
 #![tactic(auto)]
 
 mod fault;
-mod fields;
 mod labels;
 mod local;
 mod naming;

@@ -6,7 +6,6 @@ ghost use Rattle.name_tree.specs.Computed.{path_of as path_of_text};
 ghost use Rattle.identifier.specs.Naming.{by_method_and_host, by_token, first_value as first_value_of, identified, named_by, Answers, AnswersBy, IsTaken};
 
 use crate::fault::IdentifyFault;
-use crate::fields::first_value;
 use crate::labels::{label, lower_label};
 use crate::rule::{Kind, Rule};
 use crate::segments::segments;
@@ -63,7 +62,7 @@ fn token(alloc: Global, name: &FieldName, head: &Head, host: &[u8]) -> Result<Pa
     if name.is("host") {
         return lower_label(alloc, host);
     }
-    match first_value(head.fields.items(), name) {
+    match head.fields.first_named(name) {
         Some(value) => label(alloc, value),
         None => Err(IdentifyFault::Unidentified),
     }
@@ -87,7 +86,7 @@ fn method_and_host(alloc: Global, head: &Head, host: &[u8]) -> Result<Path, Iden
 fn path_field(alloc: Global, name: &FieldName, head: &Head) -> Result<Path, IdentifyFault>
     ensures { Answers (option_and_then path_of_text (first_value_of name.now head.now.fields)) result }
 {
-    let Some(text) = first_value(head.fields.items(), name) else {
+    let Some(text) = head.fields.first_named(name) else {
         return Err(IdentifyFault::Unidentified);
     };
     match read_path(alloc, text) {

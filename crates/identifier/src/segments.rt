@@ -1,11 +1,10 @@
 //! The pieces of a target's path.
-ghost use Rattle.std.specs.Prelude.{◌≡◌, ◌≢◌, ◌==◌, position, slice_index};
-ghost use Rattle.std.specs.List.{before_first};
+ghost use Rattle.std.specs.Prelude.{◌≡◌, ◌≢◌, slice_index};
 ghost use Rattle.http_uri.specs.ByteClasses.{slash};
 ghost use Rattle.identifier.specs.Naming.{first_of, path_in, pieces_of, Answers, AnswersBy, IsTaken};
 
 use crate::fault::IdentifyFault;
-use http_wire::{Head, TargetFault, read_target};
+use http_wire::{Head, TargetFault, before, read_target};
 use name_tree::Path;
 use std::alloc::Global;
 
@@ -62,21 +61,4 @@ fn behind_slashes(path: &[u8]) -> &[u8]
         rest = others;
     }
     rest
-}
-
-/// The bytes before the first of this value, or all where there is none.
-fn before(bytes: &[u8], byte: u8) -> &[u8]
-    ensures { result.now ≡ before_first (λ b. b == byte) bytes.now }
-{
-    match position_of(bytes, byte) {
-        Some(at) => &bytes[..at],
-        None => bytes,
-    }
-}
-
-/// Where the byte first stands.
-fn position_of(bytes: &[u8], byte: u8) -> Option<usize>
-    ensures { result ≡ position (λ b. b == byte) bytes.now }
-{
-    bytes.iter().position(|b| *b == byte)
 }

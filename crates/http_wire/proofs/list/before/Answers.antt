@@ -1,6 +1,6 @@
 use Rattle.std.proofs.Common.{ℕ, eqb}
 use Rattle.http_wire.proofs.Lists.{before_at, before_none}
-use Rattle.identifier.proofs.segments.before.Goals as goal
+use Rattle.http_wire.proofs.list.before.Goals as goal
 
 pub returns-in-Some : goal.returns-in-Some
 returns-in-Some c = before_at (λ (b : ℕ). eqb b c.args.byte) _ _ c.in-Some.ensures
