@@ -39,7 +39,7 @@ impl<T: Drop> From<AllocFailed<T>> for AddrFault {
     }
 }
 
-/// Reads an address file. A line is a host as [`read_host`](crate::read_host) has it, one or more spaces or tabs, and a port as
+/// Reads an address file. A line is a host as [`read_ip`](crate::read_ip) has it, one or more spaces or tabs, and a port as
 /// [`read_port`](crate::read_port) has it; then `*` and a weight as [`read_weight`](name_tree::read_weight) has it, which is not 0, or
 /// nothing, which is the weight 1. Spaces and tabs may stand round the `*` and at both ends, and a line of them alone is skipped. Lines
 /// end with LF, which the last may lack, and a CR right before an LF is dropped. An address that is repeated is kept once, at its first

@@ -6,7 +6,7 @@ ghost use Rattle.addr_book.specs.AddrList.{IsWeight};
 ghost use Rattle.addr_book.specs.FileLine.{lines_of, line_value, HasWeight, line_weight, is_gap, drop_gaps, word_of, behind_word, single_word, before_star, behind_star};
 
 use crate::addr::{Addr, ONE_WEIGHT, Weighted};
-use crate::host::{read_host, read_port};
+use crate::host::{read_ip, read_port};
 use name_tree::read_weight;
 
 /// What a line of an address file says.
@@ -41,7 +41,7 @@ pub(crate) fn read_line(line: &[u8]) -> FileLine
 fn read_addr(host: &[u8], text: &[u8]) -> Option<Addr>
     ensures { result ≡ addr_of (host_value host.now) (option_and_then port_value (single_word text.now)) }
 {
-    match (read_host(host), read_port(single_word(text)?)) {
+    match (read_ip(host), read_port(single_word(text)?)) {
         (Some(ip), Some(port)) => Some(Addr { ip, port }),
         _ => None,
     }

@@ -12,13 +12,13 @@ const LOOPBACK: u32 = 0x7f00_0001;
 
 /// The number of a host: `localhost`, which is 127.0.0.1, or four numbers from 0 to 255 without leading zeros, with
 /// points between them. The first number is the highest eight bits. `None` where the text is no host.
-pub fn read_host(text: &[u8]) -> Option<u32>
+pub fn read_ip(text: &[u8]) -> Option<u32>
     ensures { result ≡ host_value text.now }
 {
     if text == LOCALHOST {
         return Some(LOOPBACK);
     }
-    read_ip(text)
+    read_octets(text)
 }
 
 /// A port: a number from 1 to 65535 without leading zeros. `None` where the text is no port.
@@ -32,7 +32,7 @@ pub fn read_port(text: &[u8]) -> Option<u16>
 }
 
 /// Four octets with points between them, the first the highest.
-fn read_ip(text: &[u8]) -> Option<u32>
+fn read_octets(text: &[u8]) -> Option<u32>
     ensures { result ≡ ip_of_octets (map octet_value (slice_split (λ b. b == 46) text.now)) }
 {
     let (first, rest) = cut_at_point(text);

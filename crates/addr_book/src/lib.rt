@@ -1,7 +1,7 @@
 //! The book of services: the addresses of each, and a slot for each address; and the names, addresses and files that it is made from.
 //!
 //! An [`Addr`] is an IPv4 address and a port, an [`AddrList`] the addresses of a service, no two alike, and a [`Name`] names a service.
-//! [`read_addrs`] reads an address file, line by line; [`read_host`] and [`read_port`] read the parts of an address, and
+//! [`read_addrs`] reads an address file, line by line; [`read_ip`] and [`read_port`] read the parts of an address, and
 //! [`append_addr`] writes one. [`cut_line`], [`without_gap`] and [`split_word`] take other texts of lines and words apart in the same way.
 //! A [`Book`] maps names to lists of addresses and addresses to slots. A change is prepared as a [`ReadyBook`], or refused with a
 //! [`BookFault`], and then absorbed.
@@ -62,7 +62,7 @@ pub use book::{Book, ReadyBook};
 pub use bound::{Bound, BoundItem, BoundList};
 pub use fault::BookFault;
 pub use file_line::{Cut, cut_at_star, cut_line, read_line_weight, split_word, without_gap};
-pub use host::{read_host, read_port};
+pub use host::{read_ip, read_port};
 pub use laws::{addresses_are_seated, slots_are_apart, slots_stay};
 pub use leaf::{Cluster, Leaf};
 pub use name::{MOST_NAME_BYTES, Name, NameFault};

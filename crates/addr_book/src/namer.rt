@@ -6,7 +6,7 @@ ghost use Rattle.addr_book.specs.Namer.{leaf_at, named_addr, named_service, name
 use crate::Mem;
 use crate::addr::Addr;
 use crate::book::Book;
-use crate::host::{read_host, read_port};
+use crate::host::{read_ip, read_port};
 use crate::leaf::{Cluster, Leaf};
 use crate::name::Name;
 use name_tree::Path;
@@ -19,7 +19,7 @@ const INET_LABELS: usize = 4;
 const FS_LABELS: usize = 3;
 
 /// The leaf that a path names by itself (Finagle user guide, "Names and Naming in Finagle"). `/$/inet/HOST/PORT` is an address, where
-/// HOST and PORT are as [`read_host`] and [`read_port`] have them. `/#/io.l5d.fs/SERVICE` is the service of the book with that name,
+/// HOST and PORT are as [`read_ip`] and [`read_port`] have them. `/#/io.l5d.fs/SERVICE` is the service of the book with that name,
 /// whether it has addresses or not. The labels behind these are the residual. Every other path names nothing, which takes no memory.
 ///
 /// It copies the labels of the path, and takes one look-up in the book.
@@ -59,7 +59,7 @@ fn path_addr(path: &Path) -> Option<Addr>
     {
         return None;
     }
-    let (Some(ip), Some(port)) = (read_host(path.label(2)), read_port(path.label(3))) else {
+    let (Some(ip), Some(port)) = (read_ip(path.label(2)), read_port(path.label(3))) else {
         return None;
     };
     Some(Addr { ip, port })

@@ -179,7 +179,7 @@ fn hosts_and_ports(rt: HostRuntime) {
         ("", None),
     ];
     for (text, host) in hosts {
-        assert_eq!(rt; read_host(text.as_bytes()), host, "{text}");
+        assert_eq!(rt; read_ip(text.as_bytes()), host, "{text}");
     }
     let ports = [
         ("0", None),

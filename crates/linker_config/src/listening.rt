@@ -11,7 +11,7 @@ use crate::config::Port;
 use crate::fault::ConfigFault;
 use crate::keys::check_keys;
 use crate::value::{bad, bad_key, number_at, only_element};
-use addr_book::{Name, NameFault, read_host};
+use addr_book::{Name, NameFault, read_ip};
 use serde_json::Value;
 use std::alloc::Global;
 
@@ -149,18 +149,18 @@ fn ip_in(value: &Value) -> Option<u32>
     ensures { result ≡ text_by ip_value (view value.now) }
 {
     match value.as_str() {
-        Some(text) => read_ip(text),
+        Some(text) => read_address(text),
         None => None,
     }
 }
 
 /// The address of four numbers with points between them.
 #[tactic(auto, unfolding(crate::specs::Listening::ip_value))]
-fn read_ip(text: &str) -> Option<u32>
+fn read_address(text: &str) -> Option<u32>
     ensures { result ≡ ip_value text.now }
 {
     if text == LOCALHOST {
         return None;
     }
-    read_host(text.as_bytes())
+    read_ip(text.as_bytes())
 }

@@ -1,4 +1,5 @@
 pub mod Counting
 pub mod Naming
+pub mod Tables
 pub mod Turning
 pub mod Walking

@@ -2,6 +2,7 @@
 //!
 //! [`read_line`] reads a line as a [`Line`], [`carry_out`] carries it out on a state of the router, and [`reply_text`] writes the reply to it.
 //! [`script_settings`] is what the router of scripts is set up with. [`storm`] makes a run of generated changes and picks, and sums it up in a line.
+//! [`read_number`] reads a word that is a number.
 //!
 //! # Lines
 //! Words stand between spaces and tabs. TABLE goes from its first other byte to the end of the line.
@@ -50,7 +51,7 @@ pub use carried::{carry_out, script_settings};
 pub use line::{Line, read_line};
 pub use reply::{Said, reply_text};
 pub use run::storm;
-pub use words::LineFault;
+pub use words::{LineFault, read_number};
 
 /// A value, unless there was no memory for it.
 pub type Mem<T> = Result<T, AllocError>;

@@ -18,6 +18,9 @@ use machine::{Chosen, Reply, Why};
 use name_tree::append_path;
 use std::alloc::Global;
 
+/// Room for the bytes of most answers to picks.
+const ROOM: usize = 128;
+
 /// What a line is answered.
 #[derive(Debug, Drop)]
 pub enum Said {
@@ -51,7 +54,7 @@ fn text_of_pick(alloc: Global, chosen: &Chosen) -> Mem<Bytes>
             client,
             residual,
         } => {
-            let mut out = Vec::new(alloc);
+            let mut out = Vec::with_capacity(alloc, ROOM)?;
             append_addr(*addr, &mut out)?;
             out.push(b' ')?;
             append_path(client, &mut out)?;

@@ -11,8 +11,8 @@ ghost use Rattle.dtab_table.specs.TableCanon.{AreSoundRules};
 ghost use Rattle.script.specs.Words.{drop_blanks, behind, name_of, number_of, version_of, before_colon, behind_colon, addr_in, weighted_in};
 
 use addr_book::{
-    Addr, Name, NameFault, Weighted, cut_at_star, read_host, read_line_weight, read_port,
-    split_word, without_gap,
+    Addr, Name, NameFault, Weighted, cut_at_star, read_ip, read_line_weight, read_port, split_word,
+    without_gap,
 };
 use dtab_table::{Dtab, DtabFault, read_dtab};
 use name_tree::{Path, TextFault, is_blank_byte, read_path};
@@ -83,11 +83,14 @@ pub(crate) fn read_path_word(alloc: Global, word: &[u8]) -> Result<Path, LineFau
     }
 }
 
-/// The table that a text is.
+/// The table that a text is. The empty text is the table without entries.
 pub(crate) fn read_table(alloc: Global, text: &[u8]) -> Result<Dtab, LineFault>
     ensures table { MatchResult result (λ dtab. table_of text.now ≡ Some (rules_of dtab)) (λ fault. fault ≡ LineFault.BadLine → table_of text.now ≡ None) }
     ensures sound { IfOk result (λ dtab. AreSoundRules (rules_of dtab)) }
 {
+    if text.is_empty() {
+        return Ok(Dtab::empty(alloc));
+    }
     match read_dtab(alloc, text) {
         Ok(dtab) => Ok(dtab),
         Err(DtabFault::OutOfMemory) => Err(LineFault::OutOfMemory),
@@ -95,8 +98,8 @@ pub(crate) fn read_table(alloc: Global, text: &[u8]) -> Result<Dtab, LineFault>
     }
 }
 
-/// The number of 64 bits that a word is, in decimal digits without leading zeros.
-pub(crate) fn read_number(word: &[u8]) -> Option<u64>
+/// The number of 64 bits that a word is, in decimal digits without a sign or leading zeros.
+pub fn read_number(word: &[u8]) -> Option<u64>
     ensures { result ≡ number_of word.now }
 {
     match word {
@@ -161,7 +164,7 @@ pub(crate) fn read_addr(word: &[u8]) -> Option<Addr>
     ensures { result ≡ addr_in word.now }
 {
     let (host, port) = cut_at_colon(word);
-    match (read_host(host), port_of(port)) {
+    match (read_ip(host), port_of(port)) {
         (Some(ip), Some(port)) => Some(Addr { ip, port }),
         _ => None,
     }

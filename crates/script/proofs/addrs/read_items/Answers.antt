@@ -1,5 +1,5 @@
-use Rattle.std.proofs.Common.{rules, arith, sym, ◌∙◌, inl, inr, ◌<◌, length, ◌≡◌, None}
-use Rattle.script.proofs.Walking.{walks_start, walks_on, walks_full, walks_bad, walks_next, walks_end}
+use Rattle.std.proofs.Common.{rules, arith, sym, ◌∙◌, inl, inr, ◌<◌, length}
+use Rattle.script.proofs.Walking.{walks_start, walks_on, walks_full, walks_bad, walks_next}
 use Rattle.script.proofs.addrs.read_items.Goals as goal
 
 pub loop-rest-init : goal.loop-rest-init

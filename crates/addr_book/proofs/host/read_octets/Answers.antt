@@ -1,5 +1,5 @@
 use Rattle.addr_book.proofs.Hosts.{only_three, over_four}
-use Rattle.addr_book.proofs.host.read_ip.Goals as goal
+use Rattle.addr_book.proofs.host.read_octets.Goals as goal
 
 pub returns-in_default-rest-2 : goal.returns-in_default-rest-2
 returns-in_default-rest-2 c =
