@@ -25,7 +25,7 @@ use Rattle.router.specs.Values.{settings_in, IsEmpty}
 use Rattle.router.specs.Whole.{with_update, shown_by}
 use Rattle.router.proofs.Calling.{prefix_values}
 use Rattle.router.proofs.Entering.{fits_shown, whole_fits}
-use Rattle.router.specs.Passes.{number_in, seen_in, items_in}
+use Rattle.router.specs.Passes.{number_in, seen_in, items_in, made_in}
 use Rattle.router.specs.Update.{operation_of, operations_of}
 use Rattle.router.proofs.Numbers.{all_there}
 
@@ -98,6 +98,19 @@ module _ {J : Type 0} {g : Ghosts J} where
         each_is_of ps all (count_shows_order is_change (publishes g.settings) caller_of ops (callers_in ps) (subst Distinct (sym (callers_numbers ps)) distinct) (all_own ps) (all_placed ps all)
         (omega (arith, le, made_by_all ps all))).0
 
+  made_is_in : (p : Pass J g) → p.made ≡ made_in p
+  made_is_in p = p.stands.made_is
+
+  -- what the passes count is what their calls published
+  made_is_counted : (ps : List (Pass J g)) → sum_by (λ (p : Pass J g). p.made) ps ≡ sum_by made_in ps
+  made_is_counted [] = refl
+  made_is_counted (p ∷ ps) =
+      let here = made_is_in p in
+      let rest = made_is_counted ps in
+      let counts = sum_by-cons (λ (q : Pass J g). q.made) p ps in
+      let calls = sum_by-cons made_in p ps in
+      omega (arith, here, rest, counts, calls)
+
   -- each caller is one of the passes, where they have all the numbers
   pub all_callers : (ps : List (Pass J g)) (us : List Update) (seats : ℕ) → Distinct (numbers_of ps) → All (λ n. n < seats) (numbers_of ps) → seats ≤ length ps → All (λ u. caller_of (operation_of u) < seats) us
       → All (λ op. (i : ℕ) × (p : Pass J g) × (slice_get ps i ≡ Some p) × (caller_of op ≡ number_in p)) (operations_of us)
@@ -122,6 +135,7 @@ module _ {J : Type 0} {g : Ghosts J} where
       let ops = operations_of us in record {
         ops = ops;
         place_is = sym place_is;
+        made = sym (made_is_counted ps) ∙ (sym made ∙ counted);
         fit = subst (λ (s : SettingsValue). AllFit s opening_value ops) settings (whole_fits o us empty legal);
         passes_are = all_in_order ops ps distinct (all_of_each (λ (p : Pass J g). IsPrefix (seen_in p) ops) ps (λ i p at. prefix_values (seen_of p.reader) us (seen i p at))) (omega (arith, place_is, made, counted));
         callers = all_callers ps us seats distinct (all_map number_in (λ (n : ℕ). n < seats) ps (all_of_each (λ (p : Pass J g). number_in p < seats) ps below)) many callers;

@@ -1,5 +1,5 @@
 -- What the end of a router shows.
-use Rattle.std.specs.Prelude.{ℕ, ◌≡◌, List, All, map, slice_get, Some}
+use Rattle.std.specs.Prelude.{ℕ, ◌≡◌, List, All, map, slice_get, sum_by, Some}
 use mathlib.Core.List.{IsPrefix}
 use Rattle.one_history.specs.Order.{InOrder}
 use Rattle.router_log.specs.Call.{publishes}
@@ -7,7 +7,7 @@ use Rattle.router_log.specs.Operation.{Operation, is_change, caller_of, place_of
 use Rattle.router_log.specs.Value.{AllFit, opening_value}
 use Rattle.router.specs.declared.naming.Naming.{Ghosts}
 use Rattle.router.specs.declared.pass.Pass.{Pass}
-use Rattle.router.specs.Passes.{number_in, seen_in, items_in}
+use Rattle.router.specs.Passes.{number_in, seen_in, items_in, made_in}
 
 module _ {J : Type 0} {g : Ghosts J} where
   abbrev pub numbers_of : List (Pass J g) → List ℕ
@@ -18,10 +18,12 @@ module _ {J : Type 0} {g : Ghosts J} where
     pub seen : IsPrefix (seen_in p) ops
     pub order : InOrder is_change (publishes g.settings) caller_of (number_in p) ops (items_in p)
 
-  -- there was one list of operations, with so many changes, each of which fitted where it was published, and was published by one of the passes
+  -- there was one list of operations, with so many changes, which is how many the passes made. Each operation fitted where it was published, and was published by
+  -- one of the passes
   pub record IsClosed (place : ℕ) (passes : List (Pass J g)) : Type 0 where
     pub ops : List Operation
     pub place_is : place_of ops ≡ place
+    pub made : sum_by made_in passes ≡ place
     pub fit : AllFit g.settings opening_value ops
     pub passes_are : All (IsOf ops) passes
     pub callers : All (λ op. (i : ℕ) × (p : Pass J g) × (slice_get passes i ≡ Some p) × (caller_of op ≡ number_in p)) ops
