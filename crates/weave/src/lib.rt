@@ -42,6 +42,8 @@ mod publishing;
 mod remembering;
 mod step;
 mod stepping;
+#[cfg(test)]
+mod tests;
 mod turns;
 mod world;
 
