@@ -1,10 +1,12 @@
 -- What each status shows.
-use Rattle.std.proofs.Common.{◌≡◌, ℕ, ◌<◌, Bool, List, length, length-append, refl, sym, ap, subst, ◌∙◌, arith, true, false, inl, inr, lit<}
-use Rattle.std.specs.Prelude.{Option, None, Some, Result, Ok, Err, ◌⊎◌, IsSome, Contains}
+use Rattle.std.proofs.Common.{◌≡◌, ℕ, ◌<◌, Bool, List, [], ◌∷◌, length, length-append, refl, sym, ap, subst, ◌∙◌, arith, true, false, inl, inr, lit<}
+use Rattle.std.specs.Prelude.{Option, None, Some, Result, Ok, Err, ◌⊎◌, IsSome, IsErr, Contains}
 use Rattle.std.specs.Io.KnownBytes.{Consumes}
+use Rattle.linker.specs.Check.{TellsPath}
+use Rattle.linker.specs.Generated.{storm_line, weave_line}
 use Rattle.linker.specs.Replay.{replay_of}
-use Rattle.linker.specs.Run.{Course, words_refused, read_failed, too_long, script_read, line_told, no_memory, Input, Filed, Output, Reads, Checks, Takes, ReadsLong, Ended, Ran, Yields, status_of, status_if, statuses}
-use Rattle.linker.specs.Words.{Asked, replay, check, command_of}
+use Rattle.linker.specs.Run.{Course, words_refused, read_failed, too_long, script_read, line_told, no_memory, Input, Filed, Output, Reads, ReadsScript, Checks, Makes, Takes, Shows, ReadsLong, Ended, Ran, Yields, status_of, status_if, statuses}
+use Rattle.linker.specs.Words.{Asked, replay, check, storm, weave, command_of}
 
 -- a run that did not yield has the status of its course
 ended_code : (course : Course) (old new : Output) (status : ℕ) → Ended course old new status → (status ≡ status_of course) ⊎ Yields status old new
@@ -41,6 +43,8 @@ long_course : (asked : Result Asked ℕ) (old new : Input) (old_files new_files 
 long_course (Err place) old new old_files new_files course some long took = absurd (not_read old new some long took.1)
 long_course (Ok replay) old new old_files new_files course some long took = long_script old new course some long took.0
 long_course (Ok (check path)) old new old_files new_files course some long took = absurd (not_read old new some long took.1)
+long_course (Ok (storm turns seed)) old new old_files new_files course some long took = absurd (not_read old new some long took.1)
+long_course (Ok (weave turns seed)) old new old_files new_files course some long took = absurd (not_read old new some long took.1)
 
 -- the input's count rose only where a read failed
 failed_script : (old new : Input) (course : Course) → old.faults < new.faults → Reads old new course → status_of course ≡ 4
@@ -55,6 +59,8 @@ failed_input : (asked : Result Asked ℕ) (old new : Input) (old_files new_files
 failed_input (Err place) old new old_files new_files course rose took = absurd (omega (arith, ap (λ (i : Input). i.faults) took.1, rose))
 failed_input (Ok replay) old new old_files new_files course rose took = failed_script old new course rose took.0
 failed_input (Ok (check path)) old new old_files new_files course rose took = absurd (omega (arith, ap (λ (i : Input). i.faults) took.1, rose))
+failed_input (Ok (storm turns seed)) old new old_files new_files course rose took = absurd (omega (arith, ap (λ (i : Input). i.faults) took.1, rose))
+failed_input (Ok (weave turns seed)) old new old_files new_files course rose took = absurd (omega (arith, ap (λ (i : Input). i.faults) took.1, rose))
 
 -- the folder's count rose only where it could not be read
 failed_config : (path : List ℕ) (old new : Filed) (course : Course) → old.faults < new.faults → Checks path old new course → status_of course ≡ 4
@@ -69,6 +75,51 @@ failed_folder : (asked : Result Asked ℕ) (old new : Input) (old_files new_file
 failed_folder (Err place) old new old_files new_files course rose took = absurd (omega (arith, ap (λ (f : Filed). f.faults) took.2, rose))
 failed_folder (Ok replay) old new old_files new_files course rose took = absurd (omega (arith, ap (λ (f : Filed). f.faults) took.1, rose))
 failed_folder (Ok (check path)) old new old_files new_files course rose took = failed_config path old_files new_files course rose took.0
+failed_folder (Ok (storm turns seed)) old new old_files new_files course rose took = absurd (omega (arith, ap (λ (f : Filed). f.faults) took.2, rose))
+failed_folder (Ok (weave turns seed)) old new old_files new_files course rose took = absurd (omega (arith, ap (λ (f : Filed). f.faults) took.2, rose))
+
+-- words that fit no command are refused
+refused_course : (asked : Result Asked ℕ) (old new : Input) (old_files new_files : Filed) (course : Course) → IsErr asked → Takes asked old new old_files new_files course → status_of course ≡ 2
+refused_course (Err place) old new old_files new_files course err took = ap status_of took.0
+refused_course (Ok command) old new old_files new_files course err took = cc err
+
+-- the status of what is right or wrong is no other
+apart : (n : ℕ) (good : Bool) → (n ≡ 0 → ⊥) → (n ≡ 3 → ⊥) → n ≡ status_if good → ⊥
+apart n true zero_not three_not is = zero_not is
+apart n false zero_not three_not is = three_not is
+
+same_good : (a b : Bool) → status_if a ≡ status_if b → a ≡ b
+same_good true true is = refl
+same_good true false is = absurd (omega (arith, is))
+same_good false true is = absurd (omega (arith, is))
+same_good false false is = refl
+
+shown_script : (good : Bool) (old new : Input) (course : Course) → status_of course ≡ status_if good → Reads old new course → ReadsScript good old new
+shown_script good old new (words_refused place) is took = absurd took
+shown_script good old new read_failed is took = absurd (apart 4 good (λ p. omega (arith, p)) (λ p. omega (arith, p)) is)
+shown_script good old new too_long is took = absurd (apart 8 good (λ p. omega (arith, p)) (λ p. omega (arith, p)) is)
+shown_script good old new (script_read script) is took = (script, took, same_good (replay_of script).1 good is)
+shown_script good old new (line_told right line) is took = absurd took
+shown_script good old new no_memory is took = absurd (apart 7 good (λ p. omega (arith, p)) (λ p. omega (arith, p)) is)
+
+shown_config : (good : Bool) (path : List ℕ) (old new : Filed) (course : Course) → status_of course ≡ status_if good → Checks path old new course → (line : List ℕ) × TellsPath old.files path good line
+shown_config good path old new (words_refused place) is took = absurd took
+shown_config good path old new read_failed is took = absurd (apart 4 good (λ p. omega (arith, p)) (λ p. omega (arith, p)) is)
+shown_config good path old new too_long is took = absurd took
+shown_config good path old new (script_read script) is took = absurd took
+shown_config good path old new (line_told right line) is took = (line, subst (λ (b : Bool). TellsPath old.files path b line) (same_good right good is) took.0)
+shown_config good path old new no_memory is took = absurd (apart 7 good (λ p. omega (arith, p)) (λ p. omega (arith, p)) is)
+
+shown_made : (good : Bool) (line : List ℕ) (course : Course) → status_of course ≡ status_if good → Makes line course → good ≡ true
+shown_made good line course is (inl told) = sym (same_good true good (sym (ap status_of told) ∙ is))
+shown_made good line course is (inr wanting) = absurd (apart 7 good (λ p. omega (arith, p)) (λ p. omega (arith, p)) (sym (ap status_of wanting) ∙ is))
+
+shown : (good : Bool) (asked : Result Asked ℕ) (old new : Input) (old_files new_files : Filed) (course : Course) → status_of course ≡ status_if good → Takes asked old new old_files new_files course → Shows asked old new old_files good
+shown good (Err place) old new old_files new_files course is took = absurd (apart 2 good (λ p. omega (arith, p)) (λ p. omega (arith, p)) (sym (ap status_of took.0) ∙ is))
+shown good (Ok replay) old new old_files new_files course is took = shown_script good old new course is took.0
+shown good (Ok (check path)) old new old_files new_files course is took = shown_config good path old_files new_files course is took.0
+shown good (Ok (storm turns seed)) old new old_files new_files course is took = shown_made good (storm_line turns seed) course is took.0
+shown good (Ok (weave turns seed)) old new old_files new_files course is took = shown_made good (weave_line turns seed) course is took.0
 
 status_there : (good : Bool) → Contains statuses (status_if good)
 status_there true = (0, lit< tt, refl)
@@ -99,6 +150,18 @@ module _ (words : List (List ℕ)) (old new : Input) (old_files new_files : File
 
   pub folder_cause : old_files.faults < new_files.faults → (status ≡ 4) ⊎ Yields status old_out new_out
   folder_cause rose = by_course 4 (failed_folder (command_of words) old new old_files new_files ran.0 rose ran.1)
+
+  pub refused_cause : IsErr (command_of words) → (status ≡ 2) ⊎ Yields status old_out new_out
+  refused_cause err = by_course 2 (refused_course (command_of words) old new old_files new_files ran.0 err ran.1)
+
+  -- what is right or wrong was shown
+  pub shown_cause : (good : Bool) → status ≡ status_if good → Shows (command_of words) old new old_files good
+  shown_cause good is = ended (ended_code ran.0 old_out new_out status ran.2)
+    where
+      ended : (status ≡ status_of ran.0) ⊎ Yields status old_out new_out → Shows (command_of words) old new old_files good
+      ended (inl code) = shown good (command_of words) old new old_files new_files ran.0 (sym code ∙ is) ran.1
+      ended (inr (inl memory)) = absurd (apart 7 good (λ p. omega (arith, p)) (λ p. omega (arith, p)) (sym memory ∙ is))
+      ended (inr (inr failed)) = absurd (apart 5 good (λ p. omega (arith, p)) (λ p. omega (arith, p)) (sym failed.0 ∙ is))
 
   -- the output's count rose only where a write failed
   pub write_cause : old_out.faults < new_out.faults → status ≡ 5

@@ -7,7 +7,7 @@ use Rattle.std.proofs.KnownBytes.{Appends-trans, Appends-nil, Consumes-nil}
 use Rattle.linker.specs.declared.run.Status.{Status}
 use Rattle.linker.specs.declared.run.Status.TheVariants as status
 use Rattle.linker.specs.Run.{Course, words_refused, read_failed, too_long, script_read, line_told, no_memory, Begins, Input, Filed, Output, Takes, Ended, Ran, output_of, status_of, memory_line}
-use Rattle.linker.specs.Words.{Asked, replay, check, command_of}
+use Rattle.linker.specs.Words.{Asked, replay, check, storm, weave, command_of}
 use Rattle.linker.specs.Told.{code_of, Tells}
 use Rattle.linker.proofs.Plays.{front_of, rose_later}
 
@@ -49,6 +49,8 @@ nothing_read : (asked : Result Asked ℕ) (input : Input) (files : Filed) → (c
 nothing_read (Err place) input files = (words_refused place, (refl, refl, refl))
 nothing_read (Ok replay) input files = (no_memory, ((([], Consumes-nil input.left, omega arith), refl), refl))
 nothing_read (Ok (check path)) input files = (no_memory, (refl, refl, refl))
+nothing_read (Ok (storm turns seed)) input files = (no_memory, (inr refl, refl, refl))
+nothing_read (Ok (weave turns seed)) input files = (no_memory, (inr refl, refl, refl))
 
 -- memory was wanting for the words themselves
 pub no_words : (words : List (List ℕ)) (input : Input) (files : Filed) (old new : Output) (result : Status) → Tells memory_line status.Memory old new result → Ran words input input files files old new (code_of result)

@@ -1,4 +1,5 @@
 pub mod Check
+pub mod Generated
 pub mod Replay
 pub mod Run
 pub mod Told

@@ -10,8 +10,9 @@ use Rattle.line_base.specs.Files.{File}
 use Rattle.addr_book.specs.FileLine.{lines_of}
 use Rattle.machine.specs.State.{opening}
 use Rattle.linker.specs.Check.{TellsPath}
+use Rattle.linker.specs.Generated.{storm_line, weave_line}
 use Rattle.linker.specs.Replay.{played, replay_of}
-use Rattle.linker.specs.Words.{Asked, replay, check, command_of}
+use Rattle.linker.specs.Words.{Asked, replay, check, storm, weave, command_of}
 
 -- the most bytes of a script
 abbrev pub most_script : ℕ
@@ -96,12 +97,18 @@ Checks path old new (script_read script) = ⊥
 Checks path old new (line_told good line) = TellsPath old.files path good line × (new.faults ≡ old.faults)
 Checks path old new no_memory = new.faults ≡ old.faults
 
+-- the course of a line that rests on nothing that is read: only memory may be wanting for it
+abbrev pub Makes : List ℕ → Course → Type 0
+Makes line course = (course ≡ line_told true line) ⊎ (course ≡ no_memory)
+
 -- the course that the words show, with the input and the folder before and after the run: a command reads what it is about and nothing else, and nothing
 -- is read where the words fit none
 abbrev pub Takes : Result Asked ℕ → Input → Input → Filed → Filed → Course → Type 0
 Takes (Err place) old_in new_in old_files new_files course = (course ≡ words_refused place) × (new_in ≡ old_in) × (new_files ≡ old_files)
 Takes (Ok replay) old_in new_in old_files new_files course = Reads old_in new_in course × (new_files ≡ old_files)
 Takes (Ok (check path)) old_in new_in old_files new_files course = Checks path old_files new_files course × (new_in ≡ old_in) × (new_files.files ≡ old_files.files)
+Takes (Ok (storm turns seed)) old_in new_in old_files new_files course = Makes (storm_line turns seed) course × (new_in ≡ old_in) × (new_files ≡ old_files)
+Takes (Ok (weave turns seed)) old_in new_in old_files new_files course = Makes (weave_line turns seed) course × (new_in ≡ old_in) × (new_files ≡ old_files)
 
 -- known bytes grow by a front of these
 abbrev pub AppendsFront : Option (List ℕ) → Option (List ℕ) → List ℕ → Type 0
@@ -150,11 +157,13 @@ Yields status old new = (status ≡ 7) ⊎ ((status ≡ 5) × Rose old.faults ne
 abbrev pub ReadsScript : Bool → Input → Input → Type 0
 ReadsScript good old new = (script : List ℕ) × Reads old new (script_read script) × ((replay_of script).1 ≡ good)
 
--- what the command is about was read, and is right, or is not
+-- what the command is about was read, and is right, or is not. What is made from the words alone is right
 abbrev pub Shows : Result Asked ℕ → Input → Input → Filed → Bool → Type 0
 Shows (Err place) old new files good = ⊥
 Shows (Ok replay) old new files good = ReadsScript good old new
 Shows (Ok (check path)) old new files good = (line : List ℕ) × TellsPath files.files path good line
+Shows (Ok (storm turns seed)) old new files good = good ≡ true
+Shows (Ok (weave turns seed)) old new files good = good ≡ true
 
 -- the course of a whole script
 abbrev pub course_of : List ℕ → Course
@@ -175,6 +184,12 @@ abbrev pub ChecksAll : List (List ℕ) → Filed → Filed → Output → Output
 ChecksAll words old_files new_files old_out new_out status =
     (path : List ℕ) → command_of words ≡ Ok (check path) → (Rose old_files.faults new_files.faults → ⊥) → (Rose old_out.faults new_out.faults → ⊥)
     → (status ≡ 7) ⊎ ((good : Bool) × (line : List ℕ) × TellsPath old_files.files path good line × Completes (line_told good line) old_out new_out status)
+
+-- where no write fails, the line of a generated run is told
+abbrev pub MakesAll : (ℕ → ℕ → Asked) → (ℕ → ℕ → List ℕ) → List (List ℕ) → Output → Output → ℕ → Type 0
+MakesAll command line_of words old_out new_out status =
+    (turns : ℕ) → (seed : ℕ) → command_of words ≡ Ok (command turns seed) → (Rose old_out.faults new_out.faults → ⊥)
+    → Completes (line_told true (line_of turns seed)) old_out new_out status
 
 -- the statuses that there are
 abbrev pub statuses : List ℕ

@@ -2,16 +2,17 @@
 //!
 //! `linker replay` reads a script from standard input and carries its lines out on one state of a router: changes of namespaces, services and
 //! marks, looks, and picks. Each is answered with a line; the crate `script` says which lines there are. `linker check CONFIG` tells whether a router's
-//! configuration is right, or what its first fault is; the crate `linker_config` reads it.
+//! configuration is right, or what its first fault is; the crate `linker_config` reads it. `linker storm N SEED` makes a run of N generated changes and
+//! picks on one state, and `linker weave N SEED` one of four passes, whose answers come later than their questions; each sums its run up in a line.
 //!
 //! [`program::linker`] is the whole program over any folder, source and sink, and [`start::run_arguments`] calls it with the words; `main` makes these of the
 //! file system, the standard streams and its arguments, and ends with the code that it is given.
 //!
 //! # What is proved
 //! At status 0 the output has grown by the replay of what was read, as `specs/Replay.antt` defines it over the whole language of scripts, or by the one line
-//! of the configuration that was found, as `specs/Check.antt` says; each other status has its cause; and where nothing fails, a script is carried out in
-//! full, and a configuration is told of. These are clauses of [`program::linker`]. The code to exit with is the status for exactly the words after the
-//! program's name: a clause of [`start::run_arguments`].
+//! of the configuration that was found, as `specs/Check.antt` says, or by the line of the generated run, as `specs/Generated.antt` has it; each other
+//! status has its cause; and where nothing fails, a script is carried out in full, and a configuration and a generated run are told of. These are clauses of
+//! [`program::linker`]. The code to exit with is the status for exactly the words after the program's name: a clause of [`start::run_arguments`].
 //!
 //! # Examples
 //! ```text
@@ -34,6 +35,7 @@ mod adapters;
 mod check;
 mod ends;
 mod files;
+mod generated;
 mod player;
 mod program;
 mod reply;
@@ -53,6 +55,10 @@ const USAGE: &str = "usage: linker replay < SCRIPT
   drop NAME, fail ADDRESS MOMENT, good ADDRESS MOMENT, pick PATH [MOMENT WORD WORD WORD TABLE], view PATH. Each is answered with a line.
 usage: linker check CONFIG
   CONFIG is the path of a router's configuration in JSON. A line tells that it is right, or its first fault.
+usage: linker storm N SEED
+  Makes N generated changes and picks by the words of the generator with this seed, and sums them up in a line. N is at most 1000000.
+usage: linker weave N SEED
+  Makes N generated steps of four passes that change, ask and are answered later, and sums them up in a line. N is at most 1000000.
 ";
 
 fn main(rt: HostRuntime) -> ExitCode {

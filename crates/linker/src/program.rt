@@ -1,8 +1,9 @@
 //! The top call: all that the program does, over any folder, input and output.
 ghost use Rattle.std.specs.Prelude.{◌≡◌, ◌⊎◌, ◌<◌, Contains, IsErr, IsSome, true, false, map, string_bytes};
 ghost use Rattle.line_base.specs.Counts.{Rose};
-ghost use Rattle.linker.specs.Run.{Ran, Input, Filed, Output, statuses, Shows, ReadsLong, Yields, ReplaysAll, ChecksAll};
-ghost use Rattle.linker.specs.Words.{command_of};
+ghost use Rattle.linker.specs.Generated.{storm_line, weave_line};
+ghost use Rattle.linker.specs.Run.{Ran, Input, Filed, Output, statuses, Shows, ReadsLong, Yields, ReplaysAll, ChecksAll, MakesAll};
+ghost use Rattle.linker.specs.Words.{command_of, storm, weave};
 
 use crate::run::run;
 use line_base::{Folder, Sink, Source};
@@ -15,8 +16,11 @@ use std::sync::ledger::Blank;
 /// |---|---|
 /// | `replay` | reads a script from the input, to its end and at most 67,108,864 bytes of it, carries out its lines in order, and writes a reply line for each; a bad line ends it |
 /// | `check CONFIG` | reads the configuration at the path CONFIG, at most 1,048,576 bytes of it, and writes a line that says that it is right and where its router listens, or what its first fault is |
+/// | `storm N SEED` | makes N generated turns, each a change or a pick by the words of the generator with this seed, on one state, and writes the line that sums them up |
+/// | `weave N SEED` | makes N generated steps of four passes, each a change, a question, an answer to an earlier one, or what passes learn or keep, and writes the line that sums them up |
 ///
-/// A path is a word that is not empty and does not begin with `-`. Where something is wrong, the last line that is written tells what.
+/// A path is a word that is not empty and does not begin with `-`. N is at most 1,000,000 and SEED at most 2^64 - 1, both in decimal digits without leading
+/// zeros. Where something is wrong, the last line that is written tells what.
 ///
 /// | status | where | last line |
 /// |---|---|---|
@@ -36,7 +40,7 @@ pub fn linker<R: AllocGlobal, F: Folder, S: Source, K: Sink>(
     out: &mut K,
 ) -> u8
     // What was read, what was written, and the status go together: at 0 the output has grown by the replay of what was read, or by the line that tells of the
-    // configuration that was found.
+    // configuration that was found, or of the generated run.
     ensures ran { Ran (map string_bytes words.now)
         (record { left = S.left input.old; faults = S.faults input.old; ends = S.ends input.old }) (record { left = S.left input.new; faults = S.faults input.new; ends = S.ends input.new })
         (record { files = F.files folder.old; faults = F.faults folder.old }) (record { files = F.files folder.new; faults = F.faults folder.new })
@@ -46,7 +50,8 @@ pub fn linker<R: AllocGlobal, F: Folder, S: Source, K: Sink>(
     ensures words { result ≡ 2 → IsErr (command_of (map string_bytes words.now)) }
     ensures refused { IsErr (command_of (map string_bytes words.now)) → (result ≡ 2) ⊎ Yields result (record { held = K.held out.old; faults = K.faults out.old }) (record { held = K.held out.new; faults = K.faults out.new }) }
 
-    // 0 and 3 only where the input was read to its end and each line of it is good, or one is bad; and where the configuration is right, or is not.
+    // 0 and 3 only where the input was read to its end and each line of it is good, or one is bad; and where the configuration is right, or is not. A
+    // generated run is never wrong.
     ensures done { result ≡ 0 → Shows (command_of (map string_bytes words.now)) (record { left = S.left input.old; faults = S.faults input.old; ends = S.ends input.old }) (record { left = S.left input.new; faults = S.faults input.new; ends = S.ends input.new }) (record { files = F.files folder.old; faults = F.faults folder.old }) true }
     ensures wrong { result ≡ 3 → Shows (command_of (map string_bytes words.now)) (record { left = S.left input.old; faults = S.faults input.old; ends = S.ends input.old }) (record { left = S.left input.new; faults = S.faults input.new; ends = S.ends input.new }) (record { files = F.files folder.old; faults = F.faults folder.old }) false }
 
@@ -62,12 +67,16 @@ pub fn linker<R: AllocGlobal, F: Folder, S: Source, K: Sink>(
     ensures longer { IsSome (S.left input.old) → ReadsLong (record { left = S.left input.old; faults = S.faults input.old; ends = S.ends input.old }) (record { left = S.left input.new; faults = S.faults input.new; ends = S.ends input.new })
         → (result ≡ 8) ⊎ Yields result (record { held = K.held out.old; faults = K.faults out.old }) (record { held = K.held out.new; faults = K.faults out.new }) }
 
-    // Where nothing fails, an input that tells its bytes is carried out in full, and a configuration is told of.
+    // Where nothing fails, an input that tells its bytes is carried out in full, and a configuration and a generated run are told of.
     ensures replays { ReplaysAll (map string_bytes words.now)
         (record { left = S.left input.old; faults = S.faults input.old; ends = S.ends input.old }) (record { left = S.left input.new; faults = S.faults input.new; ends = S.ends input.new })
         (record { held = K.held out.old; faults = K.faults out.old }) (record { held = K.held out.new; faults = K.faults out.new }) result }
     ensures checks { ChecksAll (map string_bytes words.now)
         (record { files = F.files folder.old; faults = F.faults folder.old }) (record { files = F.files folder.new; faults = F.faults folder.new })
+        (record { held = K.held out.old; faults = K.faults out.old }) (record { held = K.held out.new; faults = K.faults out.new }) result }
+    ensures storms { MakesAll storm storm_line (map string_bytes words.now)
+        (record { held = K.held out.old; faults = K.faults out.old }) (record { held = K.held out.new; faults = K.faults out.new }) result }
+    ensures weaves { MakesAll weave weave_line (map string_bytes words.now)
         (record { held = K.held out.old; faults = K.faults out.old }) (record { held = K.held out.new; faults = K.faults out.new }) result }
     ensures status { Contains statuses result }
 {

@@ -1,13 +1,14 @@
 //! The program, from its words to its status.
-ghost use Rattle.std.specs.Prelude.{◌≡◌, ◌<◌, ◌≤◌, length, map, string_bytes, IfOk};
-ghost use Rattle.linker.specs.Run.{Ran, Course, words_refused, script_read, output_of, status_if, Reads, Checks, Ended, Input, Filed, Output};
+ghost use Rattle.std.specs.Prelude.{◌≡◌, ◌<◌, ◌≤◌, ℕ, List, length, map, string_bytes, IfOk};
+ghost use Rattle.linker.specs.Run.{Ran, Course, words_refused, script_read, output_of, status_if, Reads, Checks, Makes, Ended, Input, Filed, Output};
 ghost use Rattle.linker.specs.Told.{code_of, Tells};
 
-use crate::Mem;
 use crate::check::{CheckEnd, check};
 use crate::ends::{ReadEnd, read_all, write_all};
+use crate::generated::{storm_line, weave_line};
 use crate::player::{PlayEnd, play};
 use crate::words::{Command, read_words};
+use crate::{Bytes, Mem};
 use line_base::{Folder, Sink, Source, Steps};
 use std::alloc::Global;
 use std::sync::ledger::{Blank, Ledger};
@@ -141,6 +142,18 @@ fn check_config<F: Folder, K: Sink>(
     }
 }
 
+/// Tells the line that was made from the words alone, unless there was no memory for it.
+fn tell_made<K: Sink>(out: &mut K, made: Mem<Bytes>) -> Status
+    ensures { (line : List ℕ) → IfOk made (λ made. made.items ≡ line)
+        → (course : Course) × Makes line course
+        × Ended course (record { held = K.held out.old; faults = K.faults out.old }) (record { held = K.held out.new; faults = K.faults out.new }) (code_of result) }
+{
+    match made {
+        Ok(line) => tell(out, line.as_slice(), Status::Done),
+        Err(_) => tell(out, b"error memory\n", Status::Memory),
+    }
+}
+
 /// Does what the words say.
 pub fn run<F: Folder, S: Source, K: Sink, L: Ledger>(
     alloc: Global,
@@ -162,6 +175,8 @@ pub fn run<F: Folder, S: Source, K: Sink, L: Ledger>(
     match read_words(words) {
         Ok(Command::Replay) => replay(alloc, input, out, &mut steps),
         Ok(Command::Check(path)) => check_config(alloc, folder, path, out),
+        Ok(Command::Storm(run)) => tell_made(out, storm_line(alloc, run)),
+        Ok(Command::Weave(run)) => tell_made(out, weave_line(alloc, run, &mut steps)),
         Err(place) => refuse_words(alloc, out, place),
     }
 }

@@ -330,6 +330,65 @@ fn words(rt: HostRuntime) -> Result<(), Fail> {
     Ok(())
 }
 
+#[test]
+fn words_of_generated_runs(rt: HostRuntime) -> Result<(), Fail> {
+    let alloc = rt.alloc();
+    let empty = "changes 1 refused 0 picked 0 none 0 ports 0\n";
+    let rows: [(&[&str], &str, u8); 19] = [
+        (&["storm"], "error words 2\n", 2),
+        (&["storm", "", "5"], "error words 2\n", 2),
+        (&["storm", "01", "5"], "error words 2\n", 2),
+        (&["storm", "+1", "5"], "error words 2\n", 2),
+        (&["storm", "1000001", "5"], "error words 2\n", 2),
+        (&["storm", "x", "x", "x"], "error words 2\n", 2),
+        (&["storm", "1000000", "x"], "error words 3\n", 2),
+        (&["storm", "5"], "error words 3\n", 2),
+        (&["storm", "5", "x"], "error words 3\n", 2),
+        (&["storm", "5", "-1"], "error words 3\n", 2),
+        (&["storm", "5", "00"], "error words 3\n", 2),
+        (
+            &["storm", "5", "18446744073709551616"],
+            "error words 3\n",
+            2,
+        ),
+        (&["storm", "5", "x", "x"], "error words 3\n", 2),
+        (&["storm", "5", "7", "x"], "error words 4\n", 2),
+        (&["storm", "0", "7"], empty, 0),
+        (&["storm", "0", "18446744073709551615"], empty, 0),
+        (&["weave", "01", "5"], "error words 2\n", 2),
+        (&["weave", "5", "x"], "error words 3\n", 2),
+        (&["weave", "0", "7"], "history 1 looks 0 kept 0\n", 0),
+    ];
+    for (words, written, status) in rows {
+        let (sink, ended) = run(&rt, words, source(alloc, SAMPLE)?, sink(alloc))?;
+        assert_eq!(rt; sink.held(), written.as_bytes());
+        assert_eq!(rt; ended, status);
+    }
+    Ok(())
+}
+
+/// Runs of a thousand turns; where the write fails, that is told.
+#[test]
+fn generated_runs(rt: HostRuntime) -> Result<(), Fail> {
+    let alloc = rt.alloc();
+    let rows = [
+        (
+            "storm",
+            "changes 334 refused 168 picked 242 none 257 ports 809971\n",
+        ),
+        ("weave", "history 254 looks 127 kept 3\n"),
+    ];
+    for (command, written) in rows {
+        let words = [command, "1000", "1"];
+        let whole = run(&rt, &words, source(alloc, "")?, sink(alloc))?;
+        let failing = MemSink::of(alloc, Vec::new(alloc), vec![in alloc; 0u64]?);
+        let failed = run(&rt, &words, source(alloc, "")?, failing)?;
+        assert_eq!(rt; (whole.0.held(), whole.1), (written.as_bytes(), 0));
+        assert_eq!(rt; (failed.0.held(), failed.1), (b"".as_slice(), 5));
+    }
+    Ok(())
+}
+
 /// A folder that has one file, `c.json`.
 fn one_file(alloc: Global, text: &[u8], failing: &[u64]) -> Result<MemFolder, AllocError> {
     let file = MemFile::of(

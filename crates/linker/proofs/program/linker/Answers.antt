@@ -1,7 +1,7 @@
-use Rattle.std.proofs.Common.{map, sym, subst}
+use Rattle.std.proofs.Common.{map, sym, subst, true, false}
 use Rattle.std.specs.Prelude.{string_bytes}
 use Rattle.linker.specs.Run.{Input, Filed, Output, Ran}
-use Rattle.linker.proofs.Causes.{long_cause, known_status, read_cause, folder_cause, write_cause}
+use Rattle.linker.proofs.Causes.{long_cause, known_status, refused_cause, shown_cause, read_cause, folder_cause, write_cause}
 use Rattle.linker.proofs.program.linker.Goals as goal
 
 pub returns-clause-longer : goal.returns-clause-longer
@@ -63,3 +63,33 @@ returns-clause-ran g c =
     let old_out : Output = record { held = g.K.Sink.held c.args.out.now; faults = g.K.Sink.faults c.args.out.now } in
     let new_out : Output = record { held = g.K.Sink.held c.run.new.out; faults = g.K.Sink.faults c.run.new.out } in
     subst (Ran (map string_bytes c.args.words.now) old_in new_in old_files new_files old_out new_out) (sym c.code.ensures) c.run.ensures
+
+pub returns-clause-refused : goal.returns-clause-refused
+returns-clause-refused g c =
+    let old_in : Input = record { left = g.S.Source.left c.args.input.now; faults = g.S.Source.faults c.args.input.now; ends = g.S.Source.ends c.args.input.now } in
+    let new_in : Input = record { left = g.S.Source.left c.run.new.input; faults = g.S.Source.faults c.run.new.input; ends = g.S.Source.ends c.run.new.input } in
+    let old_files : Filed = record { files = g.F.Folder.files c.args.folder.now; faults = g.F.Folder.faults c.args.folder.now } in
+    let new_files : Filed = record { files = g.F.Folder.files c.run.new.folder; faults = g.F.Folder.faults c.run.new.folder } in
+    let old_out : Output = record { held = g.K.Sink.held c.args.out.now; faults = g.K.Sink.faults c.args.out.now } in
+    let new_out : Output = record { held = g.K.Sink.held c.run.new.out; faults = g.K.Sink.faults c.run.new.out } in
+    refused_cause (map string_bytes c.args.words.now) old_in new_in old_files new_files old_out new_out c.code.result (rw (← c.code.ensures) at c.run.ensures)
+
+pub returns-clause-done : goal.returns-clause-done
+returns-clause-done g c =
+    let old_in : Input = record { left = g.S.Source.left c.args.input.now; faults = g.S.Source.faults c.args.input.now; ends = g.S.Source.ends c.args.input.now } in
+    let new_in : Input = record { left = g.S.Source.left c.run.new.input; faults = g.S.Source.faults c.run.new.input; ends = g.S.Source.ends c.run.new.input } in
+    let old_files : Filed = record { files = g.F.Folder.files c.args.folder.now; faults = g.F.Folder.faults c.args.folder.now } in
+    let new_files : Filed = record { files = g.F.Folder.files c.run.new.folder; faults = g.F.Folder.faults c.run.new.folder } in
+    let old_out : Output = record { held = g.K.Sink.held c.args.out.now; faults = g.K.Sink.faults c.args.out.now } in
+    let new_out : Output = record { held = g.K.Sink.held c.run.new.out; faults = g.K.Sink.faults c.run.new.out } in
+    shown_cause (map string_bytes c.args.words.now) old_in new_in old_files new_files old_out new_out c.code.result (rw (← c.code.ensures) at c.run.ensures) true
+
+pub returns-clause-wrong : goal.returns-clause-wrong
+returns-clause-wrong g c =
+    let old_in : Input = record { left = g.S.Source.left c.args.input.now; faults = g.S.Source.faults c.args.input.now; ends = g.S.Source.ends c.args.input.now } in
+    let new_in : Input = record { left = g.S.Source.left c.run.new.input; faults = g.S.Source.faults c.run.new.input; ends = g.S.Source.ends c.run.new.input } in
+    let old_files : Filed = record { files = g.F.Folder.files c.args.folder.now; faults = g.F.Folder.faults c.args.folder.now } in
+    let new_files : Filed = record { files = g.F.Folder.files c.run.new.folder; faults = g.F.Folder.faults c.run.new.folder } in
+    let old_out : Output = record { held = g.K.Sink.held c.args.out.now; faults = g.K.Sink.faults c.args.out.now } in
+    let new_out : Output = record { held = g.K.Sink.held c.run.new.out; faults = g.K.Sink.faults c.run.new.out } in
+    shown_cause (map string_bytes c.args.words.now) old_in new_in old_files new_files old_out new_out c.code.result (rw (← c.code.ensures) at c.run.ensures) false

@@ -1,0 +1,25 @@
+-- What sockets tell: numbers, and no content.
+use Rattle.std.specs.Prelude.{◌≡◌, ℕ, ◌<◌, List, length, slice_index_or, None}
+use Rattle.line_base.specs.Accepts.{Listening}
+use Rattle.line_base.specs.Nets.{Networking}
+use Rattle.net_edge.specs.declared.listener.SocketListener.{SocketListener}
+use Rattle.net_edge.specs.declared.peer.SocketPeer.{SocketPeer}
+
+-- a listener
+abbrev pub listening : SocketListener → Listening SocketPeer
+listening l = record { endpoint = None; visits = None; closes = l.closes; accepted = l.accepted; finished = l.finished; run = l.run }
+
+-- a net, by the listeners that came back clean, the stops that it handed out, and those that came back
+abbrev pub networking : ℕ → ℕ → ℕ → Networking SocketPeer
+networking clean given returned = record { told = None; clean = clean; stops_given = given; stops_returned = returned }
+
+-- a listener before its first call
+pub record IsFresh (l : SocketListener) : Type 0 where
+  pub closes : l.closes ≡ 0
+  pub accepted : l.accepted ≡ 0
+  pub finished : l.finished ≡ 0
+  pub run : l.run ≡ 0
+
+-- each of these is
+abbrev pub AllFresh : List SocketListener → Type 0
+AllFresh ls = (at : ℕ) (d : SocketListener) → at < length ls → IsFresh (slice_index_or ls at d)

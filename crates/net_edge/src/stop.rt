@@ -1,0 +1,80 @@
+//! What closes the listeners.
+ghost use Rattle.std.specs.Prelude.{◌≡◌};
+
+use line_base::Stop;
+use std::alloc::{AllocError, Global};
+use std::net::{Shutdown, TcpStream};
+use std::sync::Arc;
+use std::sync::atomic::{AtomicU64, Ordering};
+
+/// Whether the listeners of a net are closed. The net, its listeners and its stops share it.
+#[derive(Drop)]
+pub(crate) struct Closing {
+    is_closed: Arc<AtomicU64>,
+}
+
+impl Closing {
+    /// They are open.
+    pub(crate) fn open(alloc: Global) -> Result<Closing, AllocError> {
+        Ok(Closing {
+            is_closed: Arc::new(alloc, AtomicU64::new(0))?,
+        })
+    }
+
+    /// Another that is closed with this one.
+    pub(crate) fn share(&self) -> Result<Closing, AllocError> {
+        Ok(Closing {
+            is_closed: Arc::try_clone(&self.is_closed)?,
+        })
+    }
+
+    /// Whether they are closed. Once they are, they stay so.
+    pub(crate) fn is_closed(&self) -> bool {
+        self.is_closed.load(Ordering::SeqCst) == 1
+    }
+
+    /// Closes them.
+    pub(crate) fn close(&self) {
+        self.is_closed.store(1, Ordering::SeqCst);
+    }
+}
+
+/// The sockets that listen.
+pub(crate) type Sockets = Arc<Vec<Arc<TcpStream>>>;
+
+/// What closes the listeners: those that wait for a peer answer at once that they are closed, and so does each from then on.
+#[derive(Drop)]
+pub struct SocketStop {
+    closing: Option<Closing>,
+    sockets: Option<Sockets>,
+    calls: u64,
+}
+
+impl SocketStop {
+    /// A stop of these listeners, which was not called yet. It closes nothing of what is missing.
+    pub(crate) fn of(closing: Option<Closing>, sockets: Option<Sockets>) -> SocketStop
+        ensures { result.calls ≡ 0 }
+    {
+        SocketStop {
+            closing,
+            sockets,
+            calls: 0,
+        }
+    }
+}
+
+impl Stop for SocketStop {
+    ghost calls = { λ s. s.calls };
+
+    fn stop(&mut self) {
+        self.calls = self.calls.saturating_add(1);
+        if let Some(closing) = &self.closing {
+            closing.close();
+        }
+        if let Some(sockets) = &self.sockets {
+            for socket in sockets.iter() {
+                let _ = socket.shutdown(Shutdown::Both);
+            }
+        }
+    }
+}

@@ -1,0 +1,89 @@
+-- What was done for a demand.
+use Rattle.std.proofs.Common.{◌≡◌, List, [], ℕ, Result, Ok, Err, refl, sym, ◌∙◌, inl, inr, subst}
+use Rattle.std.specs.Prelude.{IfOk, OnErr, Bool, false, true}
+use Rattle.std.specs.declared.alloc.AllocError.{AllocError}
+use Rattle.std.proofs.lemmas.List.{append-nil}
+use mathlib.Core.List.{IsPrefix}
+use Rattle.http_wire.specs.declared.head.Head.{Head}
+use Rattle.http_wire.specs.Target.{Form, IsServed}
+use Rattle.machine.specs.Code.{reply_value}
+use Rattle.machine.specs.declared.reply.Reply.{Reply}
+use Rattle.machine.specs.Values.{ChangeValue, LookValue}
+use Rattle.router.specs.Changing.{IsChanged}
+use Rattle.router.specs.declared.naming.Naming.{Ghosts}
+use Rattle.router.specs.declared.pass.Pass.{Pass}
+use Rattle.router.specs.Passes.{number_in, seen_in, SawMore}
+use Rattle.ns_api.specs.declared.delivery.Delivery.{Delivery}
+use Rattle.ns_api.specs.declared.reply.ApiReply.{ApiReply}
+use Rattle.ns_api.specs.Answering.{delivery_of, AnswersBy, IsAltered, IsAsked, IsCarriedOut, IsSaid, IsWritten, Leaves, LeavesBy, MayHaveChanged, MayHaveLooked, Waited, at_once, again}
+use Rattle.ns_api.specs.Demand.{DemandValue, answer, stop, alter, ask}
+use Rattle.ns_api.specs.Response.{ResponseValue}
+use Rattle.ns_api.specs.Telling.{response_to}
+use Rattle.ns_api.proofs.Forms.{one_form}
+
+-- what is written of a response is written of each that is the same
+pub written_as : (a b : ResponseValue) (delivery : Delivery) (stops : Bool) (result : Result ApiReply AllocError) → a ≡ b → IfOk result (IsWritten a delivery stops) → IfOk result (IsWritten b delivery stops)
+written_as a b delivery stops result same h = let P : ResponseValue → Type 0 = λ r. IfOk result (IsWritten r delivery stops) in subst P same h
+
+module _ {J : Type 0} {g : Ghosts J} where
+  pub waited_number : {old new : Pass J g} → Waited old new → number_in new ≡ number_in old
+  waited_number at_once = refl
+  waited_number (again w n h) = n ∙ waited_number w
+
+  pub altered : (change : ChangeValue) (delivery : Delivery) (old new : Pass J g) (said : Reply) (written : Result ApiReply AllocError) → IsChanged old new change said
+      → IfOk written (IsWritten (response_to delivery.as_dtab (reply_value said)) delivery false) → IfOk written (IsAltered change delivery old new)
+  altered change delivery old new said (Ok reply) changed w = record { said = said; changed = changed; written = w }
+  altered change delivery old new said (Err want) changed w = tt
+
+  pub was_altered : (change : ChangeValue) (old new : Pass J g) (said : Reply) (written : Result ApiReply AllocError) → IsChanged old new change said → OnErr written (MayHaveChanged change old new)
+  was_altered change old new said (Ok reply) changed = tt
+  was_altered change old new said (Err want) changed = inr (said, changed)
+
+  pub asked : (look : LookValue) (delivery : Delivery) (old new : Pass J g) (said : Reply) (written : Result ApiReply AllocError) → IsSaid look old new said
+      → IfOk written (IsWritten (response_to delivery.as_dtab (reply_value said)) delivery false) → IfOk written (IsAsked look delivery old new)
+  asked look delivery old new said (Ok reply) answered w = record { said = said; answered = answered; written = w }
+  asked look delivery old new said (Err want) answered w = tt
+
+  pub was_asked : (look : LookValue) (old new : Pass J g) (said : Reply) (written : Result ApiReply AllocError) → IsSaid look old new said → OnErr written (MayHaveLooked look old new)
+  was_asked look old new said (Ok reply) h = tt
+  was_asked look old new said (Err want) h = record { mid = h.mid; waited = h.waited; made = inr (h.looked.entered, h.looked.reads) }
+
+  pub answered_at_once : (said : ResponseValue) (delivery : Delivery) (stops : Bool) (p : Pass J g) (written : Result ApiReply AllocError) → IfOk written (IsWritten said delivery stops)
+      → IfOk written (λ reply. (p ≡ p) × IsWritten said delivery stops reply)
+  answered_at_once said delivery stops p (Ok reply) w = (refl, w)
+  answered_at_once said delivery stops p (Err want) w = tt
+
+  pub same_at_err : (p : Pass J g) (written : Result ApiReply AllocError) → OnErr written (p ≡ p)
+  same_at_err p (Ok reply) = tt
+  same_at_err p (Err want) = refl
+
+  -- nothing was done
+  pub leaves_all : (d : DemandValue) (p : Pass J g) → Leaves d p p
+  leaves_all (answer said) p = refl
+  leaves_all (stop said) p = refl
+  leaves_all (alter change) p = inl (record { seen = ([], append-nil (seen_in p)); items = refl; refusals = refl; seat = record { reads = refl; taken = refl; slot = refl } })
+  leaves_all (ask look) p = record { mid = p; waited = at_once; made = inl refl }
+
+  -- what is known of a demand of the code is known of what it says
+  pub done_as : (d e : DemandValue) (x y : Delivery) (old new : Pass J g) (result : Result ApiReply AllocError) → d ≡ e → x ≡ y
+      → IfOk result (IsCarriedOut d x old new) → IfOk result (IsCarriedOut e y old new)
+  done_as d e x y old new result same alike h =
+      let P : DemandValue → Type 0 = λ z. IfOk result (IsCarriedOut z x old new) in
+      let Q : Delivery → Type 0 = λ z. IfOk result (IsCarriedOut e z old new) in
+      subst Q alike (subst P same h)
+
+  pub left_as : (d e : DemandValue) (old new : Pass J g) (result : Result ApiReply AllocError) → d ≡ e → OnErr result (Leaves d old new) → OnErr result (Leaves e old new)
+  left_as d e old new result same h = let P : DemandValue → Type 0 = λ x. OnErr result (Leaves x old new) in subst P same h
+
+  -- and what is known of one form of the target is known of each
+  pub answers_by : (head : Head) (last : Bool) (demand : List ℕ → DemandValue) (old new : Pass J g) (result : Result ApiReply AllocError) (form : Form) → IsServed head.method head.target form
+      → IfOk result (IsCarriedOut (demand form.1) (delivery_of head last) old new) → IfOk result (AnswersBy head last demand old new)
+  answers_by head last demand old new (Ok reply) form served h = λ other is.
+      let P : Form → Type 0 = λ f. IsCarriedOut (demand f.1) (delivery_of head last) old new reply in subst P (one_form head.method head.target form other served is) h
+  answers_by head last demand old new (Err want) form served h = tt
+
+  pub leaves_by : (head : Head) (demand : List ℕ → DemandValue) (old new : Pass J g) (result : Result ApiReply AllocError) (form : Form) → IsServed head.method head.target form
+      → OnErr result (Leaves (demand form.1) old new) → OnErr result (LeavesBy head demand old new)
+  leaves_by head demand old new (Ok reply) form served h = tt
+  leaves_by head demand old new (Err want) form served h = λ other is.
+      let P : Form → Type 0 = λ f. Leaves (demand f.1) old new in subst P (one_form head.method head.target form other served is) h

@@ -1,0 +1,10 @@
+pub mod Naming
+pub mod Prefixes
+pub mod Rows
+pub mod Segments
+pub mod Trees
+pub mod Values
+pub mod Forms
+pub mod Sounds
+pub mod Carrying
+pub mod Paths

@@ -1,0 +1,11 @@
+use Rattle.std.proofs.Common.{◌≡◌, true}
+use Rattle.ns_api.proofs.Values.{json_known, json_unknown}
+use Rattle.ns_api.proofs.json_table.parse.Goals as goal
+
+pub returns-in-Ok : goal.returns-in-Ok
+returns-in-Ok c = json_known c.args.text.now _ c.in-Ok.ensures.ok.0 c.in-Ok.ensures.ok.1
+
+pub returns-else-is_memory : goal.returns-else-is_memory
+returns-else-is_memory c = λ _.
+    let f = c.if-is_memory.false in
+    json_unknown c.args.text.now (c.in-Err.ensures.err (λ memory. let t : c.is_memory.result ≡ true = c.is_memory.ensures.1 memory in cc))

@@ -1,0 +1,90 @@
+-- The parts of a request that the interfaces look at.
+use Rattle.std.specs.Prelude.{ℕ, ◌+◌, ◌-◌, ◌^◌, ◌==◌, ◌&&◌, ◌||◌, Bool, not, nat_le, if◌then◌else◌, List, [], ◌∷◌, length, take, drop, codes, slice_get, slice_index, slice_range, bytes_eq, Option, Some, None}
+use Rattle.std.specs.Option.{unwrap_or}
+use Rattle.std.specs.List.{before_first, after_first, list_any, list_all, slice_split}
+use Rattle.httparse.specs.Ascii.{comma}
+use Rattle.httparse.specs.Grammar.{trim_ows}
+use Rattle.http_uri.specs.ByteClasses.{question_mark, slash}
+use Rattle.http_wire.specs.declared.head.Field.{Field}
+use Rattle.http_wire.specs.declared.head.Head.{Head}
+use Rattle.http_wire.specs.Fields.{is_named, same_ignoring_case, values_of}
+use Rattle.addr_book.specs.Addr.{number_value, at_most}
+use Rattle.addr_book.specs.Name.{is_name_byte}
+
+-- the path of a target: what stands before its query
+abbrev pub path_in : List ℕ → List ℕ
+path_in line = before_first (λ b. b == question_mark) line
+
+-- the query: what stands behind the first `?`
+abbrev pub query_in : List ℕ → List ℕ
+query_in line = after_first (λ b. b == question_mark) line
+
+-- some bytes, where they have no `/`
+abbrev pub one_segment : List ℕ → Option (List ℕ)
+one_segment rest = if list_any (λ b. b == slash) rest then None else Some rest
+
+-- what a path has behind a front, where that is one segment, be it empty
+unfoldable pub segment_behind : List ℕ → List ℕ → Option (List ℕ)
+segment_behind front path = if bytes_eq (take (length front) path) front then one_segment (drop (length front) path) else None
+
+-- the name that a segment is: 1 to 255 bytes of letters, digits and `_ : . -`
+abbrev pub name_of : List ℕ → Option (List ℕ)
+name_of segment = if (nat_le 1 (length segment) && nat_le (length segment) 255) && list_all is_name_byte segment then Some segment else None
+
+-- the value of the first field of this name
+abbrev pub first_value : List ℕ → List Field → Option (List ℕ)
+first_value name fields = slice_get (values_of name fields) 0
+
+-- a number of 64 bits: decimal digits without leading zeros
+abbrev pub number_of : List ℕ → Option ℕ
+number_of text = at_most (2 ^ 64 - 1) (number_value text)
+
+-- a text without the quotation marks that it stands between
+abbrev pub unquoted : List ℕ → List ℕ
+unquoted text =
+    if nat_le 2 (length text) && ((slice_index text 0 == 34) && (slice_index text (length text - 1) == 34)) then slice_range text 1 (length text - 1) else text
+
+-- the version that a table must have, by the value of If-Match (RFC 9110 section 13.1.1): a version in quotes or not; any, where there is no such field
+-- or it is `*`; and by any other value 0, which no table has
+abbrev pub version_for : Option (List ℕ) → Option ℕ
+version_for None = None
+version_for (Some value) = if bytes_eq value (codes "*") then None else Some (unwrap_or (number_of (unquoted value)) 0)
+
+abbrev pub version_asked : List Field → Option ℕ
+version_asked fields = version_for (first_value (codes "if-match") fields)
+
+-- a text begins with a media type, which is compared without case (RFC 9110 section 8.3.1)
+unfoldable pub begins_with : List ℕ → List ℕ → Bool
+begins_with word text = same_ignoring_case (take (length word) text) word
+
+-- a text has a media type in it
+abbrev pub has_in_it : List ℕ → List ℕ → Bool
+has_in_it word [] = begins_with word []
+has_in_it word (b ∷ bs) = begins_with word (b ∷ bs) || has_in_it word bs
+
+-- the client takes the text of a table
+abbrev pub accepts_dtab : List Field → Bool
+accepts_dtab fields = list_any (λ field. is_named (codes "accept") field && has_in_it (codes "application/dtab") field.value) fields
+
+abbrev pub value_begins : List ℕ → Option (List ℕ) → Bool
+value_begins word value = begins_with word (unwrap_or value [])
+
+-- the body is JSON
+abbrev pub is_json : List Field → Bool
+is_json fields = value_begins (codes "application/json") (first_value (codes "content-type") fields)
+
+-- a value lists this word, between commas, without case and without the blanks around it (RFC 9110 section 5.6.1)
+abbrev pub lists : List ℕ → List ℕ → Bool
+lists word value = list_any (λ piece. same_ignoring_case (trim_ows piece) word) (slice_split (λ b. b == comma) value)
+
+-- a Connection field says `close` (RFC 9112 section 9.6)
+abbrev pub says_close : List Field → Bool
+says_close fields = list_any (λ field. is_named (codes "connection") field && lists (codes "close") field.value) fields
+
+-- the connection closes behind the response: the request is HTTP/1.0, or says so, or is the last that its connection carries
+abbrev pub closes : Head → Bool → Bool
+closes head last = (head.version == 0) || (says_close head.fields || last)
+
+-- a response to HEAD has no body
+abbrev pub has_body : Head → Bool
+has_body head = not (bytes_eq head.method (codes "HEAD"))

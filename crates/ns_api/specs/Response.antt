@@ -1,0 +1,93 @@
+-- Responses of the interfaces, and their bytes.
+use Rattle.std.specs.Prelude.{ℕ, Bool, if◌then◌else◌, List, [], ◌∷◌, ◌++◌, length, codes, Option, Some, None, option_map}
+use Rattle.std.specs.Fmt.{decimal}
+use Rattle.ns_api.specs.declared.verb.Methods.{Methods}
+use Rattle.ns_api.specs.declared.response.Status.{Status}
+use Rattle.ns_api.specs.declared.response.Status.TheVariants as status
+use Rattle.ns_api.specs.declared.response.Media.{Media}
+use Rattle.ns_api.specs.declared.response.Media.TheVariants as media
+use Rattle.ns_api.specs.declared.response.Response.{Response}
+use Rattle.ns_api.specs.Verbs.{methods_text}
+
+-- a response: its status, the version of a table, the methods of the path, and the body with its media type. Those that are not there are left out
+pub record ResponseValue : Type 0 where
+  pub status : Status
+  pub version : Option ℕ
+  pub allow : Option Methods
+  pub content : Option (Media × List ℕ)
+
+-- what the code's responses say
+abbrev pub response_value : Response → ResponseValue
+response_value r = record { status = r.status; version = r.version; allow = r.allow; content = option_map (λ c. (c.media, c.body.items)) r.content }
+
+-- without a body
+abbrev pub empty : Status → Option ℕ → ResponseValue
+empty s version = record { status = s; version = version; allow = None; content = None }
+
+-- with a body
+abbrev pub filled : Status → Option ℕ → Media → List ℕ → ResponseValue
+filled s version m body = record { status = s; version = version; allow = None; content = Some (m, body) }
+
+-- a word and a line feed
+abbrev pub plain : Status → Option ℕ → List ℕ → ResponseValue
+plain s version word = filled s version media.Plain (word ++ 10 ∷ [])
+
+-- the status codes (RFC 9110 section 15, and RFC 4918 section 11.5 for 507)
+abbrev pub status_code : Status → ℕ
+status_code status.Success = 200
+status_code status.NoContent = 204
+status_code status.BadRequest = 400
+status_code status.NotFound = 404
+status_code status.MethodNotAllowed = 405
+status_code status.Conflict = 409
+status_code status.PreconditionFailed = 412
+status_code status.InsufficientStorage = 507
+
+-- and their reason phrases
+abbrev pub reason_of : Status → List ℕ
+reason_of status.Success = codes "OK"
+reason_of status.NoContent = codes "No Content"
+reason_of status.BadRequest = codes "Bad Request"
+reason_of status.NotFound = codes "Not Found"
+reason_of status.MethodNotAllowed = codes "Method Not Allowed"
+reason_of status.Conflict = codes "Conflict"
+reason_of status.PreconditionFailed = codes "Precondition Failed"
+reason_of status.InsufficientStorage = codes "Insufficient Storage"
+
+abbrev pub media_text : Media → List ℕ
+media_text media.Plain = codes "text/plain"
+media_text media.Json = codes "application/json"
+media_text media.Dtab = codes "application/dtab"
+
+-- a line of a name and a value
+abbrev pub line_of : List ℕ → List ℕ → List ℕ
+line_of name value = name ++ value ++ 13 ∷ 10 ∷ []
+
+abbrev pub status_line : Status → List ℕ
+status_line s = codes "HTTP/1.1 " ++ line_of (decimal (status_code s) ++ codes " ") (reason_of s)
+
+-- the version of a table is an entity tag (RFC 9110 section 8.8.3)
+abbrev pub version_field : Option ℕ → List ℕ
+version_field None = []
+version_field (Some version) = line_of (codes "ETag: ") (codes "\"" ++ decimal version ++ codes "\"")
+
+abbrev pub allow_field : Option Methods → List ℕ
+allow_field None = []
+allow_field (Some methods) = line_of (codes "Allow: ") (methods_text methods)
+
+abbrev pub content_fields : Option (Media × List ℕ) → List ℕ
+content_fields None = []
+content_fields (Some content) = line_of (codes "Content-Type: ") (media_text content.0) ++ line_of (codes "Content-Length: ") (decimal (length content.1))
+
+abbrev pub connection_field : Bool → List ℕ
+connection_field closing = if closing then line_of (codes "Connection: ") (codes "close") else []
+
+abbrev pub content_bytes : Option (Media × List ℕ) → List ℕ
+content_bytes None = []
+content_bytes (Some content) = content.1
+
+-- the status line, the fields that are there, an empty line, and the body where it is written
+abbrev pub bytes_of : ResponseValue → Bool → Bool → List ℕ
+bytes_of r closing with_body =
+    status_line r.status ++ version_field r.version ++ allow_field r.allow ++ content_fields r.content ++ connection_field closing ++ (13 ∷ 10 ∷ [])
+    ++ (if with_body then content_bytes r.content else [])

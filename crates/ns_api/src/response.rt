@@ -1,0 +1,249 @@
+//! Responses of the interfaces, and their bytes.
+ghost use Rattle.std.specs.Prelude.{◌≡◌, ◌++◌, if◌then◌else◌, [], codes, length, IfOk, OnOk, None, Some, option_map, string_bytes};
+ghost use Rattle.std.specs.Fmt.{decimal};
+ghost use Rattle.ns_api.specs.Response.{allow_field, bytes_of, connection_field, content_bytes, content_fields, line_of, media_text, plain, reason_of, response_value, status_code, status_line, version_field};
+
+use crate::verb::Methods;
+use crate::{Bytes, Mem};
+use std::alloc::Global;
+
+/// The status of a response.
+#[derive(Clone, Copy, Debug, PartialEq, Eq)]
+pub enum Status {
+    /// 200.
+    Success,
+    /// 204.
+    NoContent,
+    /// 400.
+    BadRequest,
+    /// 404.
+    NotFound,
+    /// 405.
+    MethodNotAllowed,
+    /// 409.
+    Conflict,
+    /// 412.
+    PreconditionFailed,
+    /// 507.
+    InsufficientStorage,
+}
+
+impl Status {
+    /// Its three digits.
+    pub fn code(self) -> u16
+        ensures { result ≡ status_code self }
+    {
+        match self {
+            Status::Success => 200,
+            Status::NoContent => 204,
+            Status::BadRequest => 400,
+            Status::NotFound => 404,
+            Status::MethodNotAllowed => 405,
+            Status::Conflict => 409,
+            Status::PreconditionFailed => 412,
+            Status::InsufficientStorage => 507,
+        }
+    }
+
+    /// Its reason phrase.
+    pub fn reason(self) -> &'static str
+        ensures { result.now ≡ reason_of self }
+    {
+        match self {
+            Status::Success => "OK",
+            Status::NoContent => "No Content",
+            Status::BadRequest => "Bad Request",
+            Status::NotFound => "Not Found",
+            Status::MethodNotAllowed => "Method Not Allowed",
+            Status::Conflict => "Conflict",
+            Status::PreconditionFailed => "Precondition Failed",
+            Status::InsufficientStorage => "Insufficient Storage",
+        }
+    }
+}
+
+/// The media type of a body.
+#[derive(Clone, Copy, Debug, PartialEq, Eq)]
+pub enum Media {
+    /// A word and a line feed, or lines.
+    Plain,
+    /// JSON.
+    Json,
+    /// The text of a table.
+    Dtab,
+}
+
+impl Media {
+    /// As the field `Content-Type` has it.
+    pub fn text(self) -> &'static str
+        ensures { result.now ≡ media_text self }
+    {
+        match self {
+            Media::Plain => "text/plain",
+            Media::Json => "application/json",
+            Media::Dtab => "application/dtab",
+        }
+    }
+}
+
+/// A body and what it is.
+#[derive(Debug, Drop)]
+pub struct Content {
+    /// Its media type.
+    pub media: Media,
+    /// Its bytes.
+    pub body: Bytes,
+}
+
+/// What a request is answered. `response_value` is how contracts see it.
+#[derive(Debug, Drop)]
+pub struct Response {
+    /// The status.
+    pub status: Status,
+    /// The version of the table, in the field `ETag`.
+    pub version: Option<u64>,
+    /// The methods of the path, in the field `Allow`.
+    pub allow: Option<Methods>,
+    /// The body, if there is one.
+    pub content: Option<Content>,
+}
+
+impl Response {
+    /// A response without a body.
+    pub fn empty(status: Status, version: Option<u64>) -> Response
+        ensures { response_value result ≡ record { status = status; version = version; allow = None; content = None } }
+    {
+        Response {
+            status,
+            version,
+            allow: None,
+            content: None,
+        }
+    }
+
+    /// A response with this body.
+    pub fn of(status: Status, version: Option<u64>, media: Media, body: Bytes) -> Response
+        ensures { response_value result ≡ record { status = status; version = version; allow = None; content = Some (media, body.items) } }
+    {
+        Response {
+            status,
+            version,
+            allow: None,
+            content: Some(Content { media, body }),
+        }
+    }
+
+    /// A response that says a word.
+    pub fn word(alloc: Global, status: Status, version: Option<u64>, word: &str) -> Mem<Response>
+        ensures { IfOk result (λ response. response_value response ≡ plain status version word.now) }
+    {
+        let mut body = Vec::from_slice(alloc, word.as_bytes())?;
+        body.push(b'\n')?;
+        Ok(Response::of(status, version, Media::Plain, body))
+    }
+
+    /// The whole response. It says `Connection: close` where it is `closing`. Its body is left out where not `with_body`, as for a HEAD request, and the fields
+    /// are then the same (RFC 9110 section 9.3.2).
+    pub fn bytes(&self, alloc: Global, closing: bool, with_body: bool) -> Mem<Bytes>
+        ensures { IfOk result (λ bytes. bytes.items ≡ bytes_of (response_value self.now) closing with_body) }
+    {
+        let mut out = Vec::new(alloc);
+        put_status_line(self.status, &mut out)?;
+        put_version(self.version, &mut out)?;
+        put_allow(self.allow, &mut out)?;
+        put_content_fields(&self.content, &mut out)?;
+        put_connection(closing, &mut out)?;
+        out.extend_from_slice(b"\r\n")?;
+        if with_body {
+            put_content(&self.content, &mut out)?;
+        }
+        Ok(out)
+    }
+}
+
+/// Puts a line of a name and a value behind some bytes.
+fn put_line(name: &str, value: &str, out: &mut Bytes) -> Mem<()>
+    ensures { OnOk result (out.new.items ≡ out.old.items ++ line_of name.now value.now) }
+{
+    out.extend_from_slice(name.as_bytes())?;
+    out.extend_from_slice(value.as_bytes())?;
+    out.extend_from_slice(b"\r\n")
+}
+
+/// The status line.
+fn put_status_line(status: Status, out: &mut Bytes) -> Mem<()>
+    ensures { OnOk result (out.new.items ≡ out.old.items ++ status_line status) }
+{
+    let code = status.code();
+    let digits = format!(in *out.allocator(); "{code} ")?;
+    out.extend_from_slice(b"HTTP/1.1 ")?;
+    put_line(digits.as_str(), status.reason(), out)
+}
+
+/// The field `ETag`, where there is a version.
+fn put_version(version: Option<u64>, out: &mut Bytes) -> Mem<()>
+    ensures { OnOk result (out.new.items ≡ out.old.items ++ version_field version) }
+{
+    let Some(version) = version else {
+        return Ok(());
+    };
+    let quoted = format!(in *out.allocator(); "\"{version}\"")?;
+    put_line("ETag: ", quoted.as_str(), out)
+}
+
+/// The field `Allow`, where the method is not allowed.
+fn put_allow(allow: Option<Methods>, out: &mut Bytes) -> Mem<()>
+    ensures { OnOk result (out.new.items ≡ out.old.items ++ allow_field allow) }
+{
+    match allow {
+        None => Ok(()),
+        Some(methods) => put_line("Allow: ", methods.text(), out),
+    }
+}
+
+/// The fields that tell of the body, where there is one.
+fn put_content_fields(content: &Option<Content>, out: &mut Bytes) -> Mem<()>
+    ensures { OnOk result (out.new.items ≡ out.old.items ++ content_fields (option_map (λ c. (c.media, c.body.items)) content.now)) }
+{
+    match content {
+        None => Ok(()),
+        Some(content) => put_fields_of(content, out),
+    }
+}
+
+/// The fields that tell of a body.
+fn put_fields_of(content: &Content, out: &mut Bytes) -> Mem<()>
+    ensures { OnOk result (out.new.items ≡ out.old.items ++ content_fields (Some (content.now.media, content.now.body.items))) }
+{
+    put_line("Content-Type: ", content.media.text(), out)?;
+    put_length(content.body.as_slice(), out)
+}
+
+/// The field that tells how long a body is.
+fn put_length(body: &[u8], out: &mut Bytes) -> Mem<()>
+    ensures { OnOk result (out.new.items ≡ out.old.items ++ line_of (codes "Content-Length: ") (decimal (length body.now))) }
+{
+    let length = body.len();
+    let digits = format!(in *out.allocator(); "{length}")?;
+    put_line("Content-Length: ", digits.as_str(), out)
+}
+
+/// The field `Connection`, where the connection closes.
+fn put_connection(closing: bool, out: &mut Bytes) -> Mem<()>
+    ensures { OnOk result (out.new.items ≡ out.old.items ++ connection_field closing) }
+{
+    if closing {
+        put_line("Connection: ", "close", out)?;
+    }
+    Ok(())
+}
+
+/// The body, where there is one.
+fn put_content(content: &Option<Content>, out: &mut Bytes) -> Mem<()>
+    ensures { OnOk result (out.new.items ≡ out.old.items ++ content_bytes (option_map (λ c. (c.media, c.body.items)) content.now)) }
+{
+    match content {
+        None => Ok(()),
+        Some(content) => out.extend_from_slice(content.body.as_slice()),
+    }
+}

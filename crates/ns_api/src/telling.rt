@@ -1,0 +1,80 @@
+//! How the replies of a router's state are told over HTTP.
+ghost use Rattle.std.specs.Prelude.{◌≡◌, IfOk, None};
+ghost use Rattle.dtab_table.specs.Dtab.{rules_of};
+ghost use Rattle.machine.specs.Code.{reply_value};
+ghost use Rattle.ns_api.specs.Response.{filled, plain, response_value};
+ghost use Rattle.ns_api.specs.Telling.{response_to, table_response};
+
+use crate::response::{Media, Response, Status};
+use crate::texts::{addrs_text, counts_text, names_text, table_text};
+use crate::{Bytes, Mem};
+use delegate_view::view_text;
+use dtab_table::{Dtab, write_dtab};
+use machine::Reply;
+use std::alloc::Global;
+
+/// The response that tells a reply. A table is told as its canonical text where `as_dtab`, and else as JSON.
+pub fn response_to(alloc: Global, reply: &Reply, as_dtab: bool) -> Mem<Response>
+    ensures { IfOk result (λ response. response_value response ≡ response_to as_dtab (reply_value reply.now)) }
+{
+    match reply {
+        Reply::Version(version) => Ok(Response::empty(Status::NoContent, Some(*version))),
+        Reply::Exists(version) => Response::word(alloc, Status::Conflict, Some(*version), "exists"),
+        Reply::TooManyNames => full(alloc, "too-many-names"),
+        Reply::VersionsSpent => full(alloc, "versions-spent"),
+        Reply::Missing => Response::word(alloc, Status::NotFound, None, "missing"),
+        Reply::Stale(version) => {
+            Response::word(alloc, Status::PreconditionFailed, Some(*version), "stale")
+        }
+        Reply::Deleted => Ok(Response::empty(Status::NoContent, None)),
+        Reply::Set(_) => Ok(Response::empty(Status::NoContent, None)),
+        Reply::BookFull(_) => full(alloc, "book-full"),
+        Reply::TooManyServices => full(alloc, "too-many-services"),
+        Reply::Dropped => Ok(Response::empty(Status::NoContent, None)),
+        Reply::Marked(_) => Ok(Response::empty(Status::NoContent, None)),
+        Reply::NotKept => Response::word(alloc, Status::NotFound, None, "not-kept"),
+        Reply::HistorySpent => full(alloc, "history-spent"),
+        Reply::Table { version, dtab } => table_response(alloc, *version, dtab, as_dtab),
+        Reply::Names(names) => Ok(json(names_text(alloc, names.items())?)),
+        Reply::Addrs(list) => Ok(Response::of(
+            Status::Success,
+            None,
+            Media::Plain,
+            addrs_text(alloc, list.items())?,
+        )),
+        Reply::Counts {
+            changes,
+            marks,
+            namespaces,
+            services,
+        } => Ok(json(counts_text(alloc, *changes, *marks, *namespaces, *services)?)),
+        Reply::Viewed { outcome, trace } => Ok(json(view_text(alloc, outcome, trace)?)),
+    }
+}
+
+/// A response that says what is full.
+fn full(alloc: Global, word: &str) -> Mem<Response>
+    ensures { IfOk result (λ response. response_value response ≡ plain Status.InsufficientStorage None word.now) }
+{
+    Response::word(alloc, Status::InsufficientStorage, None, word)
+}
+
+/// A response with this JSON.
+fn json(text: Bytes) -> Response
+    ensures { response_value result ≡ filled Status.Success None Media.Json text.items }
+{
+    Response::of(Status::Success, None, Media::Json, text)
+}
+
+/// A response with a table and its version.
+fn table_response(alloc: Global, version: u64, dtab: &Dtab, as_dtab: bool) -> Mem<Response>
+    ensures { IfOk result (λ response. response_value response ≡ table_response as_dtab version (rules_of dtab.now)) }
+{
+    if as_dtab {
+        let text = write_dtab(alloc, dtab)?;
+        Ok(Response::of(Status::Success, Some(version), Media::Dtab, text))
+    } else {
+        let text = table_text(alloc, dtab)?;
+        Ok(Response::of(Status::Success, Some(version), Media::Json, text))
+    }
+}

@@ -1,0 +1,234 @@
+//! The bodies of responses.
+ghost use Rattle.std.specs.Prelude.{◌≡◌, ◌+◌, ◌-◌, ◌*◌, ◌<◌, ◌++◌, IfOk, OnOk, map};
+ghost use Rattle.std.specs.Fmt.{decimal};
+ghost use Rattle.std.specs.List.{flat_map};
+ghost use Rattle.name_tree.specs.Canon.{canon, canon_weight, decimals_text};
+ghost use Rattle.name_tree.specs.Tree.{value_of};
+ghost use Rattle.dtab_table.specs.Dtab.{rules_of};
+ghost use Rattle.dtab_table.specs.Rules.{rule_of};
+ghost use Rattle.dtab_table.specs.TableCanon.{canon_prefix};
+ghost use Rattle.delegate_view.specs.View.{json_byte};
+ghost use Rattle.ns_api.specs.Texts.{addr_line, addrs_text, counts_text, ip_text, json_string, listed_names, more_names, more_rules, names_text, rule_text, rules_text, table_text, weight_part};
+
+use crate::{Bytes, Mem};
+use addr_book::{Name, ONE_WEIGHT, Weighted};
+use dtab_table::{Dtab, Entry, write_prefix};
+use name_tree::write_tree;
+use std::alloc::Global;
+
+/// What the six decimals of a weight are worth, in millionths.
+const UNITS: [u64; 6] = [100_000, 10_000, 1_000, 100, 10, 1];
+
+/// A table as JSON: an array of objects with the canonical texts of its trees and prefixes, in order.
+pub fn table_text(alloc: Global, dtab: &Dtab) -> Mem<Bytes>
+    ensures { IfOk result (λ text. text.items ≡ table_text (rules_of dtab.now)) }
+{
+    let mut out = Vec::new(alloc);
+    out.push(b'[')?;
+    put_rules(dtab.entries(), &mut out)?;
+    out.push(b']')?;
+    Ok(out)
+}
+
+/// Puts entries behind some bytes, with commas between them. An `Err` may leave a part there.
+fn put_rules(entries: &[Entry], out: &mut Bytes) -> Mem<()>
+    ensures { OnOk result (out.new.items ≡ out.old.items ++ rules_text (map rule_of entries.now)) }
+{
+    let Some((first, others)) = entries.split_first() else {
+        return Ok(());
+    };
+    put_rule(first, out)?;
+    put_more_rules(others, out)
+}
+
+/// Puts entries behind some bytes, with a comma before each.
+fn put_more_rules(entries: &[Entry], out: &mut Bytes) -> Mem<()>
+    ensures { OnOk result (out.new.items ≡ out.old.items ++ more_rules (map rule_of entries.now)) }
+{
+    for entry in entries {
+        out.push(b',')?;
+        put_rule(entry, out)?;
+    }
+    Ok(())
+}
+
+/// Puts an entry behind some bytes.
+fn put_rule(entry: &Entry, out: &mut Bytes) -> Mem<()>
+    ensures { OnOk result (out.new.items ≡ out.old.items ++ rule_text (rule_of entry.now)) }
+{
+    let alloc = *out.allocator();
+    let tree = write_tree(alloc, &entry.tree)?;
+    let prefix = write_prefix(alloc, &entry.prefix)?;
+    out.extend_from_slice(b"{\"dst\":")?;
+    put_string(tree.as_slice(), out)?;
+    out.extend_from_slice(b",\"prefix\":")?;
+    put_string(prefix.as_slice(), out)?;
+    out.extend_from_slice(b"}")
+}
+
+/// Puts a text behind some bytes, as a JSON string.
+fn put_string(text: &[u8], out: &mut Bytes) -> Mem<()>
+    ensures { OnOk result (out.new.items ≡ out.old.items ++ json_string text.now) }
+{
+    out.push(b'"')?;
+    put_escaped(text, out)?;
+    out.push(b'"')?;
+    Ok(())
+}
+
+/// Puts a text behind some bytes, each of its backslashes twice.
+fn put_escaped(text: &[u8], out: &mut Bytes) -> Mem<()>
+    ensures { OnOk result (out.new.items ≡ out.old.items ++ flat_map json_byte text.now) }
+{
+    for byte in text {
+        if *byte == b'\\' {
+            out.push(b'\\')?;
+        }
+        out.push(*byte)?;
+    }
+    Ok(())
+}
+
+/// Names as a JSON array, in order.
+pub fn names_text(alloc: Global, names: &[Name]) -> Mem<Bytes>
+    ensures { IfOk result (λ text. text.items ≡ names_text names.now) }
+{
+    let mut out = Vec::new(alloc);
+    out.push(b'[')?;
+    put_names(names, &mut out)?;
+    out.push(b']')?;
+    Ok(out)
+}
+
+/// Puts names behind some bytes, with commas between them. An `Err` may leave a part there.
+fn put_names(names: &[Name], out: &mut Bytes) -> Mem<()>
+    ensures { OnOk result (out.new.items ≡ out.old.items ++ listed_names names.now) }
+{
+    let Some((first, others)) = names.split_first() else {
+        return Ok(());
+    };
+    put_string(first.text(), out)?;
+    put_more_names(others, out)
+}
+
+/// Puts names behind some bytes, with a comma before each.
+fn put_more_names(names: &[Name], out: &mut Bytes) -> Mem<()>
+    ensures { OnOk result (out.new.items ≡ out.old.items ++ more_names names.now) }
+{
+    for name in names {
+        out.push(b',')?;
+        put_string(name.text(), out)?;
+    }
+    Ok(())
+}
+
+/// Addresses as the lines of an address file, in order.
+pub fn addrs_text(alloc: Global, items: &[Weighted]) -> Mem<Bytes>
+    ensures { IfOk result (λ text. text.items ≡ addrs_text items.now) }
+{
+    let mut out = Vec::new(alloc);
+    for item in items {
+        put_addr(*item, &mut out)?;
+    }
+    Ok(out)
+}
+
+/// Puts a line of an address file behind some bytes. An `Err` may leave a part there.
+fn put_addr(item: Weighted, out: &mut Bytes) -> Mem<()>
+    ensures { OnOk result (out.new.items ≡ out.old.items ++ addr_line item) }
+{
+    put_ip(item.addr.ip, out)?;
+    out.push(b' ')?;
+    put_number(u64::from(item.addr.port), out)?;
+    put_weight_part(item.weight, out)?;
+    out.push(b'\n')?;
+    Ok(())
+}
+
+/// Puts an IPv4 address behind some bytes. An `Err` may leave a part there.
+fn put_ip(ip: u32, out: &mut Bytes) -> Mem<()>
+    ensures { OnOk result (out.new.items ≡ out.old.items ++ ip_text ip) }
+{
+    put_number(u64::from(ip / 0x0100_0000), out)?;
+    out.push(b'.')?;
+    put_number(u64::from(ip / 0x0001_0000 % 0x100), out)?;
+    out.push(b'.')?;
+    put_number(u64::from(ip / 0x0000_0100 % 0x100), out)?;
+    out.push(b'.')?;
+    put_number(u64::from(ip % 0x100), out)
+}
+
+/// Puts the weight of an address behind some bytes, unless it is one.
+fn put_weight_part(weight: u64, out: &mut Bytes) -> Mem<()>
+    ensures { OnOk result (out.new.items ≡ out.old.items ++ weight_part weight) }
+{
+    if weight == ONE_WEIGHT {
+        return Ok(());
+    }
+    out.extend_from_slice(b" * ")?;
+    put_weight(weight, out)
+}
+
+/// Puts the canonical text of a weight in millionths behind some bytes.
+fn put_weight(millionths: u64, out: &mut Bytes) -> Mem<()>
+    ensures { OnOk result (out.new.items ≡ out.old.items ++ canon_weight millionths) }
+{
+    put_number(millionths / ONE_WEIGHT, out)?;
+    let rest = millionths % ONE_WEIGHT;
+    if rest > 0 {
+        out.push(b'.')?;
+        put_decimals(rest, out)?;
+    }
+    Ok(())
+}
+
+/// Puts decimals behind some bytes, as many as are needed.
+fn put_decimals(millionths: u64, out: &mut Bytes) -> Mem<()>
+    requires { millionths < 1000000 }
+    ensures { OnOk result (out.new.items ≡ out.old.items ++ decimals_text 6 millionths) }
+{
+    let mut rest = millionths;
+    for unit in UNITS {
+        if rest == 0 {
+            break;
+        }
+        out.push(b'0' + (rest / unit) as u8)?;
+        rest %= unit;
+    }
+    Ok(())
+}
+
+/// Puts a number behind some bytes, in decimal digits.
+fn put_number(number: u64, out: &mut Bytes) -> Mem<()>
+    ensures { OnOk result (out.new.items ≡ out.old.items ++ decimal number) }
+{
+    let text = format!(in *out.allocator(); "{number}")?;
+    out.extend_from_slice(text.as_bytes())
+}
+
+/// How much there is of each thing, as a JSON object.
+pub fn counts_text(
+    alloc: Global,
+    changes: u64,
+    marks: u32,
+    namespaces: u32,
+    services: u32,
+) -> Mem<Bytes>
+    ensures { IfOk result (λ text. text.items ≡ counts_text changes marks namespaces services) }
+{
+    let mut out = Vec::new(alloc);
+    put_count(b"{\"changes\":", changes, &mut out)?;
+    put_count(b",\"marks\":", u64::from(marks), &mut out)?;
+    put_count(b",\"namespaces\":", u64::from(namespaces), &mut out)?;
+    put_count(b",\"services\":", u64::from(services), &mut out)?;
+    out.push(b'}')?;
+    Ok(out)
+}
+
+/// Puts a number behind some bytes, behind what comes before it.
+fn put_count(before: &[u8], number: u64, out: &mut Bytes) -> Mem<()>
+    ensures { OnOk result (out.new.items ≡ out.old.items ++ before.now ++ decimal number) }
+{
+    out.extend_from_slice(before)?;
+    put_number(number, out)
+}

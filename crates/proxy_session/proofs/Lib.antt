@@ -1,0 +1,16 @@
+pub mod Growing
+pub mod Hearing
+pub mod Tests
+pub mod Resting
+pub mod Speaking
+pub mod Writing
+pub mod Hosts
+pub mod Calling
+pub mod Behind
+pub mod Settling
+pub mod Slots
+pub mod Holding
+pub mod Exchanging
+pub mod Sending
+pub mod Serving
+pub mod Rising

@@ -1,0 +1,5 @@
+use Rattle.proxy_session.proofs.Hosts.{heads_to}
+use Rattle.proxy_session.proofs.onward.head_to.Goals as goal
+
+pub returns : goal.returns
+returns c = heads_to c.args.head.now _ c.forward_head.result c.forward_head.ensures

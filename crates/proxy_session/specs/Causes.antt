@@ -1,0 +1,33 @@
+-- Why an exchange, or a session, ends as it does.
+use Rattle.std.specs.Prelude.{ℕ, ◌-◌, ◌^◌, ◌≤◌, min, Option, Some, None}
+use Rattle.line_base.specs.Counts.{Rose}
+use Rattle.http_wire.specs.declared.ended.Ended.{Ended}
+use Rattle.http_wire.specs.declared.ended.Ended.TheVariants as ended
+use Rattle.proxy_session.specs.Outside.{Line}
+
+-- a count did not fall, up to the last value of a `u64`
+abbrev pub Later : ℕ → ℕ → Type 0
+Later before now = min before (2 ^ 64 - 1) ≤ now
+
+-- none of the connection's counts fell
+pub record NoneFell (old new : Line) : Type 0 where
+  pub reads : Later old.read_faults new.read_faults
+  pub writes : Later old.write_faults new.write_faults
+  pub ends : Later old.ends new.ends
+
+-- the count that rose, where an end says that one did
+abbrev pub CauseOf : Ended → Line → Line → Type 0
+CauseOf ended.PeerEnded old new = Rose old.ends new.ends
+CauseOf ended.Cut old new = Rose old.ends new.ends
+CauseOf ended.ReadFault old new = Rose old.read_faults new.read_faults
+CauseOf ended.WriteFault old new = Rose old.write_faults new.write_faults
+CauseOf ended.Closed old new = Unit {0}
+CauseOf ended.Spent old new = Unit {0}
+CauseOf ended.UpstreamCut old new = Unit {0}
+CauseOf ended.OutOfMemory old new = Unit {0}
+
+-- the same of an exchange, which may go on. It never ends as one that found no request
+abbrev pub HasCauseOf : Option Ended → Line → Line → Type 0
+HasCauseOf None old new = Unit {0}
+HasCauseOf (Some ended.PeerEnded) old new = ⊥
+HasCauseOf (Some e) old new = CauseOf e old new

@@ -1,0 +1,14 @@
+pub mod Outside
+pub mod Callers
+pub mod Asking
+pub mod Found
+pub mod Seeking
+pub mod Sought
+pub mod Onward
+pub mod Heads
+pub mod Trying
+pub mod Answering
+pub mod Exchange
+pub mod Sending
+pub mod Session
+pub mod Causes

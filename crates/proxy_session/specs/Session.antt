@@ -1,0 +1,93 @@
+-- The requests of a connection, one after another.
+use Rattle.std.specs.Prelude.{◌≡◌, ◌⊎◌, ℕ, zero, suc, ◌+◌, ◌==◌, Bool, true, List, ◌++◌, Option, Some, None, Result, Ok, Err}
+use Rattle.std.specs.Io.KnownBytes.{Consumes, Keeps}
+use Rattle.rand_pcg.specs.Lcg.{Lcg}
+use Rattle.http_wire.specs.declared.ended.Ended.{Ended}
+use Rattle.http_wire.specs.declared.ended.Ended.TheVariants as ended
+use Rattle.http_wire.specs.declared.head.Head.{Head}
+use Rattle.http_wire.specs.declared.reading.HeadEnd.{HeadEnd}
+use Rattle.http_wire.specs.Reading.{HasCauses, ReadsHead}
+use Rattle.identifier.specs.declared.rule.Rule.{Rule}
+use Rattle.machine.specs.Values.{SettingsValue}
+use Rattle.own_reply.specs.declared.error.OwnError.{OwnError}
+use Rattle.own_reply.specs.declared.error.OwnError.TheVariants as own
+use Rattle.own_reply.specs.Reply.{reply_of}
+use Rattle.proxy_session.specs.Answering.{Writes, end_behind}
+use Rattle.proxy_session.specs.Exchange.{AsksNothing, Exchanges, Standing}
+use Rattle.proxy_session.specs.Callers.{Caller}
+use Rattle.proxy_session.specs.Outside.{IsIdle, Line, Rests, Upstream}
+
+-- the most requests of one connection
+abbrev pub most_requests : ℕ
+most_requests = 10000
+
+-- a head was read, or it was seen that there is none: of the bytes that were kept and those that the client gave behind them
+pub record Reads (old new : Standing) (result : Result Head HeadEnd) : Type 0 where
+  pub head : ReadsHead old.line.left new.line.left old.kept new.kept result
+  pub causes : HasCauses old.line.ends new.line.ends old.line.read_faults new.line.read_faults result
+  pub given : Keeps old.line.given new.line.given
+  pub writes : new.line.write_faults ≡ old.line.write_faults
+  pub upstream : IsIdle old.upstream new.upstream
+  pub caller : new.caller ≡ old.caller
+  pub moments : new.moments ≡ old.moments
+  pub words : new.words ≡ old.words
+
+-- a request: its head was read, and then it had its exchange
+abbrev pub Serves : SettingsValue → Rule → Bool → Standing → Standing → Option Ended → Type 0
+Serves settings rule last old new result =
+    (mid : Standing) × (head : Head) × Reads old mid (Ok head) × Exchanges settings rule head last mid new result
+
+-- a session ended with no head: the bytes of the client ended, or are none, or could not be read
+abbrev pub own_of_end : HeadEnd → Option OwnError
+own_of_end HeadEnd.Bad = Some own.BadHead
+own_of_end HeadEnd.Version = Some own.Version
+own_of_end HeadEnd.TooLarge = Some own.HeadTooLarge
+own_of_end HeadEnd.Ended = None
+own_of_end HeadEnd.Cut = None
+own_of_end HeadEnd.ReadFault = None
+own_of_end HeadEnd.OutOfMemory = None
+
+-- how, where nothing is answered
+abbrev pub ended_of_end : HeadEnd → Ended
+ended_of_end HeadEnd.Ended = ended.PeerEnded
+ended_of_end HeadEnd.Cut = ended.Cut
+ended_of_end HeadEnd.ReadFault = ended.ReadFault
+ended_of_end HeadEnd.OutOfMemory = ended.OutOfMemory
+ended_of_end HeadEnd.Bad = ended.Closed
+ended_of_end HeadEnd.Version = ended.Closed
+ended_of_end HeadEnd.TooLarge = ended.Closed
+
+-- the refusal of bytes that are no head closes, and has a body
+abbrev pub AnswersEnd : Option OwnError → Line → Line → Ended → Ended → Type 0
+AnswersEnd None old new quiet result = Rests old new × (result ≡ quiet)
+AnswersEnd (Some err) old new quiet result =
+    (told : Result (Unit {0}) Ended) × Writes old new (reply_of err true true) told × (Some result ≡ end_behind (Some quiet) told)
+
+-- no further request
+pub record EndsWithout (old new : Standing) (result : Ended) : Type 0 where
+  pub mid : Standing
+  pub end : HeadEnd
+  pub reads : Reads old mid (Err end)
+  pub nothing : AsksNothing mid new
+  pub answers : AnswersEnd (own_of_end end) mid.line new.line (ended_of_end end) result
+
+-- so many requests were served, behind none of which the connection closed
+abbrev pub Served : SettingsValue → Rule → ℕ → Standing → Standing → Type 0
+Served settings rule zero old new = new ≡ old
+Served settings rule (suc n) old new = (mid : Standing) × Served settings rule n old mid × Serves settings rule (n + 1 == most_requests) mid new None
+
+-- a further request, or that there is none
+abbrev pub ServesNext : SettingsValue → Rule → Bool → Standing → Standing → Option Ended → Type 0
+ServesNext settings rule last old new None = Serves settings rule last old new None
+ServesNext settings rule last old new (Some end) = EndsWithout old new end ⊎ Serves settings rule last old new (Some end)
+
+-- the connection's first requests, each with its exchange, and then the one that ends the session, or that there is none
+abbrev pub Sessions : SettingsValue → Rule → Standing → Standing → Ended → Type 0
+Sessions settings rule old new result =
+    (n : ℕ) × (mid : Standing) × Served settings rule n old mid × ServesNext settings rule (n + 1 == most_requests) mid new (Some result)
+
+-- a session: it leaves bytes that were read and not used, which are the rest; or memory was wanting before it began
+abbrev pub SessionsTo : SettingsValue → Rule → Standing → Line → Upstream → Caller → Option (List ℕ) → Lcg → Ended → Type 0
+SessionsTo settings rule old line upstream caller moments words result =
+    ((rest : List ℕ) × Sessions settings rule old (record { line = line; kept = rest; upstream = upstream; caller = caller; moments = moments; words = words }) result)
+    ⊎ (Rests old.line line × IsIdle old.upstream upstream × (caller ≡ old.caller) × (moments ≡ old.moments) × (words ≡ old.words) × (result ≡ ended.OutOfMemory))

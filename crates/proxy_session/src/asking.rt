@@ -1,0 +1,302 @@
+//! Asking the router for a replica.
+ghost use Rattle.std.specs.Prelude.{◌≡◌, ◌<◌, IfOk, IfSome, OnOk, OnErr};
+ghost use Rattle.bind_cache.specs.Stored.{kept_of};
+ghost use Rattle.dtab_table.specs.Dtab.{rules_of};
+ghost use Rattle.dtab_table.specs.TableCanon.{AreSoundRules};
+ghost use Rattle.line_base.specs.Clocks.{Tells};
+ghost use Rattle.machine.specs.Code.{ask_of};
+ghost use Rattle.machine.specs.Values.{PickValue};
+ghost use Rattle.name_tree.specs.Path.{canon_path};
+ghost use Rattle.router.specs.declared.names.Names.{Names as NamesOf};
+ghost use Rattle.router.specs.Changing.{WasWorkedOut};
+ghost use Rattle.proxy_session.specs.Asking.{Finding, FindingAnew, StopsAnew, StopsAsking, behind_draw, drawn};
+ghost use Rattle.proxy_session.specs.Callers.{SeesMore, caller_of};
+ghost use Rattle.proxy_session.specs.Found.{Picks, PicksOnce, ReturnsSome, Says, Sees, StopsPick, client_in, fresh_in, picked_of, residual_in, said_in};
+
+use crate::{Bytes, Mem};
+use bind_cache::Binding;
+use dtab_table::Dtab;
+use line_base::{Clock, Steps};
+use machine::{Ask, Why};
+use name_tree::{Path, write_path};
+use rand_core::utils::NextWord;
+use rand_pcg::Pcg64;
+use router::{Answer, Choice, Names, Naming, Pass, Peek, Router};
+use std::alloc::Global;
+use std::marker::Brand;
+use std::sync::Wait;
+use std::sync::ledger::{Blank, Ledger};
+
+/// Where the texts of a replica's names are.
+#[derive(Drop)]
+pub(crate) enum Texts {
+    /// In the room for names that was handed in.
+    Kept,
+    /// Here.
+    Own {
+        /// The canonical text of the labels that named its cluster.
+        client: Bytes,
+        /// That of the labels behind those.
+        residual: Bytes,
+    },
+}
+
+/// What an ask found.
+#[derive(Drop)]
+pub(crate) enum Found {
+    /// A replica.
+    Replica {
+        /// Which.
+        choice: Choice,
+        /// Its names.
+        texts: Texts,
+    },
+    /// There is none.
+    None(Why),
+}
+
+/// What a second ask was answered.
+#[derive(Drop)]
+enum Picked {
+    /// A replica.
+    Replica {
+        /// Which.
+        choice: Choice,
+        /// The labels that named its cluster.
+        client: Path,
+        /// The labels behind those.
+        residual: Path,
+        /// The delegation that was worked out for it, where none was kept.
+        fresh: Option<Binding>,
+    },
+    /// There is none.
+    None {
+        /// Why.
+        why: Why,
+        /// The delegation that was worked out for it, where none was kept.
+        fresh: Option<Binding>,
+    },
+}
+
+impl Picked {
+    /// What an answer says, where the pass was let in.
+    fn of(answer: Answer) -> Option<Picked>
+        ensures { result ≡ picked_of answer }
+    {
+        match answer {
+            Answer::Picked {
+                choice,
+                client,
+                residual,
+                fresh,
+            } => Some(Picked::Replica {
+                choice,
+                client,
+                residual,
+                fresh,
+            }),
+            Answer::None {
+                why,
+                place: _,
+                fresh,
+            } => Some(Picked::None { why, fresh }),
+            Answer::NoEntry => None,
+        }
+    }
+}
+
+/// What is kept for an ask.
+#[derive(Clone, Copy, Debug, PartialEq, Eq)]
+enum Seen {
+    /// A delegation, and there is this replica. Its names were written.
+    Hit(Choice),
+    /// A delegation, and there is no replica.
+    None(Why),
+    /// Nothing.
+    Miss,
+}
+
+/// The ask for a path, by the generator's next three words and at the clock's next moment.
+pub(crate) fn draw<C: Clock>(path: Path, local: Dtab, clock: &mut C, words: &mut Pcg64) -> Ask
+    requires { AreSoundRules (rules_of local) }
+    ensures told { Tells (C.to_come clock.old) (C.to_come clock.new) result.moment }
+    ensures words { words.new ≡ behind_draw words.old }
+    ensures ask { ask_of result ≡ drawn path (rules_of local) result.moment words.old }
+{
+    let branch = words.next_word();
+    let first = words.next_word();
+    let second = words.next_word();
+    Ask {
+        path,
+        local,
+        moment: clock.now(),
+        words: [branch, first, second],
+    }
+}
+
+/// Finds a replica: by what is kept for the ask, and else by a second ask, which works it out. What that worked out is given back, to be kept.
+pub(crate) fn find<J: Naming, R: Wait>(
+    rt: &R,
+    alloc: Global,
+    router: &Router<J>,
+    pass: &mut Pass<J>,
+    ask: &Ask,
+    names: &mut Names,
+) -> Mem<Found>
+    ensures ok { IfOk result (λ f. (said : PickValue) × Finding J.settings (caller_of pass.old) (caller_of pass.new) (ask_of ask.now) said × Says said names.new f) }
+    ensures err { OnErr result (StopsAsking J.settings (caller_of pass.old) (caller_of pass.new) (ask_of ask.now)) }
+{
+    match peek(rt, router, pass, ask, names) {
+        Seen::Hit(choice) => Ok(Found::Replica {
+            choice,
+            texts: Texts::Kept,
+        }),
+        Seen::None(why) => Ok(Found::None(why)),
+        Seen::Miss => find_anew(rt, alloc, router, pass, ask),
+    }
+}
+
+/// Asks for what is kept, as often as it takes to be let in.
+fn peek<J: Naming, R: Wait>(
+    rt: &R,
+    router: &Router<J>,
+    pass: &mut Pass<J>,
+    ask: &Ask,
+    names: &mut Names,
+) -> Seen
+    ensures { Sees J.settings (caller_of pass.old) (caller_of pass.new) (ask_of ask.now) names.new result }
+{
+    'asking: for _ in rt.forever() {
+        match router.peek(pass, ask, names) {
+            Peek::Hit(choice) => return Seen::Hit(choice),
+            Peek::HitNone { why, place: _ } => return Seen::None(why),
+            Peek::Miss(_) => return Seen::Miss,
+            Peek::NoEntry => {}
+        }
+    }
+    unreachable!()
+}
+
+/// Finds a replica by a second ask. The names that were handed in stay as they are.
+fn find_anew<J: Naming, R: Wait>(
+    rt: &R,
+    alloc: Global,
+    router: &Router<J>,
+    pass: &mut Pass<J>,
+    ask: &Ask,
+) -> Mem<Found>
+    ensures ok { IfOk result (λ f. (said : PickValue) × FindingAnew J.settings (caller_of pass.old) (caller_of pass.new) (ask_of ask.now) said × ((names : NamesOf) → Says said names f)) }
+    ensures err { OnErr result (StopsAnew J.settings (caller_of pass.old) (caller_of pass.new) (ask_of ask.now)) }
+{
+    match pick(rt, alloc, router, pass, ask) {
+        Ok(picked) => keep(rt, alloc, router, pass, picked),
+        Err(want) => Err(want),
+    }
+}
+
+/// Gives back what a second ask worked out, and writes the names of the replica that it found.
+fn keep<J: Naming, R: Wait>(
+    rt: &R,
+    alloc: Global,
+    router: &Router<J>,
+    pass: &mut Pass<J>,
+    picked: Picked,
+) -> Mem<Found>
+    requires { IfSome (fresh_in picked) (λ b. WasWorkedOut pass.old (kept_of b)) }
+    ensures ok { IfOk result (λ f. ReturnsSome J.settings (caller_of pass.old) (caller_of pass.new) (fresh_in picked) × ((names : NamesOf) → Says (said_in picked) names f)) }
+    ensures err { OnErr result (SeesMore (caller_of pass.old) (caller_of pass.new)) }
+{
+    match picked {
+        Picked::Replica {
+            choice,
+            client,
+            residual,
+            fresh,
+        } => match texts_of(alloc, &client, &residual) {
+            Ok(texts) => match give_back(rt, alloc, router, pass, fresh) {
+                Ok(()) => Ok(Found::Replica { choice, texts }),
+                Err(want) => Err(want),
+            },
+            Err(want) => Err(want),
+        },
+        Picked::None { why, fresh } => match give_back(rt, alloc, router, pass, fresh) {
+            Ok(()) => Ok(Found::None(why)),
+            Err(want) => Err(want),
+        },
+    }
+}
+
+/// The texts of a replica's names.
+fn texts_of(alloc: Global, client: &Path, residual: &Path) -> Mem<Texts>
+    ensures { IfOk result (λ t. (names : NamesOf) → (client_in names t ≡ canon_path client.now) × (residual_in names t ≡ canon_path residual.now)) }
+{
+    Ok(Texts::Own {
+        client: write_path(alloc, client)?,
+        residual: write_path(alloc, residual)?,
+    })
+}
+
+/// Asks for a replica, as often as it takes to be let in.
+fn pick<J: Naming, R: Wait>(
+    rt: &R,
+    alloc: Global,
+    router: &Router<J>,
+    pass: &mut Pass<J>,
+    ask: &Ask,
+) -> Mem<Picked>
+    ensures said { IfOk result (Picks J.settings (caller_of pass.old) (caller_of pass.new) (ask_of ask.now)) }
+    ensures fresh { IfOk result (λ a. IfSome (fresh_in a) (λ b. WasWorkedOut pass.new (kept_of b))) }
+    ensures want { OnErr result (StopsPick J.settings (caller_of pass.old) (caller_of pass.new) (ask_of ask.now)) }
+{
+    'asking: for _ in rt.forever() {
+        match pick_once::<J, Brand>(alloc, router, pass, ask, Blank::new(1)) {
+            Ok(Some(picked)) => return Ok(picked),
+            Ok(None) => {}
+            Err(want) => return Err(want),
+        }
+    }
+    unreachable!()
+}
+
+/// Asks for a replica once, where the pass is let in. The steps that it takes are not counted on.
+fn pick_once<J: Naming, L: Ledger>(
+    alloc: Global,
+    router: &Router<J>,
+    pass: &mut Pass<J>,
+    ask: &Ask,
+    blank: Blank,
+) -> Mem<Option<Picked>>
+    requires name { blank.name ≡ L.name }
+    requires parts { blank.parts ≡ L.parts }
+    requires some { 0 < blank.parts }
+    ensures said { IfOk result (PicksOnce J.settings (caller_of pass.old) (caller_of pass.new) (ask_of ask.now)) }
+    ensures fresh { IfOk result (λ p. IfSome p (λ a. IfSome (fresh_in a) (λ b. WasWorkedOut pass.new (kept_of b)))) }
+    ensures want { OnErr result (StopsPick J.settings (caller_of pass.old) (caller_of pass.new) (ask_of ask.now)) }
+{
+    let mut steps = Steps::<L>::start(blank);
+    match router.pick(alloc, pass, ask, &mut steps) {
+        Ok(answer) => Ok(Picked::of(answer)),
+        Err(want) => Err(want),
+    }
+}
+
+/// Gives back a delegation that was worked out, to be kept, if there is one.
+fn give_back<J: Naming, R: Wait>(
+    rt: &R,
+    alloc: Global,
+    router: &Router<J>,
+    pass: &mut Pass<J>,
+    fresh: Option<Binding>,
+) -> Mem<()>
+    requires { IfSome fresh (λ b. WasWorkedOut pass.old (kept_of b)) }
+    ensures ok { OnOk result (ReturnsSome J.settings (caller_of pass.old) (caller_of pass.new) fresh) }
+    ensures err { OnErr result (SeesMore (caller_of pass.old) (caller_of pass.new)) }
+{
+    let Some(binding) = fresh else {
+        return Ok(());
+    };
+    match router.remember(rt, alloc, pass, binding) {
+        Ok(_) => Ok(()),
+        Err(want) => Err(want),
+    }
+}

@@ -1,0 +1,98 @@
+//! The head of a reply behind those of interim replies.
+ghost use Rattle.std.specs.Prelude.{◌≡◌, ◌<◌, ◌≤◌, true, ℕ, List, IfOk, IfSome, IfNone, IsTrue};
+ghost use Rattle.http_wire.specs.ReplyReading.{LogsGot};
+ghost use Rattle.http_wire.specs.Sound.{IsSoundReply};
+ghost use Rattle.proxy_session.specs.Heads.{HeadDecides, Hears, fault_of, is_interim};
+
+use http::Method;
+use http_wire::{Framing, HeadEnd, ReplyHead, Rest, read_reply_head, reply_framing};
+use line_base::Dialer;
+use std::alloc::Global;
+
+/// The most heads that are received for one reply: eight interim ones, which are dropped, and the final one.
+const MOST_HEADS: u32 = 9;
+
+/// Why no final head came.
+#[derive(Clone, Copy, Debug, PartialEq, Eq)]
+pub(crate) enum HeadFault {
+    /// What came is no reply that can be passed on, or nothing more came.
+    NoReply,
+    /// There was no memory for the head.
+    OutOfMemory,
+}
+
+impl HeadFault {
+    /// Why no final head came, where this is why no head did.
+    fn of_end(end: HeadEnd) -> HeadFault
+        ensures { result ≡ fault_of end }
+    {
+        match end {
+            HeadEnd::OutOfMemory => HeadFault::OutOfMemory,
+            HeadEnd::Ended
+            | HeadEnd::Cut
+            | HeadEnd::Bad
+            | HeadEnd::Version
+            | HeadEnd::TooLarge
+            | HeadEnd::ReadFault => HeadFault::NoReply,
+        }
+    }
+}
+
+/// Whether a head is one of an interim reply, which is dropped: 100, and 102 to 199. 101 would switch to another protocol.
+fn is_interim(status: u16) -> bool
+    ensures { result ≡ is_interim status }
+{
+    status == 100 || (102 <= status && status <= 199)
+}
+
+/// Receives the final head of a reply to a request with this method, behind up to eight interim ones, and says how its body is framed.
+pub(crate) fn receive_final<D: Dialer>(
+    alloc: Global,
+    method: &Method,
+    dialer: &mut D,
+    rest: &mut Rest,
+) -> Result<(ReplyHead, Framing), HeadFault>
+    requires { IsTrue (D.is_open dialer.old) }
+    ensures hears { (pieces : List (List ℕ)) × LogsGot (D.log dialer.old) (D.log dialer.new) pieces
+        × Hears method.now rest.old rest.new pieces (D.faults dialer.old) (D.faults dialer.new) result }
+    ensures sound { IfOk result (λ r. IsSoundReply r.0) }
+    ensures stays { D.is_open dialer.new ≡ D.is_open dialer.old }
+{
+    'heads: for dropped in 0..MOST_HEADS {
+        match read_reply_head(alloc, dialer, rest) {
+            Ok(head) => match decide(method, dropped, head) {
+                Some(decided) => return decided,
+                None => {}
+            },
+            Err(end) => return Err(HeadFault::of_end(end)),
+        }
+    }
+    unreachable!()
+}
+
+/// What a head is behind so many that were dropped: the final one, none that can be passed on, or one more to drop.
+fn decide(
+    method: &Method,
+    dropped: u32,
+    head: ReplyHead,
+) -> Option<Result<(ReplyHead, Framing), HeadFault>>
+    requires few { dropped ≤ 8 }
+    requires sound { IsSoundReply head }
+    ensures decided { IfSome result (HeadDecides method.now dropped head) }
+    ensures sound { IfSome result (λ r. IfOk r (λ f. IsSoundReply f.0)) }
+    ensures more { IfNone result ((is_interim head.status ≡ true) × (dropped < 8)) }
+{
+    if is_interim(head.status) {
+        if dropped + 1 < MOST_HEADS {
+            return None;
+        }
+        return Some(Err(HeadFault::NoReply));
+    }
+    if head.status == 101 {
+        return Some(Err(HeadFault::NoReply));
+    }
+    match reply_framing(method, &head) {
+        Ok(framing) => Some(Ok((head, framing))),
+        Err(_) => Some(Err(HeadFault::NoReply)),
+    }
+}

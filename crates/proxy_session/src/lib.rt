@@ -1,0 +1,46 @@
+//! The requests of one connection: each goes on to a replica, and the reply goes back.
+//!
+//! [`proxy_once`] serves one request from its head on: it finds a replica for what the request seeks, by what a [`Router`](router::Router) keeps or by a delegation, holds its
+//! slot, dials it, sends the request on and passes the reply back, and reports how that went; or the router answers itself. [`serve_session`] serves all requests of a
+//! connection, one after another, up to 10,000. `docs/HTTP.md` has a table of what a client sees.
+//!
+//! # What is proved
+//! One exchange is a relation over plain lists (`Exchanges` of `specs/Exchange.antt`): what a request seeks or why it is refused (`Seeks`), how a replica is asked for
+//! (`Finding`), how it is tried (`Tries`, whose ways have a variant of `Tried` each), and how that is settled (`Settles`). A session is a list of exchanges, each with its head
+//! read off the bytes that the one before it left, and then an end (`Sessions` of `specs/Session.antt`). Both hold over any cutting of the bytes and every failing call; where
+//! memory is wanting, or a call of the client's connection fails, what was moved until then is a front of what would have been. Behind each no slot is held, and behind each try
+//! the connection to the replica is ended.
+//!
+//! # Example
+//! ```text
+//! let rule = Rule { kind: Kind::Token(FieldName::of(..)), prefix: read_path(alloc, b"/svc")? };
+//! match serve_session(rt, alloc, &router, &mut pass, &rule, &mut peer, &mut dialer, &mut clock, &mut words, &gate, 0) {
+//!     Ended::PeerEnded | Ended::Closed => { /* the connection is done */ }
+//!     ..
+//! }
+//! ```
+#![tactic(auto)]
+
+mod answering;
+mod asking;
+mod buffers;
+mod closing;
+mod exchange;
+mod final_head;
+mod onward;
+mod refusing;
+mod reporting;
+mod seeking;
+mod session;
+mod tried;
+mod trying;
+
+pub use exchange::proxy_once;
+pub use session::serve_session;
+use std::alloc::AllocError;
+
+/// A value, unless there was no memory for it.
+pub type Mem<T> = Result<T, AllocError>;
+
+/// Bytes of a text.
+pub type Bytes = Vec<u8>;

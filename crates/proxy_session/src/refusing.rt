@@ -1,0 +1,72 @@
+//! The replies that the router makes itself.
+ghost use Rattle.std.specs.Prelude.{◌≡◌, List, ℕ};
+ghost use Rattle.std.specs.Io.KnownBytes.{Appends, Keeps};
+ghost use Rattle.line_base.specs.Counts.{HasCause};
+ghost use Rattle.body_wire.specs.Turns.{SendsAll};
+ghost use Rattle.own_reply.specs.Reply.{reply_of};
+ghost use Rattle.proxy_session.specs.Answering.{Refuses, Writes};
+
+use crate::closing::{end_of, has_reply_body, is_closing, own_closes};
+use http_wire::{Ended, Head};
+use line_base::{Failed, Peer};
+use own_reply::{OwnError, own_reply};
+use std::alloc::Global;
+
+/// Writes all bytes to a peer.
+fn write_all<P: Peer>(peer: &mut P, bytes: &[u8]) -> Result<(), Failed>
+    ensures bytes { (sent : List ℕ) × Appends (P.given peer.old) (P.given peer.new) sent × SendsAll bytes.now sent result }
+    ensures others { (Keeps (P.left peer.old) (P.left peer.new)) × (P.read_faults peer.new ≡ P.read_faults peer.old)
+        × (P.ends peer.new ≡ P.ends peer.old) }
+    ensures cause { HasCause (P.write_faults peer.old) (P.write_faults peer.new) result }
+{
+    let mut at = 0;
+    while at < bytes.len() {
+        match peer.write(&bytes[at..]) {
+            Ok(count) => at += count,
+            Err(failed) => return Err(failed),
+        }
+    }
+    Ok(())
+}
+
+/// Writes one of the router's own replies, and says how the session ends where that fails.
+pub(crate) fn write_own<P: Peer>(
+    alloc: Global,
+    peer: &mut P,
+    err: OwnError,
+    closing: bool,
+    with_body: bool,
+) -> Result<(), Ended>
+    ensures { Writes (record { left = P.left peer.old; given = P.given peer.old; read_faults = P.read_faults peer.old; write_faults = P.write_faults peer.old; ends = P.ends peer.old }) (record { left = P.left peer.new; given = P.given peer.new; read_faults = P.read_faults peer.new; write_faults = P.write_faults peer.new; ends = P.ends peer.new }) (reply_of err closing with_body) result }
+{
+    let Ok(reply) = own_reply(alloc, err, closing, with_body) else {
+        return Err(Ended::OutOfMemory);
+    };
+    match write_all(peer, reply.as_slice()) {
+        Ok(()) => Ok(()),
+        Err(_) => Err(Ended::WriteFault),
+    }
+}
+
+/// Answers a request with a refusal, and says how it ends.
+pub(crate) fn refuse<P: Peer>(
+    alloc: Global,
+    head: &Head,
+    last: bool,
+    err: OwnError,
+    peer: &mut P,
+) -> Option<Ended>
+    ensures { Refuses err head.now last (record { left = P.left peer.old; given = P.given peer.old; read_faults = P.read_faults peer.old; write_faults = P.write_faults peer.old; ends = P.ends peer.old }) (record { left = P.left peer.new; given = P.given peer.new; read_faults = P.read_faults peer.new; write_faults = P.write_faults peer.new; ends = P.ends peer.new }) result }
+{
+    let closes = own_closes(err, head);
+    match write_own(
+        alloc,
+        peer,
+        err,
+        is_closing(closes, last),
+        has_reply_body(head),
+    ) {
+        Ok(()) => end_of(closes, last),
+        Err(ended) => Some(ended),
+    }
+}

@@ -1,0 +1,96 @@
+//! How a try of a replica goes.
+ghost use Rattle.std.specs.Prelude.{◌≡◌};
+ghost use Rattle.proxy_session.specs.Answering.{report_of};
+ghost use Rattle.proxy_session.specs.Trying.{tried_of_back, tried_of_body, tried_of_head};
+
+use crate::final_head::HeadFault;
+use body_wire::BodyEnd;
+
+/// How a try of a replica went.
+#[derive(Clone, Copy, Debug, PartialEq, Eq)]
+pub(crate) enum Tried {
+    /// Its address could not be dialled.
+    NotDialed,
+    /// The request could not be sent.
+    NotSent,
+    /// The request's body is badly chunked.
+    BadBody,
+    /// The request's body is longer than a body may be.
+    LongBody,
+    /// The client's bytes ended inside the request's body.
+    BodyCut,
+    /// The request's body could not be read.
+    BodyFault,
+    /// No reply came, or none that can be passed on.
+    NoReply,
+    /// The reply's body was cut, or is badly chunked.
+    ReplyCut,
+    /// The reply could not be written.
+    WrittenShort,
+    /// The reply went back whole.
+    Whole {
+        /// Its status.
+        status: u16,
+        /// Whether the connection closes behind it, whatever the number of its requests.
+        closes: bool,
+    },
+    /// Memory was wanting.
+    OutOfMemory,
+}
+
+impl Tried {
+    /// How a try ends whose request did not go on whole.
+    pub(crate) fn of_body(end: BodyEnd) -> Tried
+        ensures { result ≡ tried_of_body end }
+    {
+        match end {
+            BodyEnd::BadChunk(_) => Tried::BadBody,
+            BodyEnd::Cut => Tried::BodyCut,
+            BodyEnd::TooLong => Tried::LongBody,
+            BodyEnd::ReadFault => Tried::BodyFault,
+            BodyEnd::SendFault => Tried::NotSent,
+            BodyEnd::WriteFault | BodyEnd::RecvFault | BodyEnd::OutOfMemory => Tried::OutOfMemory,
+        }
+    }
+
+    /// How a try ends whose reply has no final head.
+    pub(crate) fn of_head(fault: HeadFault) -> Tried
+        ensures { result ≡ tried_of_head fault }
+    {
+        match fault {
+            HeadFault::NoReply => Tried::NoReply,
+            HeadFault::OutOfMemory => Tried::OutOfMemory,
+        }
+    }
+
+    /// How a try ends whose reply has this status, and went back so far.
+    pub(crate) fn of_back(status: u16, closes: bool, passed: Result<u64, BodyEnd>) -> Tried
+        ensures { result ≡ tried_of_back status closes passed }
+    {
+        match passed {
+            Ok(_) => Tried::Whole { status, closes },
+            Err(BodyEnd::BadChunk(_)) => Tried::ReplyCut,
+            Err(BodyEnd::Cut | BodyEnd::TooLong | BodyEnd::RecvFault) => Tried::ReplyCut,
+            Err(BodyEnd::WriteFault) => Tried::WrittenShort,
+            Err(BodyEnd::ReadFault | BodyEnd::SendFault | BodyEnd::OutOfMemory) => {
+                Tried::OutOfMemory
+            }
+        }
+    }
+
+    /// What is reported of the replica, if something is: whether it answered well.
+    pub(crate) fn report(self) -> Option<bool>
+        ensures { result ≡ report_of self }
+    {
+        match self {
+            Tried::NotDialed | Tried::NotSent | Tried::NoReply | Tried::ReplyCut => Some(false),
+            Tried::Whole { status, closes: _ } => Some(status < 500),
+            Tried::BadBody
+            | Tried::LongBody
+            | Tried::BodyCut
+            | Tried::BodyFault
+            | Tried::WrittenShort
+            | Tried::OutOfMemory => None,
+        }
+    }
+}
