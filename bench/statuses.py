@@ -17,6 +17,17 @@ MOST_CONFIG = 1_048_576
 CONFIG = b'{"routers":[{"protocol":"http"}]}'
 GOOD = b"ok router 127.0.0.1:4140 namerd 127.0.0.1:4180 admin 127.0.0.1:9990\n"
 
+# Generated runs, and the lines that sum them up.
+RUNS = [
+    ("storm", 0, 7, b"changes 1 refused 0 picked 0 none 0 ports 0"),
+    ("storm", 1_000, 1, b"changes 334 refused 168 picked 242 none 257 ports 809971"),
+    ("storm", 100_000, 7, b"changes 31178 refused 18675 picked 20804 none 29344 ports 63923968"),
+    ("storm", 0, 2**64 - 1, b"changes 1 refused 0 picked 0 none 0 ports 0"),
+    ("weave", 0, 7, b"history 1 looks 0 kept 0"),
+    ("weave", 1_000, 1, b"history 254 looks 127 kept 3"),
+    ("weave", 100_000, 7, b"history 25133 looks 12522 kept 466"),
+]
+
 # What is written to standard error where the words fit no command, and nowhere else.
 USAGE = b"usage: linker replay"
 
@@ -85,6 +96,13 @@ def main():
         told("a configuration that can't be read", folder, 4, b"error read\n")
         with open("/dev/full", "wb") as full:
             told("a line that can't be written", config(CONFIG), 5, b"", full)
+
+        for command, turns, seed, line in RUNS:
+            check(f"{command} {turns} {seed}", [command, str(turns), str(seed)], subprocess.DEVNULL, 0, line + b"\n")
+        for words, place in [(["storm"], 2), (["storm", "5"], 3), (["storm", "01", "5"], 2), (["storm", "1000001", "5"], 2), (["weave", "5", "x"], 3), (["weave", "5", str(2**64)], 3), (["weave", "5", "7", "x"], 4)]:
+            check(f"words {words}", words, subprocess.DEVNULL, 2, b"error words %d\n" % place)
+        with open("/dev/full", "wb") as full:
+            check("a run's line that can't be written", ["storm", "0", "7"], subprocess.DEVNULL, 5, b"", full)
 
     if wrong:
         sys.exit(f"wrong: {', '.join(wrong)}")
