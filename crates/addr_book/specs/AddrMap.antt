@@ -8,9 +8,9 @@ use Rattle.addr_book.specs.declared.addr.Addr.{Addr}
 use Rattle.addr_book.specs.declared.addr_shard.AddrShard.{AddrShard}
 use Rattle.addr_book.specs.AddrList.{addr_cmp}
 
--- the place of an address: its shard among 127
+-- the place of an address: its shard among 31
 unfoldable pub addr_place : Addr → ℕ
-addr_place addr = (addr.ip * 65536 + addr.port) % 127
+addr_place addr = (addr.ip * 65536 + addr.port) % 31
 
 -- what a shard has: nothing where it is not there
 abbrev pub addr_shard : Option (Arc AddrShard Global) → FinMap addr_cmp ℕ

@@ -11,14 +11,14 @@ use std::marker::Model;
 use std::sync::Arc;
 
 /// How many shards a map has: a prime, so that addresses in a row and ports in a row are spread evenly.
-const SHARDS: usize = 127;
+const SHARDS: usize = 31;
 
 /// The shards of a map, in order. `None` stands for one that never had an address.
 type Shards = Vec<Option<Arc<AddrShard>>>;
 
 /// A number for each of some addresses. Contracts see a finite map.
 ///
-/// The addresses are spread over 127 shards by a hash. A look-up finds the shard, and in its `n` addresses takes about `log n`
+/// The addresses are spread over 31 shards by a hash. A look-up finds the shard, and in its `n` addresses takes about `log n`
 /// comparisons. A copy shares the shards, and a change copies its shard where another map shares it.
 #[derive(Debug, Drop)]
 pub(crate) struct AddrMap {
@@ -39,7 +39,7 @@ impl Model for AddrMap {
 
     ghost view = { λ m. whole (each addr_shard m.shards.items) };
 
-    ghost invariant = { λ m. IsSharded addr_place 127 (each addr_shard m.shards.items) };
+    ghost invariant = { λ m. IsSharded addr_place 31 (each addr_shard m.shards.items) };
 }
 
 impl AddrMap {
@@ -104,7 +104,7 @@ impl AddrMap {
 #[tactic(auto, unfolding(crate::specs::AddrMap::addr_place))]
 fn place_of(addr: Addr) -> usize
     ensures place { result ≡ addr_place addr }
-    ensures below { result < 127 }
+    ensures below { result < 31 }
 {
     ((u64::from(addr.ip) * 0x1_0000 + u64::from(addr.port)) % SHARDS as u64) as usize
 }

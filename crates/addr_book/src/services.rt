@@ -12,14 +12,14 @@ use std::marker::Model;
 use std::sync::Arc;
 
 /// How many shards there are: so many that few services share one.
-const SHARDS: usize = 509;
+const SHARDS: usize = 127;
 
 /// The shards, in order. `None` stands for one that never had a service.
 type Shards = Vec<Option<Arc<ServiceShard>>>;
 
 /// Services, each with its addresses. Contracts see a finite map. Copies share the lists.
 ///
-/// The services are spread over 509 shards by a hash of the name, so that 4,096 are about eight a shard. A copy shares the shards, and
+/// The services are spread over 127 shards by a hash of the name, so that 4,096 are about 32 a shard. A copy shares the shards, and
 /// a change copies its shard where other services share it.
 #[derive(Debug, Drop)]
 pub(crate) struct Services {
@@ -40,7 +40,7 @@ impl Model for Services {
 
     ghost view = { λ s. whole (each service_shard s.shards.items) };
 
-    ghost invariant = { λ s. IsSharded name_place 509 (each service_shard s.shards.items) × (s.len ≡ map.len (whole (each service_shard s.shards.items))) };
+    ghost invariant = { λ s. IsSharded name_place 127 (each service_shard s.shards.items) × (s.len ≡ map.len (whole (each service_shard s.shards.items))) };
 }
 
 impl Services {
@@ -138,7 +138,7 @@ const PRIME: u64 = 1_099_511_628_211;
 #[tactic(auto, unfolding(crate::specs::Services::name_place))]
 fn place_of(text: &[u8]) -> usize
     ensures place { result ≡ name_place text.now }
-    ensures below { result < 509 }
+    ensures below { result < 127 }
 {
     let mut hash = BASIS;
     for byte in text {

@@ -15,22 +15,22 @@ invariant_of-result c =
     let before = whole (map service_shard c.self.inside.shards.items) in
     let there = c.is_some-was_there.ensures ∙ (sym (is_some_map (λ (list : Bor (List Weighted)). list.now) c.get.result) ∙ (ap is_some c.get.ensures
     ∙ ap is_some (ap (λ m. get m c.args.service.now) c.in_ok-shard.ensures.shard
-    ∙ shard_gets nat_list_cmp_total name_only name_place service_shard 509 c.self.inside.shards.items c.self.invariant.0 c.args.service.now c.place_of-place.result
+    ∙ shard_gets nat_list_cmp_total name_only name_place service_shard 127 c.self.inside.shards.items c.self.invariant.0 c.args.service.now c.place_of-place.result
     (c.place_of-place.ensures.place ∙ ap name_place c.text.ensures.text) c.place_of-place.ensures.below))) in (
-      sharded_insert nat_list_cmp_total name_only name_place service_shard 509 c.self.inside.shards.items c.self.invariant.0 c.args.service.now c.place_of-place.result
+      sharded_insert nat_list_cmp_total name_only name_place service_shard 127 c.self.inside.shards.items c.self.invariant.0 c.args.service.now c.place_of-place.result
           (c.place_of-place.ensures.place ∙ ap name_place c.text.ensures.text) c.place_of-place.ensures.below c.taken_shard.new.shards.items c.in_ok-shard.ensures.rest c.in_ok-shard.shard
           c.in_ok-shard.ensures.shard _ c.args.list.now (c.in_ok-new.ensures.ok ∙ c.in_ok-insert.ensures.ok),
       c.len_with.ensures
           ∙ (ap (λ b. cond b c.self.inside.len (c.self.inside.len + 1)) there
           ∙ (ap (λ n. cond (is_some (get before c.args.service.now)) n (n + 1)) c.self.invariant.1
           ∙ (sym (len-insert nat_list_cmp_total before c.args.service.now c.args.list.now)
-          ∙ ap len (sym (shards_insert nat_list_cmp_total name_only name_place service_shard 509 c.self.inside.shards.items c.self.invariant.0 c.args.service.now c.place_of-place.result
+          ∙ ap len (sym (shards_insert nat_list_cmp_total name_only name_place service_shard 127 c.self.inside.shards.items c.self.invariant.0 c.args.service.now c.place_of-place.result
           (c.place_of-place.ensures.place ∙ ap name_place c.text.ensures.text) c.place_of-place.ensures.below c.taken_shard.new.shards.items c.in_ok-shard.ensures.rest c.in_ok-shard.shard
           c.in_ok-shard.ensures.shard _ c.args.list.now (c.in_ok-new.ensures.ok ∙ c.in_ok-insert.ensures.ok)))))),
     )
 
 pub returns : goal.returns
 returns c =
-    shards_insert nat_list_cmp_total name_only name_place service_shard 509 c.self.inside.shards.items c.self.invariant.0 c.args.service.now c.place_of-place.result
+    shards_insert nat_list_cmp_total name_only name_place service_shard 127 c.self.inside.shards.items c.self.invariant.0 c.args.service.now c.place_of-place.result
     (c.place_of-place.ensures.place ∙ ap name_place c.text.ensures.text) c.place_of-place.ensures.below c.taken_shard.new.shards.items c.in_ok-shard.ensures.rest c.in_ok-shard.shard
     c.in_ok-shard.ensures.shard _ c.args.list.now (c.in_ok-new.ensures.ok ∙ c.in_ok-insert.ensures.ok) ∙ ap (λ m. insert m c.args.service.now c.args.list.now) c.self.view_is
