@@ -52,8 +52,6 @@ mod services;
 mod slot_map;
 mod slot_set;
 mod slots;
-#[cfg(test)]
-mod tests;
 
 pub use addr::{Addr, ONE_WEIGHT, Weighted, append_addr};
 pub use addr_file::{AddrFault, read_addrs};

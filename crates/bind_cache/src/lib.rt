@@ -36,8 +36,6 @@ mod chains;
 mod hash;
 mod laws;
 mod rings;
-#[cfg(test)]
-mod tests;
 mod touch;
 
 pub use binding::Binding;

@@ -37,8 +37,6 @@ mod gathered;
 mod laws;
 mod outcome;
 mod tables;
-#[cfg(test)]
-mod tests;
 mod trace;
 mod visits;
 mod work;

@@ -45,6 +45,3 @@ pub type Mem<T> = Result<T, AllocError>;
 
 /// Bytes of a body, or of what goes on for one.
 pub type Bytes = Vec<u8>;
-
-#[cfg(test)]
-mod tests;

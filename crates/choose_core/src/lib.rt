@@ -35,8 +35,6 @@ mod marked;
 mod marks;
 mod pruning;
 mod sieve;
-#[cfg(test)]
-mod tests;
 
 pub use draw::{drawn_pair, pair};
 pub use laws::equal_weights_do_not_matter;

@@ -20,8 +20,6 @@
 use std::alloc::AllocError;
 
 mod query;
-#[cfg(test)]
-mod tests;
 mod view;
 
 pub use query::{ViewFault, view_ask};

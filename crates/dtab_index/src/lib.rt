@@ -24,8 +24,6 @@ mod filing;
 mod index;
 mod key;
 mod prefix;
-#[cfg(test)]
-mod tests;
 
 pub use index::Index;
 

@@ -39,8 +39,6 @@ mod prefix_reader;
 mod prefix_text;
 mod read;
 mod table_reader;
-#[cfg(test)]
-mod tests;
 mod tree_list;
 mod write;
 

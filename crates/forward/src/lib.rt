@@ -52,6 +52,3 @@ pub type Bytes = Vec<u8>;
 
 /// How many bytes a head has room for from the start. It grows where it needs more.
 const ROOM: usize = 1024;
-
-#[cfg(test)]
-mod tests;

@@ -67,6 +67,3 @@ pub type Mem<T> = Result<T, AllocError>;
 
 /// Bytes of a text.
 pub type Bytes = Vec<u8>;
-
-#[cfg(test)]
-mod tests;

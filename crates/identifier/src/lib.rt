@@ -29,8 +29,6 @@ mod local;
 mod naming;
 mod rule;
 mod segments;
-#[cfg(test)]
-mod tests;
 
 pub use fault::{IdentifyFault, LocalFault};
 pub use local::local_dtab;

@@ -56,6 +56,3 @@ pub type Mem<T> = Result<T, AllocError>;
 
 /// Bytes of a file.
 pub type Bytes = Vec<u8>;
-
-#[cfg(test)]
-mod tests;

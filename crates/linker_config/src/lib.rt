@@ -38,8 +38,6 @@ mod naming;
 mod reading;
 mod routed;
 mod router;
-#[cfg(test)]
-mod tests;
 mod value;
 
 pub use config::{Config, Port, Text};

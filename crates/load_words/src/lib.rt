@@ -30,8 +30,6 @@ use std::alloc::AllocError;
 mod opening;
 mod rule;
 mod steps;
-#[cfg(test)]
-mod tests;
 mod words;
 
 pub use opening::start;

@@ -50,8 +50,6 @@ mod ready;
 mod reply;
 mod settings;
 mod state;
-#[cfg(test)]
-mod tests;
 
 pub use ask::Ask;
 pub use candidates::{Candidates, Taken};

@@ -37,8 +37,6 @@ mod laws;
 mod path;
 mod path_text;
 mod read;
-#[cfg(test)]
-mod tests;
 mod tree;
 mod tree_text;
 mod union;

@@ -38,6 +38,3 @@ pub use net::SocketNet;
 pub use peer::{IDLE_SECONDS, SocketPeer};
 pub use stop::SocketStop;
 pub use streams::{ReaderSource, WriterSink};
-
-#[cfg(test)]
-mod tests;

@@ -30,8 +30,6 @@ mod laws;
 mod namespace;
 mod spaces;
 mod store;
-#[cfg(test)]
-mod tests;
 
 pub use fault::StoreFault;
 pub use laws::versions_rise;

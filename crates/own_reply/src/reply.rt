@@ -6,9 +6,6 @@ ghost use Rattle.own_reply.specs.Reply.{connection_of, crlf, ended, head_of, rep
 use crate::{Bytes, Mem, OwnError};
 use std::alloc::Global;
 
-#[cfg(test)]
-mod tests;
-
 /// The whole reply that tells a client of the refusal. It says `Connection: close` where it is `closing`. Its body is
 /// left out where not `with_body`, as for a HEAD request, and the fields are then the same (RFC 9110 section 9.3.2).
 ///

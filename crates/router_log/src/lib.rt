@@ -27,8 +27,6 @@
 mod changing;
 mod keeping;
 mod laws;
-#[cfg(test)]
-mod tests;
 
 pub use changing::take_change;
 pub use keeping::take_kept;

@@ -41,8 +41,6 @@ mod command;
 mod line;
 mod reply;
 mod run;
-#[cfg(test)]
-mod tests;
 mod turn;
 mod turn_parts;
 mod words;

@@ -34,8 +34,6 @@ pub mod kept;
 mod operation;
 mod reader;
 mod rule;
-#[cfg(test)]
-mod tests;
 mod trail;
 mod writer;
 

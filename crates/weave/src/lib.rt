@@ -42,8 +42,6 @@ mod publishing;
 mod remembering;
 mod step;
 mod stepping;
-#[cfg(test)]
-mod tests;
 mod turns;
 mod world;
 

@@ -23,6 +23,3 @@ mod jobs;
 
 pub use accepting::{Accepting, Serve, accept_all};
 pub use jobs::{Job, JobsBack, run_workers};
-
-#[cfg(test)]
-mod tests;

@@ -1,4 +1,0 @@
-use Rattle.dtab_table.proofs.tests.matches_any_label.Given as goal
-
-abbrev pub ghosts-leaves : goal.ghosts-leaves
-ghosts-leaves g a = record { name = a.blank.name; parts = a.blank.parts }

@@ -1,0 +1,96 @@
+//! Prefixes that match, and those that do not.
+
+use dtab_index::{Index, Mem};
+use std::alloc::Global;
+use std::test::Fail;
+
+/// The labels of a text such as `/a/b`; those of `/` are none.
+fn path(alloc: Global, text: &[u8]) -> Mem<Vec<Vec<u8>>> {
+    let mut labels = Vec::new(alloc);
+    for label in text.split(|byte| *byte == b'/') {
+        if !label.is_empty() {
+            labels.push(Vec::from_slice(alloc, label)?)?;
+        }
+    }
+    Ok(labels)
+}
+
+/// The labels of a text such as `/a/*`, in which `*` is any label.
+fn prefix(alloc: Global, text: &[u8]) -> Mem<Vec<Option<Vec<u8>>>> {
+    let mut labels = Vec::new(alloc);
+    for label in path(alloc, text)? {
+        labels.push(if label.as_slice() == b"*".as_slice() {
+            None
+        } else {
+            Some(label)
+        })?;
+    }
+    Ok(labels)
+}
+
+/// Five prefixes, at the positions in which they stand here.
+const ADDED: [&[u8]; 5] = [b"/a", b"/*", b"/a/b", b"/*/b", b"/"];
+
+/// The index of these prefixes.
+fn five(alloc: Global) -> Mem<Index> {
+    let mut index = Index::new(alloc);
+    for at in 0..5u32 {
+        index.add(prefix(alloc, ADDED[at as usize])?, at)?;
+    }
+    Ok(index)
+}
+
+/// The positions of the prefixes that match a path.
+fn found(alloc: Global, index: &Index, text: &[u8]) -> Mem<Vec<u32>> {
+    index.matching(alloc, path(alloc, text)?.as_slice())
+}
+
+#[test]
+fn gives_the_greatest_first(rt: HostRuntime) -> Result<(), Fail> {
+    let index = five(rt.alloc())?;
+    let rows: [(&[u8], &[u32]); 4] = [
+        (b"/a/b/c", &[4, 3, 2, 1, 0]),
+        (b"/a", &[4, 1, 0]),
+        (b"/c/b", &[4, 3, 1]),
+        (b"/", &[4]),
+    ];
+    for (text, want) in rows {
+        let found = found(rt.alloc(), &index, text)?;
+        assert!(rt; found.as_slice() == want, "{text:?}");
+    }
+    Ok(())
+}
+
+/// The text `/svc/s` with a number of so many behind it.
+fn numbered(alloc: Global, number: u32) -> Mem<Vec<u8>> {
+    Ok(format!(in alloc; "/svc/s{number}")?.into_bytes())
+}
+
+/// The index of a thousand such prefixes.
+fn thousand(alloc: Global) -> Mem<Index> {
+    let mut index = Index::new(alloc);
+    for at in 0..1000u32 {
+        let text = numbered(alloc, at)?;
+        index.add(prefix(alloc, text.as_slice())?, at)?;
+    }
+    Ok(index)
+}
+
+/// The positions of the prefixes that match the path `/svc/s` with a number and one more label behind it.
+fn found_behind(alloc: Global, index: &Index, number: u32) -> Mem<Vec<u32>> {
+    let mut text = numbered(alloc, number)?;
+    text.extend_from_slice(b"/x")?;
+    found(alloc, index, text.as_slice())
+}
+
+#[test]
+fn finds_one_of_a_thousand(rt: HostRuntime) -> Result<(), Fail> {
+    let index = thousand(rt.alloc())?;
+    assert!(rt; found(rt.alloc(), &index, b"/svc")?.is_empty());
+    for at in 0..1000u32 {
+        let found = found_behind(rt.alloc(), &index, at)?;
+        assert!(rt; found.as_slice() == [at].as_slice(), "{at}");
+    }
+    assert!(rt; found_behind(rt.alloc(), &index, 1000)?.is_empty());
+    Ok(())
+}

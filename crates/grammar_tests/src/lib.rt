@@ -1,0 +1,11 @@
+//! Tests of the outside in memory, of the index of prefixes, and of the texts of paths, trees and tables.
+#![tactic(auto)]
+
+#[cfg(test)]
+mod index;
+#[cfg(test)]
+mod names;
+#[cfg(test)]
+mod outside;
+#[cfg(test)]
+mod tables;

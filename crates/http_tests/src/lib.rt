@@ -1,0 +1,15 @@
+//! Tests of heads and bodies, of the replies that the router writes itself, and of its configuration.
+#![tactic(auto)]
+
+#[cfg(test)]
+mod bodies;
+#[cfg(test)]
+mod configuration;
+#[cfg(test)]
+mod forwarding;
+#[cfg(test)]
+mod heads;
+#[cfg(test)]
+mod naming;
+#[cfg(test)]
+mod replies;

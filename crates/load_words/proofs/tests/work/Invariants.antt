@@ -1,9 +1,0 @@
-use Rattle.std.proofs.Common.{◌≡◌, None}
-use Rattle.load_words.specs.Seats.{IsOf, slot_of}
-use Rattle.load_words.proofs.tests.work.Given as goal
-
-abbrev pub invariant-loop-turn : goal.invariant-loop-turn
-invariant-loop-turn g l = record {
-  own : IsOf l.loads l.seat;
-  free : slot_of l.seat ≡ None;
-}

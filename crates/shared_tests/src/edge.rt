@@ -1,0 +1,169 @@
+//! A net over loopback, and the other adapters over the machine.
+use line_base::{
+    Clock, Dialer, Failed, Folder, FolderFault, Found, Listener, Net, NetFault, Peer, Sink, Source,
+    Stop,
+};
+use net_edge::{FileSystem, ReaderSource, SocketNet, SystemClock, WriterSink};
+use std::net::{Ipv4Addr, SocketAddr, SocketAddrV4, TcpListener, TcpStream};
+use std::test::Fail;
+use std::{fs, thread};
+
+const LOOPBACK: u32 = 0x7f00_0001;
+
+/// A port that is free.
+fn free_port(
+    rt: &impl std::net::Net<Listener = TcpListener, Stream = TcpStream>,
+) -> std::io::Result<u16> {
+    let any = SocketAddr::V4(SocketAddrV4::new(Ipv4Addr::from_bits(LOOPBACK), 0));
+    Ok(TcpListener::bind(rt, any)?.local_addr()?.port())
+}
+
+/// Answers each connection with what it said first, in capitals, until the listener is closed; at most so many.
+fn echo<L: Listener>(listener: &mut L, most: u32) -> u32 {
+    let mut served = 0u32;
+    for _ in 0..most {
+        let mut peer = match listener.accept() {
+            Ok(Some(peer)) => peer,
+            Ok(None) => return served,
+            Err(_) => continue,
+        };
+        let mut piece = [0u8; 16];
+        if let Ok(count) = peer.read(&mut piece) {
+            piece.make_ascii_uppercase();
+            let _ = peer.write(&piece[..count]);
+            served = served.saturating_add(1);
+        }
+        listener.finish(peer);
+    }
+    served
+}
+
+/// Says `ping` on a connection of its own, and gives what comes back before the end.
+fn ask<D: Dialer>(dialer: &mut D, port: u16) -> Result<([u8; 4], usize), Failed> {
+    match dialer.dial(LOOPBACK, port) {
+        Ok(()) => {}
+        Err(failed) => return Err(failed),
+    }
+    let mut heard = [0u8; 4];
+    let mut rest = [0u8; 4];
+    let said = dialer.send(b"ping");
+    let got = dialer.recv(&mut heard);
+    let end = dialer.recv(&mut rest);
+    dialer.hang();
+    match (said, got, end) {
+        (Ok(4), Ok(4), Ok(more)) => Ok((heard, more)),
+        _ => Err(Failed),
+    }
+}
+
+/// What one thread does.
+#[derive(Drop)]
+enum Part<L, D, S> {
+    /// It answers connections.
+    Answers { listener: L, served: u32 },
+    /// It asks three times, and then calls the stop.
+    Asks { dialer: D, stop: S, heard: u32 },
+}
+
+fn play<L: Listener, D: Dialer, S: Stop>(part: &mut Part<L, D, S>, port: u16) {
+    match part {
+        Part::Answers { listener, served } => *served = echo(listener, 8),
+        Part::Asks {
+            dialer,
+            stop,
+            heard,
+        } => {
+            for _ in 0..3 {
+                if ask(dialer, port) == Ok((*b"PING", 0)) {
+                    *heard = heard.saturating_add(1);
+                }
+            }
+            stop.stop();
+        }
+    }
+}
+
+/// Two threads wait in one queue and answer three connections of a third; the address is in use meanwhile. A stop ends both, and then nobody listens.
+#[test]
+fn net_over_loopback(rt: HostRuntime) -> Result<(), Fail> {
+    let port = free_port(&rt)?;
+    let mut net = SocketNet::of(&rt)?;
+    let listeners = net.listen(LOOPBACK, port, 2)?;
+    assert_eq!(rt; net.listen(LOOPBACK, port, 1).err(), Some(NetFault::Failed));
+    let mut parts = Vec::new(rt.alloc());
+    for listener in listeners.into_items() {
+        parts.push(Part::Answers {
+            listener,
+            served: 0,
+        })?;
+    }
+    parts.push(Part::Asks {
+        dialer: net.dialer(),
+        stop: net.stopper(),
+        heard: 0,
+    })?;
+    thread::for_each_mut(&rt, parts.as_mut_slice(), 3, &|_, part| play(part, port));
+    let mut served = 0u32;
+    for part in parts {
+        match part {
+            Part::Answers {
+                listener,
+                served: count,
+            } => {
+                served = served.saturating_add(count);
+                let stop = net.stopper();
+                assert_eq!(rt; net.end(listener, None, stop), Ok(()));
+            }
+            Part::Asks { heard, .. } => assert_eq!(rt; heard, 3),
+        }
+    }
+    assert_eq!(rt; served, 3);
+    assert_eq!(rt; ask(&mut net.dialer(), port), Err(Failed));
+    Ok(())
+}
+
+fn read<S: Source>(source: &mut S, into: &mut [u8]) -> Result<usize, Failed> {
+    source.read(into)
+}
+
+fn write<K: Sink>(sink: &mut K, bytes: &[u8]) -> Result<usize, Failed> {
+    sink.write(bytes)
+}
+
+fn moments<C: Clock + Drop>(clock: &mut C) -> (u64, u64) {
+    let first = clock.now();
+    (first, clock.fork().now())
+}
+
+fn found<F: Folder>(folder: &mut F, path: &str, most: usize) -> Result<Option<usize>, FolderFault> {
+    match folder.read(path, most) {
+        Ok(Found::Bytes(bytes)) => Ok(Some(bytes.len())),
+        Ok(Found::Longer) => Ok(Some(usize::MAX)),
+        Ok(Found::Absent) => Ok(None),
+        Err(fault) => Err(fault),
+    }
+}
+
+/// A file of three bytes in the folder where the test runs, two streams over bytes, and the clock, whose moments don't fall.
+#[test]
+fn files_streams_and_clock(rt: HostRuntime) -> Result<(), Fail> {
+    fs::write(&rt, "three", "abc")?;
+    let mut folder = FileSystem::of(&rt);
+    let rows = [
+        ("./three", 3, Ok(Some(3))),
+        ("./three", 2, Ok(Some(usize::MAX))),
+        ("./two", 3, Ok(None)),
+    ];
+    for (path, most, gives) in rows {
+        assert_eq!(rt; found(&mut folder, path, most), gives);
+    }
+    let mut into = [0u8; 4];
+    let mut source = ReaderSource::of(b"abc".as_slice());
+    assert_eq!(rt; read(&mut source, &mut into), Ok(3));
+    assert_eq!(rt; read(&mut source, &mut into), Ok(0));
+    let mut sink = WriterSink::of(Vec::new(rt.alloc()));
+    assert_eq!(rt; write(&mut sink, b"ab"), Ok(2));
+    let (first, then) = moments(&mut SystemClock::of(&rt));
+    assert!(rt; 0 < first && first <= then);
+    Ok(())
+}

@@ -1,0 +1,11 @@
+//! Tests of what threads share, and of the outside over the machine.
+#![tactic(auto)]
+
+#[cfg(test)]
+mod cell;
+#[cfg(test)]
+mod edge;
+#[cfg(test)]
+mod jobs;
+#[cfg(test)]
+mod loads;

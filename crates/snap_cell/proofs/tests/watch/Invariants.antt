@@ -1,6 +1,0 @@
-use Rattle.std.proofs.Common.{◌≡◌}
-use Rattle.snap_cell.specs.Views.{cell_of}
-use Rattle.snap_cell.proofs.tests.watch.Given as goal
-
-abbrev pub invariant-loop-turn : goal.invariant-loop-turn
-invariant-loop-turn l = cell_of l.reader ≡ cell_of l.fn.reader

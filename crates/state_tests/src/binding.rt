@@ -1,0 +1,605 @@
+//! Delegations over tables that are read from their texts, and a book of two services.
+ghost use Rattle.std.specs.Prelude.{◌≡◌, ◌<◌};
+
+use addr_book::{Book, Bound, Cluster, Leaf, Name, append_addr, read_addrs};
+use bind_core::{Delegated, Ended, Mem, Outcome, Tables, TraceItem, Wanted, bind};
+use dtab_table::{Dtab, read_dtab};
+use line_base::Steps;
+use name_tree::{Path, append_path, read_path};
+use std::alloc::Global;
+use std::marker::Brand;
+use std::sync::ledger::{Blank, Ledger};
+use std::test::Fail;
+
+/// What paths are delegated by.
+#[derive(Drop)]
+struct Given {
+    space: Dtab,
+    base: Dtab,
+    local: Dtab,
+    book: Book,
+}
+
+/// Sets the addresses of a service.
+fn set(alloc: Global, book: &mut Book, service: &str, addrs: &str) -> Result<(), Fail> {
+    let name = Name::of(alloc, service.as_bytes())?;
+    let ready = book.prepare_set(alloc, &name, &read_addrs(alloc, addrs.as_bytes())?)?;
+    Ok(book.absorb(&ready)?)
+}
+
+/// These tables, and a book with the services `web`, which has an address, and `idle`, which has none.
+fn read_given(alloc: Global, space: &str, base: &str, local: &str) -> Result<Given, Fail> {
+    let mut book = Book::start(alloc)?;
+    set(alloc, &mut book, "web", "127.0.0.1 9001")?;
+    set(alloc, &mut book, "idle", "")?;
+    Ok(Given {
+        space: read_dtab(alloc, space.as_bytes())?,
+        base: read_dtab(alloc, base.as_bytes())?,
+        local: read_dtab(alloc, local.as_bytes())?,
+        book,
+    })
+}
+
+fn delegate<L: Ledger>(
+    alloc: Global,
+    given: &Given,
+    path: &Path,
+    wanted: Wanted,
+    blank: Blank,
+) -> Mem<Delegated>
+    requires name { blank.name ≡ L.name }
+    requires parts { blank.parts ≡ L.parts }
+    requires some { 0 < blank.parts }
+{
+    let mut steps = Steps::<L>::start(blank);
+    let tables = Tables {
+        space: &given.space,
+        base: &given.base,
+        local: &given.local,
+    };
+    bind(alloc, &tables, &given.book, path, wanted, &mut steps)
+}
+
+/// What a path comes to.
+fn delegate_by(alloc: Global, given: &Given, path: &Path, wanted: Wanted) -> Mem<Delegated> {
+    delegate::<Brand>(alloc, given, path, wanted, Blank::new(1))
+}
+
+/// What the path of a text comes to.
+fn told(alloc: Global, given: &Given, path: &str, wanted: Wanted) -> Result<Delegated, Fail> {
+    let path = read_path(alloc, path.as_bytes())?;
+    Ok(delegate_by(alloc, given, &path, wanted)?)
+}
+
+/// A leaf in words: the address, the client path and the residual.
+fn put_leaf(leaf: &Leaf, text: &mut Vec<u8>) -> Mem<()> {
+    match &leaf.cluster {
+        Cluster::Inet(addr) => append_addr(*addr, text)?,
+        Cluster::Fs(service) => text.extend_from_slice(service.text())?,
+    }
+    text.push(b' ')?;
+    append_path(&leaf.client, text)?;
+    text.push(b' ')?;
+    append_path(&leaf.residual, text)
+}
+
+/// A bound in words: that of a union is its branches in brackets, each with its weight in millionths.
+#[cycle(put_bound)]
+fn put_bound(alloc: Global, bound: &Bound, text: &mut Vec<u8>) -> Mem<()> {
+    match bound {
+        Bound::One(leaf) => put_leaf(leaf, text),
+        Bound::Many(list) => {
+            text.push(b'[')?;
+            for item in list.items() {
+                let weight = format!(in alloc; " {} * ", item.weight)?;
+                text.extend_from_slice(weight.as_bytes())?;
+                put_bound(alloc, &item.bound, text)?;
+            }
+            text.extend_from_slice(b" ]")
+        }
+    }
+}
+
+/// An outcome in words. A bound one is its bound.
+fn outcome_text(alloc: Global, outcome: &Outcome) -> Mem<Vec<u8>> {
+    match outcome {
+        Outcome::Neg => b"negative".to_vec(alloc),
+        Outcome::Fail => b"failing".to_vec(alloc),
+        Outcome::Empty => b"empty".to_vec(alloc),
+        Outcome::TooDeep => b"too deep".to_vec(alloc),
+        Outcome::TooWide => b"too wide".to_vec(alloc),
+        Outcome::Bound(bound) => {
+            let mut text = Vec::new(alloc);
+            put_bound(alloc, bound, &mut text)?;
+            Ok(text)
+        }
+    }
+}
+
+/// How a lookup ended, in a word.
+fn ended_word(ended: Ended) -> &'static str {
+    match ended {
+        Ended::Negative => "negative",
+        Ended::Failing => "failing",
+        Ended::Empty => "empty",
+        Ended::TooDeep => "too-deep",
+        Ended::Bound => "bound",
+    }
+}
+
+/// The first few lookups of a trace in words: the depth, the path and how it ended.
+fn trace_text(alloc: Global, items: &[TraceItem], most: usize) -> Mem<Vec<u8>> {
+    let mut text = Vec::new(alloc);
+    for item in items.iter().take(most) {
+        text.extend_from_slice(format!(in alloc; "{} ", item.depth)?.as_bytes())?;
+        append_path(&item.path, &mut text)?;
+        text.push(b' ')?;
+        text.extend_from_slice(ended_word(item.ended).as_bytes())?;
+        text.push(b';')?;
+    }
+    Ok(text)
+}
+
+/// Some paths, each with `;` behind it.
+fn paths_text(alloc: Global, paths: &[Path]) -> Mem<Vec<u8>> {
+    let mut text = Vec::new(alloc);
+    for path in paths {
+        append_path(path, &mut text)?;
+        text.push(b';')?;
+    }
+    Ok(text)
+}
+
+/// `/c0 => /c1` and so on, and from the last name to an address.
+fn chain(alloc: Global, links: u32) -> Mem<String> {
+    let mut table = String::new(alloc);
+    for link in 0..links {
+        table.push_str(format!(in alloc; "/c{} => /c{};", link, link + 1)?.as_str())?;
+    }
+    table.push_str(format!(in alloc; "/c{} => /$/inet/127.0.0.1/80", links)?.as_str())?;
+    Ok(table)
+}
+
+/// `/a0 => /a1 | /a1` and so on, with the sign that is given for `|`.
+fn doubling(alloc: Global, levels: u32, sign: &str) -> Mem<String> {
+    let mut table = String::new(alloc);
+    for level in 0..levels {
+        let next = level + 1;
+        table.push_str(format!(in alloc; "/a{level} => /a{next} {sign} /a{next};")?.as_str())?;
+    }
+    Ok(table)
+}
+
+/// `/a0 => /a1 & /a1` and so on, and from the last name to an address.
+fn doubling_unions(alloc: Global, levels: u32) -> Mem<String> {
+    let mut table = doubling(alloc, levels, "&")?;
+    table.push_str(format!(in alloc; "/a{levels} => /$/inet/127.0.0.1/80")?.as_str())?;
+    Ok(table)
+}
+
+/// A table, a path, what it comes to, and the cost.
+const ROWS: [(&str, &str, &str, u32); 31] = [
+    ("", "/svc", "negative", 1),
+    (
+        "",
+        "/$/inet/localhost/80/x/y",
+        "127.0.0.1:80 /$/inet/localhost/80 /x/y",
+        1,
+    ),
+    (
+        "/svc => /$/inet/127.0.0.1/8080",
+        "/svc/a",
+        "127.0.0.1:8080 /$/inet/127.0.0.1/8080 /a",
+        2,
+    ),
+    (
+        "/svc => /$/inet/10.20.30.40/1; /svc => /$/inet/10.20.30.40/2",
+        "/svc",
+        "10.20.30.40:2 /$/inet/10.20.30.40/2 /",
+        2,
+    ),
+    (
+        "/svc => /$/inet/10.20.30.40/1; /svc => /none",
+        "/svc",
+        "10.20.30.40:1 /$/inet/10.20.30.40/1 /",
+        3,
+    ),
+    ("/a => /a", "/a", "too deep", 100),
+    (
+        "/a => /a; /b => /a | /$/inet/127.0.0.1/9",
+        "/b",
+        "too deep",
+        100,
+    ),
+    ("/s => $ | /$/inet/127.0.0.1/9", "/s", "empty", 1),
+    ("/s => ! | /$/inet/127.0.0.1/9", "/s", "failing", 1),
+    (
+        "/s => ~ | /$/inet/127.0.0.1/9",
+        "/s",
+        "127.0.0.1:9 /$/inet/127.0.0.1/9 /",
+        2,
+    ),
+    // All branches are dropped: failing goes before empty, and empty before negative.
+    ("/s => ~ & ~", "/s", "negative", 1),
+    ("/s => ~ & $", "/s", "empty", 1),
+    ("/s => ~ & !", "/s", "failing", 1),
+    ("/s => ! & $", "/s", "failing", 1),
+    ("/s => $ & !", "/s", "failing", 1),
+    // One branch is left, and one is all there is.
+    (
+        "/s => ! & /$/inet/127.0.0.1/1",
+        "/s",
+        "[ 1000000 * 127.0.0.1:1 /$/inet/127.0.0.1/1 / ]",
+        2,
+    ),
+    (
+        "/s => 2 * /$/inet/127.0.0.1/1",
+        "/s",
+        "[ 2000000 * 127.0.0.1:1 /$/inet/127.0.0.1/1 / ]",
+        2,
+    ),
+    // Unions in unions, in the tree and by a lookup.
+    (
+        "/s => 2 * (0.5 * /$/inet/127.0.0.1/1 & ~ & 3 * /$/inet/127.0.0.1/2) & /t; /t => 0.000001 * /$/inet/127.0.0.1/3",
+        "/s/x",
+        "[ 2000000 * [ 500000 * 127.0.0.1:1 /$/inet/127.0.0.1/1 /x 3000000 * 127.0.0.1:2 /$/inet/127.0.0.1/2 /x ] 1000000 * [ 1 * 127.0.0.1:3 /$/inet/127.0.0.1/3 /x ] ]",
+        5,
+    ),
+    // Branches of weight 0 are not evaluated.
+    ("/s => 0 * /$/inet/127.0.0.1/1", "/s", "negative", 1),
+    ("/s => 0 * /s & ~", "/s", "negative", 1),
+    (
+        "/s => 0 * ! & 0 * /s & $ & 0.000001 * /$/inet/127.0.0.1/1",
+        "/s",
+        "[ 1 * 127.0.0.1:1 /$/inet/127.0.0.1/1 / ]",
+        2,
+    ),
+    // A branch that is too deep ends all: what stands behind it isn't looked up.
+    ("/s => /s & ~", "/s", "too deep", 100),
+    ("/s => ! & /s", "/s", "too deep", 100),
+    (
+        "/a => /a; /b => /$/inet/127.0.0.1/1; /s => /a & /b",
+        "/s",
+        "too deep",
+        100,
+    ),
+    (
+        "/a => /a; /b => /$/inet/127.0.0.1/1; /s => /b & /a",
+        "/s",
+        "too deep",
+        102,
+    ),
+    (
+        "/a => /a; /s => (/a & ~) | /$/inet/127.0.0.1/1",
+        "/s",
+        "too deep",
+        100,
+    ),
+    // A union among alternatives.
+    (
+        "/s => (~ & ~) | /$/inet/127.0.0.1/2",
+        "/s",
+        "127.0.0.1:2 /$/inet/127.0.0.1/2 /",
+        2,
+    ),
+    ("/s => (~ & !) | /$/inet/127.0.0.1/2", "/s", "failing", 1),
+    // `*` stands for any one label.
+    (
+        "/s/*/x => /$/inet/127.0.0.1/9",
+        "/s/a/x/y",
+        "127.0.0.1:9 /$/inet/127.0.0.1/9 /y",
+        2,
+    ),
+    ("/s/*/x => /$/inet/127.0.0.1/9", "/s/x", "negative", 1),
+    ("/s/*/x => /$/inet/127.0.0.1/9", "/s/a/b/x", "negative", 1),
+];
+
+/// What a path comes to by a table in words, the cost, and how many paths and lookups are told.
+fn counted(
+    alloc: Global,
+    table: &str,
+    path: &str,
+    wanted: Wanted,
+) -> Result<(Vec<u8>, u32, usize, usize), Fail> {
+    let given = read_given(alloc, table, "", "")?;
+    let found = told(alloc, &given, path, wanted)?;
+    let text = outcome_text(alloc, &found.outcome)?;
+    let (asked, traced) = (found.asked.items().len(), found.trace.items().len());
+    Ok((text, found.cost, asked, traced))
+}
+
+#[test]
+fn delegations(rt: HostRuntime) -> Result<(), Fail> {
+    for (table, path, outcome, cost) in &ROWS {
+        let found = counted(rt.alloc(), table, path, Wanted::Neither)?;
+        assert!(rt;
+            found.0.as_slice() == outcome.as_bytes(),
+            "{path} in {table}"
+        );
+        assert!(rt;
+            (found.1, found.2, found.3) == (*cost, 0, 0),
+            "{path} in {table}"
+        );
+    }
+    Ok(())
+}
+
+/// The three tables, a path, what it comes to, and the paths that are looked up.
+const TABLES: [(&str, &str, &str, &str, &str, &str); 9] = [
+    // The request's own entries go first, then the configured ones, then the namespace's.
+    (
+        "/s => /$/inet/127.0.0.1/1",
+        "/s => /$/inet/127.0.0.1/2",
+        "/s => /$/inet/127.0.0.1/3",
+        "/s",
+        "127.0.0.1:3 /$/inet/127.0.0.1/3 /",
+        "/s;/$/inet/127.0.0.1/3;",
+    ),
+    (
+        "/s => /$/inet/127.0.0.1/1",
+        "/s => /$/inet/127.0.0.1/2",
+        "",
+        "/s",
+        "127.0.0.1:2 /$/inet/127.0.0.1/2 /",
+        "/s;/$/inet/127.0.0.1/2;",
+    ),
+    (
+        "/s => /$/inet/127.0.0.1/1; /s => /y",
+        "/s => ~ | /x",
+        "/s => /w | ~",
+        "/s",
+        "127.0.0.1:1 /$/inet/127.0.0.1/1 /",
+        "/s;/w;/x;/y;/$/inet/127.0.0.1/1;",
+    ),
+    (
+        "/s => /$/inet/127.0.0.1/1",
+        "",
+        "/s => $",
+        "/s",
+        "empty",
+        "/s;",
+    ),
+    // A tree of one table is looked up in all of them.
+    (
+        "/a => /b",
+        "/b => /c",
+        "/s => /a; /c => /$/inet/127.0.0.1/4",
+        "/s/x",
+        "127.0.0.1:4 /$/inet/127.0.0.1/4 /x",
+        "/s/x;/a/x;/b/x;/c/x;/$/inet/127.0.0.1/4/x;",
+    ),
+    // A service of the book is bound, whether it has addresses or not. One that is not there is negative.
+    (
+        "/svc => /#/io.l5d.fs",
+        "",
+        "",
+        "/svc/web/x",
+        "web /#/io.l5d.fs/web /x",
+        "/svc/web/x;/#/io.l5d.fs/web/x;",
+    ),
+    (
+        "/svc => /#/io.l5d.fs | /$/inet/127.0.0.1/9",
+        "",
+        "",
+        "/svc/idle",
+        "idle /#/io.l5d.fs/idle /",
+        "/svc/idle;/#/io.l5d.fs/idle;",
+    ),
+    (
+        "/svc => /#/io.l5d.fs | /$/inet/127.0.0.1/9",
+        "",
+        "",
+        "/svc/none",
+        "127.0.0.1:9 /$/inet/127.0.0.1/9 /none",
+        "/svc/none;/#/io.l5d.fs/none;/$/inet/127.0.0.1/9/none;",
+    ),
+    // An entry goes before what the path names.
+    (
+        "/#/io.l5d.fs/web => /$/inet/127.0.0.1/5",
+        "",
+        "",
+        "/#/io.l5d.fs/web",
+        "127.0.0.1:5 /$/inet/127.0.0.1/5 /",
+        "/#/io.l5d.fs/web;/$/inet/127.0.0.1/5;",
+    ),
+];
+
+/// What a path comes to by three tables in words, with the paths that are looked up behind it, and whether the cost is their number.
+fn asked_text(
+    alloc: Global,
+    space: &str,
+    base: &str,
+    local: &str,
+    path: &str,
+) -> Result<(Vec<u8>, Vec<u8>, bool), Fail> {
+    let given = read_given(alloc, space, base, local)?;
+    let found = told(alloc, &given, path, Wanted::Asked)?;
+    let text = outcome_text(alloc, &found.outcome)?;
+    let asked = paths_text(alloc, found.asked.items())?;
+    let count = found.asked.items().len();
+    Ok((
+        text,
+        asked,
+        found.cost as usize == count && found.trace.items().is_empty(),
+    ))
+}
+
+#[test]
+fn tables_and_paths_asked(rt: HostRuntime) -> Result<(), Fail> {
+    for (space, base, local, path, outcome, asked) in &TABLES {
+        let found = asked_text(rt.alloc(), space, base, local, path)?;
+        assert!(rt; found.0.as_slice() == outcome.as_bytes(), "{path}");
+        assert!(rt; found.1.as_slice() == asked.as_bytes() && found.2, "{path}");
+    }
+    Ok(())
+}
+
+/// A table, a path, how many lookups there are, and the first of them.
+const TRACES: [(&str, &str, usize, &str); 8] = [
+    (
+        "/svc => /$/inet/127.0.0.1/8080",
+        "/svc/a",
+        2,
+        "0 /svc/a bound;1 /$/inet/127.0.0.1/8080/a bound;",
+    ),
+    ("", "/svc", 1, "0 /svc negative;"),
+    (
+        "/s => /a | /b | /c; /b => /a | $",
+        "/s",
+        4,
+        "0 /s empty;1 /a negative;1 /b empty;2 /a negative;",
+    ),
+    // A branch of weight 0 is not looked up; unions in unions; failing goes before empty.
+    (
+        "/s => 0 * /x & /a & 2 * (/b & ~); /a => !; /b => $",
+        "/s",
+        3,
+        "0 /s failing;1 /a failing;1 /b empty;",
+    ),
+    (
+        "/s => /a & /b; /a => /$/inet/127.0.0.1/1; /b => !",
+        "/s",
+        4,
+        "0 /s bound;1 /a bound;2 /$/inet/127.0.0.1/1 bound;1 /b failing;",
+    ),
+    // A lookup that had not ended when something was too deep was too deep; one that had is as it ended.
+    (
+        "/s => /b & /a & /c; /a => /a; /b => ~",
+        "/s",
+        101,
+        "0 /s too-deep;1 /b negative;1 /a too-deep;2 /a too-deep;",
+    ),
+    (
+        "/s => (~ | /b) | /a | /c; /a => /a; /b => /d",
+        "/s",
+        102,
+        "0 /s too-deep;1 /b negative;2 /d negative;1 /a too-deep;",
+    ),
+    ("/s => ! | /a", "/s", 1, "0 /s failing;"),
+];
+
+/// The first four lookups of a path by a table in words, how many there are, and whether the cost is their number.
+fn traced_text(alloc: Global, table: &str, path: &str) -> Result<(Vec<u8>, usize, bool), Fail> {
+    let given = read_given(alloc, table, "", "")?;
+    let found = told(alloc, &given, path, Wanted::Trace)?;
+    let items = found.trace.items();
+    let text = trace_text(alloc, items, 4)?;
+    let is_cost = found.cost as usize == items.len() && found.asked.items().is_empty();
+    Ok((text, items.len(), is_cost))
+}
+
+#[test]
+fn traces(rt: HostRuntime) -> Result<(), Fail> {
+    for (table, path, count, trace) in &TRACES {
+        let found = traced_text(rt.alloc(), table, path)?;
+        assert!(rt; found.0.as_slice() == trace.as_bytes(), "{path} in {table}");
+        assert!(rt; found.1 == *count && found.2, "{path} in {table}");
+    }
+    Ok(())
+}
+
+/// Whether a path comes to an outcome, which `bound` begins for a bound one, with this cost and so many paths and lookups.
+fn is_measured(
+    alloc: Global,
+    table: &str,
+    path: &str,
+    outcome: &str,
+    counts: (u32, usize, usize),
+) -> Result<bool, Fail> {
+    let asked = counted(alloc, table, path, Wanted::Asked)?;
+    let traced = counted(alloc, table, path, Wanted::Trace)?;
+    let is_outcome = if outcome == "bound" {
+        traced.0.as_slice().ends_with(b" /") || traced.0.as_slice().ends_with(b" ]")
+    } else {
+        traced.0.as_slice() == outcome.as_bytes()
+    };
+    Ok(is_outcome && (traced.1, asked.2, traced.3) == counts && asked.1 == traced.1)
+}
+
+/// `/aN` is looked up `2^(13 - N) - 1` times in a table of twelve levels: these sums come to 255, 256, 257, 9,999, 10,000 and 10,001, with the first lookup.
+const SUMS: [(&str, &str, u32, usize, usize); 6] = [
+    ("/s => /a6 | /a6", "negative", 255, 255, 255),
+    ("/s => /a5", "negative", 256, 256, 256),
+    ("/s => /a5 | /a12", "negative", 257, 0, 257),
+    (
+        "/s => /a0 | /a3 | /a4 | /a5 | /a9 | /a11",
+        "negative",
+        9_999,
+        0,
+        9_999,
+    ),
+    (
+        "/s => /a0 | /a3 | /a4 | /a5 | /a9 | /a11 | /a12",
+        "negative",
+        10_000,
+        0,
+        10_000,
+    ),
+    (
+        "/s => /a0 | /a3 | /a4 | /a5 | /a9 | /a11 | /a12 | /a12",
+        "too wide",
+        10_001,
+        0,
+        0,
+    ),
+];
+
+#[test]
+fn limits(rt: HostRuntime) -> Result<(), Fail> {
+    let alloc = rt.alloc();
+    let rows = [
+        (chain(alloc, 98)?, "/c0", "bound", (100, 100, 100)),
+        (chain(alloc, 99)?, "/c0", "too deep", (100, 100, 100)),
+        (
+            doubling_unions(alloc, 11)?,
+            "/a0",
+            "bound",
+            (6_143, 0, 6_143),
+        ),
+        (
+            doubling_unions(alloc, 12)?,
+            "/a0",
+            "too wide",
+            (10_001, 0, 0),
+        ),
+    ];
+    for (table, path, outcome, counts) in &rows {
+        let is_measured = is_measured(alloc, table.as_str(), path, outcome, *counts)?;
+        assert!(rt; is_measured, "{path}");
+    }
+    Ok(())
+}
+
+#[test]
+fn sums(rt: HostRuntime) -> Result<(), Fail> {
+    for (entry, outcome, cost, asked, traced) in &SUMS {
+        let mut table = doubling(rt.alloc(), 12, "|")?;
+        table.push_str(entry)?;
+        let counts = (*cost, *asked, *traced);
+        let is_measured = is_measured(rt.alloc(), table.as_str(), "/s", outcome, counts)?;
+        assert!(rt; is_measured, "{entry}");
+    }
+    Ok(())
+}
+
+/// What a path of one label of so many bytes comes to without a table, in words, the cost, and how many paths are told.
+fn long(alloc: Global, len: usize) -> Result<(Vec<u8>, u32, usize), Fail> {
+    let label = Vec::from_elem(alloc, b'a', len)?;
+    let mut path = Vec::from_slice(alloc, b"/")?;
+    path.extend_from_slice(label.as_slice())?;
+    let path = read_path(alloc, path.as_slice())?;
+    let given = read_given(alloc, "", "", "")?;
+    let found = delegate_by(alloc, &given, &path, Wanted::Asked)?;
+    let text = outcome_text(alloc, &found.outcome)?;
+    Ok((text, found.cost, found.asked.items().len()))
+}
+
+#[test]
+fn long_paths(rt: HostRuntime) -> Result<(), Fail> {
+    for (len, outcome, cost, asked) in [(2_047, "negative", 1, 1), (2_048, "too deep", 0, 0)] {
+        let found = long(rt.alloc(), len)?;
+        assert!(rt; found.0.as_slice() == outcome.as_bytes(), "{len}");
+        assert!(rt; (found.1, found.2) == (cost, asked), "{len}");
+    }
+    Ok(())
+}

@@ -1,0 +1,59 @@
+//! Changes, questions and picks, out of the lines of scripts that spell them.
+ghost use Rattle.std.specs.Prelude.{IfOk};
+ghost use Rattle.machine.specs.Code.{change_of};
+ghost use Rattle.machine.specs.State.{IsSoundChange};
+ghost use Rattle.script.specs.Said.{line_said, IsSoundLine};
+
+use addr_book::Name;
+use machine::{Ask, Change, Look};
+use script::{Line, read_line};
+use std::alloc::Global;
+use std::test::Fail;
+
+/// The change of what a line says.
+fn change_in(said: Line) -> Result<Change, Fail>
+    requires { IsSoundLine (line_said said) }
+    ensures { IfOk result (λ change. IsSoundChange (change_of change)) }
+{
+    match said {
+        Line::Change(change) => Ok(change),
+        _ => Err("no change".into()),
+    }
+}
+
+/// The change of a line.
+pub(crate) fn change(alloc: Global, line: &str) -> Result<Change, Fail>
+    ensures { IfOk result (λ change. IsSoundChange (change_of change)) }
+{
+    match read_line(alloc, line.as_bytes()) {
+        Ok(said) => change_in(said),
+        Err(_) => Err("no line".into()),
+    }
+}
+
+/// The question of a line; `addresses` are those of the service `web`, and `counts` how many there are of each kind.
+pub(crate) fn look(alloc: Global, line: &str) -> Result<Look, Fail> {
+    if line == "counts" {
+        return Ok(Look::Counts);
+    }
+    if line == "addresses" {
+        return addresses(alloc);
+    }
+    match read_line(alloc, line.as_bytes()) {
+        Ok(Line::Look(look)) => Ok(look),
+        _ => Err("no question".into()),
+    }
+}
+
+fn addresses(alloc: Global) -> Result<Look, Fail> {
+    let service = Name::of(alloc, b"web")?;
+    Ok(Look::Addrs { service })
+}
+
+/// The pick of a line.
+pub(crate) fn ask(alloc: Global, line: &str) -> Result<Ask, Fail> {
+    match read_line(alloc, line.as_bytes()) {
+        Ok(Line::Ask(ask)) => Ok(ask),
+        _ => Err("no pick".into()),
+    }
+}

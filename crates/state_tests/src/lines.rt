@@ -1,0 +1,220 @@
+//! Lines at their limits, and replies.
+use addr_book::{Addr, Name};
+use choose_core::Mark;
+use dtab_table::read_dtab;
+use machine::{Change, Chosen, NameList, Reply, Why};
+use name_tree::read_path;
+use script::{Bytes, Line, LineFault, Mem, Said, read_line, reply_text, script_settings, storm};
+use std::alloc::Global;
+use std::test::Fail;
+
+/// What kind of line a text is.
+fn kind(alloc: Global, line: &[u8]) -> &'static str {
+    match read_line(alloc, line) {
+        Ok(Line::Blank) => "blank",
+        Ok(Line::Table(_)) => "table",
+        Ok(Line::Change(_)) => "change",
+        Ok(Line::Look(_)) => "look",
+        Ok(Line::Ask(_)) => "ask",
+        Err(LineFault::BadLine) => "bad",
+        Err(LineFault::OutOfMemory) => "memory",
+    }
+}
+
+/// Lines, and of what kind they are.
+const LINES: [(&str, &str); 22] = [
+    (" \t\r", "blank"),
+    ("dtab", "table"),
+    ("\tcreate web /svc => /a ", "change"),
+    ("put web * ", "change"),
+    ("delete web 18446744073709551615 ", "change"),
+    ("addrs web 127.0.0.1:1*0.5 localhost:2", "change"),
+    ("list", "look"),
+    ("view /svc/a", "look"),
+    ("pick /a 0 1 2 3", "ask"),
+    ("pick", "bad"),
+    ("delete web 18446744073709551616", "bad"),
+    ("addrs web 127.0.0.1:1* 0.5", "bad"),
+    // A moment has all three words behind it.
+    ("pick /a 0", "bad"),
+    ("pick /a 0 1", "bad"),
+    ("pick /a 0 1 2", "bad"),
+    // Numbers have no leading zeros, and are below 2^64.
+    ("pick /a 00 1 2 3", "bad"),
+    ("pick /a 0 1 2 03", "bad"),
+    ("pick /a 0 1 2 18446744073709551616", "bad"),
+    ("put web 01", "bad"),
+    ("fail 127.0.0.1:1 01", "bad"),
+    ("good 127.0.0.1:1 18446744073709551616", "bad"),
+    ("addrs web 127.0.0.1:01", "bad"),
+];
+
+#[test]
+fn tells_lines_apart(rt: HostRuntime) {
+    for (line, want) in &LINES {
+        assert!(rt; kind(rt.alloc(), line.as_bytes()) == *want, "{line:?}");
+    }
+}
+
+#[test]
+fn names_have_255_bytes(rt: HostRuntime) -> Result<(), Fail> {
+    for (bytes, want) in [(255, "change"), (256, "bad")] {
+        let drop = drop_line(rt.alloc(), bytes)?;
+        assert!(rt; kind(rt.alloc(), drop.as_slice()) == want, "{bytes}");
+    }
+    Ok(())
+}
+
+/// A line that drops a service with a name of so many bytes.
+fn drop_line(alloc: Global, bytes: usize) -> Result<Vec<u8>, Fail> {
+    let mut line = b"drop ".to_vec(alloc)?;
+    for _byte in 0..bytes {
+        line.push(b'a')?;
+    }
+    Ok(line)
+}
+
+/// A line of a command, then so many blanks, so many `;`, which are a table with no entry, and a blank at the end.
+fn table_line(
+    alloc: Global,
+    command: &[u8],
+    blanks: usize,
+    semicolons: usize,
+) -> Result<Vec<u8>, Fail> {
+    let mut line = command.to_vec(alloc)?;
+    for _blank in 0..blanks {
+        line.push(b' ')?;
+    }
+    for _semicolon in 0..semicolons {
+        line.push(b';')?;
+    }
+    line.push(b' ')?;
+    Ok(line)
+}
+
+#[test]
+fn measures_tables_from_their_first_byte_on(rt: HostRuntime) -> Result<(), Fail> {
+    for (blanks, semicolons, want) in [(9, 65_535, "change"), (1, 65_536, "bad")] {
+        let line = table_line(rt.alloc(), b"put web *", blanks, semicolons)?;
+        assert!(rt; kind(rt.alloc(), line.as_slice()) == want, "{semicolons}");
+    }
+    Ok(())
+}
+
+/// A line with so many addresses, all the same.
+fn addrs_line(alloc: Global, count: usize) -> Result<Vec<u8>, Fail> {
+    let mut line = b"addrs web".to_vec(alloc)?;
+    for _addr in 0..count {
+        line.extend_from_slice(b" 127.0.0.1:1")?;
+    }
+    Ok(line)
+}
+
+/// How many addresses a service gets by a line with so many, where it is none that is bad.
+fn count_of(alloc: Global, count: usize) -> Result<Option<usize>, Fail> {
+    let line = addrs_line(alloc, count)?;
+    match read_line(alloc, line.as_slice()) {
+        Ok(Line::Change(Change::SetAddrs { list, .. })) => Ok(Some(list.items().len())),
+        Err(LineFault::BadLine) => Ok(None),
+        _ => Err("another line".into()),
+    }
+}
+
+#[test]
+fn takes_1024_addresses(rt: HostRuntime) -> Result<(), Fail> {
+    for (count, want) in [(1_024, Some(1)), (1_025, None)] {
+        assert!(rt; count_of(rt.alloc(), count)? == want, "{count}");
+    }
+    Ok(())
+}
+
+/// The text of an answer is this.
+fn is_text(alloc: Global, said: &Said, want: &[u8]) -> Result<bool, Fail> {
+    Ok(reply_text(alloc, said)?.as_slice() == want)
+}
+
+#[test]
+fn writes_short_replies(rt: HostRuntime) -> Result<(), Fail> {
+    let mark = Mark {
+        count: 5,
+        until: 5_000,
+    };
+    let rows = [
+        (Said::Ok, "ok"),
+        (Said::Reply(Reply::Set(3)), "ok 3"),
+        (Said::Reply(Reply::Marked(mark)), "mark 5 5000"),
+        (Said::Chosen(Chosen::None(Why::TooDeep)), "too-deep"),
+    ];
+    for (said, want) in &rows {
+        assert!(rt; is_text(rt.alloc(), said, want.as_bytes())?, "{want}");
+    }
+    Ok(())
+}
+
+/// A namespace's table of a text.
+fn table(alloc: Global, version: u64, text: &[u8]) -> Result<Said, Fail> {
+    let dtab = read_dtab(alloc, text)?;
+    Ok(Said::Reply(Reply::Table { version, dtab }))
+}
+
+/// Two names.
+fn names(alloc: Global) -> Result<Said, Fail> {
+    let mut names = Vec::new(alloc);
+    names.push(Name::of(alloc, b"a")?)?;
+    names.push(Name::of(alloc, b"b.c")?)?;
+    Ok(Said::Reply(Reply::Names(NameList::of(names))))
+}
+
+/// A replica.
+fn picked(alloc: Global) -> Result<Said, Fail> {
+    let addr = Addr {
+        ip: 0x7f00_0001,
+        port: 9,
+    };
+    Ok(Said::Chosen(Chosen::Picked {
+        addr,
+        client: read_path(alloc, b"/a")?,
+        residual: read_path(alloc, b"/")?,
+    }))
+}
+
+#[test]
+fn writes_replies(rt: HostRuntime) -> Result<(), Fail> {
+    let rows = [
+        (names(rt.alloc())?, "names a b.c"),
+        (
+            table(rt.alloc(), 3, b"/svc => /c")?,
+            "version 3 dtab /svc=>/c",
+        ),
+        (table(rt.alloc(), 4, b"")?, "version 4 dtab"),
+        (picked(rt.alloc())?, "127.0.0.1:9 /a /"),
+    ];
+    for (said, want) in &rows {
+        assert!(rt; is_text(rt.alloc(), said, want.as_bytes())?, "{want}");
+    }
+    Ok(())
+}
+
+/// The line of a generated run.
+fn line_of(alloc: Global, turns: u32, seed: u64) -> Mem<Bytes> {
+    storm(alloc, &script_settings(alloc)?, turns, seed)
+}
+
+/// Turns, seeds, and the lines of the runs.
+const RUNS: [(u32, u64, &str); 2] = [
+    (0, 7, "changes 1 refused 0 picked 0 none 0 ports 0"),
+    (
+        1_000,
+        1,
+        "changes 334 refused 168 picked 242 none 257 ports 809971",
+    ),
+];
+
+#[test]
+fn sums_generated_runs_up(rt: HostRuntime) -> Result<(), Fail> {
+    for (turns, seed, want) in &RUNS {
+        let line = line_of(rt.alloc(), *turns, *seed)?;
+        assert!(rt; line.as_slice() == want.as_bytes(), "{want}");
+    }
+    Ok(())
+}

@@ -1,0 +1,264 @@
+//! Changes, looks and picks on small states.
+ghost use Rattle.std.specs.Prelude.{◌≡◌, ◌<◌};
+
+use crate::given::{ask, change, look};
+use bind_core::Wanted;
+use line_base::Steps;
+use machine::{Ask, Chosen, Look, Ready, Reply, Settings, State, Taken};
+use script::{Said, reply_text, script_settings};
+use std::alloc::{AllocError, Global};
+use std::marker::Brand;
+use std::sync::ledger::{Blank, Ledger};
+use std::test::Fail;
+
+/// A value, unless there was no memory for it.
+type Mem<T> = Result<T, AllocError>;
+
+/// How a line is carried out.
+#[derive(Clone, Copy)]
+enum By {
+    /// Its change is applied.
+    Apply,
+    /// Its change is prepared, and absorbed where it is accepted.
+    Absorb,
+    /// Its question is answered.
+    Answer,
+    /// A replica is picked.
+    Choose,
+}
+
+/// Applies a copy of the change of a line.
+fn applied(alloc: Global, state: &mut State, line: &str) -> Result<Reply, Fail> {
+    let change = change(alloc, line)?.copied(alloc)?;
+    Ok(state.apply(alloc, &script_settings(alloc)?, &change)?)
+}
+
+/// Prepares the change of a line, and absorbs it where it is accepted.
+fn absorbed(alloc: Global, state: &mut State, line: &str) -> Result<Reply, Fail> {
+    let change = change(alloc, line)?;
+    let (reply, ready) = state.prepare(alloc, &script_settings(alloc)?, &change)?;
+    if let Some(ready) = ready {
+        state.absorb(&ready)?;
+    }
+    Ok(reply)
+}
+
+fn answer<L: Ledger>(
+    alloc: Global,
+    state: &State,
+    settings: &Settings,
+    look: &Look,
+    blank: Blank,
+) -> Mem<Reply>
+    requires name { blank.name ≡ L.name }
+    requires parts { blank.parts ≡ L.parts }
+    requires some { 0 < blank.parts }
+{
+    state.answer(alloc, settings, look, &mut Steps::<L>::start(blank))
+}
+
+/// The answer to a copy of the question of a line.
+fn answered(alloc: Global, state: &State, line: &str) -> Result<Reply, Fail> {
+    let look = look(alloc, line)?.copied(alloc)?;
+    let settings = script_settings(alloc)?;
+    Ok(answer::<Brand>(alloc, state, &settings, &look, Blank::new(1))?)
+}
+
+fn choose<L: Ledger>(
+    alloc: Global,
+    state: &State,
+    settings: &Settings,
+    ask: &Ask,
+    blank: Blank,
+) -> Mem<Chosen>
+    requires name { blank.name ≡ L.name }
+    requires parts { blank.parts ≡ L.parts }
+    requires some { 0 < blank.parts }
+{
+    state.choose(alloc, settings, ask, &mut Steps::<L>::start(blank))
+}
+
+/// What a copy of the pick of a line comes to.
+fn chosen(alloc: Global, state: &State, line: &str) -> Result<Chosen, Fail> {
+    let ask = ask(alloc, line)?.copied(alloc)?;
+    let settings = script_settings(alloc)?;
+    Ok(choose::<Brand>(alloc, state, &settings, &ask, Blank::new(1))?)
+}
+
+/// What a line is answered.
+fn said(alloc: Global, state: &mut State, by: By, line: &str) -> Result<Said, Fail> {
+    match by {
+        By::Apply => Ok(Said::Reply(applied(alloc, state, line)?)),
+        By::Absorb => Ok(Said::Reply(absorbed(alloc, state, line)?)),
+        By::Answer => Ok(Said::Reply(answered(alloc, state, line)?)),
+        By::Choose => Ok(Said::Chosen(chosen(alloc, state, line)?)),
+    }
+}
+
+/// The text of what a line is answered.
+fn told(alloc: Global, state: &mut State, by: By, line: &str) -> Result<Vec<u8>, Fail> {
+    Ok(reply_text(alloc, &said(alloc, state, by, line)?)?)
+}
+
+/// Lines that are carried out on one state, and their answers.
+const LINES: [(By, &str, &str); 24] = [
+    (
+        By::Apply,
+        "create default /svc => /$/inet/127.0.0.1/1",
+        "version 1",
+    ),
+    (
+        By::Choose,
+        "pick /svc/web",
+        "127.0.0.1:1 /$/inet/127.0.0.1/1 /web",
+    ),
+    // A request's own table wins.
+    (
+        By::Choose,
+        "pick /svc/web 0 0 0 0 /svc => /$/inet/127.0.0.1/2",
+        "127.0.0.1:2 /$/inet/127.0.0.1/2 /web",
+    ),
+    (By::Absorb, "put default 7 /svc => /a", "stale 1"),
+    (
+        By::Absorb,
+        "put default 1 /svc => /#/io.l5d.fs",
+        "version 2",
+    ),
+    (By::Choose, "pick /svc/web", "negative"),
+    (By::Apply, "addrs web 127.0.0.1:1 127.0.0.1:2", "ok 2"),
+    (By::Apply, "fail 127.0.0.1:3 0", "not-kept"),
+    (By::Apply, "fail 127.0.0.1:1 0", "mark 1 0"),
+    (By::Apply, "fail 127.0.0.1:1 0", "mark 2 0"),
+    (By::Absorb, "fail 127.0.0.1:1 0", "mark 3 0"),
+    (By::Absorb, "fail 127.0.0.1:1 0", "mark 4 0"),
+    (
+        By::Choose,
+        "pick /svc/web",
+        "127.0.0.1:1 /#/io.l5d.fs/web /",
+    ),
+    (By::Apply, "fail 127.0.0.1:1 0", "mark 5 5000"),
+    (
+        By::Choose,
+        "pick /svc/web",
+        "127.0.0.1:2 /#/io.l5d.fs/web /",
+    ),
+    (
+        By::Answer,
+        "get default",
+        "version 2 dtab /svc=>/#/io.l5d.fs",
+    ),
+    (By::Answer, "list", "names default"),
+    (By::Answer, "addresses", "addrs 127.0.0.1:1 127.0.0.1:2"),
+    (
+        By::Answer,
+        "counts",
+        "changes 8 marks 1 namespaces 1 services 1",
+    ),
+    (
+        By::Answer,
+        "view /svc/web",
+        "{\"lookups\":[{\"depth\":0,\"outcome\":\"bound\",\"path\":\"/svc/web\"},{\"depth\":1,\"outcome\":\"bound\",\"path\":\"/#/io.l5d.fs/web\"}],\"outcome\":\"bound\"}",
+    ),
+    // A mark leaves with its address.
+    (By::Apply, "addrs web 127.0.0.1:2", "ok 1"),
+    (By::Apply, "addrs web 127.0.0.1:1 127.0.0.1:2", "ok 2"),
+    (
+        By::Choose,
+        "pick /svc/web",
+        "127.0.0.1:1 /#/io.l5d.fs/web /",
+    ),
+    (By::Apply, "drop web", "dropped"),
+];
+
+#[test]
+fn lines_are_answered(rt: HostRuntime) -> Result<(), Fail> {
+    let mut state = State::start(rt.alloc())?;
+    for (by, line, want) in &LINES {
+        let told = told(rt.alloc(), &mut state, *by, line)?;
+        let told = String::from_utf8_lossy(rt.alloc(), told.as_slice())?;
+        assert_eq!(rt; told.as_str(), *want, "{line}");
+    }
+    Ok(())
+}
+
+/// The replica that is taken for an ask, where the loads of the two are these.
+fn taken<L: Ledger>(
+    alloc: Global,
+    state: &State,
+    settings: &Settings,
+    ask: &Ask,
+    loads: (u64, u64),
+    blank: Blank,
+) -> Mem<Option<Taken>>
+    requires name { blank.name ≡ L.name }
+    requires parts { blank.parts ≡ L.parts }
+    requires some { 0 < blank.parts }
+{
+    let mut steps = Steps::<L>::start(blank);
+    let delegated = state.delegate(
+        alloc,
+        settings,
+        &ask.path,
+        &ask.local,
+        Wanted::Neither,
+        &mut steps,
+    )?;
+    match state.candidates_of(settings, &delegated.outcome, ask) {
+        Ok(candidates) => Ok(Some(candidates.taken(loads.0, loads.1))),
+        Err(_) => Ok(None),
+    }
+}
+
+/// The port and the slot of the replica that is taken for `/svc/web`, with this third word; the other words are 0.
+fn place_taken(
+    alloc: Global,
+    state: &State,
+    word: u64,
+    loads: (u64, u64),
+) -> Result<Option<(u16, Option<u32>)>, Fail> {
+    let settings = script_settings(alloc)?;
+    let mut ask = ask(alloc, "pick /svc/web")?;
+    ask.words = [0, 0, word];
+    let taken = taken::<Brand>(alloc, state, &settings, &ask, loads, Blank::new(1))?;
+    Ok(taken.map(|taken| (taken.addr.port, taken.slot)))
+}
+
+#[test]
+fn the_lesser_load_is_taken(rt: HostRuntime) -> Result<(), Fail> {
+    let mut state = State::start(rt.alloc())?;
+    applied(
+        rt.alloc(),
+        &mut state,
+        "create default /svc => /#/io.l5d.fs",
+    )?;
+    applied(
+        rt.alloc(),
+        &mut state,
+        "addrs web 127.0.0.1:1*3 127.0.0.1:2 127.0.0.1:3",
+    )?;
+    let half: u64 = 1 << 63;
+    let rows = [
+        (0, (2, 1), (1, 0)),
+        (0, (3, 1), (1, 0)),
+        (0, (4, 1), (2, 1)),
+        (half - 1, (4, 1), (2, 1)),
+        (half, (4, 1), (3, 2)),
+    ];
+    for (word, loads, (port, slot)) in rows {
+        let taken = place_taken(rt.alloc(), &state, word, loads)?;
+        assert!(rt; taken == Some((port, Some(slot))), "of {word} at {loads:?}");
+    }
+    Ok(())
+}
+
+fn may_be_moved<T: Send>() {}
+
+fn may_be_shared<T: Sync>() {}
+
+#[test]
+fn states_go_to_other_threads() {
+    may_be_moved::<State>();
+    may_be_shared::<State>();
+    may_be_moved::<Ready>();
+    may_be_shared::<Ready>();
+}

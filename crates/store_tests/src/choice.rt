@@ -1,0 +1,267 @@
+//! Marks and their moments, live lists, pairs by weight, loads, and the branches that words choose.
+ghost use Rattle.std.specs.Prelude.{◌≡◌, ◌≤◌, ◌<◌, ◌^◌, IfOk};
+ghost use Rattle.choose_core.specs.Good.{IsGood};
+
+use addr_book::{
+    Addr, Book, Bound, BoundItem, BoundList, Cluster, Leaf, Name, Weighted, read_addrs,
+};
+use choose_core::*;
+use name_tree::read_path;
+use std::alloc::Global;
+use std::test::Fail;
+
+const LIMITS: Limits = Limits {
+    failures: 5,
+    backoff: 5_000,
+};
+
+/// Half of all words.
+const HALF: u64 = 1 << 63;
+
+/// An address of this machine.
+fn at_port(port: u16) -> Addr {
+    Addr {
+        ip: 0x7f00_0001,
+        port,
+    }
+}
+
+/// A mark after failures at one moment.
+fn failed(mark: Mark, times: u32, moment: u64) -> Mark {
+    let mut mark = mark;
+    for _turn in 0..times {
+        mark = mark.after(false, moment, LIMITS);
+    }
+    mark
+}
+
+#[test]
+fn marks_stop_at_the_limit_and_stay_past_the_moment(rt: HostRuntime) {
+    let dead = failed(Mark::NONE, 5, 0);
+    assert_eq!(rt; failed(Mark::NONE, 4, 0), Mark { count: 4, until: 0 });
+    assert_eq!(rt;
+        dead,
+        Mark {
+            count: 5,
+            until: 5_000
+        }
+    );
+    assert!(rt; dead.is_dead(4_999, LIMITS));
+    assert!(rt; !dead.is_dead(5_000, LIMITS));
+    assert_eq!(rt;
+        failed(dead, 1, 6_000),
+        Mark {
+            count: 5,
+            until: 11_000
+        }
+    );
+    assert_eq!(rt; dead.after(true, 6_001, LIMITS), Mark::NONE);
+    assert_eq!(rt; failed(dead, 1, u64::MAX - 10).until, u64::MAX);
+}
+
+/// Failing reports on an address, where there is room for its mark.
+#[tactic(auto, using(choose_core::proofs::Finding::fewer_others))]
+fn fail(marks: &mut Marks, port: u16, times: u32) {
+    for _turn in 0..times {
+        if marks.count() < 8192 {
+            marks.report(at_port(port), false, 0, LIMITS);
+        }
+    }
+}
+
+/// A book with one service, `web`, with these addresses.
+fn book_with(alloc: Global, addrs: &[u8]) -> Result<Book, Fail> {
+    let mut book = Book::start(alloc)?;
+    let list = read_addrs(alloc, addrs)?;
+    let ready = book.prepare_set(alloc, &Name::of(alloc, b"web")?, &list)?;
+    book.absorb(&ready)?;
+    Ok(book)
+}
+
+#[test]
+fn keeps_the_marks_of_the_book(rt: HostRuntime) -> Result<(), Fail> {
+    let mut marks = Marks::start(rt.alloc())?;
+    fail(&mut marks, 4, 2);
+    fail(&mut marks, 1, 1);
+    assert_eq!(rt; marks.count(), 2);
+    marks.keep(&book_with(rt.alloc(), b"127.0.0.1 4")?);
+    assert_eq!(rt; marks.mark(at_port(1)), Mark::NONE);
+    assert_eq!(rt; marks.mark(at_port(4)), Mark { count: 2, until: 0 });
+    marks.keep(&Book::start(rt.alloc())?);
+    assert_eq!(rt; marks.count(), 0);
+    // An address that comes back has no failures.
+    marks.keep(&book_with(rt.alloc(), b"127.0.0.1 4")?);
+    assert_eq!(rt; marks.mark(at_port(4)), Mark::NONE);
+    Ok(())
+}
+
+/// The places that two words draw among addresses with these ports, which are those that the port 3 leaves alive.
+fn drawn(
+    alloc: Global,
+    marks: &Marks,
+    addrs: &[u8],
+    w1: u64,
+    w2: u64,
+) -> Result<(usize, usize), Fail> {
+    let list = read_addrs(alloc, addrs)?;
+    let items = list.items();
+    if items.is_empty() {
+        return Err("no address".into());
+    }
+    Ok(pair(items, marks, 0, LIMITS, w1, w2))
+}
+
+#[test]
+fn draws_two_places_by_weight(rt: HostRuntime) -> Result<(), Fail> {
+    let alloc = rt.alloc();
+    let marks = Marks::start(alloc)?;
+    let three = b"127.0.0.1 1\n127.0.0.1 2\n127.0.0.1 3";
+    let first = b"127.0.0.1 1 * 3\n127.0.0.1 2";
+    let heavy = b"127.0.0.1 1\n127.0.0.1 2\n127.0.0.1 3 * 3";
+    assert_eq!(rt; drawn(alloc, &marks, three, u64::MAX, u64::MAX)?, (2, 1));
+    assert_eq!(rt;
+        drawn(alloc, &marks, b"127.0.0.1 1\n127.0.0.1 2", 0, 0)?,
+        (0, 1)
+    );
+    assert_eq!(rt; drawn(alloc, &marks, b"127.0.0.1 1", 5, 5)?, (0, 0));
+    assert_eq!(rt;
+        drawn(alloc, &marks, first, 13_835_058_055_282_163_711, 0)?,
+        (0, 1)
+    );
+    assert_eq!(rt;
+        drawn(alloc, &marks, first, 13_835_058_055_282_163_712, 0)?,
+        (1, 0)
+    );
+    // The third weighs three quarters of what is left without the second.
+    assert_eq!(rt;
+        drawn(alloc, &marks, heavy, 1 << 62, (1 << 62) - 1)?,
+        (1, 0)
+    );
+    assert_eq!(rt; drawn(alloc, &marks, heavy, 1 << 62, 1 << 62)?, (1, 2));
+    Ok(())
+}
+
+#[test]
+fn leaves_dead_addresses_out(rt: HostRuntime) -> Result<(), Fail> {
+    let list = read_addrs(rt.alloc(), b"127.0.0.1 1\n127.0.0.1 2\n127.0.0.1 3")?;
+    let mut marks = Marks::start(rt.alloc())?;
+    fail(&mut marks, 2, 5);
+    assert_eq!(rt; live_count(list.items(), &marks, 4_999, LIMITS), 2);
+    assert_eq!(rt; port_at(list.items(), &marks, 4_999, 1), 3);
+    assert_eq!(rt; port_at(list.items(), &marks, 5_000, 1), 2);
+    // Where all are dead, all take part.
+    fail(&mut marks, 1, 5);
+    fail(&mut marks, 3, 5);
+    assert_eq!(rt; live_count(list.items(), &marks, 0, LIMITS), 3);
+    Ok(())
+}
+
+/// The port at a place of a live list, 0 where there is none.
+fn port_at(list: &[Weighted], marks: &Marks, moment: u64, at: usize) -> u16 {
+    if at < live_count(list, marks, moment, LIMITS) {
+        live_at(list, marks, moment, LIMITS, at).addr.port
+    } else {
+        0
+    }
+}
+
+#[test]
+fn compares_loads_by_weight(rt: HostRuntime) {
+    assert!(rt; lesser(2, 3_000_000, 1, 1_000_000));
+    assert!(rt; lesser(3, 3_000_000, 1, 1_000_000));
+    assert!(rt; !lesser(4, 3_000_000, 1, 1_000_000));
+}
+
+/// A leaf at an address, or at a service.
+fn leaf(alloc: Global, cluster: Cluster) -> Result<Bound, Fail>
+    ensures { IfOk result IsGood }
+{
+    Ok(Bound::One(Leaf {
+        cluster,
+        client: read_path(alloc, b"/a")?,
+        residual: read_path(alloc, b"/")?,
+    }))
+}
+
+/// A union of two branches.
+fn union_of_two(
+    alloc: Global,
+    weight: u64,
+    bound: Bound,
+    other_weight: u64,
+    other: Bound,
+) -> Result<Bound, Fail>
+    requires weight { (1 ≤ weight) × (weight < 10 ^ 12) }
+    requires other_weight { (1 ≤ other_weight) × (other_weight < 10 ^ 12) }
+    requires good { IsGood bound }
+    requires other_good { IsGood other }
+    ensures { IfOk result IsGood }
+{
+    let mut items = Vec::new(alloc);
+    items.push(BoundItem { weight, bound })?;
+    items.push(BoundItem {
+        weight: other_weight,
+        bound: other,
+    })?;
+    Ok(Bound::Many(BoundList::of(items)))
+}
+
+/// The port of the leaf that a word chooses; 0 for a service, and `None` where nothing is left.
+fn port_of(bound: &Bound, book: &Book, word: u64) -> Option<u16>
+    requires { IsGood bound.now }
+{
+    match branch(bound, book, word) {
+        None => None,
+        Some(leaf) => match &leaf.cluster {
+            Cluster::Inet(addr) => Some(addr.port),
+            Cluster::Fs(_) => Some(0),
+        },
+    }
+}
+
+#[test]
+fn chooses_a_branch_of_those_that_are_left(rt: HostRuntime) -> Result<(), Fail> {
+    let alloc = rt.alloc();
+    let one = leaf(alloc, Cluster::Inet(at_port(1)))?;
+    let two = leaf(alloc, Cluster::Inet(at_port(2)))?;
+    let gone = leaf(alloc, Cluster::Fs(Name::of(alloc, b"gone")?))?;
+    let live = union_of_two(alloc, 300_000, one, 700_000, two)?;
+    // The weight of the branch of which nothing is left does not count. The other one, of weight 2, uses up its part of the word: twice the
+    // word, without what is above 2^64, goes on to the union below.
+    let bound = union_of_two(alloc, 900_000_000_000, gone, 2, live)?;
+    let book = Book::start(alloc)?;
+    let rows = [
+        (0, 1),
+        (2_767_011_611_056_432_742, 1),
+        (2_767_011_611_056_432_743, 2),
+        (HALF - 1, 2),
+        (HALF, 1),
+    ];
+    for (word, port) in rows {
+        assert_eq!(rt; port_of(&bound, &book, word), Some(port), "of {word}");
+    }
+    Ok(())
+}
+
+#[test]
+fn chooses_in_the_union_below_with_what_is_left_of_the_word(rt: HostRuntime) -> Result<(), Fail> {
+    let alloc = rt.alloc();
+    let one = leaf(alloc, Cluster::Inet(at_port(1)))?;
+    let two = leaf(alloc, Cluster::Inet(at_port(2)))?;
+    let three = leaf(alloc, Cluster::Inet(at_port(3)))?;
+    let below = union_of_two(alloc, 300_000, one, 700_000, two)?;
+    let bound = union_of_two(alloc, 1, three, 1, below)?;
+    let book = Book::start(alloc)?;
+    let rows = [
+        (0, 3),
+        (HALF - 1, 3),
+        (HALF, 1),
+        (HALF + 2_767_011_611_056_432_742, 1),
+        (HALF + 2_767_011_611_056_432_743, 2),
+        (u64::MAX, 2),
+    ];
+    for (word, port) in rows {
+        assert_eq!(rt; port_of(&bound, &book, word), Some(port), "of {word}");
+    }
+    Ok(())
+}
