@@ -6,7 +6,7 @@ use Rattle.net_edge.specs.declared.listener.SocketListener.{SocketListener}
 use Rattle.net_edge.specs.declared.peer.SocketPeer.{SocketPeer}
 
 -- a listener
-abbrev pub listening : SocketListener → Listening SocketPeer
+abbrev pub listening : {R : Type 0} → SocketListener R → Listening SocketPeer
 listening l = record { endpoint = None; visits = None; closes = l.closes; accepted = l.accepted; finished = l.finished; run = l.run }
 
 -- a net, by the listeners that came back clean, the stops that it handed out, and those that came back
@@ -14,12 +14,12 @@ abbrev pub networking : ℕ → ℕ → ℕ → Networking SocketPeer
 networking clean given returned = record { told = None; clean = clean; stops_given = given; stops_returned = returned }
 
 -- a listener before its first call
-pub record IsFresh (l : SocketListener) : Type 0 where
+pub record IsFresh {R : Type 0} (l : SocketListener R) : Type 0 where
   pub closes : l.closes ≡ 0
   pub accepted : l.accepted ≡ 0
   pub finished : l.finished ≡ 0
   pub run : l.run ≡ 0
 
 -- each of these is
-abbrev pub AllFresh : List SocketListener → Type 0
-AllFresh ls = (at : ℕ) (d : SocketListener) → at < length ls → IsFresh (slice_index_or ls at d)
+abbrev pub AllFresh : {R : Type 0} → List (SocketListener R) → Type 0
+AllFresh {R} ls = (at : ℕ) (d : SocketListener R) → at < length ls → IsFresh (slice_index_or ls at d)

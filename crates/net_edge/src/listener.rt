@@ -5,12 +5,17 @@ ghost use Rattle.net_edge.specs.Sockets.{listening};
 use crate::peer::{SocketPeer, set_limits};
 use crate::stop::Closing;
 use line_base::{BROKEN_RUN, Failed, Listener};
-use std::io;
 use std::net::TcpListener;
+use std::time::Duration;
+use std::{io, rt, thread};
+
+/// How many milliseconds an accept that failed waits before it answers: so a moment without descriptors is no run of failed accepts.
+const PAUSE_MILLISECONDS: u64 = 50;
 
 /// A socket that listens. It tells no peers.
 #[derive(Drop)]
-pub struct SocketListener {
+pub struct SocketListener<'a, R> {
+    rt: &'a R,
     listener: TcpListener,
     closing: Closing,
     closes: u64,
@@ -27,12 +32,13 @@ fn next_peer(listener: &TcpListener) -> io::Result<SocketPeer> {
     Ok(SocketPeer::of(stream))
 }
 
-impl SocketListener {
+impl<'a, R> SocketListener<'a, R> {
     /// A listener over this socket, before its first call.
-    pub(crate) fn of(listener: TcpListener, closing: Closing) -> SocketListener
+    pub(crate) fn of(rt: &'a R, listener: TcpListener, closing: Closing) -> SocketListener<'a, R>
         ensures { (result.closes ≡ 0) × (result.accepted ≡ 0) × (result.finished ≡ 0) × (result.run ≡ 0) × (result.faults ≡ 0) }
     {
         SocketListener {
+            rt,
             listener,
             closing,
             closes: 0,
@@ -58,7 +64,7 @@ impl SocketListener {
     }
 }
 
-impl Listener for SocketListener {
+impl<R: rt::Clock> Listener for SocketListener<'_, R> {
     type P = SocketPeer;
 
     ghost state = { listening };
@@ -83,6 +89,7 @@ impl Listener for SocketListener {
                 Ok(None)
             }
             Err(_) => {
+                thread::sleep(self.rt, Duration::from_millis(PAUSE_MILLISECONDS));
                 self.run = self.run.saturating_add(1);
                 self.faults = self.faults.saturating_add(1);
                 Err(Failed)

@@ -10,8 +10,9 @@ use crate::stop::{Closing, SocketStop, Sockets};
 use line_base::{BROKEN_RUN, Failed, Listeners, Net, NetFault};
 use std::alloc::{AllocError, AllocGlobal, Global};
 use std::io::{self, ErrorKind};
-use std::net::{self, TcpListener, TcpStream};
+use std::net::{self, SocketAddr, TcpListener, TcpStream};
 use std::os::fd::OwnedFd;
+use std::rt;
 use std::sync::Arc;
 
 /// The net of the machine. It tells nothing of what comes back.
@@ -21,6 +22,7 @@ pub struct SocketNet<'a, R> {
     alloc: Global,
     closing: Closing,
     sockets: Sockets,
+    refused: Option<SocketAddr>,
     faults: u64,
     clean: u64,
     stops_given: u64,
@@ -38,11 +40,19 @@ impl<'a, R: AllocGlobal> SocketNet<'a, R> {
             alloc,
             closing: Closing::open(alloc)?,
             sockets: Arc::new(alloc, Vec::new(alloc))?,
+            refused: None,
             faults: 0,
             clean: 0,
             stops_given: 0,
             stops_returned: 0,
         })
+    }
+}
+
+impl<R> SocketNet<'_, R> {
+    /// The last address that it could not listen on, if there was one.
+    pub fn refused(&self) -> Option<SocketAddr> {
+        self.refused
     }
 }
 
@@ -62,18 +72,19 @@ fn with_socket(alloc: Global, sockets: &Sockets, socket: TcpStream) -> io::Resul
 }
 
 /// So many listeners over one socket, which wait in one queue.
-fn copies_of(
+fn copies_of<'a, R>(
+    rt: &'a R,
     alloc: Global,
     listener: &TcpListener,
     closing: &Closing,
     copies: u32,
-) -> io::Result<Vec<SocketListener>>
+) -> io::Result<Vec<SocketListener<'a, R>>>
     ensures count { IfOk result (λ ls. length ls.items ≡ copies) }
     ensures fresh { IfOk result (λ ls. AllFresh ls.items) }
 {
     let mut listeners = Vec::new(alloc);
     for _place in 0..copies {
-        let copy = SocketListener::of(listener.try_clone()?, closing.share()?);
+        let copy = SocketListener::of(rt, listener.try_clone()?, closing.share()?);
         let Ok(()) = listeners.push(copy) else {
             return Err(io::Error::from(ErrorKind::OutOfMemory));
         };
@@ -81,22 +92,28 @@ fn copies_of(
     Ok(listeners)
 }
 
-impl<R: net::Net<Listener = TcpListener, Stream = TcpStream>> SocketNet<'_, R> {
+impl<'a, R: net::Net<Listener = TcpListener, Stream = TcpStream>> SocketNet<'a, R> {
     /// The listeners of an address, and the sockets that listen with this one.
-    fn open(&self, ip: u32, port: u16, copies: u32) -> io::Result<(Vec<SocketListener>, Sockets)>
+    fn open(
+        &self,
+        ip: u32,
+        port: u16,
+        copies: u32,
+    ) -> io::Result<(Vec<SocketListener<'a, R>>, Sockets)>
         ensures count { IfOk result (λ opened. length opened.0.items ≡ copies) }
         ensures fresh { IfOk result (λ opened. AllFresh opened.0.items) }
     {
         let listener = TcpListener::bind(self.rt, address(ip, port))?;
         let socket = as_stream(&listener)?;
         let sockets = with_socket(self.alloc, &self.sockets, socket)?;
-        let listeners = copies_of(self.alloc, &listener, &self.closing, copies)?;
+        let listeners = copies_of(self.rt, self.alloc, &listener, &self.closing, copies)?;
         Ok((listeners, sockets))
     }
 }
 
-impl<'a, R: net::Net<Listener = TcpListener, Stream = TcpStream> + Sync> Net for SocketNet<'a, R> {
-    type L = SocketListener;
+impl<'a, R: net::Net<Listener = TcpListener, Stream = TcpStream> + rt::Clock + Sync> Net
+    for SocketNet<'a, R> {
+    type L = SocketListener<'a, R>;
 
     type D = SocketDialer<'a, R>;
 
@@ -111,7 +128,7 @@ impl<'a, R: net::Net<Listener = TcpListener, Stream = TcpStream> + Sync> Net for
         ip: u32,
         port: u16,
         copies: u32,
-    ) -> Result<Listeners<SocketListener>, NetFault> {
+    ) -> Result<Listeners<SocketListener<'a, R>>, NetFault> {
         match self.open(ip, port, copies) {
             Ok((listeners, sockets)) => {
                 self.sockets = sockets;
@@ -119,6 +136,7 @@ impl<'a, R: net::Net<Listener = TcpListener, Stream = TcpStream> + Sync> Net for
             }
             Err(error) if error.kind() == ErrorKind::OutOfMemory => Err(NetFault::OutOfMemory),
             Err(_) => {
+                self.refused = Some(address(ip, port));
                 self.faults = self.faults.saturating_add(1);
                 Err(NetFault::Failed)
             }
@@ -137,13 +155,13 @@ impl<'a, R: net::Net<Listener = TcpListener, Stream = TcpStream> + Sync> Net for
 
     fn end(
         &mut self,
-        listener: SocketListener,
+        listener: SocketListener<'a, R>,
         dialer: Option<SocketDialer<'a, R>>,
         stop: SocketStop,
     ) -> Result<(), Failed>
         ensures state { networking self.new.clean self.new.stops_given self.new.stops_returned
-            ≡ after_end (networking self.old.clean self.old.stops_given self.old.stops_returned) (record { listener = listening listener; log = None; stops = stop.calls }) }
-        ensures broken { IsErr result ↔ (BROKEN_RUN ≤ listener.run) }
+            ≡ after_end (networking self.old.clean self.old.stops_given self.old.stops_returned) (record { listener = listening listener.entry; log = None; stops = stop.calls }) }
+        ensures broken { IsErr result ↔ (BROKEN_RUN ≤ listener.entry.run) }
         ensures cause { HasCause self.old.faults self.new.faults result }
     {
         if listener.is_clean() {

@@ -4,7 +4,7 @@ use Rattle.net_edge.specs.Sockets.{IsFresh}
 use Rattle.net_edge.proofs.net.copies_of.Goals as goal
 
 pub loop-place-preserved : goal.loop-place-preserved
-loop-place-preserved c =
+loop-place-preserved g c =
     let copy : IsFresh c.of-copy.result = record { closes = c.of-copy.ensures.0; accepted = c.of-copy.ensures.1; finished = c.of-copy.ensures.2; run = c.of-copy.ensures.3 } in record {
       count = omega (arith, c.in-Ok.ensures.len);
       fresh = placed_more (λ at l. IsFresh l) _ _ _ _ c.in-Ok.ensures.items c.loop-place.invariant.count c.loop-place.invariant.fresh copy;

@@ -3,7 +3,7 @@ use Rattle.net_edge.specs.Sockets.{AllFresh}
 use Rattle.net_edge.proofs.net.copies_of.Given as goal
 
 abbrev pub invariant-loop-place : goal.invariant-loop-place
-invariant-loop-place l = record {
+invariant-loop-place g l = record {
   count : length l.listeners.items ≡ l._place;
   fresh : AllFresh l.listeners.items;
 }
