@@ -43,7 +43,7 @@ mod value;
 pub use config::{Config, Port, Text};
 pub use fault::{ConfigFault, Key};
 pub use folder::load_folder;
-pub use lines::{check_line, fault_line};
+pub use lines::{append_port, check_line, fault_line};
 pub use loaded::{LoadFault, Loaded, LoadedItem};
 pub use reading::read_config;
 

@@ -22,8 +22,8 @@ pub fn check_line(alloc: Global, config: &Config) -> Mem<Bytes>
     Ok(line)
 }
 
-/// Puts where something listens behind some bytes.
-fn append_port(port: Port, out: &mut Bytes) -> Mem<()>
+/// Puts where something listens behind some bytes, as `a.b.c.d:port`.
+pub fn append_port(port: Port, out: &mut Bytes) -> Mem<()>
     ensures { OnOk result (out.new.items ≡ out.old.items ++ port_text port) }
 {
     let addr = Addr {

@@ -43,6 +43,14 @@ impl Loaded {
     {
         self.items.as_slice()
     }
+
+    /// The services, in order.
+    pub fn into_items(self) -> Vec<LoadedItem>
+        ensures { result.items ≡ self }
+    {
+        let Loaded { items } = self;
+        items
+    }
 }
 
 /// Why the services of a folder were not loaded: the first cause in the order of the files' names.
