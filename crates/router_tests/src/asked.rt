@@ -1,0 +1,220 @@
+//! Calls of one pass, and their answers as texts.
+ghost use Rattle.std.specs.Prelude.{IfSome};
+ghost use Rattle.machine.specs.Code.{change_of};
+ghost use Rattle.machine.specs.State.{IsSoundChange};
+
+use addr_book::{Name, read_addrs};
+use choose_core::Limits;
+use dtab_table::{Dtab, read_dtab};
+use line_base::Steps;
+use machine::{Ask, Change, Look, Reply, Settings};
+use name_tree::read_path;
+use router::{Answer, Choice, Looked, Names, Naming, Pass, Peek, Router};
+use std::alloc::Global;
+use std::sync::Wait;
+use std::sync::ledger::Ledger;
+
+fn name(alloc: Global, text: &str) -> Option<Name> {
+    Name::of(alloc, text.as_bytes()).ok()
+}
+
+/// Settings with the namespace `default` and this configured table.
+pub fn settings(alloc: Global, base: &str) -> Option<Settings> {
+    Some(Settings {
+        space: name(alloc, "default")?,
+        base: read_dtab(alloc, base.as_bytes()).ok()?,
+        limits: Limits {
+            failures: 5,
+            backoff: 5000,
+        },
+    })
+}
+
+/// An ask for `/svc/web` at moment 0 with words of 0.
+pub fn ask(alloc: Global) -> Option<Ask> {
+    Some(Ask {
+        path: read_path(alloc, b"/svc/web").ok()?,
+        local: Dtab::empty(alloc),
+        moment: 0,
+        words: [0, 0, 0],
+    })
+}
+
+/// The change that creates a namespace with this table.
+pub fn creation(alloc: Global, space: &str, table: &str) -> Option<Change>
+    ensures { IfSome result (λ change. IsSoundChange (change_of change)) }
+{
+    let dtab = read_dtab(alloc, table.as_bytes()).ok()?;
+    Some(Change::Create {
+        name: name(alloc, space)?,
+        dtab,
+    })
+}
+
+/// The change that puts this table in the place of a namespace's.
+pub fn replacement(alloc: Global, space: &str, table: &str) -> Option<Change>
+    ensures { IfSome result (λ change. IsSoundChange (change_of change)) }
+{
+    let dtab = read_dtab(alloc, table.as_bytes()).ok()?;
+    Some(Change::Put {
+        name: name(alloc, space)?,
+        version: None,
+        dtab,
+    })
+}
+
+/// The change that gives a service these addresses.
+pub fn assignment(alloc: Global, service: &str, addrs: &str) -> Option<Change>
+    ensures { IfSome result (λ change. IsSoundChange (change_of change)) }
+{
+    let list = read_addrs(alloc, addrs.as_bytes()).ok()?;
+    Some(Change::SetAddrs {
+        service: name(alloc, service)?,
+        list,
+    })
+}
+
+fn reply_text(alloc: Global, reply: &Reply) -> Option<String> {
+    match reply {
+        Reply::Version(version) => format!(in alloc; "version {version}").ok(),
+        Reply::Exists(version) => format!(in alloc; "exists {version}").ok(),
+        Reply::Set(count) => format!(in alloc; "set {count}").ok(),
+        Reply::Missing => String::from_str(alloc, "missing").ok(),
+        Reply::Table { version, .. } => format!(in alloc; "table {version}").ok(),
+        _ => None,
+    }
+}
+
+pub fn created<J: Naming, R: Wait>(
+    rt: &R,
+    alloc: Global,
+    router: &Router<J>,
+    pass: &mut Pass<J>,
+    space: &str,
+    table: &str,
+) -> Option<String> {
+    let change = creation(alloc, space, table)?;
+    let reply = router.change(rt, alloc, pass, change).ok()?;
+    reply_text(alloc, &reply)
+}
+
+pub fn put<J: Naming, R: Wait>(
+    rt: &R,
+    alloc: Global,
+    router: &Router<J>,
+    pass: &mut Pass<J>,
+    space: &str,
+    table: &str,
+) -> Option<String> {
+    let change = replacement(alloc, space, table)?;
+    let reply = router.change(rt, alloc, pass, change).ok()?;
+    reply_text(alloc, &reply)
+}
+
+pub fn set<J: Naming, R: Wait>(
+    rt: &R,
+    alloc: Global,
+    router: &Router<J>,
+    pass: &mut Pass<J>,
+    service: &str,
+    addrs: &str,
+) -> Option<String> {
+    let change = assignment(alloc, service, addrs)?;
+    let reply = router.change(rt, alloc, pass, change).ok()?;
+    reply_text(alloc, &reply)
+}
+
+/// The place of a look for the namespace `default`, and its reply.
+pub fn looked<J: Naming, L: Ledger>(
+    alloc: Global,
+    router: &Router<J>,
+    pass: &mut Pass<J>,
+    steps: &mut Steps<L>,
+) -> Option<String> {
+    let look = Look::Get {
+        name: name(alloc, "default")?,
+    };
+    match router.look(alloc, pass, &look, steps).ok()? {
+        Looked::Said(place, reply) => {
+            let said = reply_text(alloc, &reply)?;
+            format!(in alloc; "at {place} {said}").ok()
+        }
+        Looked::NoEntry => None,
+    }
+}
+
+/// The port of a replica, its slot, the two loads, and the place.
+fn choice_text(alloc: Global, choice: &Choice) -> Option<String> {
+    let (port, place) = (choice.addr.port, choice.place);
+    let (first, second) = (choice.first, choice.second);
+    match choice.slot {
+        Some(slot) => {
+            format!(in alloc; "at {place} port {port} slot {slot} loads {first} {second}").ok()
+        }
+        None => format!(in alloc; "at {place} port {port}").ok(),
+    }
+}
+
+/// The replica that a pick answers.
+pub fn picked<J: Naming, L: Ledger>(
+    alloc: Global,
+    router: &Router<J>,
+    pass: &mut Pass<J>,
+    steps: &mut Steps<L>,
+) -> Option<String> {
+    let ask = ask(alloc)?;
+    match router.pick(alloc, pass, &ask, steps).ok()? {
+        Answer::Picked { choice, .. } => choice_text(alloc, &choice),
+        _ => None,
+    }
+}
+
+fn names_text(alloc: Global, names: &Names) -> Option<String> {
+    let client = std::str::from_utf8(names.client()).ok()?;
+    let residual = std::str::from_utf8(names.residual()).ok()?;
+    format!(in alloc; "names {client} {residual}").ok()
+}
+
+/// What a pick by what is kept alone answers, and the names that it writes.
+pub fn peeked<J: Naming>(alloc: Global, router: &Router<J>, pass: &mut Pass<J>) -> Option<String> {
+    let ask = ask(alloc)?;
+    let mut room = Names::room(alloc).ok()?;
+    match router.peek(pass, &ask, &mut room) {
+        Peek::Hit(choice) => {
+            let said = choice_text(alloc, &choice)?;
+            let names = names_text(alloc, &room)?;
+            format!(in alloc; "hit {said} {names}").ok()
+        }
+        Peek::HitNone { place, .. } => format!(in alloc; "none at {place}").ok(),
+        Peek::Miss(place) => {
+            let length = room.client().len().max(room.residual().len());
+            format!(in alloc; "miss at {place} names {length}").ok()
+        }
+        Peek::NoEntry => None,
+    }
+}
+
+/// The pass holds a slot, where it holds none.
+pub fn hold<J: Naming>(
+    alloc: Global,
+    router: &Router<J>,
+    pass: &mut Pass<J>,
+    slot: u32,
+) -> Option<String> {
+    if slot >= 8192 || pass.holds().is_some() {
+        return None;
+    }
+    router.hold(pass, slot);
+    let held = pass.holds()?;
+    format!(in alloc; "holds {held}").ok()
+}
+
+/// The pass gives back what it holds.
+pub fn give<J: Naming>(alloc: Global, router: &Router<J>, pass: &mut Pass<J>) -> Option<String> {
+    let held = pass.holds()?;
+    router.give(pass);
+    if pass.holds().is_some() {
+        return None;
+    }
+    format!(in alloc; "gave {held}").ok()
+}

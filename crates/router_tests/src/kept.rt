@@ -1,0 +1,104 @@
+//! Picks whose delegations are given back, to be kept.
+ghost use Rattle.std.specs.Prelude.{IfSome};
+ghost use mathlib.Core.List.{IsPrefix};
+ghost use Rattle.bind_cache.specs.Stored.{kept_of};
+ghost use Rattle.router.specs.Changing.{WasWorkedOut};
+ghost use Rattle.router.specs.Passes.{seen_in};
+
+use crate::asked::{ask, created};
+use bind_cache::Binding;
+use line_base::Steps;
+use router::{Answer, Naming, Pass, Remembered, Router};
+use std::alloc::Global;
+use std::sync::Wait;
+use std::sync::ledger::Ledger;
+
+/// The delegation that a pick for `/svc/web` worked out, where none was kept.
+fn fresh<J: Naming, L: Ledger>(
+    alloc: Global,
+    router: &Router<J>,
+    pass: &mut Pass<J>,
+    steps: &mut Steps<L>,
+) -> Option<Binding>
+    ensures worked { IfSome result (λ b. WasWorkedOut pass.new (kept_of b)) }
+    ensures seen { IfSome result (λ b. IsPrefix (seen_in pass.old) (seen_in pass.new)) }
+{
+    let Ok(Answer::Picked { fresh, .. }) = router.pick(alloc, pass, &ask(alloc)?, steps) else {
+        return None;
+    };
+    fresh
+}
+
+/// What a delegation that is given back is answered.
+fn remembered<J: Naming, R: Wait>(
+    rt: &R,
+    alloc: Global,
+    router: &Router<J>,
+    pass: &mut Pass<J>,
+    binding: Binding,
+) -> Option<Remembered>
+    requires { WasWorkedOut pass.old (kept_of binding) }
+    ensures { IfSome result (λ said. IsPrefix (seen_in pass.old) (seen_in pass.new)) }
+{
+    let Ok(said) = router.remember(rt, alloc, pass, binding) else {
+        return None;
+    };
+    Some(said)
+}
+
+fn text(alloc: Global, said: Remembered) -> Option<String> {
+    match said {
+        Remembered::Kept => String::from_str(alloc, "kept").ok(),
+        Remembered::Late { place, now } => format!(in alloc; "late {place} {now}").ok(),
+        Remembered::Had => String::from_str(alloc, "had").ok(),
+        _ => None,
+    }
+}
+
+/// A pick, whose delegation is given back at once.
+pub fn remember<J: Naming, L: Ledger, R: Wait>(
+    rt: &R,
+    alloc: Global,
+    router: &Router<J>,
+    pass: &mut Pass<J>,
+    steps: &mut Steps<L>,
+) -> Option<String> {
+    let Some(binding) = fresh(alloc, router, pass, steps) else {
+        return String::from_str(alloc, "nothing to keep").ok();
+    };
+    let said = remembered(rt, alloc, router, pass, binding)?;
+    text(alloc, said)
+}
+
+/// A pick, whose delegation is given back when another pass has created a namespace.
+pub fn remember_after_change<J: Naming, L: Ledger, R: Wait>(
+    rt: &R,
+    alloc: Global,
+    router: &Router<J>,
+    pass: &mut Pass<J>,
+    other: &mut Pass<J>,
+    space: &str,
+    steps: &mut Steps<L>,
+) -> Option<String> {
+    let binding = fresh(alloc, router, pass, steps)?;
+    let _version = created(rt, alloc, router, other, space, "/x => /y")?;
+    let said = remembered(rt, alloc, router, pass, binding)?;
+    text(alloc, said)
+}
+
+/// Two picks, whose delegations are both given back then, the first one's first.
+pub fn remember_twice<J: Naming, L: Ledger, R: Wait>(
+    rt: &R,
+    alloc: Global,
+    router: &Router<J>,
+    pass: &mut Pass<J>,
+    steps: &mut Steps<L>,
+) -> Option<String> {
+    let first = fresh(alloc, router, pass, steps)?;
+    let second = fresh(alloc, router, pass, steps)?;
+    let said = remembered(rt, alloc, router, pass, first)?;
+    let before = text(alloc, said)?;
+    let said = remembered(rt, alloc, router, pass, second)?;
+    let after = text(alloc, said)?;
+    format!(in alloc; "{before}, {after}").ok()
+}

@@ -1,0 +1,16 @@
+//! Runs of three callers on one router: what each sees of the others' changes, loads and kept delegations.
+//!
+//! A scene is a list of calls, each of one caller, with what each is answered as a text. It is played on a new router of three passes, which is ended then: first
+//! with a pass missing, which has to be refused, and then with all.
+#![tactic(auto)]
+
+#[cfg(test)]
+mod acts;
+#[cfg(test)]
+mod asked;
+#[cfg(test)]
+mod kept;
+#[cfg(test)]
+mod scenes;
+#[cfg(test)]
+mod stage;

@@ -1,0 +1,107 @@
+//! Scenes of three callers.
+
+use crate::acts::Act;
+use crate::stage::{Row, run};
+
+const A: usize = 0;
+
+const B: usize = 1;
+
+const C: usize = 2;
+
+/// A change of one caller is seen by another that asks later, and by both where two meet.
+const MEETING: [Row; 10] = [
+    (B, Act::Look, "at 0 missing"),
+    (
+        A,
+        Act::Create("default", "/svc => /$/inet/127.0.0.1/9"),
+        "version 1",
+    ),
+    (C, Act::Count, "pass 2 place 0 made 0 kept 0 refused 0"),
+    (B, Act::Look, "at 1 table 1"),
+    (B, Act::Meet, "places 1 1"),
+    (C, Act::Pick, "at 1 port 9"),
+    (A, Act::Count, "pass 0 place 1 made 1 kept 0 refused 0"),
+    (B, Act::Count, "pass 1 place 1 made 0 kept 0 refused 0"),
+    (C, Act::Create("default", "/a => /b"), "exists 1"),
+    (C, Act::Count, "pass 2 place 1 made 0 kept 0 refused 0"),
+];
+
+/// The replica with the lesser load is taken. Two requests on one of twice the weight are as much as one on the other.
+const LOADS: [Row; 13] = [
+    (A, Act::Set("web", "127.0.0.1 1\n127.0.0.1 2\n"), "set 2"),
+    (A, Act::Hold(0), "holds 0"),
+    (C, Act::Pick, "at 1 port 2 slot 1 loads 1 0"),
+    (A, Act::Give, "gave 0"),
+    (C, Act::Pick, "at 1 port 1 slot 0 loads 0 0"),
+    (
+        B,
+        Act::Set("web", "127.0.0.1 1 * 2\n127.0.0.1 2\n"),
+        "set 2",
+    ),
+    (A, Act::Hold(0), "holds 0"),
+    (B, Act::Hold(0), "holds 0"),
+    (C, Act::Hold(1), "holds 1"),
+    (C, Act::Pick, "at 2 port 1 slot 0 loads 2 1"),
+    (C, Act::Give, "gave 1"),
+    (C, Act::Pick, "at 2 port 2 slot 1 loads 2 0"),
+    // The first caller has asked nothing since its own change. The router's end gives back what it and the second one hold.
+    (A, Act::Count, "pass 0 place 1 made 1 kept 0 refused 0"),
+];
+
+/// A delegation is kept where no change was made since it was worked out, and found until a change touches it.
+const REMEMBERED: [Row; 16] = [
+    (B, Act::Create("one", "/x => /y"), "version 1"),
+    (B, Act::Create("two", "/x => /y"), "version 2"),
+    (B, Act::Set("web", "127.0.0.1 1"), "set 1"),
+    (A, Act::Peek, "miss at 3 names 0"),
+    (A, Act::RememberLate("three"), "late 3 4"),
+    (A, Act::RememberTwice, "kept, had"),
+    (
+        A,
+        Act::Peek,
+        "hit at 4 port 1 slot 0 loads 0 0 names /#/io.l5d.fs/web /",
+    ),
+    (A, Act::Remember, "nothing to keep"),
+    (A, Act::Count, "pass 0 place 4 made 0 kept 1 refused 0"),
+    (B, Act::Create("four", "/svc => /nowhere"), "version 4"),
+    (
+        C,
+        Act::Peek,
+        "hit at 5 port 1 slot 0 loads 0 0 names /#/io.l5d.fs/web /",
+    ),
+    (B, Act::Create("default", "/other => /x"), "version 5"),
+    (B, Act::Set("web", "127.0.0.1 1\n127.0.0.1 2"), "set 2"),
+    (
+        A,
+        Act::Peek,
+        "hit at 7 port 1 slot 0 loads 0 0 names /#/io.l5d.fs/web /",
+    ),
+    (
+        B,
+        Act::Put("default", "/svc/web => /#/io.l5d.fs/v2"),
+        "version 6",
+    ),
+    (A, Act::Peek, "miss at 8 names 0"),
+];
+
+#[test]
+fn callers_that_meet_see_one_history(rt: HostRuntime) {
+    assert_eq!(rt; run(&rt, rt.alloc(), "", &MEETING), Some(1));
+}
+
+#[test]
+fn the_lesser_load_is_taken(rt: HostRuntime) {
+    assert_eq!(rt;
+        run(&rt, rt.alloc(), "/svc => /#/io.l5d.fs", &LOADS),
+        Some(2)
+    );
+}
+
+#[test]
+fn a_kept_delegation_is_found_until_a_change_touches_it(rt: HostRuntime) {
+    assert_eq!(rt;
+        run(&rt, rt.alloc(), "/svc => /#/io.l5d.fs", &REMEMBERED),
+        Some(8)
+    );
+}
