@@ -26,10 +26,26 @@ def at_or_below(named, libraries):
     return reached
 
 
-def output_of(name, program, named):
-    """The standard output of `rt run` for a program over the named libraries, which is proved and built first.
+def left_out(folder, names):
+    """What is not copied of a crate: its must-fail edits, and what checks keep, but for the library."""
+    if os.path.basename(folder) == "out":
+        return [name for name in names if name != "rlib"]
+    return [name for name in names if name == "must-fail"]
 
-    `program` is the text of its main.rt. The command is that of the environment's RT, if it is set. Where it fails, the script ends with what it wrote.
+
+def share(source, target):
+    """Links a file, or copies it where it can't be linked: built libraries are large."""
+    try:
+        os.link(source, target)
+    except OSError:
+        shutil.copy2(source, target)
+
+
+def output_of(name, program, named, proofs=None):
+    """The standard output of `rt run` for a program over the named libraries, which is proved and built first, as are those that are not built yet.
+
+    `program` is the text of its main.rt, and `proofs` has the texts of its proof files by their paths. The command is that of the environment's RT, if it is
+    set. Where it fails, the script ends with what it wrote.
     """
     command = os.environ.get("RT", "rt")
     if not shutil.which(command):
@@ -41,16 +57,22 @@ def output_of(name, program, named):
             shutil.copytree(
                 os.path.join(ROOT, "crates", crate),
                 os.path.join(work, "crates", crate),
-                ignore=shutil.ignore_patterns("out", "must-fail"),
+                ignore=left_out,
+                copy_function=share,
             )
             lines.append(f"{crate}: {' '.join(libraries[crate])}\n")
         lines.append(f"{name}: {' '.join(named)}\n")
         with open(os.path.join(work, "crates.txt"), "w") as file:
             file.writelines(lines)
+        shutil.copy(os.path.join(ROOT, "HANDLES"), work)
         folder = os.path.join(work, "crates", name)
         os.makedirs(os.path.join(folder, "src"))
         with open(os.path.join(folder, "src", "main.rt"), "w") as file:
             file.write(program)
+        for path, text in (proofs or {}).items():
+            os.makedirs(os.path.dirname(os.path.join(folder, path)), exist_ok=True)
+            with open(os.path.join(folder, path), "w") as file:
+                file.write(text)
         done = subprocess.run([command, "run"], cwd=folder, capture_output=True, text=True)
     if done.returncode != 0:
         sys.exit(f"{done.stdout}{done.stderr}{name}: rt run ended with status {done.returncode}")

@@ -1,5 +1,6 @@
 -- How the parts of an exchange make it up.
 use Rattle.std.proofs.Common.{◌≡◌, ℕ, Bool, List, All, refl, sym, subst, ap, ◌∙◌, inl, inr, Option, Some, None, Result, Ok, Err}
+use Rattle.std.specs.Prelude.{IfSome, ◌<◌}
 use Rattle.rand_pcg.specs.Lcg.{Lcg}
 use Rattle.addr_book.specs.declared.addr.Addr.{Addr}
 use Rattle.dtab_table.specs.Rules.{Rule as DtabRule}
@@ -14,6 +15,7 @@ use Rattle.identifier.specs.declared.rule.Rule.{Rule}
 use Rattle.machine.specs.Values.{SettingsValue, AskValue, PickValue, Replica, replica, none}
 use Rattle.name_tree.specs.Path.{Labels, canon_path}
 use Rattle.own_reply.specs.declared.error.OwnError.{OwnError}
+use Rattle.router.specs.Chosen.{HasWord as IsWord}
 use Rattle.router.specs.declared.names.Names.{Names}
 use Rattle.proxy_session.specs.declared.asking.Found.{Found}
 use Rattle.proxy_session.specs.declared.asking.Found.TheVariants as found
@@ -27,7 +29,7 @@ use Rattle.proxy_session.specs.Found.{IsReplica, Says, client_in, residual_in}
 use Rattle.proxy_session.specs.Onward.{IsForwarded, IsHeadTo, host_for}
 use Rattle.proxy_session.specs.Outside.{IsIdle, Line, Rests, Upstream}
 use Rattle.proxy_session.specs.Seeking.{Seeks, Sought}
-use Rattle.proxy_session.specs.Sending.{AreClear, AnswersAlone, RefusesAs, SendsFound}
+use Rattle.proxy_session.specs.Sending.{AreClear, AnswersAlone, HasWord, RefusesAs, SendsFound}
 use Rattle.proxy_session.specs.Sought.{SeeksAs}
 use Rattle.proxy_session.proofs.Resting.{idle_same, rests_same}
 
@@ -48,6 +50,13 @@ clear_found (replica r) names (found.Replica choice texts) says = (clear_by _ r.
 clear_found (replica r) names (found.None why) says = absurd says
 clear_found (none why) names (found.Replica choice texts) says = absurd says
 clear_found (none why) names (found.None other) says = tt
+
+-- the slot of a replica that was said is that of the one that was found
+pub word_found : (said : PickValue) (names : Names) (f : Found) → Says said names f → IsWord said → HasWord f
+word_found (replica r) names (found.Replica choice texts) says word = subst (λ (o : Option ℕ). IfSome o (λ slot. slot < 8192)) (sym says.slot) word
+word_found (replica r) names (found.None why) says word = absurd says
+word_found (none why) names (found.Replica choice texts) says word = absurd says
+word_found (none why) names (found.None other) says word = tt
 
 module _
     (settings : SettingsValue) (head : Head) (last : Bool) (framing : Framing) (host line_on : List ℕ) (rules : List DtabRule) (path : Labels)

@@ -14,3 +14,6 @@ pub mod Exchanging
 pub mod Sending
 pub mod Serving
 pub mod Rising
+pub mod Lasting
+pub mod Fitting
+pub mod Ending

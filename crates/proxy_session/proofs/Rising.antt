@@ -23,8 +23,11 @@ use Rattle.proxy_session.specs.Exchange.{Exchanges, Settles, Standing}
 use Rattle.proxy_session.specs.Outside.{Gives, Line, Rests, Upstream}
 use Rattle.proxy_session.specs.Trying.{Backs, Converses, GoesBack, GoesOn, Replies, Tries, tried_of_back, tried_of_body, tried_of_head}
 
-later_same : (a b : ℕ) → b ≡ a → Later a b
+pub later_same : (a b : ℕ) → b ≡ a → Later a b
 later_same a b is = omega arith
+
+pub later_below : (a b : ℕ) → a ≤ b → Later a b
+later_below a b le = omega arith
 
 later_raised : (a b : ℕ) → b ≡ raised a → Later a b
 later_raised a b is = omega arith
@@ -32,7 +35,7 @@ later_raised a b is = omega arith
 later_on : (a b c : ℕ) → Later a b → Later b c → Later a c
 later_on a b c p q = omega arith
 
-rose_by : (a b : ℕ) → b ≡ raised a → Rose a b
+pub rose_by : (a b : ℕ) → b ≡ raised a → Rose a b
 rose_by a b is = omega arith
 
 pub rose_before : (a b c : ℕ) → Rose a b → Later b c → Rose a c
@@ -48,7 +51,7 @@ none_fell_on a b c p q = record {
   ends = later_on a.ends b.ends c.ends p.ends q.ends;
 }
 
-rests_fell : (a b : Line) → Rests a b → NoneFell a b
+pub rests_fell : (a b : Line) → Rests a b → NoneFell a b
 rests_fell a b r = record { reads = later_same _ _ r.read_faults; writes = later_same _ _ r.write_faults; ends = later_same _ _ r.ends }
 
 -- ---- bodies
@@ -206,6 +209,9 @@ writes_done old new reply closes last (Err ended.Spent) w = absurd w
 writes_done old new reply closes last (Err ended.ReadFault) w = absurd w
 writes_done old new reply closes last (Err ended.UpstreamCut) w = absurd w
 
+pub writes_fell : (old new : Line) (reply : List ℕ) (told : Result (Unit {0}) Ended) → Writes old new reply told → NoneFell old new
+writes_fell old new reply told w = (writes_done old new reply true true told w).0
+
 refuses_done : (err : OwnError) (head : Head) (last : Bool) (old new : Line) (r : Option Ended) → Refuses err head last old new r → Done r old new
 refuses_done err head last old new r x = subst (λ (o : Option Ended). Done o old new) (sym x.2) (writes_done old new _ _ last x.0 x.1)
 
@@ -215,7 +221,7 @@ rests_done e old new r rests is cause = subst (λ (o : Option Ended). Done o old
 behind_try : (a b c : Line) (e : Option Ended) (r : Option Ended) → NoneFell a b → Rests b c → r ≡ e → HasCauseOf e a c → Done r a c
 behind_try a b c e r fell rests is cause = subst (λ (o : Option Ended). Done o a c) (sym is) (none_fell_on a b c fell (rests_fell b c rests), cause)
 
-cause_on : (a b c : Line) (r : Option Ended) → NoneFell a b → HasCauseOf r b c → HasCauseOf r a c
+pub cause_on : (a b c : Line) (r : Option Ended) → NoneFell a b → HasCauseOf r b c → HasCauseOf r a c
 cause_on a b c None fell cause = tt
 cause_on a b c (Some ended.PeerEnded) fell cause = cause
 cause_on a b c (Some ended.Cut) fell cause = rose_behind a.ends b.ends c.ends fell.ends cause

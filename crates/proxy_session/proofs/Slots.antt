@@ -4,6 +4,7 @@ use Rattle.addr_book.specs.declared.addr.Addr.{Addr}
 use Rattle.http_wire.specs.declared.ended.Ended.{Ended}
 use Rattle.http_wire.specs.declared.head.Head.{Head}
 use Rattle.machine.specs.Values.{SettingsValue, AskValue, PickValue}
+use Rattle.router.specs.Chosen.{HasWord}
 use Rattle.proxy_session.specs.declared.tried.Tried.{Tried}
 use Rattle.proxy_session.specs.Answering.{report_of}
 use Rattle.proxy_session.specs.Asking.{Finding, StopsAsking}
@@ -16,6 +17,12 @@ module _ (settings : SettingsValue) (old new : Caller) where
   finding_slot ask said (inl finds) = finds.asks.slots.slot
   finding_slot ask said (inr (mid, misses, inl finds)) = finds.asks.slots.slot ∙ misses.asks.slots.slot
   finding_slot ask said (inr (mid, misses, inr (late, finds, keeps))) = keeps.returns.slots.slot ∙ (finds.asks.slots.slot ∙ misses.asks.slots.slot)
+
+  -- the slot of what was found is that of a load word
+  pub finding_word : (ask : AskValue) (said : PickValue) → Finding settings old new ask said → HasWord said
+  finding_word ask said (inl finds) = finds.permitted.word
+  finding_word ask said (inr (mid, misses, inl finds)) = finds.permitted.word
+  finding_word ask said (inr (mid, misses, inr (late, finds, keeps))) = finds.permitted.word
 
   pub stopping_slot : (ask : AskValue) → StopsAsking settings old new ask → new.slot ≡ old.slot
   stopping_slot ask (mid, misses, inl asks) = asks.0.slots.slot ∙ misses.asks.slots.slot

@@ -1,5 +1,6 @@
 -- What an exchange does with its pass, over plain lists.
-use Rattle.std.specs.Prelude.{◌≡◌, ℕ, nat_lt, if◌then◌else◌, Bool, true, false, List, [], ◌∷◌, ◌++◌, length, Option, Some, None}
+use Rattle.std.specs.Prelude.{◌≡◌, ℕ, Bool, true, false, List, ◌++◌, length, Option, None}
+use Rattle.std.specs.Option.{option_to_list}
 use mathlib.Core.List.{IsPrefix}
 use Rattle.addr_book.specs.declared.addr.Addr.{Addr}
 use Rattle.bind_cache.specs.Kept.{Kept}
@@ -88,16 +89,11 @@ pub record Reports (settings : SettingsValue) (old new : Caller) (addr : Addr) (
   pub reads : new.reads ≡ old.reads
   pub slots : SameSlots old new
 
--- the slot of a replica, which has one where it is one of a service. There are 8,192
-abbrev pub taken_for : Option ℕ → List ℕ
-taken_for None = []
-taken_for (Some slot) = if nat_lt slot 8192 then slot ∷ [] else []
-
--- a slot was held for a time
+-- the slot of a replica was held for a time, if it has one
 pub record Holds (old new : Caller) (replica : Option ℕ) : Type 0 where
   pub number : new.number ≡ old.number
   pub seen : new.seen ≡ old.seen
   pub items : new.items ≡ old.items
   pub reads : new.reads ≡ old.reads
-  pub taken : new.taken ≡ old.taken ++ taken_for replica
+  pub taken : new.taken ≡ old.taken ++ option_to_list replica
   pub slot : new.slot ≡ None

@@ -1,5 +1,5 @@
 -- Why an exchange, or a session, ends as it does.
-use Rattle.std.specs.Prelude.{ℕ, ◌-◌, ◌^◌, ◌≤◌, min, Option, Some, None}
+use Rattle.std.specs.Prelude.{◌≡◌, ℕ, ◌-◌, ◌^◌, ◌≤◌, min, Bool, true, false, Option, Some, None}
 use Rattle.line_base.specs.Counts.{Rose}
 use Rattle.http_wire.specs.declared.ended.Ended.{Ended}
 use Rattle.http_wire.specs.declared.ended.Ended.TheVariants as ended
@@ -31,3 +31,20 @@ abbrev pub HasCauseOf : Option Ended → Line → Line → Type 0
 HasCauseOf None old new = Unit {0}
 HasCauseOf (Some ended.PeerEnded) old new = ⊥
 HasCauseOf (Some e) old new = CauseOf e old new
+
+-- the connection goes on only behind a request that is not its last, and is spent only by the last
+abbrev pub FitsLast : Bool → Option Ended → Type 0
+FitsLast last None = last ≡ false
+FitsLast last (Some ended.Spent) = last ≡ true
+FitsLast last (Some e) = Unit {0}
+
+-- no call of the connection failed
+pub record NoneFailed (old new : Line) : Type 0 where
+  pub reads : Rose old.read_faults new.read_faults → ⊥
+  pub writes : Rose old.write_faults new.write_faults → ⊥
+
+-- an end that the bytes on both sides decide, or that memory was wanting
+abbrev pub IsNoFault : Ended → Type 0
+IsNoFault ended.ReadFault = ⊥
+IsNoFault ended.WriteFault = ⊥
+IsNoFault e = Unit {0}

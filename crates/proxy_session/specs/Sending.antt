@@ -1,5 +1,5 @@
 -- What the parts of an exchange do, by what was found before.
-use Rattle.std.specs.Prelude.{◌≡◌, ℕ, Bool, List, Option, Some}
+use Rattle.std.specs.Prelude.{◌≡◌, ◌<◌, ℕ, Bool, List, Option, Some, IfSome}
 use Rattle.httparse.specs.Grammar.{AllPass}
 use Rattle.dtab_table.specs.Rules.{Rule}
 use Rattle.forward.specs.Sound.{is_clear_byte}
@@ -30,6 +30,11 @@ RefusesAs refusal.OutOfMemory head last old new result = Rests old new × (resul
 abbrev pub AreClear : Names → Found → Type 0
 AreClear names (found.Replica choice texts) = AllPass is_clear_byte (client_in names texts) × AllPass is_clear_byte (residual_in names texts)
 AreClear names (found.None why) = Unit {0}
+
+-- the slot of the replica, where it has one, is that of a load word
+abbrev pub HasWord : Found → Type 0
+HasWord (found.Replica choice texts) = IfSome choice.slot (λ slot. slot < 8192)
+HasWord (found.None why) = Unit {0}
 
 -- nothing moved but the answer to the client
 pub record AnswersAlone

@@ -91,3 +91,9 @@ abbrev pub SessionsTo : SettingsValue → Rule → Standing → Line → Upstrea
 SessionsTo settings rule old line upstream caller moments words result =
     ((rest : List ℕ) × Sessions settings rule old (record { line = line; kept = rest; upstream = upstream; caller = caller; moments = moments; words = words }) result)
     ⊎ (Rests old.line line × IsIdle old.upstream upstream × (caller ≡ old.caller) × (moments ≡ old.moments) × (words ≡ old.words) × (result ≡ ended.OutOfMemory))
+
+-- as many requests as a connection may carry had their exchanges, and the last one closed it by being the last alone
+abbrev pub Spends : SettingsValue → Rule → Standing → Line → Upstream → Caller → Option (List ℕ) → Lcg → Type 0
+Spends settings rule old line upstream caller moments words =
+    (rest : List ℕ) × (n : ℕ) × (mid : Standing) × (n + 1 ≡ most_requests) × Served settings rule n old mid
+    × Serves settings rule true mid (record { line = line; kept = rest; upstream = upstream; caller = caller; moments = moments; words = words }) (Some ended.Spent)

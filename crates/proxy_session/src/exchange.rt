@@ -1,17 +1,17 @@
 //! One request on a connection, from its head on.
-ghost use Rattle.std.specs.Prelude.{◌≡◌, ◌<◌, None, IfOk, IfSome};
-ghost use Rattle.std.specs.Option.{option_to_list};
+ghost use Rattle.std.specs.Prelude.{◌≡◌, ◌<◌, false, None, IfOk, IfSome};
 ghost use Rattle.dtab_table.specs.Dtab.{rules_of};
 ghost use Rattle.forward.specs.Sound.{is_clear_byte};
 ghost use Rattle.http_wire.specs.Sound.{IsSoundHead, IsSoundTarget};
 ghost use Rattle.httparse.specs.Grammar.{AllPass, is_value_byte};
-ghost use Rattle.router.specs.Passes.{slot_in};
+ghost use Rattle.router.specs.Passes.{number_in, slot_in};
 ghost use Rattle.proxy_session.specs.Answering.{own_of_why};
-ghost use Rattle.proxy_session.specs.Callers.{Holds, caller_of, taken_for};
+ghost use Rattle.proxy_session.specs.Callers.{Holds, caller_of};
+ghost use Rattle.proxy_session.specs.Causes.{FitsLast, HasCauseOf};
 ghost use Rattle.proxy_session.specs.Exchange.{Exchanges, Routes, Sends};
 ghost use Rattle.proxy_session.specs.Found.{client_in, residual_in};
 ghost use Rattle.proxy_session.specs.Onward.{IsHeadTo, host_for};
-ghost use Rattle.proxy_session.specs.Sending.{AreClear, RefusesAs, SendsFound};
+ghost use Rattle.proxy_session.specs.Sending.{AreClear, HasWord, RefusesAs, SendsFound};
 ghost use Rattle.proxy_session.specs.Sought.{IsSoundRequest, sought_of};
 ghost use Rattle.proxy_session.specs.Trying.{Tries};
 
@@ -35,12 +35,10 @@ use router::{Choice, Names, Naming, Pass, Router};
 use std::alloc::Global;
 use std::sync::Wait;
 
-/// How many load words there are.
-const SLOTS: u32 = 8_192;
-
 /// Serves one request, whose head was read off the peer: it goes on to a replica, and the reply goes back, or the router answers itself.
 ///
-/// It gives how the connection ends behind it; `None` where it goes on. The last request that a connection may carry is `last`.
+/// It gives how the connection ends behind it; `None` where it goes on. The last request that a connection may carry is `last`. It gives `Cut`, `ReadFault` and
+/// `WriteFault` only where the count of the client's connection rose that says so, and never `PeerEnded`.
 pub fn proxy_once<J: Naming, P: Peer, D: Dialer, C: Clock, R: Wait>(
     rt: &R,
     alloc: Global,
@@ -59,6 +57,10 @@ pub fn proxy_once<J: Naming, P: Peer, D: Dialer, C: Clock, R: Wait>(
     requires free { slot_in pass.old ≡ None }
     ensures exchange { Exchanges J.settings rule.now head.now last (record { line = record { left = P.left peer.old; given = P.given peer.old; read_faults = P.read_faults peer.old; write_faults = P.write_faults peer.old; ends = P.ends peer.old }; kept = rest.old; upstream = record { log = D.log dialer.old; is_open = D.is_open dialer.old; faults = D.faults dialer.old }; caller = caller_of pass.old; moments = C.to_come clock.old; words = words.old }) (record { line = record { left = P.left peer.new; given = P.given peer.new; read_faults = P.read_faults peer.new; write_faults = P.write_faults peer.new; ends = P.ends peer.new }; kept = rest.new; upstream = record { log = D.log dialer.new; is_open = D.is_open dialer.new; faults = D.faults dialer.new }; caller = caller_of pass.new; moments = C.to_come clock.new; words = words.new }) result }
     ensures slot { slot_in pass.new ≡ None }
+    ensures cause { HasCauseOf result (record { left = P.left peer.old; given = P.given peer.old; read_faults = P.read_faults peer.old; write_faults = P.write_faults peer.old; ends = P.ends peer.old }) (record { left = P.left peer.new; given = P.given peer.new; read_faults = P.read_faults peer.new; write_faults = P.write_faults peer.new; ends = P.ends peer.new }) }
+    ensures last { FitsLast last result }
+    ensures closed { D.is_open dialer.old ≡ false → D.is_open dialer.new ≡ false }
+    ensures number { number_in pass.new ≡ number_in pass.old }
 {
     let Ok(mut buffers) = Buffers::room(alloc) else {
         return Some(Ended::OutOfMemory);
@@ -214,6 +216,7 @@ fn send_found<J: Naming, P: Peer, D: Dialer, C: Clock, R: Wait>(
     requires target { IsSoundTarget target.now }
     requires host { AllPass is_value_byte host.now }
     requires clear { AreClear buffers.old.names found.now }
+    requires word { HasWord found.now }
     requires free { slot_in pass.old ≡ None }
     ensures sends { SendsFound J.settings head.now last framing host.now target.now (rules_of ask.now.local) ask.now.path buffers.old.names found.now
         (record { left = P.left peer.old; given = P.given peer.old; read_faults = P.read_faults peer.old; write_faults = P.write_faults peer.old; ends = P.ends peer.old }) (record { left = P.left peer.new; given = P.given peer.new; read_faults = P.read_faults peer.new; write_faults = P.write_faults peer.new; ends = P.ends peer.new }) rest.old rest.new (record { log = D.log dialer.old; is_open = D.is_open dialer.old; faults = D.faults dialer.old }) (record { log = D.log dialer.new; is_open = D.is_open dialer.new; faults = D.faults dialer.new }) (caller_of pass.old) (caller_of pass.new) (C.to_come clock.old) (C.to_come clock.new) result }
@@ -253,6 +256,7 @@ fn send_to<J: Naming, P: Peer, D: Dialer, C: Clock, R: Wait>(
     requires host { AllPass is_value_byte host.now }
     requires client { AllPass is_clear_byte (client_in buffers.old.names texts.now) }
     requires residual { AllPass is_clear_byte (residual_in buffers.old.names texts.now) }
+    requires word { IfSome choice.slot (λ word. word < 8192) }
     requires free { slot_in pass.old ≡ None }
     ensures sends { Sends J.settings head.now last framing choice.addr choice.slot
         (IsHeadTo head.now (host_for host.now choice.addr) target.now framing (rules_of ask.now.local) ask.now.path (client_in buffers.old.names texts.now) (residual_in buffers.old.names texts.now))
@@ -363,11 +367,12 @@ fn try_held<J: Naming, P: Peer, D: Dialer>(
     dialer: &mut D,
     back: &mut Rest,
 ) -> Tried
-    requires { slot_in pass.old ≡ None }
+    requires free { slot_in pass.old ≡ None }
+    requires word { IfSome slot (λ word. word < 8192) }
     ensures holds { Holds (caller_of pass.old) (caller_of pass.new) slot }
     ensures tries { Tries head.now out.old.items framing last addr (record { left = P.left peer.old; given = P.given peer.old; read_faults = P.read_faults peer.old; write_faults = P.write_faults peer.old; ends = P.ends peer.old }) (record { left = P.left peer.new; given = P.given peer.new; read_faults = P.read_faults peer.new; write_faults = P.write_faults peer.new; ends = P.ends peer.new }) rest.old rest.new (record { log = D.log dialer.old; is_open = D.is_open dialer.old; faults = D.faults dialer.old }) (record { log = D.log dialer.new; is_open = D.is_open dialer.new; faults = D.faults dialer.new }) result }
 {
-    let Some(word) = load_word(slot) else {
+    let Some(word) = slot else {
         return try_replica(
             alloc, head, out, framing, last, addr, peer, rest, dialer, back,
         );
@@ -378,15 +383,4 @@ fn try_held<J: Naming, P: Peer, D: Dialer>(
     );
     router.give(pass);
     tried
-}
-
-/// The number of the load word of a slot.
-fn load_word(slot: Option<u32>) -> Option<u32>
-    ensures below { IfSome result (λ word. word < 8192) }
-    ensures word { option_to_list result ≡ taken_for slot }
-{
-    match slot {
-        None => None,
-        Some(slot) => { if slot < SLOTS { Some(slot) } else { None } }
-    }
 }

@@ -1,8 +1,9 @@
 //! The requests of a connection, one after another.
-ghost use Rattle.std.specs.Prelude.{◌≡◌, None, Some, []};
-ghost use Rattle.router.specs.Passes.{slot_in};
+ghost use Rattle.std.specs.Prelude.{◌≡◌, false, None, Some, []};
+ghost use Rattle.router.specs.Passes.{number_in, slot_in};
 ghost use Rattle.proxy_session.specs.Callers.{caller_of};
-ghost use Rattle.proxy_session.specs.Session.{AnswersEnd, ServesNext, SessionsTo, ended_of_end, own_of_end};
+ghost use Rattle.proxy_session.specs.Causes.{CauseOf, IsNoFault, NoneFailed};
+ghost use Rattle.proxy_session.specs.Session.{AnswersEnd, ServesNext, SessionsTo, Spends, ended_of_end, own_of_end};
 
 use crate::buffers::Buffers;
 use crate::exchange::exchange;
@@ -21,6 +22,9 @@ const MOST_REQUESTS: u32 = 10_000;
 
 /// Serves a connection: its requests, one after another, until it ends or one closes it, and at most 10,000 of them. The gate is told when each begins and when it is
 /// answered.
+///
+/// It gives `PeerEnded` and `Cut` only where a read gave the end, and `ReadFault` and `WriteFault` only where a read or a write failed. So where none does, every request that
+/// the client's bytes begin with is answered, up to one that closes, unless memory is wanting. `Spent` says that 10,000 were.
 pub fn serve_session<J: Naming, P: Peer, D: Dialer, C: Clock, G: Gate, R: Wait>(
     rt: &R,
     alloc: Global,
@@ -37,6 +41,11 @@ pub fn serve_session<J: Naming, P: Peer, D: Dialer, C: Clock, G: Gate, R: Wait>(
     requires { slot_in pass.old ≡ None }
     ensures session { SessionsTo J.settings rule.now (record { line = record { left = P.left peer.old; given = P.given peer.old; read_faults = P.read_faults peer.old; write_faults = P.write_faults peer.old; ends = P.ends peer.old }; kept = []; upstream = record { log = D.log dialer.old; is_open = D.is_open dialer.old; faults = D.faults dialer.old }; caller = caller_of pass.old; moments = C.to_come clock.old; words = words.old }) (record { left = P.left peer.new; given = P.given peer.new; read_faults = P.read_faults peer.new; write_faults = P.write_faults peer.new; ends = P.ends peer.new }) (record { log = D.log dialer.new; is_open = D.is_open dialer.new; faults = D.faults dialer.new }) (caller_of pass.new) (C.to_come clock.new) words.new result }
     ensures slot { slot_in pass.new ≡ None }
+    ensures cause { CauseOf result (record { left = P.left peer.old; given = P.given peer.old; read_faults = P.read_faults peer.old; write_faults = P.write_faults peer.old; ends = P.ends peer.old }) (record { left = P.left peer.new; given = P.given peer.new; read_faults = P.read_faults peer.new; write_faults = P.write_faults peer.new; ends = P.ends peer.new }) }
+    ensures complete { NoneFailed (record { left = P.left peer.old; given = P.given peer.old; read_faults = P.read_faults peer.old; write_faults = P.write_faults peer.old; ends = P.ends peer.old }) (record { left = P.left peer.new; given = P.given peer.new; read_faults = P.read_faults peer.new; write_faults = P.write_faults peer.new; ends = P.ends peer.new }) → IsNoFault result }
+    ensures spent { result ≡ Ended.Spent → Spends J.settings rule.now (record { line = record { left = P.left peer.old; given = P.given peer.old; read_faults = P.read_faults peer.old; write_faults = P.write_faults peer.old; ends = P.ends peer.old }; kept = []; upstream = record { log = D.log dialer.old; is_open = D.is_open dialer.old; faults = D.faults dialer.old }; caller = caller_of pass.old; moments = C.to_come clock.old; words = words.old }) (record { left = P.left peer.new; given = P.given peer.new; read_faults = P.read_faults peer.new; write_faults = P.write_faults peer.new; ends = P.ends peer.new }) (record { log = D.log dialer.new; is_open = D.is_open dialer.new; faults = D.faults dialer.new }) (caller_of pass.new) (C.to_come clock.new) words.new }
+    ensures closed { D.is_open dialer.old ≡ false → D.is_open dialer.new ≡ false }
+    ensures number { number_in pass.new ≡ number_in pass.old }
 {
     let Ok(mut rest) = Rest::room(alloc) else {
         return Ended::OutOfMemory;

@@ -1,0 +1,19 @@
+//! Whole sessions over peers, dialers and clocks in memory: worked exchanges with the bytes on both sides, hostile requests, each failing call, and limits.
+#![tactic(auto)]
+
+#[cfg(test)]
+mod hostile;
+#[cfg(test)]
+mod limits;
+#[cfg(test)]
+mod played;
+#[cfg(test)]
+mod replies;
+#[cfg(test)]
+mod row;
+#[cfg(test)]
+mod scene;
+#[cfg(test)]
+mod series;
+#[cfg(test)]
+mod worked;

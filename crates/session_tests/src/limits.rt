@@ -1,0 +1,60 @@
+//! The last request that a connection may carry, and what a request leaves at the router.
+use crate::played::play;
+use crate::scene::{BOOK, Scene};
+use http_wire::Ended::{PeerEnded, Spent};
+use std::alloc::{AllocError, Global};
+use std::test::Fail;
+
+/// A request.
+const REQUEST: &str = "GET / HTTP/1.1|Host: web||";
+
+/// The refusal where there is no replica.
+const REFUSAL: &str =
+    "HTTP/1.1 502 Bad Gateway|Content-Type: text/plain|l5d-err: negative|Content-Length: 9||negative~";
+
+/// The same, of the last request.
+const LAST: &str =
+    "HTTP/1.1 502 Bad Gateway|Content-Type: text/plain|l5d-err: negative|Content-Length: 9|Connection: close||negative~";
+
+/// 9,999 refusals, and the last one.
+fn refusals(alloc: Global) -> Result<String, AllocError> {
+    let mut text = String::new(alloc);
+    for _ in 0..9999u32 {
+        text.push_str(REFUSAL)?;
+    }
+    text.push_str(LAST)?;
+    Ok(text)
+}
+
+#[test]
+fn a_connection_is_spent(rt: HostRuntime) -> Result<(), Fail> {
+    let alloc = rt.alloc();
+    let replies = [""];
+    let scene = Scene {
+        times: 10001,
+        ..Scene::of("", REQUEST, &replies)
+    };
+    let played = play(&rt, alloc, &scene)?;
+    let wanted = refusals(alloc)?;
+    assert_eq!(rt; played.ended, Spent);
+    assert!(rt; played.written == wanted, "the replies");
+    Ok(())
+}
+
+/// What was worked out is kept, no slot is held, and the upstream is hung up as soon as the reply's length has come.
+#[test]
+fn a_request_leaves_nothing_behind(rt: HostRuntime) -> Result<(), Fail> {
+    let alloc = rt.alloc();
+    let reply = "HTTP/1.1 200 OK|Content-Length: 2||hi";
+    let replies = [reply, reply, reply];
+    let scene = Scene {
+        times: 3,
+        ..Scene::of(BOOK, REQUEST, &replies)
+    };
+    let played = play(&rt, alloc, &scene)?;
+    assert_eq!(rt;
+        (played.ended, played.receives, played.load),
+        (PeerEnded, 3, Some(0))
+    );
+    Ok(())
+}

@@ -1,0 +1,273 @@
+//! Sessions that are played, and what they came to.
+ghost use Rattle.std.specs.Prelude.{◌≡◌, Some};
+ghost use Rattle.load_words.specs.Seats.{words_of};
+ghost use Rattle.machine.specs.Code.{change_of};
+ghost use Rattle.machine.specs.State.{IsSoundChange};
+ghost use Rattle.router.specs.Values.{settings_in};
+ghost use Rattle.snap_cell.specs.Writers.{cell_written, opening_written};
+
+use crate::scene::{
+    Bytes, Mem, Scene, by_host, client, clock, one_address, settings, spelling, upstreams,
+};
+use addr_book::Addr;
+use dtab_table::Dtab;
+use http_wire::Ended;
+use identifier::Rule;
+use line_base::{DialEvent, Gate, MemClock, MemDialer, MemPeer};
+use machine::{Ask, Change, Reply};
+use name_tree::{Path, read_path};
+use proxy_session::serve_session;
+use rand_core::SeedableRng;
+use rand_pcg::Pcg64;
+use router::{Names, Naming, Opened, Pass, Peek, Router, open};
+use std::alloc::{AllocError, Global};
+use std::marker::Brand;
+use std::sync::Wait;
+use std::test::Fail;
+
+/// A gate that nobody asks.
+struct Free;
+
+impl Gate for Free {
+    fn begin(&self, _worker: u32) {}
+
+    fn done(&self, _worker: u32) {}
+}
+
+/// What a session came to.
+#[derive(Drop)]
+pub(crate) struct Played {
+    /// What the client was given, spelt.
+    pub(crate) written: String,
+    /// What the dialer did: `<` and `>` stand round what each try sent, spelt.
+    pub(crate) sent: String,
+    /// How many receives were made.
+    pub(crate) receives: usize,
+    pub(crate) ended: Ended,
+    /// How many reports on the address of `web` were taken in, and how often it has failed since it last did well. It had failed once.
+    pub(crate) reported: (u64, u32),
+    /// The load of the replica, where something is kept for it.
+    pub(crate) load: Option<u64>,
+}
+
+/// What the tries of a dialer sent.
+fn sent_of(alloc: Global, log: &[DialEvent]) -> Mem<Bytes> {
+    let mut sent = Vec::new(alloc);
+    for event in log {
+        match event {
+            DialEvent::Dialed(0x7f000001, 9001) => sent.push(b'<')?,
+            DialEvent::Dialed(_, _) => sent.push(b'?')?,
+            DialEvent::Sent(piece) => sent.extend_from_slice(piece.bytes())?,
+            DialEvent::Got(_) => {}
+            DialEvent::Hung => sent.push(b'>')?,
+        }
+    }
+    Ok(sent)
+}
+
+/// How many receives there were.
+fn receives_of(log: &[DialEvent]) -> usize {
+    let mut count = 0usize;
+    for event in log {
+        if let DialEvent::Got(_) = event {
+            count = count.saturating_add(1);
+        }
+    }
+    count
+}
+
+/// Reports a failure of the address of `web`, and says how often it then has failed since it last did well.
+fn fail<J: Naming, R: Wait>(
+    rt: &R,
+    alloc: Global,
+    router: &Router<J>,
+    pass: &mut Pass<J>,
+) -> Mem<u32> {
+    let addr = Addr {
+        ip: 0x7f000001,
+        port: 9001,
+    };
+    let change = Change::Report {
+        addr,
+        good: false,
+        moment: 1000,
+    };
+    match router.change(rt, alloc, pass, change)? {
+        Reply::Marked(mark) => Ok(mark.count),
+        _ => Ok(0),
+    }
+}
+
+/// The path of `web`.
+fn web(alloc: Global) -> Mem<Path> {
+    match read_path(alloc, b"/svc/web") {
+        Ok(path) => Ok(path),
+        Err(_) => Ok(Path::new(alloc)),
+    }
+}
+
+/// The load of the replica of `web`, where something is kept for it.
+fn load<J: Naming>(alloc: Global, router: &Router<J>, pass: &mut Pass<J>) -> Mem<Option<u64>> {
+    let ask = Ask {
+        path: web(alloc)?,
+        local: Dtab::empty(alloc),
+        moment: 1000,
+        words: [0, 0, 0],
+    };
+    let mut names = Names::room(alloc)?;
+    match router.peek(pass, &ask, &mut names) {
+        Peek::Hit(choice) => Ok(Some(choice.first.max(choice.second))),
+        _ => Ok(None),
+    }
+}
+
+/// What is outside of a session.
+#[derive(Drop)]
+struct Outside {
+    peer: MemPeer,
+    dialer: MemDialer,
+    clock: MemClock,
+}
+
+impl Outside {
+    /// That of a scene.
+    fn of(alloc: Global, scene: &Scene<'_>) -> Mem<Outside> {
+        Ok(Outside {
+            peer: client(alloc, scene)?,
+            dialer: upstreams(alloc, scene)?,
+            clock: clock(alloc)?,
+        })
+    }
+}
+
+/// Serves the client, with a pass that holds no slot.
+fn serve<J: Naming, R: Wait>(
+    rt: &R,
+    alloc: Global,
+    router: &Router<J>,
+    pass: &mut Pass<J>,
+    rule: &Rule,
+    outside: &mut Outside,
+) -> Ended {
+    let None = pass.holds() else {
+        return Ended::OutOfMemory;
+    };
+    let mut words = Pcg64::seed_from_u64(7);
+    serve_session(
+        rt,
+        alloc,
+        router,
+        pass,
+        rule,
+        &mut outside.peer,
+        &mut outside.dialer,
+        &mut outside.clock,
+        &mut words,
+        &Free,
+        0,
+    )
+}
+
+/// Gives `web` its address, which then fails once.
+fn prepare<J: Naming, R: Wait>(
+    rt: &R,
+    alloc: Global,
+    router: &Router<J>,
+    pass: &mut Pass<J>,
+    change: Change,
+) -> Mem<()>
+    requires { IsSoundChange (change_of change) }
+{
+    match router.change(rt, alloc, pass, change) {
+        Ok(_) => {}
+        Err(want) => return Err(want),
+    }
+    match fail(rt, alloc, router, pass) {
+        Ok(_) => Ok(()),
+        Err(want) => Err(want),
+    }
+}
+
+/// What the outside was told of a session that ended so.
+fn told(alloc: Global, outside: &Outside, ended: Ended) -> Mem<Played> {
+    let sent = sent_of(alloc, outside.dialer.log())?;
+    Ok(Played {
+        written: spelling(alloc, outside.peer.sink().held())?,
+        sent: spelling(alloc, sent.as_slice())?,
+        receives: receives_of(outside.dialer.log()),
+        ended,
+        reported: (0, 0),
+        load: None,
+    })
+}
+
+/// Plays a scene over a router that was prepared.
+fn play_on<J: Naming, R: Wait>(
+    rt: &R,
+    alloc: Global,
+    router: &Router<J>,
+    pass: &mut Pass<J>,
+    rule: &Rule,
+    scene: &Scene<'_>,
+) -> Mem<Played> {
+    let mut outside = Outside::of(alloc, scene)?;
+    let ended = serve(rt, alloc, router, pass, rule, &mut outside);
+    told(alloc, &outside, ended)
+}
+
+/// Plays a scene over a router, and looks at what it left there.
+fn play_over<J: Naming, R: Wait>(
+    rt: &R,
+    alloc: Global,
+    router: &Router<J>,
+    pass: &mut Pass<J>,
+    rule: &Rule,
+    change: Change,
+    scene: &Scene<'_>,
+) -> Mem<Played>
+    requires { IsSoundChange (change_of change) }
+{
+    prepare(rt, alloc, router, pass, change)?;
+    let before = pass.made();
+    let mut played = play_on(rt, alloc, router, pass, rule, scene)?;
+    let reports = pass.made().saturating_sub(before);
+    played.load = load(alloc, router, pass)?;
+    played.reported = (reports, fail(rt, alloc, router, pass)?.saturating_sub(1));
+    Ok(played)
+}
+
+/// Names a router of one pass, plays a scene over it and ends it.
+fn play_named<J: Naming, R: Wait>(
+    rt: &R,
+    alloc: Global,
+    opened: Opened,
+    rule: &Rule,
+    change: Change,
+    scene: &Scene<'_>,
+) -> Mem<Played>
+    requires cell { Some (cell_written opened.writer) ≡ J.cell }
+    requires settings { settings_in (opening_written opened.writer) ≡ J.settings }
+    requires words { Some (words_of opened.loads) ≡ J.words }
+    requires name { opened.blank.name ≡ J.name }
+    requires parts { opened.blank.parts ≡ J.parts }
+    requires seats { (opened.seats ≡ J.seats) × (J.seats ≡ 1) }
+    requires change { IsSoundChange (change_of change) }
+{
+    let (router, mut passes) = opened.named::<J, R>(rt, alloc)?;
+    let played = match passes.as_mut_slice() {
+        [pass] => play_over(rt, alloc, &router, pass, rule, change, scene),
+        _ => unreachable!(),
+    };
+    match router.close(rt, passes) {
+        Ok(_) => played,
+        Err(_) => unreachable!(),
+    }
+}
+
+/// Plays a scene over a router of its own, in which the service `web` has the address 127.0.0.1:9001.
+pub(crate) fn play<R: Wait>(rt: &R, alloc: Global, scene: &Scene<'_>) -> Result<Played, Fail> {
+    let rule = by_host(alloc)?;
+    let change = one_address(alloc)?;
+    let opened = open(rt, alloc, settings(alloc, scene.table)?, 1)?;
+    Ok(play_named::<Brand, R>(rt, alloc, opened, &rule, change, scene)?)
+}

@@ -1,0 +1,60 @@
+//! Rows of tables: what goes into a session and what comes of it.
+use crate::played::play;
+use crate::scene::{Failing, Mem, Scene};
+use http_wire::Ended;
+use std::alloc::Global;
+use std::sync::Wait;
+use std::test::Fail;
+
+/// Reports on the address of `web`, which had failed once: how many were taken in, and how often it has failed since it last did well.
+pub(crate) type Reported = (u64, u32);
+
+/// No report was made.
+pub(crate) const NOTHING: Reported = (0, 1);
+
+/// It was reported to do well. Of more such reports the first alone changes something.
+pub(crate) const GOOD: Reported = (1, 0);
+
+/// It was reported to fail.
+pub(crate) const FAILED: Reported = (1, 2);
+
+/// What goes into a session, and what comes of it. In the texts `|` is CR LF and `~` is LF.
+#[derive(Clone, Copy)]
+pub(crate) struct Row {
+    pub(crate) about: &'static str,
+    /// The router's table.
+    pub(crate) table: &'static str,
+    /// What the client gives.
+    pub(crate) gives: &'static str,
+    /// What the upstreams reply, in the order of the dials.
+    pub(crate) replies: &'static [&'static str],
+    pub(crate) failing: Failing,
+    /// What the client is given.
+    pub(crate) written: &'static str,
+    /// What the tries send, each between `<` and `>`.
+    pub(crate) sent: &'static str,
+    pub(crate) ended: Ended,
+    pub(crate) reported: Reported,
+}
+
+/// What came of a session, as one text.
+fn told(alloc: Global, written: &str, sent: &str, ended: Ended, reported: Reported) -> Mem<String> {
+    let (reports, failures) = reported;
+    format!(in alloc; "{written} {sent} {ended:?} {reports} {failures}")
+}
+
+impl Row {
+    /// What comes of the session, and what is wanted.
+    pub(crate) fn played<R: Wait>(&self, rt: &R, alloc: Global) -> Result<(String, String), Fail> {
+        let scene = Scene {
+            failing: self.failing,
+            ..Scene::of(self.table, self.gives, self.replies)
+        };
+        let played = play(rt, alloc, &scene)?;
+        let (written, sent) = (played.written.as_str(), played.sent.as_str());
+        Ok((
+            told(alloc, written, sent, played.ended, played.reported)?,
+            told(alloc, self.written, self.sent, self.ended, self.reported)?,
+        ))
+    }
+}

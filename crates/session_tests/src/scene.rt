@@ -1,0 +1,190 @@
+//! What a session is played with.
+ghost use Rattle.std.specs.Prelude.{IfOk};
+ghost use Rattle.machine.specs.Code.{change_of};
+ghost use Rattle.machine.specs.State.{IsSoundChange};
+
+use addr_book::{AddrList, Name, read_addrs};
+use choose_core::Limits;
+use dtab_table::read_dtab;
+use http_wire::FieldName;
+use identifier::{Kind, Rule};
+use line_base::{MemClock, MemDialer, MemPeer, MemSink, MemSource};
+use machine::{Change, Settings};
+use name_tree::read_path;
+use std::alloc::{AllocError, Global};
+use std::test::Fail;
+
+/// A value, unless there was no memory for it.
+pub(crate) type Mem<T> = Result<T, AllocError>;
+
+/// Bytes of a text.
+pub(crate) type Bytes = Vec<u8>;
+
+/// The table of a router whose service `web` is one fixed address.
+pub(crate) const FIXED: &str = "/svc/web => /$/inet/127.0.0.1/9001";
+
+/// The table of a router whose services are those of the book.
+pub(crate) const BOOK: &str = "/svc => /#/io.l5d.fs";
+
+/// A call that fails. Those of each kind are counted from 0; a dial, a send and a receive are of one kind.
+#[derive(Clone, Copy)]
+pub(crate) enum Failing {
+    Nothing,
+    Read(u64),
+    Write(u64),
+    Dial(u64),
+}
+
+/// What a session is played with. In the texts `|` is CR LF and `~` is LF.
+#[derive(Clone, Copy)]
+pub(crate) struct Scene<'a> {
+    /// The router's table.
+    pub(crate) table: &'a str,
+    /// What the client gives, so often.
+    pub(crate) gives: &'a str,
+    pub(crate) times: usize,
+    /// So many of these bytes come, and then the end.
+    pub(crate) until: usize,
+    /// The replies of the upstreams, in the order of the dials.
+    pub(crate) replies: &'a [&'a str],
+    /// The most bytes that a call moves.
+    pub(crate) most: usize,
+    pub(crate) failing: Failing,
+}
+
+impl<'a> Scene<'a> {
+    /// A scene in which no call fails and each moves all that it can.
+    pub(crate) fn of(table: &'a str, gives: &'a str, replies: &'a [&'a str]) -> Scene<'a> {
+        Scene {
+            table,
+            gives,
+            times: 1,
+            until: usize::MAX,
+            replies,
+            most: usize::MAX,
+            failing: Failing::Nothing,
+        }
+    }
+
+    /// The most bytes of each call.
+    fn sizes(&self, alloc: Global) -> Mem<Vec<usize>> {
+        if self.most == usize::MAX {
+            return Ok(Vec::new(alloc));
+        }
+        Vec::from_elem(alloc, self.most, 1000)
+    }
+}
+
+/// A list of this number, if it is one.
+fn listed(alloc: Global, call: Option<u64>) -> Mem<Vec<u64>> {
+    let mut calls = Vec::new(alloc);
+    if let Some(call) = call {
+        calls.push(call)?;
+    }
+    Ok(calls)
+}
+
+/// The bytes of a text in which `|` is CR LF and `~` is LF.
+pub(crate) fn spelt(alloc: Global, text: &str) -> Mem<Bytes> {
+    let mut bytes = Vec::new(alloc);
+    for byte in text.as_bytes() {
+        match byte {
+            b'|' => bytes.extend_from_slice(b"\r\n")?,
+            b'~' => bytes.push(b'\n')?,
+            other => bytes.push(*other)?,
+        }
+    }
+    Ok(bytes)
+}
+
+/// The text that spells some bytes.
+pub(crate) fn spelling(alloc: Global, bytes: &[u8]) -> Mem<String> {
+    let mut text = String::new(alloc);
+    let mut before = 0;
+    for byte in bytes {
+        match byte {
+            b'\r' => {}
+            b'\n' => text.push(if before == b'\r' { '|' } else { '~' })?,
+            other => text.push(char::from(*other))?,
+        }
+        before = *byte;
+    }
+    Ok(text)
+}
+
+/// The rule that names a request by its host, behind `/svc`.
+pub(crate) fn by_host(alloc: Global) -> Result<Rule, Fail> {
+    let name = FieldName::of(Vec::from_slice(alloc, b"Host")?);
+    Ok(Rule {
+        kind: Kind::Token(name),
+        prefix: read_path(alloc, b"/svc")?,
+    })
+}
+
+/// A router's settings with this table. Five failures in a row leave a replica out for five seconds.
+pub(crate) fn settings(alloc: Global, table: &str) -> Result<Settings, Fail> {
+    Ok(Settings {
+        space: Name::of(alloc, b"default")?,
+        base: read_dtab(alloc, table.as_bytes())?,
+        limits: Limits {
+            failures: 5,
+            backoff: 5000,
+        },
+    })
+}
+
+/// The change that gives the service `web` its one address.
+pub(crate) fn one_address(alloc: Global) -> Result<Change, Fail>
+    ensures { IfOk result (λ change. IsSoundChange (change_of change)) }
+{
+    let list: AddrList = read_addrs(alloc, b"127.0.0.1 9001\n")?;
+    Ok(Change::SetAddrs {
+        service: Name::of(alloc, b"web")?,
+        list,
+    })
+}
+
+/// The bytes that the client of a scene gives.
+fn given(alloc: Global, scene: &Scene<'_>) -> Mem<Bytes> {
+    let once = spelt(alloc, scene.gives)?;
+    let mut gives = Vec::new(alloc);
+    for _ in 0..scene.times {
+        gives.extend_from_slice(once.as_slice())?;
+    }
+    gives.truncate(scene.until);
+    Ok(gives)
+}
+
+/// The client of a scene.
+pub(crate) fn client(alloc: Global, scene: &Scene<'_>) -> Mem<MemPeer> {
+    let (read, write) = match scene.failing {
+        Failing::Read(call) => (Some(call), None),
+        Failing::Write(call) => (None, Some(call)),
+        _ => (None, None),
+    };
+    let source = MemSource::of(
+        given(alloc, scene)?,
+        scene.sizes(alloc)?,
+        listed(alloc, read)?,
+    );
+    let sink = MemSink::of(alloc, scene.sizes(alloc)?, listed(alloc, write)?);
+    Ok(MemPeer::of(source, sink))
+}
+
+/// The upstreams of a scene.
+pub(crate) fn upstreams(alloc: Global, scene: &Scene<'_>) -> Mem<MemDialer> {
+    let mut replies = Vec::new(alloc);
+    for reply in scene.replies {
+        replies.push(spelt(alloc, reply)?)?;
+    }
+    let call = match scene.failing {
+        Failing::Dial(call) => Some(call),
+        _ => None,
+    };
+    Ok(MemDialer::of(alloc, replies, scene.sizes(alloc)?, listed(alloc, call)?))
+}
+
+/// A clock that stands still.
+pub(crate) fn clock(alloc: Global) -> Mem<MemClock> {
+    MemClock::of(alloc, vec![in alloc; 1000]?)
+}

@@ -1,0 +1,118 @@
+//! One session, cut at each byte, and with each of its calls failing.
+use crate::played::play;
+use crate::scene::Failing::{self, Dial, Read, Write};
+use crate::scene::{Scene, spelt};
+use http_wire::Ended::{self, Cut, PeerEnded, ReadFault, UpstreamCut, WriteFault};
+use std::alloc::Global;
+use std::sync::Wait;
+use std::test::Fail;
+
+/// A request.
+const REQUEST: &str =
+    "GET /x?y=1 HTTP/1.1|Host: Web|User-Agent: curl/8.5.0|Accept: */*|l5d-dtab: /svc/web => /$/inet/127.0.0.1/9001|Connection: x-gone, keep-alive|X-Gone: 1|X-Kept: 2||";
+
+/// What goes on for it.
+const SENT: &str =
+    "<GET /x?y=1 HTTP/1.1|Host: Web|User-Agent: curl/8.5.0|Accept: */*|X-Kept: 2|Via: 1.1 linkerd|l5d-ctx-dtab: /svc/web=>/$/inet/127.0.0.1/9001|l5d-dst-service: /svc/web|l5d-dst-client: /$/inet/127.0.0.1/9001|Connection: close||>";
+
+/// Its reply.
+const REPLY: &str =
+    "HTTP/1.1 200 OK|Content-Length: 50||01234567890123456789012345678901234567890123456789";
+
+/// What goes back for that.
+const WRITTEN: &str =
+    "HTTP/1.1 200 OK|Content-Length: 50|Via: 1.1 linkerd||01234567890123456789012345678901234567890123456789";
+
+/// What comes of the request, in calls of at most 40 bytes: how the session ended, what was written and what was sent.
+fn served<R: Wait>(
+    rt: &R,
+    alloc: Global,
+    failing: Failing,
+    times: usize,
+) -> Result<(Ended, String, String), Fail> {
+    let replies = [REPLY, REPLY];
+    let scene = Scene {
+        times,
+        most: 40,
+        failing,
+        ..Scene::of("", REQUEST, &replies)
+    };
+    let played = play(rt, alloc, &scene)?;
+    Ok((played.ended, played.written, played.sent))
+}
+
+#[test]
+fn a_request_that_is_cut_is_not_sent(rt: HostRuntime) -> Result<(), Fail> {
+    let alloc = rt.alloc();
+    let replies = [REPLY];
+    let length = spelt(alloc, REQUEST)?.len();
+    for until in 0..length + 1 {
+        let scene = Scene {
+            until,
+            ..Scene::of("", REQUEST, &replies)
+        };
+        let played = play(&rt, alloc, &scene)?;
+        let wanted = match until {
+            0 => (PeerEnded, "", ""),
+            _ if until < length => (Cut, "", ""),
+            _ => (PeerEnded, WRITTEN, SENT),
+        };
+        let comes = (played.ended, played.written.as_str(), played.sent.as_str());
+        assert_eq!(rt; comes, wanted, "{until} bytes");
+    }
+    Ok(())
+}
+
+/// Of 5 reads the request comes, and one gives the end. Of 3 writes the reply goes.
+#[test]
+fn each_call_of_the_client_fails(rt: HostRuntime) -> Result<(), Fail> {
+    let alloc = rt.alloc();
+    for call in 0..5u64 {
+        let (ended, written, sent) = served(&rt, alloc, Read(call), 1)?;
+        let comes = (ended, written.as_str(), sent.as_str());
+        assert_eq!(rt; comes, (ReadFault, "", ""), "read {call}");
+    }
+    let (ended, written, _) = served(&rt, alloc, Read(5), 1)?;
+    assert_eq!(rt; (ended, written.as_str()), (ReadFault, WRITTEN), "the end");
+    for call in 0..3u64 {
+        let (ended, written, sent) = served(&rt, alloc, Write(call), 1)?;
+        assert_eq!(rt; (ended, sent.as_str()), (WriteFault, SENT), "write {call}");
+        let begins = WRITTEN.starts_with(written.as_str());
+        assert!(rt; begins && written.as_str() != WRITTEN, "write {call}");
+    }
+    Ok(())
+}
+
+/// How the first of two requests is answered where a call of the dialer fails, and how the session ends.
+fn broken(call: u64) -> (&'static str, Ended) {
+    match call {
+        0 => (
+            "HTTP/1.1 502 Bad Gateway|Content-Type: text/plain|l5d-err: dial|Content-Length: 5||dial~",
+            PeerEnded,
+        ),
+        1..=7 => (
+            "HTTP/1.1 502 Bad Gateway|Content-Type: text/plain|l5d-err: upstream|Content-Length: 9||upstream~",
+            PeerEnded,
+        ),
+        _ => (
+            "HTTP/1.1 200 OK|Content-Length: 50|Via: 1.1 linkerd||",
+            UpstreamCut,
+        ),
+    }
+}
+
+/// The dial is one call, the request goes in 6 sends, and of 3 receives the first 1 have the reply's head.
+#[test]
+fn each_call_of_the_dialer_fails(rt: HostRuntime) -> Result<(), Fail> {
+    let alloc = rt.alloc();
+    for call in 0..10u64 {
+        let (ended, written, _) = served(&rt, alloc, Dial(call), 2)?;
+        let (first, end) = broken(call);
+        assert_eq!(rt; ended, end, "call {call}");
+        let begins = written.as_str().starts_with(first);
+        assert!(rt; begins, "call {call}: {}", written);
+        let next = written.as_str().ends_with(WRITTEN);
+        assert_eq!(rt; next, end == PeerEnded, "call {call}: {}", written);
+    }
+    Ok(())
+}
