@@ -1,0 +1,5 @@
+pub mod Addrs
+pub mod Paths
+pub mod Requesting
+pub mod Turning
+pub mod Sounds

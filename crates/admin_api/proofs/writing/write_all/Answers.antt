@@ -1,0 +1,37 @@
+use Rattle.body_wire.proofs.Sent.{given_more, front_given, all_given}
+use Rattle.std.proofs.Common.{refl, sym, ◌∙◌, arith}
+use Rattle.std.proofs.KnownBytes.{Appends-nil, Keeps-refl, Keeps-trans}
+use Rattle.admin_api.proofs.writing.write_all.Goals as goal
+
+pub loop-at-init : goal.loop-at-init
+loop-at-init g c = record {
+  within = omega arith;
+  sent = Appends-nil (g.P.Peer.given c.args.peer.now);
+  left = Keeps-refl (g.P.Peer.left c.args.peer.now);
+  reads = refl;
+  ends = refl;
+  faults = refl;
+}
+
+pub loop-at-preserved : goal.loop-at-preserved
+loop-at-preserved g c = record {
+  within = let b = c.in-Ok.ensures.bound in omega arith;
+  sent = given_more _ _ _ c.args.bytes.now c.loop-at.at c.in-Ok.count c.loop-at.invariant.sent c.in-Ok.ensures.bytes;
+  left = Keeps-trans _ _ _ c.loop-at.invariant.left c.in-Ok.ensures.others.0;
+  reads = c.in-Ok.ensures.others.1 ∙ c.loop-at.invariant.reads;
+  ends = c.in-Ok.ensures.others.2 ∙ c.loop-at.invariant.ends;
+  faults = c.in-Ok.ensures.cause.kept ∙ c.loop-at.invariant.faults;
+}
+
+pub returns-in-Err-clause-bytes : goal.returns-in-Err-clause-bytes
+returns-in-Err-clause-bytes g c = front_given _ _ _ c.args.bytes.now c.loop-at.at c.loop-at.invariant.sent c.in-Err.ensures.bytes
+
+pub returns-in-Err-clause-others : goal.returns-in-Err-clause-others
+returns-in-Err-clause-others g c = (
+  Keeps-trans _ _ _ c.loop-at.invariant.left c.in-Err.ensures.others.0,
+  c.in-Err.ensures.others.1 ∙ c.loop-at.invariant.reads,
+  c.in-Err.ensures.others.2 ∙ c.loop-at.invariant.ends,
+)
+
+pub returns-clause-bytes : goal.returns-clause-bytes
+returns-clause-bytes g c = all_given _ _ c.args.bytes.now c.loop-at.at c.loop-at.invariant.sent c.loop-at-test.false

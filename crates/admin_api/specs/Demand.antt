@@ -1,0 +1,99 @@
+-- What a request of the admin interface asks for.
+use Rattle.std.specs.Prelude.{ℕ, Bool, true, false, nat_le, if◌then◌else◌, List, length, codes, bytes_eq, Option, Some, None}
+use Rattle.name_tree.specs.Path.{Labels}
+use Rattle.dtab_table.specs.Rules.{Rule}
+use Rattle.addr_book.specs.declared.addr.Weighted.{Weighted}
+use Rattle.addr_book.specs.AddrFile.{File, addrs, bad_at, file_value}
+use Rattle.addr_book.specs.AddrList.{first_places}
+use Rattle.delegate_view.specs.Query.{view_asked}
+use Rattle.http_wire.specs.declared.head.Head.{Head}
+use Rattle.machine.specs.Values.{set_addrs, drop_service, get_addrs, count_all, view}
+use Rattle.ns_api.specs.declared.response.Status.TheVariants as status
+use Rattle.ns_api.specs.declared.verb.Methods.TheVariants.{Reads, Services, Posts}
+use Rattle.ns_api.specs.declared.verb.Verb.{Verb}
+use Rattle.ns_api.specs.declared.verb.Verb.TheVariants as verbs
+use Rattle.ns_api.specs.Demand.{DemandValue, answer, stop, alter, ask, no_path, not_allowed, bad_name}
+use Rattle.ns_api.specs.Request.{name_of, path_in, query_in, segment_behind}
+use Rattle.ns_api.specs.Response.{ResponseValue, plain}
+use Rattle.ns_api.specs.Verbs.{verb_of}
+
+-- the addresses of a file, each once, at its first place; nothing where a line is bad or they are too many
+abbrev pub few_addrs : File → Option (List Weighted)
+few_addrs (bad_at line) = None
+few_addrs (addrs list) = if nat_le (length list) 1024 then Some (first_places list) else None
+
+unfoldable pub addrs_of : List ℕ → Option (List Weighted)
+addrs_of text = few_addrs (file_value text)
+
+-- the body is no list of addresses
+abbrev pub bad_addrs : ResponseValue
+bad_addrs = plain status.BadRequest None (codes "addrs")
+
+-- the query asks for no view
+abbrev pub bad_view : ResponseValue
+bad_view = plain status.BadRequest None (codes "view")
+
+abbrev pub pong : ResponseValue
+pong = plain status.Success None (codes "pong")
+
+abbrev pub bye : ResponseValue
+bye = plain status.Success None (codes "bye")
+
+-- a method that shows something
+abbrev pub is_read : Option Verb → Bool
+is_read (Some verbs.Get) = true
+is_read (Some verbs.Head) = true
+is_read _ = false
+
+-- what can only be shown
+abbrev pub shown : DemandValue → Option Verb → DemandValue
+shown d verb = if is_read verb then d else answer (not_allowed Reads)
+
+-- what can only be done
+abbrev pub posted : DemandValue → Option Verb → DemandValue
+posted d (Some verbs.Post) = d
+posted d _ = answer (not_allowed Posts)
+
+-- how the path of a query is delegated
+abbrev pub view_demand : Option (Labels × List Rule) → DemandValue
+view_demand None = answer bad_view
+view_demand (Some asked) = ask (view asked.0 asked.1)
+
+-- these addresses for a service
+abbrev pub set_demand : List ℕ → Option (List Weighted) → DemandValue
+set_demand name None = answer bad_addrs
+set_demand name (Some list) = alter (set_addrs name list)
+
+-- what the addresses of a service are asked for
+abbrev pub addrs_asked : Verb → List ℕ → List ℕ → DemandValue
+addrs_asked verbs.Get name body = ask (get_addrs name)
+addrs_asked verbs.Head name body = ask (get_addrs name)
+addrs_asked verbs.Put name body = set_demand name (addrs_of body)
+addrs_asked verbs.Delete name body = alter (drop_service name)
+addrs_asked verbs.Post name body = answer (not_allowed Services)
+
+abbrev pub named_asked : Verb → Option (List ℕ) → List ℕ → DemandValue
+named_asked verb None body = answer bad_name
+named_asked verb (Some name) body = addrs_asked verb name body
+
+-- the method is tested before the name
+abbrev pub service_demand : Option Verb → List ℕ → List ℕ → DemandValue
+service_demand None segment body = answer (not_allowed Services)
+service_demand (Some verbs.Post) segment body = answer (not_allowed Services)
+service_demand (Some verbs.Get) segment body = named_asked verbs.Get (name_of segment) body
+service_demand (Some verbs.Head) segment body = named_asked verbs.Head (name_of segment) body
+service_demand (Some verbs.Put) segment body = named_asked verbs.Put (name_of segment) body
+service_demand (Some verbs.Delete) segment body = named_asked verbs.Delete (name_of segment) body
+
+abbrev pub segment_demand : Option Verb → Option (List ℕ) → List ℕ → DemandValue
+segment_demand verb None body = answer no_path
+segment_demand verb (Some segment) body = service_demand verb segment body
+
+-- What a request of the admin interface asks for, by its head, the target that goes on, and its body. The tests come in the order path, method, name, body, and then the state
+unfoldable pub admin_demand : Head → List ℕ → List ℕ → DemandValue
+admin_demand head line body =
+    if bytes_eq (path_in line) (codes "/admin/ping") then shown (answer pong) (verb_of head.method)
+    else if bytes_eq (path_in line) (codes "/admin/metrics.json") then shown (ask count_all) (verb_of head.method)
+    else if bytes_eq (path_in line) (codes "/delegator.json") then shown (view_demand (view_asked (query_in line))) (verb_of head.method)
+    else if bytes_eq (path_in line) (codes "/admin/shutdown") then posted (stop bye) (verb_of head.method)
+    else segment_demand (verb_of head.method) (segment_behind (codes "/api/1/addrs/") (path_in line)) body

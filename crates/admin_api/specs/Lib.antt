@@ -1,0 +1,4 @@
+pub mod Demand
+pub mod Requests
+pub mod Reading
+pub mod Serving

@@ -1,0 +1,88 @@
+-- What a call that reads a request answers, and why.
+use Rattle.std.specs.Prelude.{◌≡◌, ◌≤◌, ◌⊎◌, ℕ, Bool, true, List, [], ◌++◌, Option, Some, None, Result, Ok, Err}
+use Rattle.line_base.specs.Counts.{Rose}
+use Rattle.http_wire.specs.declared.ended.Ended.{Ended}
+use Rattle.http_wire.specs.declared.ended.Ended.TheVariants as ended
+use Rattle.http_wire.specs.declared.frames.Framing.{Framing}
+use Rattle.http_wire.specs.declared.head.Head.{Head}
+use Rattle.http_wire.specs.declared.reading.HeadEnd.{HeadEnd}
+use Rattle.http_wire.specs.Heads.{IsUnfinished}
+use Rattle.body_wire.specs.declared.end.BodyEnd.{BodyEnd}
+use Rattle.body_wire.specs.Passing.{IsFrontOf}
+use Rattle.own_reply.specs.declared.error.OwnError.{OwnError}
+use Rattle.own_reply.specs.declared.error.OwnError.TheVariants as own
+use Rattle.own_reply.specs.Reply.{reply_of}
+use Rattle.ns_api.specs.Request.{has_body}
+use Rattle.admin_api.specs.declared.request.Refused.{Refused}
+use Rattle.admin_api.specs.declared.request.Refused.TheVariants.{Own, Ends}
+use Rattle.admin_api.specs.declared.request.Request.{Request}
+use Rattle.admin_api.specs.Requests.{IsTested, Refuses, IsRequest, HasOpenBody, IsRefusedAs, IsBetween, IsInside}
+
+-- why there is no head
+abbrev pub of_head : HeadEnd → Refused
+of_head HeadEnd.Ended = Ends ended.PeerEnded
+of_head HeadEnd.Cut = Ends ended.Cut
+of_head HeadEnd.Bad = Own own.BadHead true
+of_head HeadEnd.Version = Own own.Version true
+of_head HeadEnd.TooLarge = Own own.HeadTooLarge true
+of_head HeadEnd.ReadFault = Ends ended.ReadFault
+of_head HeadEnd.OutOfMemory = Ends ended.OutOfMemory
+
+-- why there is no body. A body that is read ends in none of the last three ways
+abbrev pub of_body : BodyEnd → Bool → Refused
+of_body (BodyEnd.BadChunk count) with_body = Own own.Body with_body
+of_body BodyEnd.TooLong with_body = Own own.TooLong with_body
+of_body BodyEnd.Cut with_body = Ends ended.Cut
+of_body BodyEnd.ReadFault with_body = Ends ended.ReadFault
+of_body BodyEnd.OutOfMemory with_body = Ends ended.OutOfMemory
+of_body BodyEnd.WriteFault with_body = Ends ended.WriteFault
+of_body BodyEnd.SendFault with_body = Ends ended.UpstreamCut
+of_body BodyEnd.RecvFault with_body = Ends ended.UpstreamCut
+
+-- what the tests of a head tell
+abbrev pub TellsTests : Head → Result Framing Refused → Type 0
+TellsTests head (Ok framing) = IsTested head framing
+TellsTests head (Err (Own err with_body)) = Refuses head err × (with_body ≡ has_body head)
+TellsTests head (Err (Ends end)) = end ≡ ended.OutOfMemory
+
+-- the bytes show that there is no request, or memory was wanting
+abbrev pub ShowsNone : List ℕ → Refused → Type 0
+ShowsNone bytes (Own err with_body) = IsRefusedAs bytes err with_body
+ShowsNone bytes (Ends ended.PeerEnded) = IsBetween bytes
+ShowsNone bytes (Ends ended.Cut) = IsInside bytes
+ShowsNone bytes (Ends ended.ReadFault) = IsUnfinished bytes ⊎ HasOpenBody bytes
+ShowsNone bytes (Ends ended.OutOfMemory) = Unit {0}
+ShowsNone bytes (Ends ended.Closed) = ⊥
+ShowsNone bytes (Ends ended.Spent) = ⊥
+ShowsNone bytes (Ends ended.WriteFault) = ⊥
+ShowsNone bytes (Ends ended.UpstreamCut) = ⊥
+
+-- the bytes that were kept and those that came begin with the request, whatever follows them, or show that there is none
+abbrev pub ShowsRequest : List ℕ → List ℕ → Result Request Refused → Type 0
+ShowsRequest bytes kept (Ok request) = (more : List ℕ) → IsRequest (bytes ++ more) request.head request.body.items (kept ++ more)
+ShowsRequest bytes kept (Err refused) = ShowsNone bytes refused
+
+-- how the connection ends where there is no request, if no reply is due
+abbrev pub quiet_end : {T : Type 0} → Result T Refused → Option Ended
+quiet_end (Ok x) = None
+quiet_end (Err (Own err with_body)) = None
+quiet_end (Err (Ends end)) = Some end
+
+-- the counts of a peer that tell why a connection ended where nothing was written. Where it goes on, none of them fell
+pub record HasReadCauses (ends_before ends_now faults_before faults_now : ℕ) (result : Option Ended) : Type 0 where
+  pub peer_ended : result ≡ Some ended.PeerEnded → Rose ends_before ends_now
+  pub cut : result ≡ Some ended.Cut → Rose ends_before ends_now
+  pub read_fault : result ≡ Some ended.ReadFault → Rose faults_before faults_now
+  pub ends_later : result ≡ None → ends_before ≤ ends_now
+  pub faults_later : result ≡ None → faults_before ≤ faults_now
+
+-- a refusal is written, behind which the connection closes
+abbrev pub IsRefusal : OwnError → Bool → List ℕ → Ended → Type 0
+IsRefusal err with_body written ended.Closed = written ≡ reply_of err true with_body
+IsRefusal err with_body written ended.WriteFault = IsFrontOf (reply_of err true with_body) written
+IsRefusal err with_body written ended.OutOfMemory = written ≡ []
+IsRefusal err with_body written ended.PeerEnded = ⊥
+IsRefusal err with_body written ended.Cut = ⊥
+IsRefusal err with_body written ended.Spent = ⊥
+IsRefusal err with_body written ended.ReadFault = ⊥
+IsRefusal err with_body written ended.UpstreamCut = ⊥

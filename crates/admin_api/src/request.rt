@@ -1,0 +1,111 @@
+//! Reading the requests of a connection.
+ghost use Rattle.std.specs.Prelude.{◌≡◌, ◌++◌, List, ℕ, IfOk};
+ghost use Rattle.std.specs.Io.KnownBytes.{Consumes, Keeps};
+ghost use Rattle.admin_api.specs.Reading.{HasReadCauses, ShowsRequest, TellsTests, of_body, of_head, quiet_end};
+
+use crate::Bytes;
+use body_wire::{BodyEnd, read_body};
+use http_wire::{
+    Ended, Framing, FramingFault, Head, HeadEnd, HostFault, Rest, TargetFault, framing, read_host,
+    read_request_head, read_target,
+};
+use line_base::Peer;
+use ns_api::has_body;
+use own_reply::OwnError;
+use std::alloc::Global;
+
+/// A whole request.
+#[derive(Debug, Drop)]
+pub(crate) struct Request {
+    pub(crate) head: Head,
+    pub(crate) body: Bytes,
+}
+
+/// Why there is no request to answer.
+#[derive(Clone, Copy, Debug, PartialEq, Eq)]
+pub(crate) enum Refused {
+    /// It is refused with this reply, whose body is written or not.
+    Own(OwnError, bool),
+    /// The connection ends so, with no reply.
+    Ends(Ended),
+}
+
+impl Refused {
+    /// Why there is no head. Bytes that are no head are no HEAD request, so that their reply has a body.
+    fn of_head(end: HeadEnd) -> Refused
+        ensures { result ≡ of_head end }
+    {
+        match end {
+            HeadEnd::Ended => Refused::Ends(Ended::PeerEnded),
+            HeadEnd::Cut => Refused::Ends(Ended::Cut),
+            HeadEnd::Bad => Refused::Own(OwnError::BadHead, true),
+            HeadEnd::Version => Refused::Own(OwnError::Version, true),
+            HeadEnd::TooLarge => Refused::Own(OwnError::HeadTooLarge, true),
+            HeadEnd::ReadFault => Refused::Ends(Ended::ReadFault),
+            HeadEnd::OutOfMemory => Refused::Ends(Ended::OutOfMemory),
+        }
+    }
+
+    /// Why there is no body. One that is read whole sends nothing on, so that the last arms are not met.
+    fn of_body(end: BodyEnd, with_body: bool) -> Refused
+        ensures { result ≡ of_body end with_body }
+    {
+        match end {
+            BodyEnd::BadChunk(_count) => Refused::Own(OwnError::Body, with_body),
+            BodyEnd::TooLong => Refused::Own(OwnError::TooLong, with_body),
+            BodyEnd::Cut => Refused::Ends(Ended::Cut),
+            BodyEnd::ReadFault => Refused::Ends(Ended::ReadFault),
+            BodyEnd::OutOfMemory => Refused::Ends(Ended::OutOfMemory),
+            BodyEnd::WriteFault => Refused::Ends(Ended::WriteFault),
+            BodyEnd::SendFault => Refused::Ends(Ended::UpstreamCut),
+            BodyEnd::RecvFault => Refused::Ends(Ended::UpstreamCut),
+        }
+    }
+}
+
+/// Tests the target, the framing and the host of a head, in this order, and gives the framing.
+fn tested(alloc: Global, head: &Head) -> Result<Framing, Refused>
+    ensures { TellsTests head.now result }
+{
+    let with_body = has_body(head);
+    let target = match read_target(alloc, head) {
+        Ok(target) => target,
+        Err(TargetFault::Connect) => return Err(Refused::Own(OwnError::Connect, with_body)),
+        Err(TargetFault::NoTarget) => return Err(Refused::Own(OwnError::Target, with_body)),
+        Err(TargetFault::OutOfMemory) => return Err(Refused::Ends(Ended::OutOfMemory)),
+    };
+    let framing = match framing(head) {
+        Ok(framing) => framing,
+        Err(FramingFault::Length) => return Err(Refused::Own(OwnError::Length, with_body)),
+        Err(FramingFault::Coding) => return Err(Refused::Own(OwnError::Coding, with_body)),
+    };
+    match read_host(alloc, head, &target) {
+        Ok(_host) => Ok(framing),
+        Err(HostFault::NoHost) => Err(Refused::Own(OwnError::Host, with_body)),
+        Err(HostFault::OutOfMemory) => Err(Refused::Ends(Ended::OutOfMemory)),
+    }
+}
+
+/// Reads the next request of a connection, whole, of the bytes that are kept and those that the peer gives behind them. The bytes behind it stay in `rest`.
+pub(crate) fn read_request<P: Peer>(
+    alloc: Global,
+    peer: &mut P,
+    rest: &mut Rest,
+) -> Result<Request, Refused>
+    ensures bytes { (came : List ℕ) × Consumes (P.left peer.old) (P.left peer.new) came × ShowsRequest (rest.old ++ came) rest.new result }
+    ensures causes { HasReadCauses (P.ends peer.old) (P.ends peer.new) (P.read_faults peer.old) (P.read_faults peer.new) (quiet_end result) }
+    ensures others { (Keeps (P.given peer.old) (P.given peer.new)) × (P.write_faults peer.new ≡ P.write_faults peer.old) }
+{
+    let head = match read_request_head(alloc, peer, rest) {
+        Ok(head) => head,
+        Err(end) => return Err(Refused::of_head(end)),
+    };
+    let framing = match tested(alloc, &head) {
+        Ok(framing) => framing,
+        Err(refused) => return Err(refused),
+    };
+    match read_body(alloc, peer, rest, framing) {
+        Ok(body) => Ok(Request { head, body }),
+        Err(end) => Err(Refused::of_body(end, has_body(&head))),
+    }
+}

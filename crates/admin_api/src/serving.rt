@@ -1,0 +1,196 @@
+//! One connection of an interface, request by request.
+ghost use Rattle.std.specs.Prelude.{◌≡◌, ◌≤◌, ◌++◌, ◌||◌, Bool, IfOk, OnErr, List, ℕ, Some};
+ghost use Rattle.std.specs.Io.KnownBytes.{Appends, Consumes, Keeps};
+ghost use Rattle.line_base.specs.Counts.{Rose};
+ghost use Rattle.router.specs.Passes.{number_in};
+ghost use Rattle.ns_api.specs.Answering.{AnswersBy, IsTaken, LeavesBy};
+ghost use Rattle.admin_api.specs.Serving.{Answers, HasCauses, IsDelivered, IsServing, Turns, calls_after, demand_of, end_behind};
+
+use crate::answering::admin_answer;
+use crate::request::{Refused, Request, read_request};
+use crate::writing::{refuse, write_all};
+use crate::{Bytes, Mem};
+use http_wire::{Ended, Head, Rest};
+use line_base::{Peer, Stop};
+use ns_api::{ApiReply, closes, ns_answer};
+use router::{Naming, Pass, Router};
+use std::alloc::Global;
+use std::sync::Wait;
+
+/// The most requests of one connection.
+const MOST_REQUESTS: u32 = 10_000;
+
+/// Which of the two interfaces.
+#[derive(Clone, Copy, Debug, PartialEq, Eq)]
+pub enum Which {
+    /// namerd's.
+    Namerd,
+    /// The admin interface.
+    Admin,
+}
+
+/// Serves a connection: its requests, one after another, until it ends or one closes it, and at most 10,000 of them. Behind the reply to a request that the program
+/// stop, it stops it.
+pub fn serve_admin<J: Naming, R: Wait, P: Peer, S: Stop>(
+    rt: &R,
+    alloc: Global,
+    router: &Router<J>,
+    pass: &mut Pass<J>,
+    which: Which,
+    stop: &mut S,
+    peer: &mut P,
+) -> Ended
+    ensures number { number_in pass.new ≡ number_in pass.old }
+    ensures serves { (came : List ℕ) × (gave : List ℕ) × (stopped : Bool) × Consumes (P.left peer.old) (P.left peer.new) came × Appends (P.given peer.old) (P.given peer.new) gave
+        × (S.calls stop.new ≡ calls_after (S.calls stop.old) stopped) × IsServing which pass.old pass.new came gave stopped result }
+    ensures causes { HasCauses (P.ends peer.old) (P.ends peer.new) (P.read_faults peer.old) (P.read_faults peer.new) (P.write_faults peer.old) (P.write_faults peer.new) (Some result) }
+{
+    let Ok(mut rest) = Rest::room(alloc) else {
+        return Ended::OutOfMemory;
+    };
+    'requests: for served in 0..MOST_REQUESTS {
+        match serve_next(
+            rt,
+            alloc,
+            router,
+            pass,
+            which,
+            served + 1 == MOST_REQUESTS,
+            stop,
+            peer,
+            &mut rest,
+        ) {
+            Some(ended) => return ended,
+            None => {}
+        }
+    }
+    unreachable!()
+}
+
+/// Serves the next request of a connection, and says how the connection ends behind it, if it does.
+fn serve_next<J: Naming, R: Wait, P: Peer, S: Stop>(
+    rt: &R,
+    alloc: Global,
+    router: &Router<J>,
+    pass: &mut Pass<J>,
+    which: Which,
+    last: bool,
+    stop: &mut S,
+    peer: &mut P,
+    rest: &mut Rest,
+) -> Option<Ended>
+    ensures number { number_in pass.new ≡ number_in pass.old }
+    ensures turn { (came : List ℕ) × (gave : List ℕ) × (stopped : Bool) × Consumes (P.left peer.old) (P.left peer.new) came × Appends (P.given peer.old) (P.given peer.new) gave
+        × (S.calls stop.new ≡ calls_after (S.calls stop.old) stopped) × Turns which last pass.old pass.new (rest.old ++ came) rest.new gave stopped result }
+    ensures causes { HasCauses (P.ends peer.old) (P.ends peer.new) (P.read_faults peer.old) (P.read_faults peer.new) (P.write_faults peer.old) (P.write_faults peer.new) result }
+{
+    match read_request(alloc, peer, rest) {
+        Ok(request) => reply_to(rt, alloc, router, pass, which, last, stop, peer, &request),
+        Err(Refused::Own(err, with_body)) => Some(refuse(alloc, peer, err, with_body)),
+        Err(Refused::Ends(ended)) => Some(ended),
+    }
+}
+
+/// Answers a request, writes the reply, and stops the program where it asked for that.
+fn reply_to<J: Naming, R: Wait, P: Peer, S: Stop>(
+    rt: &R,
+    alloc: Global,
+    router: &Router<J>,
+    pass: &mut Pass<J>,
+    which: Which,
+    last: bool,
+    stop: &mut S,
+    peer: &mut P,
+    request: &Request,
+) -> Option<Ended>
+    requires { IsTaken request.now.head }
+    ensures number { number_in pass.new ≡ number_in pass.old }
+    ensures answers { (gave : List ℕ) × (stopped : Bool) × Appends (P.given peer.old) (P.given peer.new) gave × (S.calls stop.new ≡ calls_after (S.calls stop.old) stopped)
+        × Answers which last request.now.head request.now.body.items pass.old pass.new gave stopped result }
+    ensures others { (Keeps (P.left peer.old) (P.left peer.new)) × (P.read_faults peer.new ≡ P.read_faults peer.old)
+        × (P.ends peer.new ≡ P.ends peer.old) }
+    ensures cause { result ≡ Some Ended.WriteFault → Rose (P.write_faults peer.old) (P.write_faults peer.new) }
+    ensures later { P.write_faults peer.old ≤ P.write_faults peer.new }
+{
+    match answer(
+        rt,
+        alloc,
+        router,
+        pass,
+        which,
+        &request.head,
+        &request.body,
+        last,
+    ) {
+        Ok(reply) => deliver(stop, peer, &request.head, last, &reply),
+        Err(_want) => Some(Ended::OutOfMemory),
+    }
+}
+
+/// Answers a request of this interface.
+fn answer<J: Naming, R: Wait>(
+    rt: &R,
+    alloc: Global,
+    router: &Router<J>,
+    pass: &mut Pass<J>,
+    which: Which,
+    head: &Head,
+    body: &Bytes,
+    last: bool,
+) -> Mem<ApiReply>
+    requires { IsTaken head.now }
+    ensures number { number_in pass.new ≡ number_in pass.old }
+    ensures answered { IfOk result (AnswersBy head.now last (demand_of which head.now body.now.items) pass.old pass.new) }
+    ensures want { OnErr result (LeavesBy head.now (demand_of which head.now body.now.items) pass.old pass.new) }
+{
+    match which {
+        Which::Namerd => ns_answer(rt, alloc, router, pass, head, body, last),
+        Which::Admin => admin_answer(rt, alloc, router, pass, head, body, last),
+    }
+}
+
+/// Writes a reply, stops the program where it is to stop, and says how the connection ends behind it, if it does.
+fn deliver<P: Peer, S: Stop>(
+    stop: &mut S,
+    peer: &mut P,
+    head: &Head,
+    last: bool,
+    reply: &ApiReply,
+) -> Option<Ended>
+    ensures bytes { (gave : List ℕ) × (stopped : Bool) × Appends (P.given peer.old) (P.given peer.new) gave × (S.calls stop.new ≡ calls_after (S.calls stop.old) stopped)
+        × IsDelivered head.now last reply.now gave stopped result }
+    ensures others { (Keeps (P.left peer.old) (P.left peer.new)) × (P.read_faults peer.new ≡ P.read_faults peer.old)
+        × (P.ends peer.new ≡ P.ends peer.old) }
+    ensures cause { result ≡ Some Ended.WriteFault → Rose (P.write_faults peer.old) (P.write_faults peer.new) }
+    ensures later { P.write_faults peer.old ≤ P.write_faults peer.new }
+{
+    match write_all(peer, reply.bytes.as_slice()) {
+        Ok(()) => {
+            stop_where(reply.stops, stop);
+            end_behind(reply.stops, closes(head, false), last)
+        }
+        Err(_failed) => Some(Ended::WriteFault),
+    }
+}
+
+/// Stops the program where it is to stop.
+fn stop_where<S: Stop>(stops: bool, stop: &mut S)
+    ensures { S.calls stop.new ≡ calls_after (S.calls stop.old) stops }
+{
+    if stops {
+        stop.stop();
+    }
+}
+
+/// How the connection ends behind a reply, if it does.
+fn end_behind(stops: bool, closes: bool, last: bool) -> Option<Ended>
+    ensures { result ≡ end_behind (stops || closes) last }
+{
+    if stops || closes {
+        Some(Ended::Closed)
+    } else if last {
+        Some(Ended::Spent)
+    } else {
+        None
+    }
+}

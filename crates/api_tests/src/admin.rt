@@ -1,0 +1,195 @@
+//! Requests of the admin interface on one router, one after the other, each with its whole reply.
+use crate::rows::{Row, replies};
+use admin_api::Which::{Admin, Namerd};
+use std::test::Fail;
+
+const ROWS: [Row; 25] = [
+    (
+        Admin,
+        "GET /admin/ping",
+        "",
+        "",
+        "200 OK\r\nContent-Type: text/plain\r\nContent-Length: 5\r\n\r\npong\n",
+    ),
+    (
+        Admin,
+        "HEAD /admin/ping?x",
+        "",
+        "",
+        "200 OK\r\nContent-Type: text/plain\r\nContent-Length: 5\r\n\r\n",
+    ),
+    (
+        Admin,
+        "PUT /admin/ping",
+        "",
+        "",
+        "405 Method Not Allowed\r\nAllow: GET, HEAD\r\nContent-Type: text/plain\r\nContent-Length: 7\r\n\r\nmethod\n",
+    ),
+    (
+        Admin,
+        "GET /api/1/dtabs",
+        "",
+        "",
+        "404 Not Found\r\nContent-Type: text/plain\r\nContent-Length: 5\r\n\r\npath\n",
+    ),
+    // The addresses of a service come back as they were put, each once, with their weights.
+    (
+        Admin,
+        "GET /api/1/addrs/web",
+        "",
+        "",
+        "404 Not Found\r\nContent-Type: text/plain\r\nContent-Length: 8\r\n\r\nmissing\n",
+    ),
+    (
+        Admin,
+        "PUT /api/1/addrs/web",
+        "",
+        "127.0.0.1 1 *3\n\nlocalhost 2\n127.0.0.1 1\n",
+        "204 No Content\r\n\r\n",
+    ),
+    (
+        Admin,
+        "GET /admin/metrics.json",
+        "",
+        "",
+        "200 OK\r\nContent-Type: application/json\r\nContent-Length: 51\r\n\r\n{\"changes\":1,\"marks\":0,\"namespaces\":0,\"services\":1}",
+    ),
+    (
+        Admin,
+        "GET /api/1/addrs/web",
+        "",
+        "",
+        "200 OK\r\nContent-Type: text/plain\r\nContent-Length: 28\r\n\r\n127.0.0.1 1 * 3\n127.0.0.1 2\n",
+    ),
+    (
+        Admin,
+        "PUT /api/1/addrs/web",
+        "",
+        "127.0.0.1 1 * 3\n127.0.0.1 2\n",
+        "204 No Content\r\n\r\n",
+    ),
+    (
+        Admin,
+        "HEAD /api/1/addrs/web",
+        "",
+        "",
+        "200 OK\r\nContent-Type: text/plain\r\nContent-Length: 28\r\n\r\n",
+    ),
+    (
+        Admin,
+        "PUT /api/1/addrs/none",
+        "",
+        "",
+        "204 No Content\r\n\r\n",
+    ),
+    (
+        Admin,
+        "GET /api/1/addrs/none",
+        "",
+        "",
+        "200 OK\r\nContent-Type: text/plain\r\nContent-Length: 0\r\n\r\n",
+    ),
+    // What is refused alters nothing.
+    (
+        Admin,
+        "PUT /api/1/addrs/web",
+        "",
+        "127.0.0.1 1\n127.0.0.1",
+        "400 Bad Request\r\nContent-Type: text/plain\r\nContent-Length: 6\r\n\r\naddrs\n",
+    ),
+    (
+        Admin,
+        "POST /api/1/addrs/web",
+        "",
+        "",
+        "405 Method Not Allowed\r\nAllow: GET, HEAD, PUT, DELETE\r\nContent-Type: text/plain\r\nContent-Length: 7\r\n\r\nmethod\n",
+    ),
+    (
+        Admin,
+        "DELETE /api/1/addrs/a%20b",
+        "",
+        "",
+        "400 Bad Request\r\nContent-Type: text/plain\r\nContent-Length: 5\r\n\r\nname\n",
+    ),
+    (
+        Admin,
+        "GET /api/1/addrs/web",
+        "",
+        "",
+        "200 OK\r\nContent-Type: text/plain\r\nContent-Length: 28\r\n\r\n127.0.0.1 1 * 3\n127.0.0.1 2\n",
+    ),
+    (
+        Admin,
+        "DELETE /api/1/addrs/none",
+        "",
+        "",
+        "204 No Content\r\n\r\n",
+    ),
+    (
+        Admin,
+        "DELETE /api/1/addrs/none",
+        "",
+        "",
+        "404 Not Found\r\nContent-Type: text/plain\r\nContent-Length: 8\r\n\r\nmissing\n",
+    ),
+    // How a path is delegated, by the table of the router's namespace and by one in the query.
+    (
+        Namerd,
+        "POST /api/1/dtabs/default",
+        "",
+        "/svc => /$/inet/127.0.0.1/8080",
+        "204 No Content\r\nETag: \"1\"\r\n\r\n",
+    ),
+    (
+        Admin,
+        "GET /delegator.json?x=1&path=/svc/a&path=b",
+        "",
+        "",
+        "200 OK\r\nContent-Type: application/json\r\nContent-Length: 141\r\n\r\n{\"lookups\":[{\"depth\":0,\"outcome\":\"bound\",\"path\":\"/svc/a\"},{\"depth\":1,\"outcome\":\"bound\",\"path\":\"/$/inet/127.0.0.1/8080/a\"}],\"outcome\":\"bound\"}",
+    ),
+    (
+        Admin,
+        "GET /delegator.json?path=%2Fs&dtab=/s+%3D%3E+!",
+        "",
+        "",
+        "200 OK\r\nContent-Type: application/json\r\nContent-Length: 77\r\n\r\n{\"lookups\":[{\"depth\":0,\"outcome\":\"failing\",\"path\":\"/s\"}],\"outcome\":\"failing\"}",
+    ),
+    (
+        Admin,
+        "GET /delegator.json?dtab=",
+        "",
+        "",
+        "400 Bad Request\r\nContent-Type: text/plain\r\nContent-Length: 5\r\n\r\nview\n",
+    ),
+    (
+        Admin,
+        "GET /delegator.json?path=/s&dtab=/s",
+        "",
+        "",
+        "400 Bad Request\r\nContent-Type: text/plain\r\nContent-Length: 5\r\n\r\nview\n",
+    ),
+    (
+        Admin,
+        "POST /delegator.json?path=/s",
+        "",
+        "",
+        "405 Method Not Allowed\r\nAllow: GET, HEAD\r\nContent-Type: text/plain\r\nContent-Length: 7\r\n\r\nmethod\n",
+    ),
+    (
+        Admin,
+        "GET /admin/shutdown",
+        "",
+        "",
+        "405 Method Not Allowed\r\nAllow: POST\r\nContent-Type: text/plain\r\nContent-Length: 7\r\n\r\nmethod\n",
+    ),
+];
+
+#[test]
+fn services_views_and_counts_are_told(rt: HostRuntime) -> Result<(), Fail> {
+    let replies = replies(&rt, rt.alloc(), &ROWS)?;
+    assert_eq!(rt; replies.len(), ROWS.len());
+    for (told, (_to, asks, _fields, _body, reply)) in replies.iter().zip(&ROWS) {
+        assert_eq!(rt; told.as_str(), *reply, "{asks}");
+    }
+    Ok(())
+}

@@ -1,0 +1,15 @@
+//! Tests of namerd's interface and of the admin interface: each reply, and how a connection ends, over connections in memory.
+#![tactic(auto)]
+
+#[cfg(test)]
+mod admin;
+#[cfg(test)]
+mod connections;
+#[cfg(test)]
+mod endings;
+#[cfg(test)]
+mod limits;
+#[cfg(test)]
+mod namerd;
+#[cfg(test)]
+mod rows;

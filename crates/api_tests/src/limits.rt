@@ -1,0 +1,226 @@
+//! Bodies at their limits, and the last request of a connection.
+use crate::connections::{Bytes, Connection, Mem, run};
+use crate::rows::{request, said};
+use admin_api::Which::{self, Admin, Namerd};
+use http_wire::Ended;
+use std::alloc::Global;
+use std::sync::Wait;
+use std::test::Fail;
+
+const MADE: &str = "204 No Content\r\nETag: \"1\"\r\n\r\n";
+
+const NO_TABLE: &str =
+    "400 Bad Request\r\nContent-Type: text/plain\r\nContent-Length: 5\r\n\r\ndtab\n";
+
+const TOO_LONG: &str =
+    "413 Content Too Large\r\nContent-Type: text/plain\r\nl5d-err: too-long\r\nContent-Length: 9\r\nConnection: close\r\n\r\ntoo-long\n";
+
+const NO_ADDRS: &str =
+    "400 Bad Request\r\nContent-Type: text/plain\r\nContent-Length: 6\r\n\r\naddrs\n";
+
+/// A body: a front, one part so many times, and an end. The reply to a POST of it as a new table, in JSON or not; or to a PUT of it as addresses.
+type Row = (
+    Which,
+    &'static str,
+    &'static str,
+    usize,
+    &'static str,
+    &'static str,
+);
+
+const ROWS: [Row; 11] = [
+    (Namerd, "", "(", 1_048_576, "", NO_TABLE),
+    (Namerd, "", "(", 1_048_577, "", TOO_LONG),
+    (Namerd, "/a=>/b", " ", 65_530, "", MADE),
+    (Namerd, "/a=>/b", " ", 65_531, "", NO_TABLE),
+    (
+        Namerd,
+        "[{\"dst\":\"~\",\"prefix\":\"/\"}",
+        ",{\"dst\":\"~\",\"prefix\":\"/\"}",
+        1023,
+        "]",
+        MADE,
+    ),
+    (
+        Namerd,
+        "[{\"dst\":\"~\",\"prefix\":\"/\"}",
+        ",{\"dst\":\"~\",\"prefix\":\"/\"}",
+        1024,
+        "]",
+        NO_TABLE,
+    ),
+    (
+        Namerd,
+        "[{\"prefix\":\"/\",\"dst\":\"~",
+        "\\u0020",
+        65_534,
+        "\"}]",
+        MADE,
+    ),
+    (
+        Namerd,
+        "[{\"prefix\":\"/\",\"dst\":\"~",
+        "\\u0020",
+        65_535,
+        "\"}]",
+        NO_TABLE,
+    ),
+    (
+        Namerd,
+        "[{\"prefix\":\"/\",\"dst\":\"",
+        "(",
+        65_535,
+        "\"}]",
+        NO_TABLE,
+    ),
+    (
+        Admin,
+        "",
+        "10.0.0.1 1\n",
+        1024,
+        "",
+        "204 No Content\r\n\r\n",
+    ),
+    (Admin, "", "10.0.0.1 1\n", 1025, "", NO_ADDRS),
+];
+
+/// So many parts between two texts.
+fn repeated(alloc: Global, front: &str, part: &str, times: usize, end: &str) -> Mem<Bytes> {
+    let mut bytes = Vec::from_slice(alloc, front.as_bytes())?;
+    for _ in 0..times {
+        bytes.extend_from_slice(part.as_bytes())?;
+    }
+    bytes.extend_from_slice(end.as_bytes())?;
+    Ok(bytes)
+}
+
+/// The bytes of a row's request.
+fn request_of(alloc: Global, row: &Row) -> Mem<Bytes> {
+    let (to, front, part, times, end, _reply) = row;
+    let body = repeated(alloc, front, part, *times, end)?;
+    let json = if front.starts_with("[") {
+        "Content-Type: application/json\r\n"
+    } else {
+        ""
+    };
+    let asks = match to {
+        Namerd => "POST /api/1/dtabs/web",
+        Admin => "PUT /api/1/addrs/web",
+    };
+    request(alloc, asks, json, body.as_slice())
+}
+
+/// What a connection with these bytes is given, on a new router, how it ends, and how many bytes it was given.
+fn served<R: Wait>(
+    rt: &R,
+    alloc: Global,
+    to: Which,
+    bytes: Bytes,
+) -> Result<(String, Ended, usize), Fail> {
+    let mut connections = Vec::new(alloc);
+    connections.push(Connection::of(to, bytes))?;
+    let all = run(rt, alloc, connections.as_slice())?;
+    match all.first() {
+        Some(one) => Ok((
+            said(alloc, one.given.as_slice())?,
+            one.ended,
+            one.given.len(),
+        )),
+        None => Ok((String::new(alloc), Ended::OutOfMemory, 0)),
+    }
+}
+
+/// The most requests of a kind that a new router takes, and the reply to one more.
+type Most = (Which, usize, &'static str);
+
+const FULL: [Most; 3] = [
+    (
+        Namerd,
+        256,
+        "HTTP/1.1 507 Insufficient Storage\r\nContent-Type: text/plain\r\nContent-Length: 15\r\n\r\ntoo-many-names\n",
+    ),
+    (
+        Admin,
+        4096,
+        "HTTP/1.1 507 Insufficient Storage\r\nContent-Type: text/plain\r\nContent-Length: 18\r\n\r\ntoo-many-services\n",
+    ),
+    (
+        Admin,
+        8,
+        "HTTP/1.1 507 Insufficient Storage\r\nContent-Type: text/plain\r\nContent-Length: 10\r\n\r\nbook-full\n",
+    ),
+];
+
+/// A thousand and twenty-four addresses, by a number below 256.
+fn addresses(alloc: Global, number: usize) -> Mem<Bytes> {
+    let mut lines = Vec::new(alloc);
+    for at in 0..1024usize {
+        let line = format!(in alloc; "10.{}.{}.{} 1\n", number, at / 256, at % 256)?;
+        lines.extend_from_slice(line.as_bytes())?;
+    }
+    Ok(lines)
+}
+
+/// The request of this number: a new namespace; a new service with no address; or one with many, where few are taken.
+fn numbered(alloc: Global, to: Which, most: usize, number: usize) -> Mem<Bytes> {
+    let target = match to {
+        Namerd => "POST /api/1/dtabs/n",
+        Admin => "PUT /api/1/addrs/s",
+    };
+    let asks = format!(in alloc; "{}{}", target, number)?;
+    let body = if most == 8 {
+        addresses(alloc, number)?
+    } else {
+        Vec::new(alloc)
+    };
+    request(alloc, asks.as_str(), "", body.as_slice())
+}
+
+/// One request more than are taken.
+fn one_too_many(alloc: Global, to: Which, most: usize) -> Mem<Bytes> {
+    let mut bytes = Vec::new(alloc);
+    for number in 0..most.saturating_add(1) {
+        bytes.extend_from_slice(numbered(alloc, to, most, number)?.as_slice())?;
+    }
+    Ok(bytes)
+}
+
+#[test]
+fn a_full_router_takes_no_more(rt: HostRuntime) -> Result<(), Fail> {
+    let alloc = rt.alloc();
+    for (to, most, refusal) in &FULL {
+        let bytes = one_too_many(alloc, *to, *most)?;
+        let (told, ended, _length) = served(&rt, alloc, *to, bytes)?;
+        assert_eq!(rt; ended, Ended::PeerEnded);
+        assert_eq!(rt; told.starts_with("204 No Content\r\n"), true);
+        assert_eq!(rt; told.ends_with(refusal), true, "{most}");
+    }
+    Ok(())
+}
+
+#[test]
+fn bodies_end_at_their_limits(rt: HostRuntime) -> Result<(), Fail> {
+    let alloc = rt.alloc();
+    for row in &ROWS {
+        let (told, _ended, _length) = served(&rt, alloc, row.0, request_of(alloc, row)?)?;
+        assert_eq!(rt; told.as_str(), row.5, "{} {}", row.2, row.3);
+    }
+    Ok(())
+}
+
+#[test]
+fn a_connection_carries_ten_thousand_requests(rt: HostRuntime) -> Result<(), Fail> {
+    let alloc = rt.alloc();
+    let pings = repeated(
+        alloc,
+        "",
+        "GET /admin/ping HTTP/1.1\r\nHost: n\r\n\r\n",
+        10_001,
+        "",
+    )?;
+    let (_told, ended, length) = served(&rt, alloc, Admin, pings)?;
+    assert_eq!(rt; ended, Ended::Spent);
+    // A reply has 69 bytes, and the last one says `Connection: close`, which is 19 more.
+    assert_eq!(rt; length, 10_000 * 69 + 19);
+    Ok(())
+}

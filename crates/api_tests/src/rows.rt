@@ -1,0 +1,55 @@
+//! Requests, each on a connection of its own, and their replies.
+use crate::connections::{Bytes, Connection, Mem, run};
+use admin_api::Which;
+use std::alloc::Global;
+use std::sync::Wait;
+use std::test::Fail;
+
+/// A request: which interface it goes to, its method and target, its further fields, and its body; and the reply behind `HTTP/1.1 `.
+pub(crate) type Row = (
+    Which,
+    &'static str,
+    &'static str,
+    &'static str,
+    &'static str,
+);
+
+/// The bytes of a request of HTTP/1.1.
+pub(crate) fn request(alloc: Global, asks: &str, fields: &str, body: &[u8]) -> Mem<Bytes> {
+    let length = format!(in alloc; "Content-Length: {}\r\n\r\n", body.len())?;
+    let mut bytes = Vec::from_slice(alloc, asks.as_bytes())?;
+    bytes.extend_from_slice(b" HTTP/1.1\r\nHost: n\r\n")?;
+    bytes.extend_from_slice(fields.as_bytes())?;
+    bytes.extend_from_slice(length.as_bytes())?;
+    bytes.extend_from_slice(body)?;
+    Ok(bytes)
+}
+
+/// The connections of some rows.
+fn connections(alloc: Global, rows: &[Row]) -> Mem<Vec<Connection>> {
+    let mut all = Vec::new(alloc);
+    for (to, asks, fields, body, _reply) in rows {
+        let bytes = request(alloc, asks, fields, body.as_bytes())?;
+        all.push(Connection::of(*to, bytes))?;
+    }
+    Ok(all)
+}
+
+/// What some bytes say behind `HTTP/1.1 `.
+pub(crate) fn said(alloc: Global, given: &[u8]) -> Mem<String> {
+    let told = given.strip_prefix(b"HTTP/1.1 ").unwrap_or(b"no reply");
+    match String::from_utf8(Vec::from_slice(alloc, told)?) {
+        Ok(text) => Ok(text),
+        Err(_bytes) => String::from_str(alloc, "no text"),
+    }
+}
+
+/// The replies to the requests of some rows, on a new router.
+pub(crate) fn replies<R: Wait>(rt: &R, alloc: Global, rows: &[Row]) -> Result<Vec<String>, Fail> {
+    let served = run(rt, alloc, connections(alloc, rows)?.as_slice())?;
+    let mut replies = Vec::new(alloc);
+    for one in &served {
+        replies.push(said(alloc, one.given.as_slice())?)?;
+    }
+    Ok(replies)
+}
