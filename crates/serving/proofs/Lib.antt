@@ -1,0 +1,5 @@
+mod Chains
+mod Crossing
+mod Moving
+mod Sending
+mod Trees

@@ -1,0 +1,12 @@
+use Rattle.router.specs.Passes.{number_in}
+use Rattle.serving.specs.declared.interface.ApiServer.{ApiServer}
+use Rattle.serving.proofs.Chains.{each_same}
+use Rattle.serving.proofs.job.ApiJob.accept.Goals as goal
+
+pub returns-in-Failing : goal.returns-in-Failing
+returns-in-Failing g c =
+    let s = c.accept_all-end.ensures.served in record { number = each_same _ (λ (s : ApiServer g.row.J.Denot g.row.S.Denot g.J.Naming). number_in s.pass) (λ s p q t is. is.2) _ s.0 _ s.1 }
+
+pub returns-in_default : goal.returns-in_default
+returns-in_default g c =
+    let s = c.accept_all-end.ensures.served in record { number = each_same _ (λ (s : ApiServer g.row.J.Denot g.row.S.Denot g.J.Naming). number_in s.pass) (λ s p q t is. is.2) _ s.0 _ s.1 }

@@ -1,0 +1,19 @@
+use Rattle.std.proofs.Common.{◌≡◌, ◌+◌, ◌≤◌, ◌++◌, length, vec_capacity}
+use Rattle.std.specs.Vec.Iter.{into_iter_items}
+use mathlib.Core.List.{IsPrefix}
+use Rattle.router.specs.Closing.{numbers_of}
+use Rattle.router.specs.Passes.{number_in, seen_in, slot_in}
+use Rattle.serving.specs.Passes.{AreFree}
+use Rattle.serving.proofs.loading.meet_each.Given as goal
+
+abbrev pub invariant-loop-other : goal.invariant-loop-other
+invariant-loop-other g l = record {
+  numbers : numbers_of l.met.items ++ numbers_of (into_iter_items l.other-iterator) ≡ numbers_of l.fn.others.items;
+  met : AreFree l.met.items;
+  rest : AreFree (into_iter_items l.other-iterator);
+  room : length l.met.items + length (into_iter_items l.other-iterator) ≤ vec_capacity l.met;
+  capacity : vec_capacity l.met ≡ vec_capacity l.fn.met;
+  number : number_in l.pass ≡ number_in l.fn.pass;
+  slot : slot_in l.pass ≡ slot_in l.fn.pass;
+  seen : IsPrefix (seen_in l.fn.pass) (seen_in l.pass);
+}

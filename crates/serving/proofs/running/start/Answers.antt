@@ -1,0 +1,47 @@
+use Rattle.std.proofs.Common.{arith}
+use Rattle.serving.proofs.Chains.{met_apart, new_apart, new_free, same_length}
+use Rattle.serving.proofs.running.start.Goals as goal
+
+pub close-requires-clause-apart : goal.close-requires-clause-apart
+close-requires-clause-apart g c = new_apart c.in-Ok.passes.items c.in-Ok.ensures.passes
+
+pub set_services-set-requires-clause-free : goal.set_services-set-requires-clause-free
+set_services-set-requires-clause-free g c = new_free c.in-Ok.passes.items (λ i p is. let n = c.in-Ok.ensures.passes i p is in n.slot)
+
+pub close-requires-in-Err-Book-clause-apart : goal.close-requires-in-Err-Book-clause-apart
+close-requires-in-Err-Book-clause-apart g c = met_apart c.in-Ok.passes.items c.set_services-set.new.met.items c.in-Ok.ensures.passes c.set_services-set.ensures.numbers
+
+pub close-requires-in-Err-Book-clause-all : goal.close-requires-in-Err-Book-clause-all
+close-requires-in-Err-Book-clause-all g c =
+    let same = same_length c.set_services-set.new.met.items c.in-Ok.passes.items c.set_services-set.ensures.numbers in omega (arith, same, c.in-Ok.ensures.count)
+
+pub close-requires-in-Err-OutOfMemory-clause-apart : goal.close-requires-in-Err-OutOfMemory-clause-apart
+close-requires-in-Err-OutOfMemory-clause-apart g c = met_apart c.in-Ok.passes.items c.set_services-set.new.met.items c.in-Ok.ensures.passes c.set_services-set.ensures.numbers
+
+pub close-requires-in-Err-OutOfMemory-clause-all : goal.close-requires-in-Err-OutOfMemory-clause-all
+close-requires-in-Err-OutOfMemory-clause-all g c =
+    let same = same_length c.set_services-set.new.met.items c.in-Ok.passes.items c.set_services-set.ensures.numbers in omega (arith, same, c.in-Ok.ensures.count)
+
+pub close-requires-in-Err-Failed-clause-apart : goal.close-requires-in-Err-Failed-clause-apart
+close-requires-in-Err-Failed-clause-apart g c = met_apart c.in-Ok.passes.items c.set_services-set.new.met.items c.in-Ok.ensures.passes c.set_services-set.ensures.numbers
+
+pub close-requires-in-Err-Failed-clause-all : goal.close-requires-in-Err-Failed-clause-all
+close-requires-in-Err-Failed-clause-all g c =
+    let same = same_length c.set_services-set.new.met.items c.in-Ok.passes.items c.set_services-set.ensures.numbers in omega (arith, same, c.in-Ok.ensures.count)
+
+pub close-requires-in-Err-OutOfMemory-bind-clause-apart : goal.close-requires-in-Err-OutOfMemory-bind-clause-apart
+close-requires-in-Err-OutOfMemory-bind-clause-apart g c = met_apart c.in-Ok.passes.items c.set_services-set.new.met.items c.in-Ok.ensures.passes c.set_services-set.ensures.numbers
+
+pub close-requires-in-Err-OutOfMemory-bind-clause-all : goal.close-requires-in-Err-OutOfMemory-bind-clause-all
+close-requires-in-Err-OutOfMemory-bind-clause-all g c =
+    let same = same_length c.set_services-set.new.met.items c.in-Ok.passes.items c.set_services-set.ensures.numbers in omega (arith, same, c.in-Ok.ensures.count)
+
+pub returns-in-Ok-bind-clause-ready : goal.returns-in-Ok-bind-clause-ready
+returns-in-Ok-bind-clause-ready g c =
+    let same = same_length c.set_services-set.new.met.items c.in-Ok.passes.items c.set_services-set.ensures.numbers in
+    let bound = c.in-Ok-bind.ensures.count in record {
+      apart = met_apart c.in-Ok.passes.items c.set_services-set.new.met.items c.in-Ok.ensures.passes c.set_services-set.ensures.numbers;
+      all = omega (arith, same, c.in-Ok.ensures.count);
+      free = c.set_services-set.ensures.free;
+      enough = omega (arith, same, c.in-Ok.ensures.count, bound.0, bound.1, bound.2, c.requires.seats.0, c.requires.seats.1);
+    }
