@@ -3,3 +3,4 @@ pub mod Plays
 pub mod Runs
 pub mod Causes
 pub mod OneLine
+pub mod Serving

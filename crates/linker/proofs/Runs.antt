@@ -1,13 +1,15 @@
 -- How runs end.
-use Rattle.std.proofs.Common.{◌≡◌, ℕ, ◌≤◌, List, [], ◌++◌, refl, sym, ap, subst, ◌∙◌, arith, inl, inr}
+use Rattle.std.proofs.Common.{◌≡◌, ℕ, ◌≤◌, List, [], ◌++◌, append_assoc, refl, sym, ap, subst, ◌∙◌, arith, inl, inr}
 use Rattle.std.specs.Prelude.{Option, Result, Ok, Err}
 use Rattle.std.proofs.lemmas.List.{append-nil}
 use Rattle.std.specs.Io.KnownBytes.{Appends}
 use Rattle.std.proofs.KnownBytes.{Appends-trans, Appends-nil, Consumes-nil}
 use Rattle.linker.specs.declared.run.Status.{Status}
 use Rattle.linker.specs.declared.run.Status.TheVariants as status
-use Rattle.linker.specs.Run.{Course, words_refused, read_failed, too_long, script_read, line_told, no_memory, Begins, Input, Filed, Output, Takes, Ended, Ran, output_of, status_of, memory_line}
-use Rattle.linker.specs.Words.{Asked, replay, check, storm, weave, command_of}
+use Rattle.line_base.specs.Counts.{Rose}
+use Rattle.linker.specs.Run.{AppendsFront, Course, words_refused, read_failed, too_long, script_read, line_told, no_memory, served, Begins, Input, Filed, Linked, Output, Takes, Ended, Ran, output_of, status_of}
+use Rattle.linker.specs.Served.{memory_line}
+use Rattle.linker.specs.Words.{Asked, replay, check, serve, storm, weave, command_of}
 use Rattle.linker.specs.Told.{code_of, Tells}
 use Rattle.linker.proofs.Plays.{front_of, rose_later}
 
@@ -39,20 +41,41 @@ begins_nothing read_failed = refl
 begins_nothing too_long = refl
 begins_nothing (line_told good line) = refl
 begins_nothing no_memory = refl
+begins_nothing (served lines finish) = refl
 
 -- memory was wanting before anything was written
 pub tells_memory_first : (course : Course) (result : Status) (old new : Output) → Tells memory_line status.Memory old new result → Ended course old new (code_of result)
 tells_memory_first course result old new told = tells_memory course result old old new [] (output_of course) refl (Appends-nil old.held) refl (begins_nothing course) told
 
 -- nothing is read yet
-nothing_read : (asked : Result Asked ℕ) (input : Input) (files : Filed) → (course : Course) × Takes asked input input files files course
-nothing_read (Err place) input files = (words_refused place, (refl, refl, refl))
-nothing_read (Ok replay) input files = (no_memory, ((([], Consumes-nil input.left, omega arith), refl), refl))
-nothing_read (Ok (check path)) input files = (no_memory, (refl, refl, refl))
-nothing_read (Ok (storm turns seed)) input files = (no_memory, (inr refl, refl, refl))
-nothing_read (Ok (weave turns seed)) input files = (no_memory, (inr refl, refl, refl))
+nothing_read : (asked : Result Asked ℕ) (input : Input) (files : Filed) (net : Linked) → (course : Course) × Takes asked input input files files net net course
+nothing_read (Err place) input files net = (words_refused place, (refl, refl, refl, refl))
+nothing_read (Ok replay) input files net = (no_memory, ((([], Consumes-nil input.left, omega arith), refl), refl, refl))
+nothing_read (Ok (check path)) input files net = (no_memory, (refl, refl, refl, refl))
+nothing_read (Ok (serve path)) input files net = (no_memory, ((refl, refl), refl, refl))
+nothing_read (Ok (storm turns seed)) input files net = (no_memory, (inr refl, refl, refl, refl))
+nothing_read (Ok (weave turns seed)) input files net = (no_memory, (inr refl, refl, refl, refl))
 
 -- memory was wanting for the words themselves
-pub no_words : (words : List (List ℕ)) (input : Input) (files : Filed) (old new : Output) (result : Status) → Tells memory_line status.Memory old new result → Ran words input input files files old new (code_of result)
-no_words words input files old new result told =
-    let first = nothing_read (command_of words) input files in (first.0, first.1, tells_memory_first first.0 result old new told)
+pub no_words : (words : List (List ℕ)) (input : Input) (files : Filed) (net : Linked) (old new : Output) (result : Status) → Tells memory_line status.Memory old new result → Ran words input input files files net net old new (code_of result)
+no_words words input files net old new result told =
+    let first = nothing_read (command_of words) input files net in (first.0, first.1, tells_memory_first first.0 result old new told)
+
+-- a last line behind what was written
+pub tells_behind : (course : Course) (first line : List ℕ) (end result : Status) (old mid new : Output) → output_of course ≡ first ++ line → code_of end ≡ status_of course
+    → Appends old.held mid.held first → mid.faults ≡ old.faults → Tells line end mid new result → Ended course old new (code_of result)
+tells_behind course first line end result old mid new is code before kept (inl done) =
+    inl (ap code_of done.0 ∙ code, subst (Appends old.held new.held) (sym is) (Appends-trans old.held mid.held new.held first line before done.1), done.2 ∙ kept)
+tells_behind course first line end result old mid new is code before kept (inr failed) =
+    inr (inr (
+      ap code_of failed.0,
+      rose_later old.faults mid.faults new.faults (omega (arith, kept)) failed.1,
+      output_of course,
+      inl refl,
+      front_of old.held mid.held new.held (output_of course) first line [] (is ∙ ap (λ (xs : List ℕ). first ++ xs) (sym (append-nil line))) before failed.2,
+    ))
+
+-- a write failed before the last line
+pub fails_before : (course : Course) (first line : List ℕ) (old new : Output) → output_of course ≡ first ++ line → Rose old.faults new.faults → AppendsFront old.held new.held first → Ended course old new 5
+fails_before course first line old new is rose front =
+    inr (inr (refl, rose, output_of course, inl refl, (front.0, front.1 ++ line, is ∙ (ap (λ (xs : List ℕ). xs ++ line) front.2 ∙ append_assoc front.0 front.1 line), front.3)))

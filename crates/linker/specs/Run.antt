@@ -9,10 +9,12 @@ use Rattle.line_base.specs.Counts.{Rose}
 use Rattle.line_base.specs.Files.{File}
 use Rattle.addr_book.specs.FileLine.{lines_of}
 use Rattle.machine.specs.State.{opening}
+use Rattle.linker_config.specs.declared.config.Config.{Config}
 use Rattle.linker.specs.Check.{TellsPath}
 use Rattle.linker.specs.Generated.{storm_line, weave_line}
 use Rattle.linker.specs.Replay.{played, replay_of}
-use Rattle.linker.specs.Words.{Asked, replay, check, storm, weave, command_of}
+use Rattle.linker.specs.Served.{Finish, shut_down, broken, short, finish_code, HasServed, IsConfig, IsRefused, TellsNet, memory_line}
+use Rattle.linker.specs.Words.{Asked, replay, check, serve, storm, weave, command_of}
 
 -- the most bytes of a script
 abbrev pub most_script : ℕ
@@ -37,6 +39,8 @@ pub data Course : Type 0 where
   line_told : Bool → List ℕ → Course
   -- there was no memory before it was known what to write
   no_memory : Course
+  -- a router was to serve: these lines tell of it, and how it ended
+  served : List ℕ → Finish → Course
 
 -- what a course writes, and the status that it ends with
 abbrev pub output_of : Course → List ℕ
@@ -46,6 +50,7 @@ output_of too_long = codes "error long\n"
 output_of (script_read script) = (replay_of script).0
 output_of (line_told good line) = line
 output_of no_memory = []
+output_of (served lines finish) = lines
 
 -- the status where what was read is right, or is not
 abbrev pub status_if : Bool → ℕ
@@ -59,6 +64,7 @@ status_of too_long = 8
 status_of (script_read script) = status_if (replay_of script).1
 status_of (line_told good line) = status_if good
 status_of no_memory = 7
+status_of (served lines finish) = finish_code finish
 
 -- what the input tells of itself: the bytes that are left, its faults, and its ends
 pub record Input : Type 0 where
@@ -87,6 +93,7 @@ Reads old new too_long = ReadsLong old new × (new.faults ≡ old.faults)
 Reads old new (script_read script) = Consumes old.left new.left script × IsAtEnd new.left × (length script ≤ most_script) × Rose old.ends new.ends × (new.faults ≡ old.faults)
 Reads old new (line_told good line) = ⊥
 Reads old new no_memory = ReadsFew old new × (new.faults ≡ old.faults)
+Reads old new (served lines finish) = ⊥
 
 -- the course of a configuration at a path that the folder shows: its count of faults rose exactly where it could not be read
 abbrev pub Checks : List ℕ → Filed → Filed → Course → Type 0
@@ -96,6 +103,22 @@ Checks path old new too_long = ⊥
 Checks path old new (script_read script) = ⊥
 Checks path old new (line_told good line) = TellsPath old.files path good line × (new.faults ≡ old.faults)
 Checks path old new no_memory = new.faults ≡ old.faults
+Checks path old new (served lines finish) = ⊥
+
+-- what the net tells of itself: its faults
+pub record Linked : Type 0 where
+  pub faults : ℕ
+
+-- the course of serving by the configuration at a path: it is refused, or a service is; it could not be read; memory was wanting; or there is a right one, and the lines tell how it was
+abbrev pub Serves : List ℕ → Filed → Filed → Linked → Linked → Course → Type 0
+Serves path old new net net_after (words_refused place) = ⊥
+Serves path old new net net_after read_failed = Rose old.faults new.faults × (net_after ≡ net)
+Serves path old new net net_after too_long = ⊥
+Serves path old new net net_after (script_read script) = ⊥
+Serves path old new net net_after (line_told true line) = ⊥
+Serves path old new net net_after (line_told false line) = IsRefused old.files path line × (new.faults ≡ old.faults) × (net_after ≡ net)
+Serves path old new net net_after no_memory = (new.faults ≡ old.faults) × (net_after ≡ net)
+Serves path old new net net_after (served lines finish) = (config : Config) × IsConfig old.files path config × HasServed config lines finish × TellsNet net.faults net_after.faults finish × (new.faults ≡ old.faults)
 
 -- the course of a line that rests on nothing that is read: only memory may be wanting for it
 abbrev pub Makes : List ℕ → Course → Type 0
@@ -103,20 +126,17 @@ Makes line course = (course ≡ line_told true line) ⊎ (course ≡ no_memory)
 
 -- the course that the words show, with the input and the folder before and after the run: a command reads what it is about and nothing else, and nothing
 -- is read where the words fit none
-abbrev pub Takes : Result Asked ℕ → Input → Input → Filed → Filed → Course → Type 0
-Takes (Err place) old_in new_in old_files new_files course = (course ≡ words_refused place) × (new_in ≡ old_in) × (new_files ≡ old_files)
-Takes (Ok replay) old_in new_in old_files new_files course = Reads old_in new_in course × (new_files ≡ old_files)
-Takes (Ok (check path)) old_in new_in old_files new_files course = Checks path old_files new_files course × (new_in ≡ old_in) × (new_files.files ≡ old_files.files)
-Takes (Ok (storm turns seed)) old_in new_in old_files new_files course = Makes (storm_line turns seed) course × (new_in ≡ old_in) × (new_files ≡ old_files)
-Takes (Ok (weave turns seed)) old_in new_in old_files new_files course = Makes (weave_line turns seed) course × (new_in ≡ old_in) × (new_files ≡ old_files)
+abbrev pub Takes : Result Asked ℕ → Input → Input → Filed → Filed → Linked → Linked → Course → Type 0
+Takes (Err place) old_in new_in old_files new_files net net_after course = (course ≡ words_refused place) × (new_in ≡ old_in) × (new_files ≡ old_files) × (net_after ≡ net)
+Takes (Ok replay) old_in new_in old_files new_files net net_after course = Reads old_in new_in course × (new_files ≡ old_files) × (net_after ≡ net)
+Takes (Ok (check path)) old_in new_in old_files new_files net net_after course = Checks path old_files new_files course × (new_in ≡ old_in) × (new_files.files ≡ old_files.files) × (net_after ≡ net)
+Takes (Ok (serve path)) old_in new_in old_files new_files net net_after course = Serves path old_files new_files net net_after course × (new_in ≡ old_in) × (new_files.files ≡ old_files.files)
+Takes (Ok (storm turns seed)) old_in new_in old_files new_files net net_after course = Makes (storm_line turns seed) course × (new_in ≡ old_in) × (new_files ≡ old_files) × (net_after ≡ net)
+Takes (Ok (weave turns seed)) old_in new_in old_files new_files net net_after course = Makes (weave_line turns seed) course × (new_in ≡ old_in) × (new_files ≡ old_files) × (net_after ≡ net)
 
 -- known bytes grow by a front of these
 abbrev pub AppendsFront : Option (List ℕ) → Option (List ℕ) → List ℕ → Type 0
 AppendsFront old new bytes = (front : List ℕ) × (rest : List ℕ) × (bytes ≡ front ++ rest) × Appends old new front
-
--- the line that tells that memory is wanting
-abbrev pub memory_line : List ℕ
-memory_line = codes "error memory\n"
 
 -- what a course may have written where memory is then wanting: of a script the whole replies to its first lines, each of them good, and else nothing
 abbrev pub Begins : Course → List ℕ → Type 0
@@ -126,6 +146,7 @@ Begins read_failed front = front ≡ []
 Begins too_long front = front ≡ []
 Begins (line_told good line) front = front ≡ []
 Begins no_memory front = front ≡ []
+Begins (served lines finish) front = front ≡ []
 
 -- the bytes are such a front of what the course writes, and then the line that tells that memory is wanting
 abbrev pub IsCutShort : Course → List ℕ → Type 0
@@ -144,10 +165,17 @@ Ended course old new status =
     ⊎ (((status ≡ 7) × (new.faults ≡ old.faults) × (bytes : List ℕ) × IsCutShort course bytes × Appends old.held new.held bytes)
     ⊎ ((status ≡ 5) × Rose old.faults new.faults × (bytes : List ℕ) × ((bytes ≡ output_of course) ⊎ IsCutShort course bytes) × AppendsFront old.held new.held bytes))
 
+-- how a router that was to serve by a configuration ends, whose own answers come first: its book has no room for a service, or memory was wanting before it could serve
+abbrev pub EndsServing : Config → ℕ → ℕ → Output → Output → ℕ → Type 0
+EndsServing config net net_after old new status =
+    ((lines : List ℕ) × (finish : Finish) × HasServed config lines finish × TellsNet net net_after finish × Ended (served lines finish) old new status)
+    ⊎ (((net_after ≡ net) × Ended (line_told false (codes "error book\n")) old new status)
+    ⊎ ((net_after ≡ net) × Ended no_memory old new status))
+
 -- the whole of a run
-abbrev pub Ran : List (List ℕ) → Input → Input → Filed → Filed → Output → Output → ℕ → Type 0
-Ran words old_in new_in old_files new_files old_out new_out status =
-    (course : Course) × Takes (command_of words) old_in new_in old_files new_files course × Ended course old_out new_out status
+abbrev pub Ran : List (List ℕ) → Input → Input → Filed → Filed → Linked → Linked → Output → Output → ℕ → Type 0
+Ran words old_in new_in old_files new_files net net_after old_out new_out status =
+    (course : Course) × Takes (command_of words) old_in new_in old_files new_files net net_after course × Ended course old_out new_out status
 
 -- memory was wanting, or a write failed: each status yields to these two
 abbrev pub Yields : ℕ → Output → Output → Type 0
@@ -162,6 +190,8 @@ abbrev pub Shows : Result Asked ℕ → Input → Input → Filed → Bool → T
 Shows (Err place) old new files good = ⊥
 Shows (Ok replay) old new files good = ReadsScript good old new
 Shows (Ok (check path)) old new files good = (line : List ℕ) × TellsPath files.files path good line
+Shows (Ok (serve path)) old new files true = (config : Config) × IsConfig files.files path config
+Shows (Ok (serve path)) old new files false = (line : List ℕ) × IsRefused files.files path line
 Shows (Ok (storm turns seed)) old new files good = good ≡ true
 Shows (Ok (weave turns seed)) old new files good = good ≡ true
 
@@ -193,4 +223,4 @@ MakesAll command line_of words old_out new_out status =
 
 -- the statuses that there are
 abbrev pub statuses : List ℕ
-statuses = 0 ∷ 2 ∷ 3 ∷ 4 ∷ 5 ∷ 7 ∷ 8 ∷ []
+statuses = 0 ∷ 2 ∷ 3 ∷ 4 ∷ 5 ∷ 6 ∷ 7 ∷ 8 ∷ []

@@ -41,6 +41,7 @@ code_of status.Words = 2
 code_of status.Wrong = 3
 code_of status.Read = 4
 code_of status.Write = 5
+code_of status.Net = 6
 code_of status.Memory = 7
 code_of status.Long = 8
 

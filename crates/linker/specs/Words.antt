@@ -12,6 +12,8 @@ pub data Asked : Type 0 where
   replay : Asked
   -- tell whether the configuration at this path is right
   check : List ℕ → Asked
+  -- serve by the configuration at this path
+  serve : List ℕ → Asked
   -- make so many generated turns by a seed, on one state
   storm : ℕ → ℕ → Asked
   -- make so many generated turns by a seed, of four passes
@@ -21,6 +23,7 @@ pub data Asked : Type 0 where
 abbrev pub asked_by : Command → Asked
 asked_by command.Replay = replay
 asked_by (command.Check path) = check path.now
+asked_by (command.Serve path) = serve path.now
 asked_by (command.Storm run) = storm run.turns run.seed
 asked_by (command.Weave run) = weave run.turns run.seed
 
@@ -34,15 +37,15 @@ abbrev pub alone : ℕ → Asked → List (List ℕ) → Result Asked ℕ
 alone place command [] = Ok command
 alone place command (w ∷ ws) = Err place
 
--- `check` at a path, which is the second word
-abbrev pub check_at : Option (List ℕ) → List (List ℕ) → Result Asked ℕ
-check_at None others = Err 2
-check_at (Some path) others = alone 3 (check path) others
+-- a command at a path, which is the second word
+abbrev pub path_at : (List ℕ → Asked) → Option (List ℕ) → List (List ℕ) → Result Asked ℕ
+path_at command None others = Err 2
+path_at command (Some path) others = alone 3 (command path) others
 
--- the words behind `check`
-abbrev pub check_words : List (List ℕ) → Result Asked ℕ
-check_words [] = Err 2
-check_words (w ∷ ws) = check_at (path_word w) ws
+-- the words behind a command that is about a path
+abbrev pub path_words : (List ℕ → Asked) → List (List ℕ) → Result Asked ℕ
+path_words command [] = Err 2
+path_words command (w ∷ ws) = path_at command (path_word w) ws
 
 -- the most turns of a generated run
 abbrev pub most_turns : ℕ
@@ -79,7 +82,8 @@ abbrev pub command_of : List (List ℕ) → Result Asked ℕ
 command_of [] = Err 1
 command_of (w ∷ ws) =
     if bytes_eq w (codes "replay") then alone 2 replay ws
-    else if bytes_eq w (codes "check") then check_words ws
+    else if bytes_eq w (codes "check") then path_words check ws
+    else if bytes_eq w (codes "serve") then path_words serve ws
     else if bytes_eq w (codes "storm") then of_run storm (turns_words ws)
     else if bytes_eq w (codes "weave") then of_run weave (turns_words ws)
     else Err 1

@@ -1,15 +1,29 @@
-//! `check`: whether the configuration at a path is right, and the line that tells of it.
-ghost use Rattle.std.specs.Prelude.{◌≡◌, false, Err, IfOk};
+//! Reading the configuration at a path; and `check`, the line that tells whether it is right.
+ghost use Rattle.std.specs.Prelude.{◌≡◌, ◌≤◌, ℕ, List, false, Ok, Err, IfOk, IfErr, MatchResult};
 ghost use Rattle.line_base.specs.Counts.{Rose};
-ghost use Rattle.linker.specs.Check.{TellsFound, TellsPath, TellsText};
+ghost use Rattle.linker.specs.Check.{TellsFound, TellsPath};
+ghost use Rattle.linker.specs.Found.{IfWrong};
+ghost use Rattle.linker.specs.Served.{IsConfig, IsText};
+ghost use Rattle.linker_config.specs.Answers.{Reads};
 
 use crate::{Bytes, Mem};
 use line_base::{Folder, FolderFault, Found};
-use linker_config::{check_line, fault_line, read_config};
+use linker_config::{Config, check_line, fault_line, read_config};
 use std::alloc::Global;
 
 /// The most bytes of a configuration.
 const MOST_CONFIG: usize = 1_048_576;
+
+/// Why there is no configuration.
+#[derive(Debug, Drop)]
+pub enum ConfigEnd {
+    /// It has a fault, or there is none: this line tells so, with its line feed.
+    Wrong(Bytes),
+    /// The folder could not be read.
+    Fault,
+    /// There was no memory.
+    OutOfMemory,
+}
 
 /// What is told of a configuration.
 #[derive(Debug, Drop)]
@@ -29,58 +43,70 @@ pub enum CheckEnd {
     OutOfMemory,
 }
 
-/// Reads the configuration at a path, and tells of it. The services' folder that it names is not looked at.
+/// Reads the configuration at a path. The services' folder that it names is not looked at.
+pub fn configured<F: Folder>(alloc: Global, folder: &mut F, path: &str) -> Result<Config, ConfigEnd>
+    ensures config { IfOk result (λ config. IsConfig (F.files folder.old) path.now config) }
+    ensures workers { IfOk result (λ config. config.workers ≤ 256) }
+    ensures wrong { IfErr result (λ end. IfWrong end (λ line. TellsPath (F.files folder.old) path.now false line)) }
+    ensures fault { result ≡ Err ConfigEnd.Fault → Rose (F.faults folder.old) (F.faults folder.new) }
+    ensures kept { (result ≡ Err ConfigEnd.Fault → ⊥) → F.faults folder.new ≡ F.faults folder.old }
+    ensures files { F.files folder.new ≡ F.files folder.old }
+{
+    match folder.read(path, MOST_CONFIG) {
+        Ok(found) => config_in(alloc, &found),
+        Err(FolderFault::Failed) => Err(ConfigEnd::Fault),
+        Err(FolderFault::OutOfMemory) => Err(ConfigEnd::OutOfMemory),
+    }
+}
+
+/// The configuration that was found at a path.
+fn config_in(alloc: Global, found: &Found) -> Result<Config, ConfigEnd>
+    ensures config { IfOk result (λ config. (text : List ℕ) × IsText found.now text × Reads text (Ok config)) }
+    ensures workers { IfOk result (λ config. config.workers ≤ 256) }
+    ensures wrong { IfErr result (λ end. IfWrong end (λ line. TellsFound found.now false line)) }
+    ensures only { result ≡ Err ConfigEnd.Fault → ⊥ }
+{
+    match found {
+        Found::Absent => Err(wrong(Vec::from_slice(alloc, b"error config absent\n"))),
+        Found::Longer => Err(wrong(Vec::from_slice(alloc, b"error config long\n"))),
+        Found::Bytes(text) => match read_config(alloc, text.as_slice()) {
+            Ok(config) => Ok(config),
+            Err(fault) => Err(wrong(fault_line(alloc, &fault))),
+        },
+    }
+}
+
+/// There is no configuration, and this line tells why, unless there was no memory for it.
+fn wrong(line: Mem<Bytes>) -> ConfigEnd
+    ensures line { IfWrong result (λ told. MatchResult line (λ l. told ≡ l.items) (λ _. ⊥)) }
+    ensures only { result ≡ ConfigEnd.Fault → ⊥ }
+{
+    match line {
+        Ok(line) => ConfigEnd::Wrong(line),
+        Err(_) => ConfigEnd::OutOfMemory,
+    }
+}
+
+/// Reads the configuration at a path, and tells of it.
 pub fn check<F: Folder>(alloc: Global, folder: &mut F, path: &str) -> Result<Verdict, CheckEnd>
     ensures told { IfOk result (λ v. TellsPath (F.files folder.old) path.now v.is_right v.line.items) }
     ensures fault { result ≡ Err CheckEnd.Fault → Rose (F.faults folder.old) (F.faults folder.new) }
     ensures kept { (result ≡ Err CheckEnd.Fault → ⊥) → F.faults folder.new ≡ F.faults folder.old }
     ensures files { F.files folder.new ≡ F.files folder.old }
 {
-    let found = match folder.read(path, MOST_CONFIG) {
-        Ok(found) => found,
-        Err(FolderFault::Failed) => return Err(CheckEnd::Fault),
-        Err(FolderFault::OutOfMemory) => return Err(CheckEnd::OutOfMemory),
-    };
-    match judge(alloc, &found) {
-        Ok(verdict) => Ok(verdict),
-        Err(_) => Err(CheckEnd::OutOfMemory),
-    }
-}
-
-/// What is told of what was found at the path of a configuration.
-fn judge(alloc: Global, found: &Found) -> Mem<Verdict>
-    ensures { IfOk result (λ v. TellsFound found.now v.is_right v.line.items) }
-{
-    match found {
-        Found::Absent => wrong(alloc, b"error config absent\n"),
-        Found::Longer => wrong(alloc, b"error config long\n"),
-        Found::Bytes(text) => judge_text(alloc, text.as_slice()),
-    }
-}
-
-/// A configuration is wrong, and this line tells why.
-fn wrong(alloc: Global, line: &[u8]) -> Mem<Verdict>
-    ensures { IfOk result (λ v. (v.is_right ≡ false) × (v.line.items ≡ line.now)) }
-{
-    let line = Vec::from_slice(alloc, line)?;
-    Ok(Verdict {
-        is_right: false,
-        line,
-    })
-}
-
-/// What is told of a configuration with this text.
-fn judge_text(alloc: Global, text: &[u8]) -> Mem<Verdict>
-    ensures { IfOk result (λ v. TellsText text.now v.is_right v.line.items) }
-{
-    match read_config(alloc, text) {
-        Ok(config) => Ok(Verdict {
-            is_right: true,
-            line: check_line(alloc, &config)?,
-        }),
-        Err(fault) => Ok(Verdict {
+    match configured(alloc, folder, path) {
+        Ok(config) => match check_line(alloc, &config) {
+            Ok(line) => Ok(Verdict {
+                is_right: true,
+                line,
+            }),
+            Err(_) => Err(CheckEnd::OutOfMemory),
+        },
+        Err(ConfigEnd::Wrong(line)) => Ok(Verdict {
             is_right: false,
-            line: fault_line(alloc, &fault)?,
+            line,
         }),
+        Err(ConfigEnd::Fault) => Err(CheckEnd::Fault),
+        Err(ConfigEnd::OutOfMemory) => Err(CheckEnd::OutOfMemory),
     }
 }

@@ -2,13 +2,15 @@
 ghost use Rattle.std.specs.Prelude.{◌≡◌, ◌⊎◌, ◌<◌, Contains, IsErr, IsSome, true, false, map, string_bytes};
 ghost use Rattle.line_base.specs.Counts.{Rose};
 ghost use Rattle.linker.specs.Generated.{storm_line, weave_line};
-ghost use Rattle.linker.specs.Run.{Ran, Input, Filed, Output, statuses, Shows, ReadsLong, Yields, ReplaysAll, ChecksAll, MakesAll};
+ghost use Rattle.linker.specs.Run.{Ran, Input, Filed, Linked, Output, statuses, Shows, ReadsLong, Yields, ReplaysAll, ChecksAll, MakesAll};
 ghost use Rattle.linker.specs.Words.{command_of, storm, weave};
 
 use crate::run::run;
-use line_base::{Folder, Sink, Source};
+use line_base::{Clock, Folder, Listener, Net, Sink, Source};
 use std::marker::Brand;
+use std::sync::Wait;
 use std::sync::ledger::Blank;
+use std::thread::Threads;
 
 /// Does what the words after the program's name say, and gives the status to end with.
 ///
@@ -16,6 +18,7 @@ use std::sync::ledger::Blank;
 /// |---|---|
 /// | `replay` | reads a script from the input, to its end and at most 67,108,864 bytes of it, carries out its lines in order, and writes a reply line for each; a bad line ends it |
 /// | `check CONFIG` | reads the configuration at the path CONFIG, at most 1,048,576 bytes of it, and writes a line that says that it is right and where its router listens, or what its first fault is |
+/// | `serve CONFIG` | reads the configuration at the path CONFIG and the services of the folder that it names, listens on the router's address and on those of the two interfaces, writes a line that says where, serves until it is shut down, and writes how many changes there were |
 /// | `storm N SEED` | makes N generated turns, each a change or a pick by the words of the generator with this seed, on one state, and writes the line that sums them up |
 /// | `weave N SEED` | makes N generated steps of four passes, each a change, a question, an answer to an earlier one, or what passes learn or keep, and writes the line that sums them up |
 ///
@@ -28,39 +31,56 @@ use std::sync::ledger::Blank;
 /// | 2 | the words fit no command; P is the first that doesn't, counted from 1, or one more than there are | `error words P` |
 /// | 3 | line N of the script is bad; the replies of the lines before it are written | `error line N` |
 /// | 3 | the configuration has a fault; `docs/CONFIGURATION.md` has them | `error config ..` |
+/// | 3 | the file of the service NAME is bad or too long | `error file NAME` |
+/// | 3 | there is no room for the services | `error book` |
 /// | 4 | the input or the folder could not be read | `error read` |
 /// | 5 | a write failed; this comes before every other status | |
-/// | 7 | there was no memory | `error memory` |
+/// | 6 | an address can't be listened on, or the accepts of a listener failed a hundred times in a row | `error net` |
+/// | 7 | there was no memory, or not enough for a session of a router that then went on to serve | `error memory` |
 /// | 8 | the script is longer than 67,108,864 bytes | `error long` |
-pub fn linker<R: AllocGlobal, F: Folder, S: Source, K: Sink>(
+pub fn linker<
+    R: AllocGlobal + Threads + Wait + Sync,
+    F: Folder,
+    N: Net + Send,
+    C: Clock + Drop + Send,
+    S: Source,
+    K: Sink,
+>(
     rt: &R,
     words: &[String],
     folder: &mut F,
+    net: &mut N,
+    clock: &mut C,
     input: &mut S,
     out: &mut K,
 ) -> u8
+where
+    <N::L as Listener>::P: Send,
     // What was read, what was written, and the status go together: at 0 the output has grown by the replay of what was read, or by the line that tells of the
-    // configuration that was found, or of the generated run.
+    // configuration that was found, or of the generated run, or by those that tell where a router served and how many changes there were.
     ensures ran { Ran (map string_bytes words.now)
         (record { left = S.left input.old; faults = S.faults input.old; ends = S.ends input.old }) (record { left = S.left input.new; faults = S.faults input.new; ends = S.ends input.new })
-        (record { files = F.files folder.old; faults = F.faults folder.old }) (record { files = F.files folder.new; faults = F.faults folder.new })
+        (record { files = F.files folder.old; faults = F.faults folder.old }) (record { files = F.files folder.new; faults = F.faults folder.new }) (record { faults = N.faults net.old }) (record { faults = N.faults net.new })
         (record { held = K.held out.old; faults = K.faults out.old }) (record { held = K.held out.new; faults = K.faults out.new }) result }
 
     // 2 exactly where the words fit no command.
     ensures words { result ≡ 2 → IsErr (command_of (map string_bytes words.now)) }
     ensures refused { IsErr (command_of (map string_bytes words.now)) → (result ≡ 2) ⊎ Yields result (record { held = K.held out.old; faults = K.faults out.old }) (record { held = K.held out.new; faults = K.faults out.new }) }
 
-    // 0 and 3 only where the input was read to its end and each line of it is good, or one is bad; and where the configuration is right, or is not. A
-    // generated run is never wrong.
+    // 0 and 3 only where the input was read to its end and each line of it is good, or one is bad; and where the configuration is right, or is not, or its
+    // services are refused. A generated run is never wrong.
     ensures done { result ≡ 0 → Shows (command_of (map string_bytes words.now)) (record { left = S.left input.old; faults = S.faults input.old; ends = S.ends input.old }) (record { left = S.left input.new; faults = S.faults input.new; ends = S.ends input.new }) (record { files = F.files folder.old; faults = F.faults folder.old }) true }
     ensures wrong { result ≡ 3 → Shows (command_of (map string_bytes words.now)) (record { left = S.left input.old; faults = S.faults input.old; ends = S.ends input.old }) (record { left = S.left input.new; faults = S.faults input.new; ends = S.ends input.new }) (record { files = F.files folder.old; faults = F.faults folder.old }) false }
 
-    // 5 exactly where the output's count of faults rose, and 4 exactly where the input's or the folder's did, but for want of memory.
+    // 5 exactly where the output's count of faults rose, 4 exactly where the input's or the folder's did, and 6 exactly where the net's did, but for want of
+    // memory.
     ensures read { result ≡ 4 → Rose (S.faults input.old) (S.faults input.new) ⊎ Rose (F.faults folder.old) (F.faults folder.new) }
     ensures write { result ≡ 5 → Rose (K.faults out.old) (K.faults out.new) }
+    ensures net { result ≡ 6 → Rose (N.faults net.old) (N.faults net.new) }
     ensures read_fault { S.faults input.old < S.faults input.new → (result ≡ 4) ⊎ Yields result (record { held = K.held out.old; faults = K.faults out.old }) (record { held = K.held out.new; faults = K.faults out.new }) }
     ensures folder_fault { F.faults folder.old < F.faults folder.new → (result ≡ 4) ⊎ Yields result (record { held = K.held out.old; faults = K.faults out.old }) (record { held = K.held out.new; faults = K.faults out.new }) }
     ensures write_fault { K.faults out.old < K.faults out.new → result ≡ 5 }
+    ensures net_fault { N.faults net.old < N.faults net.new → (result ≡ 6) ⊎ Yields result (record { held = K.held out.old; faults = K.faults out.old }) (record { held = K.held out.new; faults = K.faults out.new }) }
 
     // 8 exactly where more was read than a script may have.
     ensures long { result ≡ 8 → ReadsLong (record { left = S.left input.old; faults = S.faults input.old; ends = S.ends input.old }) (record { left = S.left input.new; faults = S.faults input.new; ends = S.ends input.new }) }
@@ -80,5 +100,16 @@ pub fn linker<R: AllocGlobal, F: Folder, S: Source, K: Sink>(
         (record { held = K.held out.old; faults = K.faults out.old }) (record { held = K.held out.new; faults = K.faults out.new }) result }
     ensures status { Contains statuses result }
 {
-    run::<F, S, K, Brand>(rt.alloc(), words, folder, input, out, Blank::new(1)).code()
+    run::<R, F, N, C, S, K, Brand>(
+        rt,
+        rt.alloc(),
+        words,
+        folder,
+        net,
+        clock,
+        input,
+        out,
+        Blank::new(1),
+    )
+    .code()
 }

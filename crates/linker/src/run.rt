@@ -7,11 +7,14 @@ use crate::check::{CheckEnd, check};
 use crate::ends::{ReadEnd, read_all, write_all};
 use crate::generated::{storm_line, weave_line};
 use crate::player::{PlayEnd, play};
+use crate::serve::serve;
 use crate::words::{Command, read_words};
 use crate::{Bytes, Mem};
-use line_base::{Folder, Sink, Source, Steps};
+use line_base::{Clock, Folder, Listener, Net, Sink, Source, Steps};
 use std::alloc::Global;
+use std::sync::Wait;
 use std::sync::ledger::{Blank, Ledger};
+use std::thread::Threads;
 
 /// The most bytes of a script.
 pub const MOST_SCRIPT: usize = 67_108_864;
@@ -29,6 +32,8 @@ pub enum Status {
     Read = 4,
     /// A write failed.
     Write = 5,
+    /// An address can't be listened on, or a listener is broken.
+    Net = 6,
     /// There was no memory.
     Memory = 7,
     /// The script is too long.
@@ -155,26 +160,40 @@ fn tell_made<K: Sink>(out: &mut K, made: Mem<Bytes>) -> Status
 }
 
 /// Does what the words say.
-pub fn run<F: Folder, S: Source, K: Sink, L: Ledger>(
+pub fn run<
+    R: Threads + Wait + Sync,
+    F: Folder,
+    N: Net + Send,
+    C: Clock + Drop + Send,
+    S: Source,
+    K: Sink,
+    L: Ledger,
+>(
+    rt: &R,
     alloc: Global,
     words: &[String],
     folder: &mut F,
+    net: &mut N,
+    clock: &mut C,
     input: &mut S,
     out: &mut K,
     blank: Blank,
 ) -> Status
+where
+    <N::L as Listener>::P: Send,
     requires name { blank.name ≡ L.name }
     requires parts { blank.parts ≡ L.parts }
     requires some { 0 < blank.parts }
     ensures { Ran (map string_bytes words.now)
         (record { left = S.left input.old; faults = S.faults input.old; ends = S.ends input.old }) (record { left = S.left input.new; faults = S.faults input.new; ends = S.ends input.new })
-        (record { files = F.files folder.old; faults = F.faults folder.old }) (record { files = F.files folder.new; faults = F.faults folder.new })
+        (record { files = F.files folder.old; faults = F.faults folder.old }) (record { files = F.files folder.new; faults = F.faults folder.new }) (record { faults = N.faults net.old }) (record { faults = N.faults net.new })
         (record { held = K.held out.old; faults = K.faults out.old }) (record { held = K.held out.new; faults = K.faults out.new }) (code_of result) }
 {
     let mut steps = Steps::<L>::start(blank);
     match read_words(words) {
         Ok(Command::Replay) => replay(alloc, input, out, &mut steps),
         Ok(Command::Check(path)) => check_config(alloc, folder, path, out),
+        Ok(Command::Serve(path)) => serve(rt, alloc, folder, path, net, clock, out),
         Ok(Command::Storm(run)) => tell_made(out, storm_line(alloc, run)),
         Ok(Command::Weave(run)) => tell_made(out, weave_line(alloc, run, &mut steps)),
         Err(place) => refuse_words(alloc, out, place),

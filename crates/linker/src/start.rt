@@ -2,21 +2,25 @@
 ghost use Rattle.std.specs.Prelude.{◌≡◌, ◌↔◌, IsTrue, IfOk, drop};
 ghost use Rattle.std.specs.Process.{exit_status};
 ghost use Rattle.std.specs.Vec.Iter.{into_iter_items};
-ghost use Rattle.linker.specs.Run.{Ran, Input, Filed, Output, words_of};
+ghost use Rattle.linker.specs.Run.{Ran, Input, Filed, Linked, Output, words_of};
 
 use crate::program::linker;
 use crate::run::{Status, tell};
-use line_base::{Folder, Sink, Source};
+use line_base::{Clock, Folder, Listener, Net, Sink, Source};
 use std::alloc::{AllocError, AllocGlobal, Global};
 use std::env::Args;
 use std::io::{self, ErrorKind};
 use std::process::ExitCode;
+use std::sync::Wait;
+use std::thread::Threads;
 
 /// What the process ends with.
 #[derive(Drop)]
 pub struct Exit {
     /// The code that it exits with, which is the program's status.
     pub code: ExitCode,
+    /// The program's status.
+    pub status: u8,
     /// Whether the words fit no command: how to call the program is then written to standard error.
     pub tells_usage: bool,
 }
@@ -36,48 +40,71 @@ fn words_behind_name(alloc: Global, arguments: Args) -> Result<Vec<String>, Allo
 }
 
 /// The status for the arguments of the process. Those that are no text are one empty word, which fits no command.
-fn status_for<R: AllocGlobal, F: Folder, S: Source, K: Sink>(
+fn status_for<
+    R: AllocGlobal + Threads + Wait + Sync,
+    F: Folder,
+    N: Net + Send,
+    C: Clock + Drop + Send,
+    S: Source,
+    K: Sink,
+>(
     rt: &R,
     arguments: io::Result<Args>,
     folder: &mut F,
+    net: &mut N,
+    clock: &mut C,
     input: &mut S,
     out: &mut K,
 ) -> u8
+where
+    <N::L as Listener>::P: Send,
     ensures { Ran (words_of arguments)
         (record { left = S.left input.old; faults = S.faults input.old; ends = S.ends input.old }) (record { left = S.left input.new; faults = S.faults input.new; ends = S.ends input.new })
-        (record { files = F.files folder.old; faults = F.faults folder.old }) (record { files = F.files folder.new; faults = F.faults folder.new })
+        (record { files = F.files folder.old; faults = F.faults folder.old }) (record { files = F.files folder.new; faults = F.faults folder.new }) (record { faults = N.faults net.old }) (record { faults = N.faults net.new })
         (record { held = K.held out.old; faults = K.faults out.old }) (record { held = K.held out.new; faults = K.faults out.new }) result }
 {
     let alloc = rt.alloc();
     match arguments {
         Ok(arguments) => match words_behind_name(alloc, arguments) {
-            Ok(words) => linker(rt, words.as_slice(), folder, input, out),
+            Ok(words) => linker(rt, words.as_slice(), folder, net, clock, input, out),
             Err(_) => tell(out, b"error memory\n", Status::Memory).code(),
         },
         Err(error) if error.kind() == ErrorKind::OutOfMemory => {
             tell(out, b"error memory\n", Status::Memory).code()
         }
-        Err(_) => linker(rt, &[String::new(alloc)], folder, input, out),
+        Err(_) => linker(rt, &[String::new(alloc)], folder, net, clock, input, out),
     }
 }
 
 /// Does what the arguments say, the first of which is the program's name, and gives what the process ends with.
-pub fn run_arguments<R: AllocGlobal, F: Folder, S: Source, K: Sink>(
+pub fn run_arguments<
+    R: AllocGlobal + Threads + Wait + Sync,
+    F: Folder,
+    N: Net + Send,
+    C: Clock + Drop + Send,
+    S: Source,
+    K: Sink,
+>(
     rt: &R,
     arguments: io::Result<Args>,
     folder: &mut F,
+    net: &mut N,
+    clock: &mut C,
     input: &mut S,
     out: &mut K,
 ) -> Exit
+where
+    <N::L as Listener>::P: Send,
     ensures ran { Ran (words_of arguments)
         (record { left = S.left input.old; faults = S.faults input.old; ends = S.ends input.old }) (record { left = S.left input.new; faults = S.faults input.new; ends = S.ends input.new })
-        (record { files = F.files folder.old; faults = F.faults folder.old }) (record { files = F.files folder.new; faults = F.faults folder.new })
+        (record { files = F.files folder.old; faults = F.faults folder.old }) (record { files = F.files folder.new; faults = F.faults folder.new }) (record { faults = N.faults net.old }) (record { faults = N.faults net.new })
         (record { held = K.held out.old; faults = K.faults out.old }) (record { held = K.held out.new; faults = K.faults out.new }) (exit_status result.code) }
     ensures usage { IsTrue result.tells_usage ↔ (exit_status result.code ≡ 2) }
 {
-    let status = status_for(rt, arguments, folder, input, out);
+    let status = status_for(rt, arguments, folder, net, clock, input, out);
     Exit {
         code: ExitCode::from(status),
+        status,
         tells_usage: status == 2,
     }
 }

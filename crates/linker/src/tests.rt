@@ -1,14 +1,16 @@
-//! The program over folders, sources and sinks in memory: scripts with their replies, configurations, words, limits, and faults at each call in turn. And
-//! the adapters over std.
-use crate::adapters::{ReaderSource, WriterSink};
-use crate::files::FileSystem;
+//! The program over folders, nets, sources and sinks in memory: scripts with their replies, configurations, words, limits, faults at each call in turn, and
+//! a router that serves. And the adapters over std.
 use crate::program::linker;
 use line_base::{
-    Failed, Folder, FolderFault, Found, MemFile, MemFolder, MemSink, MemSource, Sink, Source,
+    Failed, Folder, FolderFault, Found, MemAddress, MemClock, MemDials, MemFile, MemFolder, MemNet,
+    MemPeer, MemSink, MemSource, MemVisits, Sink, Source,
 };
-use std::alloc::{AllocError, Global};
+use net_edge::{FileSystem, ReaderSource, WriterSink};
+use std::alloc::{AllocError, AllocGlobal, Global};
 use std::os::unix::fs::symlink;
+use std::sync::Wait;
 use std::test::Fail;
+use std::thread::Threads;
 use std::{env, fs, process};
 
 /// A script with a table, a blank line and two picks, and what it writes.
@@ -17,8 +19,8 @@ const SAMPLE: &str = "dtab /svc => /$/inet/127.0.0.1/8080\n\npick /svc/a\npick /
 const SAMPLE_OUT: &str = "ok\n127.0.0.1:8080 /$/inet/127.0.0.1/8080 /a\nnegative\n";
 
 /// What is written, and the status, where there is no file.
-fn run(
-    rt: &HostRuntime,
+fn run<R: AllocGlobal + Threads + Wait + Sync>(
+    rt: &R,
     words: &[&str],
     source: MemSource,
     sink: MemSink,
@@ -29,8 +31,8 @@ fn run(
 }
 
 /// What is written, and the status.
-fn run_with(
-    rt: &HostRuntime,
+fn run_with<R: AllocGlobal + Threads + Wait + Sync>(
+    rt: &R,
     words: &[&str],
     folder: MemFolder,
     source: MemSource,
@@ -44,7 +46,22 @@ fn run_with(
     let mut folder = folder;
     let mut source = source;
     let mut sink = sink;
-    let status = linker(rt, owned.as_slice(), &mut folder, &mut source, &mut sink);
+    let mut net: MemNet<MemPeer> = MemNet::of(
+        alloc,
+        Vec::new(alloc),
+        Vec::new(alloc),
+        Vec::new(alloc),
+    );
+    let mut clock = MemClock::of(alloc, Vec::new(alloc))?;
+    let status = linker(
+        rt,
+        owned.as_slice(),
+        &mut folder,
+        &mut net,
+        &mut clock,
+        &mut source,
+        &mut sink,
+    );
     Ok((sink, status))
 }
 
@@ -61,7 +78,10 @@ fn sink(alloc: Global) -> MemSink {
 }
 
 /// What `replay` writes for a script, and its status.
-fn replayed(rt: &HostRuntime, script: &str) -> Result<(String, u8), Fail> {
+fn replayed<R: AllocGlobal + Threads + Wait + Sync>(
+    rt: &R,
+    script: &str,
+) -> Result<(String, u8), Fail> {
     let alloc = rt.alloc();
     let (sink, status) = run(rt, &["replay"], source(alloc, script)?, sink(alloc))?;
     let mut text = String::new(alloc);
@@ -308,7 +328,7 @@ fn words(rt: HostRuntime) -> Result<(), Fail> {
     let rows: [(&[&str], &str, u8); 14] = [
         (&[], "error words 1\n", 2),
         (&["storms"], "error words 1\n", 2),
-        (&["serve", "c.json"], "error words 1\n", 2),
+        (&["serve", "-c.json"], "error words 2\n", 2),
         (&[""], "error words 1\n", 2),
         (&["--help"], "error words 1\n", 2),
         (&["replay", "x"], "error words 2\n", 2),
@@ -404,7 +424,11 @@ fn one_file(alloc: Global, text: &[u8], failing: &[u64]) -> Result<MemFolder, Al
 }
 
 /// What `check` writes, and its status.
-fn checked(rt: &HostRuntime, path: &str, folder: MemFolder) -> Result<(MemSink, u8), AllocError> {
+fn checked<R: AllocGlobal + Threads + Wait + Sync>(
+    rt: &R,
+    path: &str,
+    folder: MemFolder,
+) -> Result<(MemSink, u8), AllocError> {
     let alloc = rt.alloc();
     run_with(
         rt,
@@ -590,5 +614,138 @@ fn over_the_file_system(rt: HostRuntime) -> Result<(), Fail> {
     assert!(rt; matches!(found[2], Ok(Found::Absent)));
     assert!(rt; matches!(found[3], Ok(Found::Absent)));
     assert!(rt; matches!(found[4], Err(FolderFault::Failed)));
+    Ok(())
+}
+
+/// What comes to a listener of a port: a connection that gives these bytes, and none where there are no bytes.
+fn visit(alloc: Global, port: u16, bytes: &str) -> Result<MemAddress<MemPeer>, AllocError> {
+    let mut peers = Vec::new(alloc);
+    if !bytes.is_empty() {
+        peers.push(MemPeer::of(source(alloc, bytes)?, sink(alloc)))?;
+    }
+    let visits = MemVisits {
+        peers,
+        failing: Vec::new(alloc),
+    };
+    Ok(MemAddress {
+        ip: 0x7f00_0001,
+        port,
+        visits: vec![in alloc; visits]?,
+    })
+}
+
+/// A net with these connections: to the router's first two listeners, and to one of each interface. Its first dialer is answered once, with `hi`.
+fn net_of(
+    alloc: Global,
+    first: &str,
+    second: &str,
+    namerd: &str,
+    admin: &str,
+) -> Result<MemNet<MemPeer>, AllocError> {
+    let mut addresses = Vec::new(alloc);
+    addresses.push(visit(alloc, 4140, first)?)?;
+    addresses.push(visit(alloc, 4140, second)?)?;
+    addresses.push(visit(alloc, 4180, namerd)?)?;
+    addresses.push(visit(alloc, 9990, admin)?)?;
+    let reply = "HTTP/1.1 200 OK\r\nContent-Length: 2\r\n\r\nhi";
+    let dials = MemDials {
+        replies: vec![in alloc; Vec::from_slice(alloc, reply.as_bytes())?]?,
+        sizes: Vec::new(alloc),
+        failing: Vec::new(alloc),
+    };
+    Ok(MemNet::of(alloc, addresses, vec![in alloc; dials]?, Vec::new(alloc)))
+}
+
+/// A folder with the configuration `conf/c.json`, and the service `web` at `disco`.
+fn folder_of(alloc: Global, config: &str) -> Result<MemFolder, AllocError> {
+    let files = [
+        ("conf", "c.json", config),
+        ("disco", "web", "127.0.0.1 9001\n"),
+    ];
+    let mut all = Vec::new(alloc);
+    for (folder, name, text) in files {
+        all.push(MemFile::of(
+            String::from_str(alloc, folder)?,
+            String::from_str(alloc, name)?,
+            Vec::from_slice(alloc, text.as_bytes())?,
+        ))?;
+    }
+    Ok(MemFolder::of(alloc, all, Vec::new(alloc)))
+}
+
+/// What the connections to a net were given, one after another.
+fn given(alloc: Global, net: &MemNet<MemPeer>) -> Result<String, AllocError> {
+    let mut text = String::new(alloc);
+    for ended in net.ended() {
+        for peer in ended.listener().returned() {
+            for byte in peer.sink().held() {
+                text.push(char::from(*byte))?;
+            }
+        }
+    }
+    Ok(text)
+}
+
+/// The status of `serve`, what it writes, and what the connections are given.
+fn served<R: AllocGlobal + Threads + Wait + Sync>(
+    rt: &R,
+    config: &str,
+    net: MemNet<MemPeer>,
+) -> Result<(MemSink, u8, String), AllocError> {
+    let alloc = rt.alloc();
+    let words = vec![in alloc;
+        String::from_str(alloc, "serve")?,
+        String::from_str(alloc, "conf/c.json")?,
+    ]?;
+    let mut folder = folder_of(alloc, config)?;
+    let mut net = net;
+    let mut clock = MemClock::of(alloc, Vec::new(alloc))?;
+    let mut source = source(alloc, "")?;
+    let mut sink = sink(alloc);
+    let status = linker(
+        rt,
+        words.as_slice(),
+        &mut folder,
+        &mut net,
+        &mut clock,
+        &mut source,
+        &mut sink,
+    );
+    Ok((sink, status, given(alloc, &net)?))
+}
+
+const FOR_WEB: &str = "GET / HTTP/1.1\r\nHost: web\r\n\r\n";
+
+/// A request that is routed, an edit and a shutdown. Where nothing more comes, a listener counts as closed.
+#[test]
+fn a_router_that_serves(rt: HostRuntime) -> Result<(), Fail> {
+    let edit =
+        "POST /api/1/dtabs/default HTTP/1.1\r\nHost: n\r\nContent-Type: application/dtab\r\nContent-Length: 12\r\n\r\n/other => /x";
+    let shutdown = "POST /admin/shutdown HTTP/1.1\r\nHost: a\r\n\r\n";
+    let net = net_of(rt.alloc(), FOR_WEB, "", edit, shutdown)?;
+    let config =
+        "{\"namers\":[{\"kind\":\"io.l5d.fs\",\"rootDir\":\"disco\"}],\"routers\":[{\"protocol\":\"http\",\"dtab\":\"/svc => /#/io.l5d.fs\"}],\"workers\":1}";
+    let (sink, status, given) = served(&rt, config, net)?;
+    let written = "serving 127.0.0.1:4140 127.0.0.1:4180 127.0.0.1:9990\nclosed 2\n";
+    assert_eq!(rt; (sink.held(), status), (written.as_bytes(), 0));
+    assert_eq!(rt;
+        given.as_str(),
+        "HTTP/1.1 200 OK\r\nContent-Length: 2\r\nVia: 1.1 linkerd\r\n\r\nhiHTTP/1.1 204 No Content\r\nETag: \"1\"\r\n\r\nHTTP/1.1 200 OK\r\nContent-Type: text/plain\r\nContent-Length: 4\r\nConnection: close\r\n\r\nbye\n"
+    );
+    Ok(())
+}
+
+/// Two requests that no table routes, each to a listener of its own.
+#[test]
+fn a_router_without_a_table(rt: HostRuntime) -> Result<(), Fail> {
+    let net = net_of(rt.alloc(), FOR_WEB, FOR_WEB, "", "")?;
+    let config = "{\"routers\":[{\"protocol\":\"http\"}],\"workers\":2}";
+    let (sink, status, given) = served(&rt, config, net)?;
+    let written = "serving 127.0.0.1:4140 127.0.0.1:4180 127.0.0.1:9990\nclosed 0\n";
+    assert_eq!(rt; (sink.held(), status), (written.as_bytes(), 0));
+    assert_eq!(rt;
+        given.as_str(),
+        "HTTP/1.1 502 Bad Gateway\r\nContent-Type: text/plain\r\nl5d-err: negative\r\nContent-Length: 9\r\n\r\nnegative\nHTTP/1.1 502 Bad Gateway\r\nContent-Type: text/plain\r\nl5d-err: negative\r\nContent-Length: 9\r\n\r\nnegative\n"
+    );
     Ok(())
 }

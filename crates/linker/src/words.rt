@@ -1,8 +1,8 @@
 //! The words of the command line.
-ghost use Rattle.std.specs.Prelude.{◌≡◌, None, Some, Ok, Err, IsTrue, IsFalse, MatchResult, map, string_bytes};
+ghost use Rattle.std.specs.Prelude.{◌≡◌, None, Some, Ok, Err, ℕ, List, IfOk, IfErr, IsTrue, IsFalse, MatchResult, map, string_bytes};
 ghost use Rattle.addr_book.specs.Addr.{at_most};
 ghost use Rattle.script.specs.Words.{number_of};
-ghost use Rattle.linker.specs.Words.{asked_by, command_of, replay, storm, weave, alone, path_word, check_words, of_run, most_turns, turns_words, seed_words};
+ghost use Rattle.linker.specs.Words.{asked_by, command_of, replay, storm, weave, alone, path_word, path_words, check, serve, Asked, of_run, most_turns, turns_words, seed_words};
 
 use script::read_number;
 
@@ -16,6 +16,8 @@ pub enum Command<'a> {
     Replay,
     /// `check CONFIG`: tell whether the configuration at this path is right.
     Check(&'a str),
+    /// `serve CONFIG`: serve by the configuration at this path, until it is stopped.
+    Serve(&'a str),
     /// `storm N SEED`: make a generated run of changes and picks on one state, and sum it up.
     Storm(Generated),
     /// `weave N SEED`: make a generated run of four passes, whose answers come later than their questions, and sum it up.
@@ -38,6 +40,7 @@ pub fn read_words(words: &[String]) -> Result<Command<'_>, usize>
     match words {
         [word, others @ ..] if word.as_str() == "replay" => read_replay(others),
         [word, others @ ..] if word.as_str() == "check" => read_check(others),
+        [word, others @ ..] if word.as_str() == "serve" => read_serve(others),
         [word, others @ ..] if word.as_str() == "storm" => read_storm(others),
         [word, others @ ..] if word.as_str() == "weave" => read_weave(others),
         _ => Err(1),
@@ -56,12 +59,33 @@ fn read_replay(others: &[String]) -> Result<Command<'_>, usize>
 
 /// `check` with the words behind it.
 fn read_check(others: &[String]) -> Result<Command<'_>, usize>
-    ensures { MatchResult result (λ command. check_words (map string_bytes others.now) ≡ Ok (asked_by command)) (λ place. check_words (map string_bytes others.now) ≡ Err place) }
+    ensures { MatchResult result (λ command. path_words check (map string_bytes others.now) ≡ Ok (asked_by command)) (λ place. path_words check (map string_bytes others.now) ≡ Err place) }
+{
+    match read_path_word(others) {
+        Ok(path) => Ok(Command::Check(path)),
+        Err(place) => Err(place),
+    }
+}
+
+/// The path behind a command, which is the last word.
+fn read_path_word(others: &[String]) -> Result<&str, usize>
+    ensures ok { IfOk result (λ path. (command : List ℕ → Asked) → path_words command (map string_bytes others.now) ≡ Ok (command path.now)) }
+    ensures err { IfErr result (λ place. (command : List ℕ → Asked) → path_words command (map string_bytes others.now) ≡ Err place) }
 {
     match others {
-        [path] if is_path(path.as_str()) => Ok(Command::Check(path.as_str())),
+        [path] if is_path(path.as_str()) => Ok(path.as_str()),
         [path, _, ..] if is_path(path.as_str()) => Err(3),
         _ => Err(2),
+    }
+}
+
+/// `serve` with the words behind it.
+fn read_serve(others: &[String]) -> Result<Command<'_>, usize>
+    ensures { MatchResult result (λ command. path_words serve (map string_bytes others.now) ≡ Ok (asked_by command)) (λ place. path_words serve (map string_bytes others.now) ≡ Err place) }
+{
+    match read_path_word(others) {
+        Ok(path) => Ok(Command::Serve(path)),
+        Err(place) => Err(place),
     }
 }
 

@@ -1,7 +1,7 @@
 use Rattle.std.proofs.Common.{map, sym, subst, true, false}
 use Rattle.std.specs.Prelude.{string_bytes}
-use Rattle.linker.specs.Run.{Input, Filed, Output, Ran}
-use Rattle.linker.proofs.Causes.{long_cause, known_status, refused_cause, shown_cause, read_cause, folder_cause, write_cause}
+use Rattle.linker.specs.Run.{Input, Filed, Linked, Output, Ran}
+use Rattle.linker.proofs.Causes.{long_cause, known_status, net_cause, refused_cause, shown_cause, read_cause, folder_cause, write_cause, net_fault_cause}
 use Rattle.linker.proofs.program.linker.Goals as goal
 
 pub returns-clause-longer : goal.returns-clause-longer
@@ -10,9 +10,11 @@ returns-clause-longer g c =
     let new_in : Input = record { left = g.S.Source.left c.run.new.input; faults = g.S.Source.faults c.run.new.input; ends = g.S.Source.ends c.run.new.input } in
     let old_files : Filed = record { files = g.F.Folder.files c.args.folder.now; faults = g.F.Folder.faults c.args.folder.now } in
     let new_files : Filed = record { files = g.F.Folder.files c.run.new.folder; faults = g.F.Folder.faults c.run.new.folder } in
+    let old_net : Linked = record { faults = g.N.Net.faults c.args.net.now } in
+    let new_net : Linked = record { faults = g.N.Net.faults c.run.new.net } in
     let old_out : Output = record { held = g.K.Sink.held c.args.out.now; faults = g.K.Sink.faults c.args.out.now } in
     let new_out : Output = record { held = g.K.Sink.held c.run.new.out; faults = g.K.Sink.faults c.run.new.out } in
-    long_cause (map string_bytes c.args.words.now) old_in new_in old_files new_files old_out new_out c.code.result (rw (← c.code.ensures) at c.run.ensures)
+    long_cause (map string_bytes c.args.words.now) old_in new_in old_files new_files old_net new_net old_out new_out c.code.result (rw (← c.code.ensures) at c.run.ensures)
 
 pub returns-clause-status : goal.returns-clause-status
 returns-clause-status g c =
@@ -20,9 +22,11 @@ returns-clause-status g c =
     let new_in : Input = record { left = g.S.Source.left c.run.new.input; faults = g.S.Source.faults c.run.new.input; ends = g.S.Source.ends c.run.new.input } in
     let old_files : Filed = record { files = g.F.Folder.files c.args.folder.now; faults = g.F.Folder.faults c.args.folder.now } in
     let new_files : Filed = record { files = g.F.Folder.files c.run.new.folder; faults = g.F.Folder.faults c.run.new.folder } in
+    let old_net : Linked = record { faults = g.N.Net.faults c.args.net.now } in
+    let new_net : Linked = record { faults = g.N.Net.faults c.run.new.net } in
     let old_out : Output = record { held = g.K.Sink.held c.args.out.now; faults = g.K.Sink.faults c.args.out.now } in
     let new_out : Output = record { held = g.K.Sink.held c.run.new.out; faults = g.K.Sink.faults c.run.new.out } in
-    known_status (map string_bytes c.args.words.now) old_in new_in old_files new_files old_out new_out c.code.result (rw (← c.code.ensures) at c.run.ensures)
+    known_status (map string_bytes c.args.words.now) old_in new_in old_files new_files old_net new_net old_out new_out c.code.result (rw (← c.code.ensures) at c.run.ensures)
 
 pub returns-clause-read_fault : goal.returns-clause-read_fault
 returns-clause-read_fault g c =
@@ -30,9 +34,11 @@ returns-clause-read_fault g c =
     let new_in : Input = record { left = g.S.Source.left c.run.new.input; faults = g.S.Source.faults c.run.new.input; ends = g.S.Source.ends c.run.new.input } in
     let old_files : Filed = record { files = g.F.Folder.files c.args.folder.now; faults = g.F.Folder.faults c.args.folder.now } in
     let new_files : Filed = record { files = g.F.Folder.files c.run.new.folder; faults = g.F.Folder.faults c.run.new.folder } in
+    let old_net : Linked = record { faults = g.N.Net.faults c.args.net.now } in
+    let new_net : Linked = record { faults = g.N.Net.faults c.run.new.net } in
     let old_out : Output = record { held = g.K.Sink.held c.args.out.now; faults = g.K.Sink.faults c.args.out.now } in
     let new_out : Output = record { held = g.K.Sink.held c.run.new.out; faults = g.K.Sink.faults c.run.new.out } in
-    read_cause (map string_bytes c.args.words.now) old_in new_in old_files new_files old_out new_out c.code.result (rw (← c.code.ensures) at c.run.ensures)
+    read_cause (map string_bytes c.args.words.now) old_in new_in old_files new_files old_net new_net old_out new_out c.code.result (rw (← c.code.ensures) at c.run.ensures)
 
 pub returns-clause-folder_fault : goal.returns-clause-folder_fault
 returns-clause-folder_fault g c =
@@ -40,9 +46,11 @@ returns-clause-folder_fault g c =
     let new_in : Input = record { left = g.S.Source.left c.run.new.input; faults = g.S.Source.faults c.run.new.input; ends = g.S.Source.ends c.run.new.input } in
     let old_files : Filed = record { files = g.F.Folder.files c.args.folder.now; faults = g.F.Folder.faults c.args.folder.now } in
     let new_files : Filed = record { files = g.F.Folder.files c.run.new.folder; faults = g.F.Folder.faults c.run.new.folder } in
+    let old_net : Linked = record { faults = g.N.Net.faults c.args.net.now } in
+    let new_net : Linked = record { faults = g.N.Net.faults c.run.new.net } in
     let old_out : Output = record { held = g.K.Sink.held c.args.out.now; faults = g.K.Sink.faults c.args.out.now } in
     let new_out : Output = record { held = g.K.Sink.held c.run.new.out; faults = g.K.Sink.faults c.run.new.out } in
-    folder_cause (map string_bytes c.args.words.now) old_in new_in old_files new_files old_out new_out c.code.result (rw (← c.code.ensures) at c.run.ensures)
+    folder_cause (map string_bytes c.args.words.now) old_in new_in old_files new_files old_net new_net old_out new_out c.code.result (rw (← c.code.ensures) at c.run.ensures)
 
 pub returns-clause-write_fault : goal.returns-clause-write_fault
 returns-clause-write_fault g c =
@@ -50,9 +58,23 @@ returns-clause-write_fault g c =
     let new_in : Input = record { left = g.S.Source.left c.run.new.input; faults = g.S.Source.faults c.run.new.input; ends = g.S.Source.ends c.run.new.input } in
     let old_files : Filed = record { files = g.F.Folder.files c.args.folder.now; faults = g.F.Folder.faults c.args.folder.now } in
     let new_files : Filed = record { files = g.F.Folder.files c.run.new.folder; faults = g.F.Folder.faults c.run.new.folder } in
+    let old_net : Linked = record { faults = g.N.Net.faults c.args.net.now } in
+    let new_net : Linked = record { faults = g.N.Net.faults c.run.new.net } in
     let old_out : Output = record { held = g.K.Sink.held c.args.out.now; faults = g.K.Sink.faults c.args.out.now } in
     let new_out : Output = record { held = g.K.Sink.held c.run.new.out; faults = g.K.Sink.faults c.run.new.out } in
-    write_cause (map string_bytes c.args.words.now) old_in new_in old_files new_files old_out new_out c.code.result (rw (← c.code.ensures) at c.run.ensures)
+    write_cause (map string_bytes c.args.words.now) old_in new_in old_files new_files old_net new_net old_out new_out c.code.result (rw (← c.code.ensures) at c.run.ensures)
+
+pub returns-clause-net_fault : goal.returns-clause-net_fault
+returns-clause-net_fault g c =
+    let old_in : Input = record { left = g.S.Source.left c.args.input.now; faults = g.S.Source.faults c.args.input.now; ends = g.S.Source.ends c.args.input.now } in
+    let new_in : Input = record { left = g.S.Source.left c.run.new.input; faults = g.S.Source.faults c.run.new.input; ends = g.S.Source.ends c.run.new.input } in
+    let old_files : Filed = record { files = g.F.Folder.files c.args.folder.now; faults = g.F.Folder.faults c.args.folder.now } in
+    let new_files : Filed = record { files = g.F.Folder.files c.run.new.folder; faults = g.F.Folder.faults c.run.new.folder } in
+    let old_net : Linked = record { faults = g.N.Net.faults c.args.net.now } in
+    let new_net : Linked = record { faults = g.N.Net.faults c.run.new.net } in
+    let old_out : Output = record { held = g.K.Sink.held c.args.out.now; faults = g.K.Sink.faults c.args.out.now } in
+    let new_out : Output = record { held = g.K.Sink.held c.run.new.out; faults = g.K.Sink.faults c.run.new.out } in
+    net_fault_cause (map string_bytes c.args.words.now) old_in new_in old_files new_files old_net new_net old_out new_out c.code.result (rw (← c.code.ensures) at c.run.ensures)
 
 pub returns-clause-ran : goal.returns-clause-ran
 returns-clause-ran g c =
@@ -60,9 +82,11 @@ returns-clause-ran g c =
     let new_in : Input = record { left = g.S.Source.left c.run.new.input; faults = g.S.Source.faults c.run.new.input; ends = g.S.Source.ends c.run.new.input } in
     let old_files : Filed = record { files = g.F.Folder.files c.args.folder.now; faults = g.F.Folder.faults c.args.folder.now } in
     let new_files : Filed = record { files = g.F.Folder.files c.run.new.folder; faults = g.F.Folder.faults c.run.new.folder } in
+    let old_net : Linked = record { faults = g.N.Net.faults c.args.net.now } in
+    let new_net : Linked = record { faults = g.N.Net.faults c.run.new.net } in
     let old_out : Output = record { held = g.K.Sink.held c.args.out.now; faults = g.K.Sink.faults c.args.out.now } in
     let new_out : Output = record { held = g.K.Sink.held c.run.new.out; faults = g.K.Sink.faults c.run.new.out } in
-    subst (Ran (map string_bytes c.args.words.now) old_in new_in old_files new_files old_out new_out) (sym c.code.ensures) c.run.ensures
+    subst (Ran (map string_bytes c.args.words.now) old_in new_in old_files new_files old_net new_net old_out new_out) (sym c.code.ensures) c.run.ensures
 
 pub returns-clause-refused : goal.returns-clause-refused
 returns-clause-refused g c =
@@ -70,9 +94,11 @@ returns-clause-refused g c =
     let new_in : Input = record { left = g.S.Source.left c.run.new.input; faults = g.S.Source.faults c.run.new.input; ends = g.S.Source.ends c.run.new.input } in
     let old_files : Filed = record { files = g.F.Folder.files c.args.folder.now; faults = g.F.Folder.faults c.args.folder.now } in
     let new_files : Filed = record { files = g.F.Folder.files c.run.new.folder; faults = g.F.Folder.faults c.run.new.folder } in
+    let old_net : Linked = record { faults = g.N.Net.faults c.args.net.now } in
+    let new_net : Linked = record { faults = g.N.Net.faults c.run.new.net } in
     let old_out : Output = record { held = g.K.Sink.held c.args.out.now; faults = g.K.Sink.faults c.args.out.now } in
     let new_out : Output = record { held = g.K.Sink.held c.run.new.out; faults = g.K.Sink.faults c.run.new.out } in
-    refused_cause (map string_bytes c.args.words.now) old_in new_in old_files new_files old_out new_out c.code.result (rw (← c.code.ensures) at c.run.ensures)
+    refused_cause (map string_bytes c.args.words.now) old_in new_in old_files new_files old_net new_net old_out new_out c.code.result (rw (← c.code.ensures) at c.run.ensures)
 
 pub returns-clause-done : goal.returns-clause-done
 returns-clause-done g c =
@@ -80,9 +106,11 @@ returns-clause-done g c =
     let new_in : Input = record { left = g.S.Source.left c.run.new.input; faults = g.S.Source.faults c.run.new.input; ends = g.S.Source.ends c.run.new.input } in
     let old_files : Filed = record { files = g.F.Folder.files c.args.folder.now; faults = g.F.Folder.faults c.args.folder.now } in
     let new_files : Filed = record { files = g.F.Folder.files c.run.new.folder; faults = g.F.Folder.faults c.run.new.folder } in
+    let old_net : Linked = record { faults = g.N.Net.faults c.args.net.now } in
+    let new_net : Linked = record { faults = g.N.Net.faults c.run.new.net } in
     let old_out : Output = record { held = g.K.Sink.held c.args.out.now; faults = g.K.Sink.faults c.args.out.now } in
     let new_out : Output = record { held = g.K.Sink.held c.run.new.out; faults = g.K.Sink.faults c.run.new.out } in
-    shown_cause (map string_bytes c.args.words.now) old_in new_in old_files new_files old_out new_out c.code.result (rw (← c.code.ensures) at c.run.ensures) true
+    shown_cause (map string_bytes c.args.words.now) old_in new_in old_files new_files old_net new_net old_out new_out c.code.result (rw (← c.code.ensures) at c.run.ensures) true
 
 pub returns-clause-wrong : goal.returns-clause-wrong
 returns-clause-wrong g c =
@@ -90,6 +118,20 @@ returns-clause-wrong g c =
     let new_in : Input = record { left = g.S.Source.left c.run.new.input; faults = g.S.Source.faults c.run.new.input; ends = g.S.Source.ends c.run.new.input } in
     let old_files : Filed = record { files = g.F.Folder.files c.args.folder.now; faults = g.F.Folder.faults c.args.folder.now } in
     let new_files : Filed = record { files = g.F.Folder.files c.run.new.folder; faults = g.F.Folder.faults c.run.new.folder } in
+    let old_net : Linked = record { faults = g.N.Net.faults c.args.net.now } in
+    let new_net : Linked = record { faults = g.N.Net.faults c.run.new.net } in
     let old_out : Output = record { held = g.K.Sink.held c.args.out.now; faults = g.K.Sink.faults c.args.out.now } in
     let new_out : Output = record { held = g.K.Sink.held c.run.new.out; faults = g.K.Sink.faults c.run.new.out } in
-    shown_cause (map string_bytes c.args.words.now) old_in new_in old_files new_files old_out new_out c.code.result (rw (← c.code.ensures) at c.run.ensures) false
+    shown_cause (map string_bytes c.args.words.now) old_in new_in old_files new_files old_net new_net old_out new_out c.code.result (rw (← c.code.ensures) at c.run.ensures) false
+
+pub returns-clause-net : goal.returns-clause-net
+returns-clause-net g c =
+    let old_in : Input = record { left = g.S.Source.left c.args.input.now; faults = g.S.Source.faults c.args.input.now; ends = g.S.Source.ends c.args.input.now } in
+    let new_in : Input = record { left = g.S.Source.left c.run.new.input; faults = g.S.Source.faults c.run.new.input; ends = g.S.Source.ends c.run.new.input } in
+    let old_files : Filed = record { files = g.F.Folder.files c.args.folder.now; faults = g.F.Folder.faults c.args.folder.now } in
+    let new_files : Filed = record { files = g.F.Folder.files c.run.new.folder; faults = g.F.Folder.faults c.run.new.folder } in
+    let old_net : Linked = record { faults = g.N.Net.faults c.args.net.now } in
+    let new_net : Linked = record { faults = g.N.Net.faults c.run.new.net } in
+    let old_out : Output = record { held = g.K.Sink.held c.args.out.now; faults = g.K.Sink.faults c.args.out.now } in
+    let new_out : Output = record { held = g.K.Sink.held c.run.new.out; faults = g.K.Sink.faults c.run.new.out } in
+    net_cause (map string_bytes c.args.words.now) old_in new_in old_files new_files old_net new_net old_out new_out c.code.result (rw (← c.code.ensures) at c.run.ensures)

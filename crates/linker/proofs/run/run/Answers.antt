@@ -10,7 +10,7 @@ returns-in-Ok-Storm g c =
     let files : Filed = record { files = g.F.Folder.files c.args.folder.now; faults = g.F.Folder.faults c.args.folder.now } in
     let run = c.in-Ok-Storm.run' in
     let made = c.tell_made.ensures (storm_line run.turns run.seed) c.storm_line.ensures in
-    (made.0, (rw c.in-Ok-Storm.ensures (rw c.in-Ok-Storm.field-0-is (made.1, refl, refl))), made.2)
+    (made.0, (rw c.in-Ok-Storm.ensures (rw c.in-Ok-Storm.field-0-is (made.1, refl, refl, refl))), made.2)
 
 pub returns-in-Ok-Weave : goal.returns-in-Ok-Weave
 returns-in-Ok-Weave g c =
@@ -18,4 +18,4 @@ returns-in-Ok-Weave g c =
     let files : Filed = record { files = g.F.Folder.files c.args.folder.now; faults = g.F.Folder.faults c.args.folder.now } in
     let run = c.in-Ok-Weave.run' in
     let made = c.tell_made-in-Ok-Weave.ensures (weave_line run.turns run.seed) c.weave_line.ensures in
-    (made.0, (rw c.in-Ok-Weave.ensures (rw c.in-Ok-Weave.field-0-is (made.1, refl, refl))), made.2)
+    (made.0, (rw c.in-Ok-Weave.ensures (rw c.in-Ok-Weave.field-0-is (made.1, refl, refl, refl))), made.2)

@@ -1,0 +1,224 @@
+#!/usr/bin/env python3
+"""Runs `linker serve` under load and counts wrong answers: `bench/faults.py [PROGRAM]`.
+
+- 1,000 connections at once on 16 workers, a request on each.
+- Eight kept connections for five seconds, while a table is put 200 times a second. Each table sends its requests on with its own number, so each reply shows the table that it was
+  answered by: on one connection the numbers never fall, and a table that was put is the next one's by its version.
+- Upstreams that close without a reply, that send no HTTP, and that end in the middle of a body.
+- A client that sends a byte at a time, and one that leaves in the middle of a reply.
+
+Then the proxy is shut down, and has to end with status 0. The script ends with 0 where nothing was wrong.
+"""
+import asyncio, contextlib, json, os, socket, sys, tempfile
+
+ROOT = os.path.dirname(os.path.dirname(os.path.abspath(__file__)))
+PROGRAM = sys.argv[1] if len(sys.argv) > 1 else os.path.join(ROOT, "linker")
+AT_ONCE, WORKERS, KEPT, SECONDS, SWAPS = 1000, 16, 8, 5, 200
+
+
+def free_ports(count):
+    sockets = [socket.socket() for _ in range(count)]
+    for one in sockets:
+        one.bind(("127.0.0.1", 0))
+    ports = [one.getsockname()[1] for one in sockets]
+    for one in sockets:
+        one.close()
+    return ports
+
+
+async def read_reply(reader):
+    """The status, the fields and the body of a reply with a Content-Length."""
+    head = (await reader.readuntil(b"\r\n\r\n")).decode("latin-1").split("\r\n")
+    fields = {name.lower(): value.strip() for name, _, value in (line.partition(":") for line in head[1:] if line)}
+    body = await reader.readexactly(int(fields.get("content-length", "0")))
+    return int(head[0].split(" ")[1]), fields, body
+
+
+async def ask(port, method, target, fields=(), body=b"", reader=None, writer=None):
+    """One request, over this connection or one of its own."""
+    own = reader is None
+    if own:
+        reader, writer = await asyncio.open_connection("127.0.0.1", port)
+    head = [f"{method} {target} HTTP/1.1", *(f"{name}: {value}" for name, value in fields)]
+    if body or method in ("PUT", "POST"):
+        head.append(f"Content-Length: {len(body)}")
+    if own:
+        head.append("Connection: close")
+    writer.write("\r\n".join(head).encode() + b"\r\n\r\n" + body)
+    await writer.drain()
+    reply = await read_reply(reader)
+    if own:
+        writer.close()
+    return reply
+
+
+async def echo_number(reader, writer):
+    """An upstream: its reply's body is the residual path of the request, which the table gave it."""
+    with contextlib.suppress(asyncio.IncompleteReadError, ConnectionError):
+        head = (await reader.readuntil(b"\r\n\r\n")).decode("latin-1").lower()
+        number = next((line.split(":", 1)[1].strip() for line in head.split("\r\n") if line.startswith("l5d-dst-residual:")), "?")
+        body = number.encode()
+        writer.write(b"HTTP/1.1 200 OK\r\nContent-Length: %d\r\n\r\n" % len(body) + body)
+        await writer.drain()
+    writer.close()
+
+
+def answers(text):
+    async def serve(reader, writer):
+        with contextlib.suppress(asyncio.IncompleteReadError, ConnectionError):
+            await reader.readuntil(b"\r\n\r\n")
+            writer.write(text)
+            await writer.drain()
+        writer.close()
+
+    return serve
+
+
+class Counts:
+    def __init__(self):
+        self.wrong = []
+
+    def expect(self, what, good):
+        if not good:
+            self.wrong.append(what)
+
+    def section(self, text, before):
+        print(f"{text}: {len(self.wrong) - before} wrong", flush=True)
+
+
+async def all_at_once(router, counts):
+    before, good = len(counts.wrong), 0
+
+    async def one(number):
+        nonlocal good
+        try:
+            status, _, body = await asyncio.wait_for(ask(router, "GET", "/", [("Host", "web")]), 120)
+            counts.expect(f"connection {number}: {status} {body!r}", status == 200 and body == b"/0")
+            good += 1
+        except (OSError, asyncio.TimeoutError, asyncio.IncompleteReadError) as fault:
+            counts.expect(f"connection {number}: {fault!r}", False)
+
+    await asyncio.gather(*(one(number) for number in range(AT_ONCE)))
+    counts.section(f"{AT_ONCE} connections at once on {WORKERS} workers, {good} answered", before)
+
+
+async def swaps_during_load(router, namerd, upstream, counts):
+    before, requests, version = len(counts.wrong), 0, 1
+    loop = asyncio.get_running_loop()
+    end = loop.time() + SECONDS
+    ready = asyncio.Event()
+
+    async def load(number):
+        nonlocal requests
+        reader, writer = await asyncio.open_connection("127.0.0.1", router)
+        seen = 0
+        while loop.time() < end or not ready.is_set():
+            status, _, body = await ask(router, "GET", "/", [("Host", "web")], reader=reader, writer=writer)
+            now = int(body[1:]) if status == 200 and body[:1] == b"/" and body[1:].isdigit() else -1
+            counts.expect(f"connection {number}: {status} {body!r} behind /{seen}", now >= seen)
+            seen = max(seen, now)
+            requests += 1
+        writer.close()
+        return seen
+
+    async def swap():
+        nonlocal version
+        reader, writer = await asyncio.open_connection("127.0.0.1", namerd)
+        began, number = loop.time(), 0
+        while loop.time() < end:
+            number += 1
+            table = f"/svc/web => /$/inet/127.0.0.1/{upstream}/{number}".encode()
+            status, fields, _ = await ask(
+                namerd, "PUT", "/api/1/dtabs/default", [("Host", "n"), ("If-Match", f'"{version}"')], table, reader, writer)
+            counts.expect(f"put {number}: {status} {fields.get('etag')}", status == 204 and fields.get("etag") == f'"{version + 1}"')
+            version += 1
+            await asyncio.sleep(max(0, began + number / SWAPS - loop.time()))
+        writer.close()
+        ready.set()
+        return number
+
+    *seen, swapped = await asyncio.gather(*(load(number) for number in range(KEPT)), swap())
+    counts.section(f"{requests} requests during {swapped} swaps in {SECONDS} s, the last seen {max(seen)}", before)
+    status, fields, body = await ask(namerd, "GET", "/api/1/dtabs/default", [("Host", "n"), ("Accept", "application/dtab")])
+    counts.expect(f"last table: {status} {fields.get('etag')} {body!r}",
+                  status == 200 and fields.get("etag") == f'"{version}"' and body.rstrip().endswith(f"/{swapped}".encode()))
+    status, _, body = await ask(router, "GET", "/", [("Host", "web")])
+    return swapped
+
+
+async def bad_upstreams(router, counts):
+    before = len(counts.wrong)
+    for name, want in (("early", b"upstream\n"), ("garbage", b"upstream\n"), ("closed", b"dial\n")):
+        status, fields, body = await ask(router, "GET", "/", [("Host", name)])
+        counts.expect(f"{name}: {status} {body!r}", status == 502 and body == want)
+    reader, writer = await asyncio.open_connection("127.0.0.1", router)
+    writer.write(b"GET / HTTP/1.1\r\nHost: short\r\n\r\n")
+    whole = await asyncio.wait_for(reader.read(), 30)
+    counts.expect(f"short: {whole!r}", whole.startswith(b"HTTP/1.1 200 OK\r\n") and whole.endswith(b"\r\n\r\nhalf"))
+    writer.close()
+    counts.section("upstreams that close early, send no HTTP, end in a body or are not there", before)
+
+
+async def bad_clients(router, counts):
+    before = len(counts.wrong)
+    reader, writer = await asyncio.open_connection("127.0.0.1", router)
+    for byte in b"GET / HTTP/1.1\r\nHost: web\r\n\r\n":
+        writer.write(bytes([byte]))
+        await writer.drain()
+        await asyncio.sleep(0.01)
+    status, _, _ = await read_reply(reader)
+    counts.expect(f"byte by byte: {status}", status == 200)
+    writer.close()
+    for _ in range(2 * WORKERS):
+        _, writer = await asyncio.open_connection("127.0.0.1", router)
+        writer.write(b"GET / HTTP/1.1\r\nHost: web\r\n\r\nGET")
+        await writer.drain()
+        writer.transport.abort()
+    status, _, _ = await asyncio.wait_for(ask(router, "GET", "/", [("Host", "web")]), 70)
+    counts.expect(f"behind clients that left: {status}", status == 200)
+    counts.section("a client that sends byte by byte, and clients that leave", before)
+
+
+async def main():
+    counts = Counts()
+    router, namerd, admin, number_port, early_port, garbage_port, short_port, closed_port = free_ports(8)
+    servers = [
+        await asyncio.start_server(echo_number, "127.0.0.1", number_port, backlog=2048),
+        await asyncio.start_server(answers(b""), "127.0.0.1", early_port),
+        await asyncio.start_server(answers(b"garbage\r\n\r\n"), "127.0.0.1", garbage_port),
+        await asyncio.start_server(answers(b"HTTP/1.1 200 OK\r\nContent-Length: 10\r\n\r\nhalf"), "127.0.0.1", short_port),
+    ]
+    inet = "/$/inet/127.0.0.1"
+    table = f"/svc/early => {inet}/{early_port}; /svc/garbage => {inet}/{garbage_port}; /svc/short => {inet}/{short_port}; /svc/closed => {inet}/{closed_port}"
+    config = {
+        "admin": {"port": admin}, "namerd": {"port": namerd}, "workers": WORKERS,
+        "routers": [{"protocol": "http", "dtab": table, "servers": [{"port": router}]}],
+    }
+    with tempfile.TemporaryDirectory() as work:
+        path = os.path.join(work, "c.json")
+        with open(path, "w") as file:
+            json.dump(config, file)
+        linker = await asyncio.create_subprocess_exec(PROGRAM, "serve", path, stdout=asyncio.subprocess.PIPE, stderr=asyncio.subprocess.DEVNULL)
+        print((await linker.stdout.readline()).decode().rstrip(), flush=True)
+        status, fields, _ = await ask(namerd, "POST", "/api/1/dtabs/default", [("Host", "n")], f"/svc/web => {inet}/{number_port}/0".encode())
+        counts.expect(f"create: {status}", status == 204 and fields.get("etag") == '"1"')
+        await all_at_once(router, counts)
+        await bad_upstreams(router, counts)
+        await bad_clients(router, counts)
+        swapped = await swaps_during_load(router, namerd, number_port, counts)
+        status, _, body = await ask(admin, "POST", "/admin/shutdown", [("Host", "a")])
+        counts.expect(f"shutdown: {status} {body!r}", status == 200 and body == b"bye\n")
+        rest = (await asyncio.wait_for(linker.stdout.read(), 90)).decode()
+        ended = await linker.wait()
+        print(f"{rest.rstrip()}, status {ended}")
+        words = rest.split()
+        counts.expect(f"end: {rest!r} {ended}", ended == 0 and words[:1] == ["closed"] and words[1:] and int(words[1]) == swapped + 1)
+    for server in servers:
+        server.close()
+    for wrong in counts.wrong[:20]:
+        print("wrong:", wrong)
+    print(f"{len(counts.wrong)} wrong")
+    return 1 if counts.wrong else 0
+
+
+sys.exit(asyncio.run(main()))

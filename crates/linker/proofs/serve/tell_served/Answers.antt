@@ -1,0 +1,22 @@
+use Rattle.std.proofs.Common.{ℕ, List, ◌++◌, refl, ap, subst, ◌∙◌, inr}
+use Rattle.std.specs.Prelude.{Bool}
+use Rattle.linker.specs.Run.{Output}
+use Rattle.linker.specs.Served.{Finish, short, closed_line, last_of, memory_line}
+use Rattle.linker.specs.Told.{Tells}
+use Rattle.linker.specs.declared.run.Status.TheVariants as status
+use Rattle.linker.proofs.serve.tell_served.Goals as goal
+
+pub returns-then-served : goal.returns-then-served
+returns-then-served g c =
+    let old : Output = record { held = g.K.Sink.held c.args.out.now; faults = g.K.Sink.faults c.args.out.now } in
+    let new : Output = record { held = g.K.Sink.held c.tell-then-served.new.out; faults = g.K.Sink.faults c.tell-then-served.new.out } in
+    let place = c.args.served.place in
+    let last : Bool → List ℕ = last_of place in (
+      closed_line place ++ memory_line,
+      short,
+      status.Memory,
+      inr (place, refl),
+      λ is. cc is,
+      refl,
+      subst (λ (line : List ℕ). Tells line status.Memory old new c.tell-then-served.result) (c.as_bytes.ensures.value ∙ (c.in-Ok.ensures ∙ ap last c.if-served.true)) c.tell-then-served.ensures,
+    )

@@ -1,0 +1,98 @@
+-- What `serve` writes, and why it ends.
+use Rattle.std.specs.Prelude.{◌≡◌, ◌⊎◌, ℕ, Bool, false, if◌then◌else◌, List, [], ◌∷◌, ◌++◌, codes, Option, None, Some, Ok, Err}
+use Rattle.line_base.specs.Counts.{Rose}
+use Rattle.serving.specs.declared.site.Site.{Site}
+use Rattle.linker_config.specs.declared.loaded.LoadedItem.{LoadedItem}
+use Rattle.std.specs.Fmt.{decimal}
+use Rattle.line_base.specs.declared.folder.Found.{Found}
+use Rattle.line_base.specs.declared.folder.Found.TheVariants.{Bytes, Absent, Longer}
+use Rattle.line_base.specs.Files.{File, FindsAt}
+use Rattle.linker_config.specs.declared.config.Config.{Config}
+use Rattle.linker_config.specs.declared.loaded.LoadFault.TheVariants.{BadFile, LongFile}
+use Rattle.linker_config.specs.Answers.{Reads}
+use Rattle.linker_config.specs.Folder.{Loads, Services}
+use Rattle.linker_config.specs.Lines.{port_text}
+use Rattle.linker.specs.Check.{TellsPath, most_config}
+
+-- how a router ends that was to serve: it was shut down, an address could not be listened on or the accepts of a listener failed, or memory was wanting
+pub data Finish : Type 0 where
+  shut_down : Finish
+  broken : Finish
+  short : Finish
+
+abbrev pub finish_code : Finish → ℕ
+finish_code shut_down = 0
+finish_code broken = 6
+finish_code short = 7
+
+-- a file with this text was found
+abbrev pub IsText : Found → List ℕ → Type 0
+IsText (Bytes text) wanted = wanted ≡ text.items
+IsText Absent wanted = ⊥
+IsText Longer wanted = ⊥
+
+-- the configuration that is found at a path
+abbrev pub IsConfig : Option (List File) → List ℕ → Config → Type 0
+IsConfig files path config = (found : Found) × FindsAt files path most_config found × (text : List ℕ) × IsText found text × Reads text (Ok config)
+
+-- the line that tells of the file of a service that is refused
+abbrev pub file_line : List ℕ → List ℕ
+file_line name = codes "error file " ++ name ++ 10 ∷ []
+
+-- the file of a service is bad or long: the first such, in the order of the names
+abbrev pub RefusesFile : Option (List File) → List ℕ → List ℕ → Type 0
+RefusesFile files root name = Loads files root (Err (LongFile name)) ⊎ ((line : ℕ) × Loads files root (Err (BadFile name line)))
+
+-- a service of the configured folder is refused: its file is, or the book has no room for it
+abbrev pub RefusesService : Option (List File) → Config → List ℕ → Type 0
+RefusesService files config line =
+    ((root : List ℕ) × (name : List ℕ) × (config.root ≡ Some root) × RefusesFile files root name × (line ≡ file_line name)) ⊎ (line ≡ codes "error book\n")
+
+-- this line tells why nothing is served
+abbrev pub IsRefused : Option (List File) → List ℕ → List ℕ → Type 0
+IsRefused files path line = TellsPath files path false line ⊎ ((config : Config) × IsConfig files path config × RefusesService files config line)
+
+-- the line that tells where a router serves: its own address, and those of the two interfaces
+abbrev pub serving_line : Config → List ℕ
+serving_line c = codes "serving " ++ port_text c.server ++ 32 ∷ port_text c.namerd ++ 32 ∷ port_text c.admin ++ 10 ∷ []
+
+-- the line that tells how many changes there were
+abbrev pub closed_line : ℕ → List ℕ
+closed_line place = codes "closed " ++ decimal place ++ 10 ∷ []
+
+-- the line that tells that memory is wanting
+abbrev pub memory_line : List ℕ
+memory_line = codes "error memory\n"
+
+-- what is told last: how many changes there were, behind which it may be told that memory was wanting in a session; or that the net failed; or that memory was wanting before it could be
+-- served
+abbrev pub IsLast : List ℕ → Finish → Type 0
+IsLast last shut_down = (place : ℕ) × (last ≡ closed_line place)
+IsLast last broken = last ≡ codes "error net\n"
+IsLast last short = (last ≡ memory_line) ⊎ ((place : ℕ) × (last ≡ closed_line place ++ memory_line))
+
+-- these lines tell how it was to serve: where, and then what is told last. Where an address can't be listened on, that is told alone
+pub record HasServed (c : Config) (lines : List ℕ) (finish : Finish) : Type 0 where
+  pub last : List ℕ
+  pub is_last : IsLast last finish
+  pub lines_are : (lines ≡ serving_line c ++ last) ⊎ ((finish ≡ broken) × (lines ≡ last))
+
+-- the net's count of faults rose exactly where it is said to have failed
+pub record TellsNet (before now : ℕ) (finish : Finish) : Type 0 where
+  pub rose : finish ≡ broken → Rose before now
+  pub kept : (finish ≡ broken → ⊥) → now ≡ before
+
+-- where a site is, by a configuration
+pub record IsSite (c : Config) (site : Site) : Type 0 where
+  pub server : site.server ≡ c.server
+  pub namerd : site.namerd ≡ c.namerd
+  pub admin : site.admin ≡ c.admin
+
+-- what the code's answer on services says of the folder that a configuration names, if it names one
+abbrev pub LoadsRoot : Option (List File) → Option (List ℕ) → Services → Type 0
+LoadsRoot files None told = (items : List LoadedItem) × (told ≡ Ok items)
+LoadsRoot files (Some root) told = Loads files root told
+
+-- the last line was told, or the write failed
+abbrev pub last_of : ℕ → Bool → List ℕ
+last_of place lacked_memory = if lacked_memory then closed_line place ++ memory_line else closed_line place
