@@ -1,19 +1,22 @@
 #!/usr/bin/env python3
-"""Runs `linker serve` under load and counts wrong answers: `bench/faults.py [PROGRAM]`.
+"""Runs `linker serve` under load and counts wrong answers: `bench/faults.py [PROGRAM] [--slow]`.
 
 - 1,000 connections at once on 16 workers, a request on each.
 - Eight kept connections for five seconds, while a table is put 200 times a second. Each table sends its requests on with its own number, so each reply shows the table that it was
   answered by: on one connection the numbers never fall, and a table that was put is the next one's by its version.
 - Upstreams that close without a reply, that send no HTTP, and that end in the middle of a body.
 - A client that sends a byte at a time, and one that leaves in the middle of a reply.
+- With `--slow`, for a minute and more: an upstream that never answers, a client that never reads and one that never asks, each of which is given up after 60 seconds, and a program
+  that is stopped and goes on meanwhile. Then every worker serves again.
 
 Then the proxy is shut down, and has to end with status 0. The script ends with 0 where nothing was wrong.
 """
-import asyncio, contextlib, json, os, socket, sys, tempfile
+import asyncio, contextlib, json, os, signal, socket, sys, tempfile
 
 ROOT = os.path.dirname(os.path.dirname(os.path.abspath(__file__)))
-PROGRAM = sys.argv[1] if len(sys.argv) > 1 else os.path.join(ROOT, "linker")
-AT_ONCE, WORKERS, KEPT, SECONDS, SWAPS = 1000, 16, 8, 5, 200
+SLOW = "--slow" in sys.argv[1:]
+PROGRAM = next((word for word in sys.argv[1:] if word != "--slow"), os.path.join(ROOT, "linker"))
+AT_ONCE, WORKERS, KEPT, SECONDS, SWAPS, LIMIT = 1000, 16, 8, 5, 200, 60
 
 
 def free_ports(count):
@@ -72,6 +75,22 @@ def answers(text):
         writer.close()
 
     return serve
+
+
+async def never_answers(reader, writer):
+    with contextlib.suppress(ConnectionError):
+        await reader.read()
+    writer.close()
+
+
+async def never_ends(reader, writer):
+    with contextlib.suppress(asyncio.IncompleteReadError, ConnectionError):
+        await reader.readuntil(b"\r\n\r\n")
+        writer.write(b"HTTP/1.1 200 OK\r\nContent-Length: 1000000000000\r\n\r\n")
+        while True:
+            writer.write(bytes(65536))
+            await writer.drain()
+    writer.close()
 
 
 class Counts:
@@ -179,17 +198,69 @@ async def bad_clients(router, counts):
     counts.section("a client that sends byte by byte, and clients that leave", before)
 
 
+async def slow_ends(router, counts, process):
+    before = len(counts.wrong)
+    loop = asyncio.get_running_loop()
+
+    async def timed(what, ends):
+        began = loop.time()
+        try:
+            good = await asyncio.wait_for(ends, LIMIT + 30)
+            counts.expect(f"{what}: ended after {loop.time() - began:.1f} s, {good}", good is True and LIMIT - 2 < loop.time() - began < LIMIT + 10)
+        except (OSError, asyncio.TimeoutError, asyncio.IncompleteReadError) as fault:
+            counts.expect(f"{what}: {fault!r} after {loop.time() - began:.1f} s", False)
+
+    async def unanswered():
+        status, _, body = await ask(router, "GET", "/", [("Host", "hangs")])
+        return status == 502 and body == b"upstream\n"
+
+    async def unasked():
+        reader, writer = await asyncio.open_connection("127.0.0.1", router)
+        said = await reader.read()
+        writer.close()
+        return said == b""
+
+    async def stopped():
+        await asyncio.sleep(5)
+        process.send_signal(signal.SIGSTOP)
+        await asyncio.sleep(0.5)
+        process.send_signal(signal.SIGCONT)
+
+    async def served(number):
+        reader, writer = await asyncio.open_connection("127.0.0.1", router)
+        status, _, _ = await ask(router, "GET", "/", [("Host", "web")], reader=reader, writer=writer)
+        return status, writer
+
+    # This client never reads, so its kernel never learns that it was given up: that every worker has a connection again shows it. Its last write may have been taken in part, and
+    # then the next one waits as long again.
+    unread = socket.create_connection(("127.0.0.1", router))
+    unread.sendall(b"GET / HTTP/1.1\r\nHost: endless\r\n\r\n")
+    await asyncio.gather(timed("no answer", unanswered()), timed("no request", unasked()), stopped())
+    try:
+        at_once = await asyncio.wait_for(asyncio.gather(*(served(number) for number in range(WORKERS))), LIMIT + 15)
+        counts.expect(f"workers behind them: {[status for status, _ in at_once]}", all(status == 200 for status, _ in at_once))
+        for _, writer in at_once:
+            writer.close()
+    except asyncio.TimeoutError:
+        counts.expect("workers behind them: not all serve", False)
+    unread.close()
+    counts.section("an upstream that never answers, clients that never read or ask, and a program that is stopped for a moment", before)
+
+
 async def main():
     counts = Counts()
-    router, namerd, admin, number_port, early_port, garbage_port, short_port, closed_port = free_ports(8)
+    router, namerd, admin, number_port, early_port, garbage_port, short_port, hangs_port, endless_port, closed_port = free_ports(10)
     servers = [
         await asyncio.start_server(echo_number, "127.0.0.1", number_port, backlog=2048),
         await asyncio.start_server(answers(b""), "127.0.0.1", early_port),
         await asyncio.start_server(answers(b"garbage\r\n\r\n"), "127.0.0.1", garbage_port),
         await asyncio.start_server(answers(b"HTTP/1.1 200 OK\r\nContent-Length: 10\r\n\r\nhalf"), "127.0.0.1", short_port),
+        await asyncio.start_server(never_answers, "127.0.0.1", hangs_port),
+        await asyncio.start_server(never_ends, "127.0.0.1", endless_port),
     ]
     inet = "/$/inet/127.0.0.1"
-    table = f"/svc/early => {inet}/{early_port}; /svc/garbage => {inet}/{garbage_port}; /svc/short => {inet}/{short_port}; /svc/closed => {inet}/{closed_port}"
+    ports = {"early": early_port, "garbage": garbage_port, "short": short_port, "hangs": hangs_port, "endless": endless_port, "closed": closed_port}
+    table = "; ".join(f"/svc/{name} => {inet}/{port}" for name, port in ports.items())
     config = {
         "admin": {"port": admin}, "namerd": {"port": namerd}, "workers": WORKERS,
         "routers": [{"protocol": "http", "dtab": table, "servers": [{"port": router}]}],
@@ -205,6 +276,8 @@ async def main():
         await all_at_once(router, counts)
         await bad_upstreams(router, counts)
         await bad_clients(router, counts)
+        if SLOW:
+            await slow_ends(router, counts, linker)
         swapped = await swaps_during_load(router, namerd, number_port, counts)
         status, _, body = await ask(admin, "POST", "/admin/shutdown", [("Host", "a")])
         counts.expect(f"shutdown: {status} {body!r}", status == 200 and body == b"bye\n")

@@ -11,8 +11,6 @@ from over_crates import print_output_of
 PROGRAM = r'''//! Times the reading of heads.
 #![tactic(auto)]
 
-ghost use Rattle.http_wire.specs.Sound.{IsSoundHead};
-
 use dtab_table::Dtab;
 use forward::{Going, forward_head};
 use http_wire::{Framing, Head, Rest, read_request_head};
@@ -103,9 +101,7 @@ fn sent_for(alloc: Global, bytes: &[u8]) -> Result<usize, AllocError> {
 }
 
 /// How long a head is as it goes on.
-fn written(alloc: Global, head: &Head) -> Result<usize, AllocError>
-    requires { IsSoundHead head.now }
-{
+fn written(alloc: Global, head: &Head) -> Result<usize, AllocError> {
     let to = Going {
         host: b"web",
         target: b"/",
@@ -115,9 +111,6 @@ fn written(alloc: Global, head: &Head) -> Result<usize, AllocError>
         client: b"/a",
         residual: b"/",
     };
-    if !to.is_sound() {
-        return Ok(0);
-    }
     let bytes = forward_head(alloc, head, &to)?;
     Ok(bytes.len())
 }

@@ -134,6 +134,7 @@ module _ (l0 l1 l2 : Option (List ℕ)) (k0 k1 k2 : List ℕ) (head : Head) (fra
               framing = framing;
               taken = b.taken;
               count = b.count;
+              within = b.within;
               front = begins_request (k0 ++ first) k1 (came ++ more) (k2 ++ more) b.taken head answer.0 framing answer.1 answer.2 (behind_both k1 came b.taken k2 more b.bytes) passes;
               whole =
                   whole_before framing b.taken body.items b.count k2 more (ends_before head framing passes)
@@ -141,21 +142,21 @@ module _ (l0 l1 l2 : Option (List ℕ)) (k0 k1 k2 : List ℕ) (head : Head) (fra
             }),
       )
 
-  shows_no_body : (bytes taken passed : List ℕ) (count : ℕ) (e : BodyEnd) → BeginsRequest bytes head framing taken k2
+  shows_no_body : (bytes taken passed : List ℕ) (count : ℕ) (e : BodyEnd) → count ≤ most_read → BeginsRequest bytes head framing taken k2
       → EndsBody framing (form_of false) most_read taken passed count k2 (Err e) → e ≢ BodyEnd.WriteFault → e ≢ BodyEnd.SendFault → e ≢ BodyEnd.RecvFault
       → ShowsNone bytes (of_body e (has_body head))
-  shows_no_body bytes taken passed count (BodyEnd.BadChunk n) front ends nw ns nr =
-      bad_body head (record { framing = framing; taken = taken; passed = passed; count = count; behind = k2; front = front; bad = ends.1 })
-  shows_no_body bytes taken passed count BodyEnd.TooLong front ends nw ns nr =
+  shows_no_body bytes taken passed count (BodyEnd.BadChunk n) within front ends nw ns nr =
+      bad_body head (record { framing = framing; taken = taken; passed = passed; count = count; behind = k2; within = within; front = front; bad = ends.1 })
+  shows_no_body bytes taken passed count BodyEnd.TooLong within front ends nw ns nr =
       long_body head (record { framing = framing; taken = taken; passed = passed; count = count; behind = k2; front = front; long = ends })
-  shows_no_body bytes taken passed count BodyEnd.Cut front ends nw ns nr =
-      inr (record { head = head; framing = framing; taken = taken; passed = passed; count = count; behind = k2; front = front; open_ = ends.1 })
-  shows_no_body bytes taken passed count BodyEnd.ReadFault front ends nw ns nr =
-      inr (record { head = head; framing = framing; taken = taken; passed = passed; count = count; behind = k2; front = front; open_ = ends })
-  shows_no_body bytes taken passed count BodyEnd.OutOfMemory front ends nw ns nr = tt
-  shows_no_body bytes taken passed count BodyEnd.WriteFault front ends nw ns nr = absurd (nw refl)
-  shows_no_body bytes taken passed count BodyEnd.SendFault front ends nw ns nr = absurd (ns refl)
-  shows_no_body bytes taken passed count BodyEnd.RecvFault front ends nw ns nr = absurd (nr refl)
+  shows_no_body bytes taken passed count BodyEnd.Cut within front ends nw ns nr =
+      inr (record { head = head; framing = framing; taken = taken; passed = passed; count = count; behind = k2; within = within; front = front; open_ = ends.1 })
+  shows_no_body bytes taken passed count BodyEnd.ReadFault within front ends nw ns nr =
+      inr (record { head = head; framing = framing; taken = taken; passed = passed; count = count; behind = k2; within = within; front = front; open_ = ends })
+  shows_no_body bytes taken passed count BodyEnd.OutOfMemory within front ends nw ns nr = tt
+  shows_no_body bytes taken passed count BodyEnd.WriteFault within front ends nw ns nr = absurd (nw refl)
+  shows_no_body bytes taken passed count BodyEnd.SendFault within front ends nw ns nr = absurd (ns refl)
+  shows_no_body bytes taken passed count BodyEnd.RecvFault within front ends nw ns nr = absurd (nr refl)
 
   -- a body that was not read
   pub no_body : (end : BodyEnd) (with_body : Bool) (refused : Refused) → with_body ≡ has_body head → refused ≡ of_body end with_body
@@ -172,7 +173,7 @@ module _ (l0 l1 l2 : Option (List ℕ)) (k0 k1 k2 : List ℕ) (head : Head) (fra
         first ++ came,
         Consumes-trans l0 l1 l2 first came reads.given read.1,
         subst (λ (bytes : List ℕ). ShowsNone bytes refused) (append_assoc k0 first came)
-            (subst (ShowsNone ((k0 ++ first) ++ came)) (ap (of_body end) (sym w) ∙ sym is) (shows_no_body ((k0 ++ first) ++ came) b.taken b.passed b.count end front b.ends no_write no_send no_recv)),
+            (subst (ShowsNone ((k0 ++ first) ++ came)) (ap (of_body end) (sym w) ∙ sym is) (shows_no_body ((k0 ++ first) ++ came) b.taken b.passed b.count end b.within front b.ends no_write no_send no_recv)),
       )
 
 module _ (T : Type 0) (e0 e1 e2 f0 f1 f2 : ℕ) (framing : Framing) (ends : e0 ≤ e1) (faults : f0 ≤ f1) where

@@ -12,7 +12,8 @@ use Rattle.router.specs.declared.naming.Naming.{Ghosts}
 use Rattle.router.specs.declared.pass.Pass.{Pass}
 use Rattle.ns_api.specs.declared.reply.ApiReply.{ApiReply}
 use Rattle.ns_api.specs.Answering.{IsTaken}
-use Rattle.ns_api.specs.Request.{closes, says_close}
+use Rattle.http_wire.specs.Fields.{names_close}
+use Rattle.ns_api.specs.Request.{closes}
 use Rattle.admin_api.specs.declared.request.Refused.{Refused}
 use Rattle.admin_api.specs.declared.request.Refused.TheVariants.{Ends, Own}
 use Rattle.admin_api.specs.declared.serving.Which.{Which}
@@ -118,7 +119,7 @@ module _ {J : Type 0} {g : Ghosts J} (which : Which) (last : Bool) (head : Head)
 
   -- behind the last request that a connection may carry, it ends
   pub not_last : Answers which last head body old new sent false None → last ≡ false
-  not_last (inl replied) = last_false replied.reply.stops (eqb head.version 0) (says_close head.fields) last replied.delivered.0
+  not_last (inl replied) = last_false replied.reply.stops (eqb head.version 0) (names_close head.fields) last replied.delivered.0
   not_last (inr wants) = absurd (no_want wants.is)
 
 -- ---- why a connection ended

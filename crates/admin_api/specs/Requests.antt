@@ -1,5 +1,5 @@
 -- The requests that the bytes of a connection begin with, and those that are refused before they are answered.
-use Rattle.std.specs.Prelude.{◌≡◌, ◌≢◌, ◌⊎◌, ℕ, Bool, true, false, List, [], ◌++◌, drop, codes, Option, Some, None, Ok, Err}
+use Rattle.std.specs.Prelude.{◌≡◌, ◌≢◌, ◌⊎◌, ℕ, ◌≤◌, Bool, true, false, List, [], ◌++◌, drop, codes, Option, Some, None, Ok, Err}
 use Rattle.http_wire.specs.declared.frames.Framing.{Framing}
 use Rattle.http_wire.specs.declared.frames.FramingFault.{FramingFault}
 use Rattle.http_wire.specs.declared.head.Head.{Head}
@@ -22,7 +22,7 @@ pub record IsTested (head : Head) (framing : Framing) : Type 0 where
   pub served : IsServed head.method head.target form
   pub framed : framing_of head.version head.fields ≡ Ok framing
   pub host : List ℕ
-  pub named : host_of head.version head.fields form.0 ≡ Some host
+  pub named : host_of head.version head.fields form.authority ≡ Some host
 
 -- the first test that refuses a head
 pub data Refuses (head : Head) : OwnError → Type 0 where
@@ -33,7 +33,7 @@ pub data Refuses (head : Head) : OwnError → Type 0 where
   bad_coding : (form : Form) → head.method ≢ codes "CONNECT" → IsServed head.method head.target form
       → framing_of head.version head.fields ≡ Err FramingFault.Coding → Refuses head own.Coding
   no_host : (form : Form) (framing : Framing) → head.method ≢ codes "CONNECT" → IsServed head.method head.target form
-      → framing_of head.version head.fields ≡ Ok framing → host_of head.version head.fields form.0 ≡ None → Refuses head own.Host
+      → framing_of head.version head.fields ≡ Ok framing → host_of head.version head.fields form.authority ≡ None → Refuses head own.Host
 
 -- the bytes begin with a head that passes the tests, and behind it these were taken of its body
 pub record BeginsRequest (bytes : List ℕ) (head : Head) (framing : Framing) (taken behind : List ℕ) : Type 0 where
@@ -42,21 +42,23 @@ pub record BeginsRequest (bytes : List ℕ) (head : Head) (framing : Framing) (t
   pub tested : IsTested head framing
   pub cut : drop len bytes ≡ taken ++ behind
 
--- the bytes begin with a whole request with this body, and these follow it
+-- the bytes begin with a whole request with this body, which is no longer than is served, and these follow it
 pub record IsRequest (bytes : List ℕ) (head : Head) (body behind : List ℕ) : Type 0 where
   pub framing : Framing
   pub taken : List ℕ
   pub count : ℕ
+  pub within : count ≤ most_read
   pub front : BeginsRequest bytes head framing taken behind
   pub whole : bodies.IsWholeBody framing (form_of false) taken body count behind
 
--- the bytes begin with a request whose body is badly chunked
+-- the bytes begin with a request whose body is badly chunked, behind no more content than is served
 pub record HasBadBody (bytes : List ℕ) (head : Head) : Type 0 where
   pub framing : Framing
   pub taken : List ℕ
   pub passed : List ℕ
   pub count : ℕ
   pub behind : List ℕ
+  pub within : count ≤ most_read
   pub front : BeginsRequest bytes head framing taken behind
   pub bad : bodies.IsBadBody framing (form_of false) taken passed count behind
 
@@ -70,7 +72,7 @@ pub record HasLongBody (bytes : List ℕ) (head : Head) : Type 0 where
   pub front : BeginsRequest bytes head framing taken behind
   pub long : bodies.IsTooLong framing (form_of false) most_read taken passed count behind
 
--- or whose body has not ended
+-- or whose body has not ended, and has no more content yet than is served
 pub record HasOpenBody (bytes : List ℕ) : Type 0 where
   pub head : Head
   pub framing : Framing
@@ -78,8 +80,9 @@ pub record HasOpenBody (bytes : List ℕ) : Type 0 where
   pub passed : List ℕ
   pub count : ℕ
   pub behind : List ℕ
+  pub within : count ≤ most_read
   pub front : BeginsRequest bytes head framing taken behind
-  pub open_ : bodies.IsUnfinished framing (form_of false) taken passed count behind
+  pub open_ : bodies.IsUnfinished framing (form_of false) most_read taken passed count behind
 
 -- the bytes show that their first request is refused, with this reply, which has its body or not
 pub data IsRefusedAs (bytes : List ℕ) : OwnError → Bool → Type 0 where

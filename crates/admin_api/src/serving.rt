@@ -8,8 +8,9 @@ ghost use Rattle.admin_api.specs.Serving.{Answers, HasCauses, IsDelivered, IsSer
 
 use crate::answering::admin_answer;
 use crate::request::{Refused, Request, read_request};
-use crate::writing::{refuse, write_all};
+use crate::writing::refuse;
 use crate::{Bytes, Mem};
+use body_wire::write_all;
 use http_wire::{Ended, Head, Rest};
 use line_base::{Peer, Stop};
 use ns_api::{ApiReply, closes, ns_answer};

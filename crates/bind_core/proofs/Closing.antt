@@ -1,9 +1,9 @@
 -- Lookups that end, in the list of those that were made.
-use Rattle.std.proofs.Common.{◌≡◌, ℕ, zero, suc, ◌+◌, ◌<◌, ◌≤◌, Bool, true, false, List, [], ◌∷◌, ◌++◌, length, map, get_or, Option, Some, None, refl, sym, ap, ◌∙◌, arith, append_assoc, length-append}
+use Rattle.std.proofs.Common.{◌≡◌, ℕ, zero, suc, ◌+◌, ◌<◌, ◌≤◌, Bool, true, false, List, [], ◌∷◌, ◌++◌, length, map, get_or, Option, Some, None, refl, ap, ◌∙◌, arith, append_assoc, length-append}
 use Rattle.std.specs.Prelude.{nat_lt, if◌then◌else◌}
 use Rattle.std.proofs.lemmas.Bool.Decides.{nat_tests}
 use Rattle.std.proofs.Math.ListN.{set}
-use Rattle.bind_core.specs.Delegation.{Ending, negative, failing, no_replica, too_deep, too_wide, bound, Visit, Told, or_else}
+use Rattle.bind_core.specs.Delegation.{Ending, negative, failing, no_replica, too_deep, too_wide, bound, Visit, Told}
 use Rattle.bind_core.specs.Outcome.{ended_as, traced}
 use Rattle.bind_core.specs.Stack.{ends_all, behind, end_at, closed, end_item, end_items, with_item}
 use Rattle.bind_core.specs.declared.trace.Ended.{Ended}

@@ -1,5 +1,5 @@
 -- Each union that a delegation finds has a member, and no weight in it is 0.
-use Rattle.std.proofs.Common.{◌≡◌, ◌-◌, ℕ, zero, suc, ◌<◌, Bool, true, false, List, [], ◌∷◌, ◌++◌, Option, Some, None, length, inl, inr, refl, sym, subst, arith}
+use Rattle.std.proofs.Common.{◌≡◌, ◌-◌, ℕ, zero, suc, ◌<◌, Bool, true, false, List, [], ◌∷◌, ◌++◌, Option, Some, None, length, inl, inr, sym, subst, arith}
 use Rattle.std.specs.Prelude.{nat_lt, if◌then◌else◌}
 use Rattle.std.proofs.lemmas.Bool.Decides.{nat_tests}
 use Rattle.name_tree.specs.Path.{Labels, canon_path}
@@ -8,7 +8,7 @@ use Rattle.dtab_table.specs.Dtab.{rewrites}
 use Rattle.dtab_table.specs.Rules.{Rule}
 use Rattle.addr_book.specs.declared.leaf.Leaf.{Leaf}
 use Rattle.bind_core.specs.declared.outcome.Outcome.{Outcome}
-use Rattle.addr_book.specs.Found.{Found, one, many, no_member, member, members, IsFilled, AreFilled}
+use Rattle.addr_book.specs.Found.{Found, members, IsFilled, AreFilled}
 use Rattle.bind_core.specs.Delegation.{Ending, Told, Evaluated, negative, failing, no_replica, too_deep, too_wide, bound, IfBound, or_else, is_too_deep, is_failing, is_empty, some_end, found_at, found_in, kept, together, walk, walk_all, walk_each, first_of, named_ending, Names, visited, lookup, outcome_of, most_deep, most_wide, most_path_bytes}
 use Rattle.bind_core.specs.Outcome.{ending_of}
 use Rattle.bind_core.proofs.Trees.{zero_or}

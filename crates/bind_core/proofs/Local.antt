@@ -6,7 +6,7 @@ use Rattle.name_tree.specs.Value.{TreeValue, TreeValues, Branches, leaf, neg, fa
 use Rattle.dtab_table.specs.Dtab.{rewrites}
 use Rattle.dtab_table.specs.Rules.{Rule}
 use Rattle.bind_core.specs.Delegation.{Ending, negative, failing, no_replica, too_deep, too_wide, bound, Visit, Told, Evaluated, or_else, is_too_deep, is_failing, is_empty, some_end, found_in, kept, joint_visits, together, walk, walk_all, walk_each, first_of, named_ending, Names, visited, lookup, most_deep, most_path_bytes}
-use Rattle.bind_core.specs.Laws.{AgreeAt, AgreeAtAll, IsLocal}
+use Rattle.bind_core.specs.Laws.{AgreeAtAll, IsLocal}
 
 abbrev paths : List Visit → List Labels
 paths vs = map (λ v. v.path) vs

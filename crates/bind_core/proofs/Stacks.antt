@@ -1,12 +1,12 @@
 -- What a stack makes of an ending.
-use Rattle.std.proofs.Common.{◌≡◌, ℕ, zero, suc, ◌+◌, ◌-◌, ◌<◌, ◌≤◌, List, [], ◌∷◌, ◌++◌, length, true, false, refl, sym, ap, ◌∙◌, arith, append_assoc, length-append}
+use Rattle.std.proofs.Common.{◌≡◌, ◌+◌, ◌≤◌, List, [], ◌∷◌, ◌++◌, length, true, refl, ap, ◌∙◌, arith, append_assoc, length-append}
 use Rattle.std.proofs.lemmas.List.{append-nil}
 use Rattle.dtab_table.specs.Rules.{Rule}
 use Rattle.bind_core.specs.declared.frame.Frame.{Frame}
 use Rattle.bind_core.specs.declared.frame.Frame.TheVariants as frame
 use Rattle.bind_core.specs.Delegation.{Names, Visit, Told, lookup, walk_each, negative, failing, no_replica, too_deep, too_wide, bound, or_else}
 use Rattle.bind_core.specs.Kept.{kept_of}
-use Rattle.bind_core.specs.Stack.{ends_all, stack_work, frame_work, union_branches, closed, choice_told, frame_on, resume}
+use Rattle.bind_core.specs.Stack.{ends_all, stack_work, union_branches, closed, choice_told, frame_on, resume}
 use Rattle.bind_core.proofs.Closing.{closed-more, closed-ended}
 use Rattle.bind_core.proofs.Unions.{union_told-more, union_told-ended}
 

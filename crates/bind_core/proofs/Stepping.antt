@@ -1,14 +1,13 @@
 -- The steps that change a stack: each leads to what it was asked for.
-use Rattle.std.proofs.Common.{◌≡◌, ℕ, zero, suc, ◌+◌, ◌-◌, ◌<◌, ◌≤◌, List, [], ◌∷◌, ◌++◌, length, map, Bool, true, false, inl, inr, Option, Some, None, refl, sym, ap, subst, ◌∙◌, arith, append_assoc, length-append}
-use Rattle.std.specs.Prelude.{nat_lt, IsTrue, if◌then◌else◌, Result, IfOk}
+use Rattle.std.proofs.Common.{◌≡◌, ℕ, zero, suc, ◌+◌, ◌-◌, ◌<◌, ◌≤◌, List, [], ◌∷◌, ◌++◌, length, Bool, true, false, Bor, inl, inr, Option, Some, None, refl, sym, ap, subst, ◌∙◌, arith, length-append}
+use Rattle.std.specs.Prelude.{nat_lt, IsTrue, Result, IfOk, MatchOption}
 use Rattle.std.proofs.lemmas.Bool.{cases_lt}
 use Rattle.std.proofs.lemmas.Bool.Decides.{nat_tests}
 use Rattle.std.proofs.lemmas.List.{append-nil}
 use Rattle.name_tree.specs.Path.{Labels, canon_path}
 use Rattle.name_tree.specs.Value.{TreeValue, leaf, alt, tree_values, Branches, union}
-use Rattle.name_tree.specs.Tree.{value_of}
-use Rattle.name_tree.specs.declared.tree.Tree.{Tree}
-use Rattle.dtab_table.specs.Dtab.{rewrites}
+use Rattle.dtab_table.specs.declared.entry.Entry.{Entry}
+use Rattle.dtab_table.specs.Dtab.{rewrites, rewritten_by_each}
 use Rattle.dtab_table.specs.Rules.{Rule}
 use Rattle.bind_core.specs.declared.frame.Choice.{Choice}
 use Rattle.bind_core.specs.declared.frame.Union.{Union}
@@ -20,10 +19,13 @@ use Rattle.bind_core.specs.declared.outcome.Outcome.TheVariants as outcome
 use Rattle.bind_core.specs.declared.work.Work.{Work}
 use Rattle.bind_core.specs.declared.work.Task.{Task}
 use Rattle.bind_core.specs.declared.work.Task.TheVariants as task
-use Rattle.bind_core.specs.Delegation.{Ending, Names, Visit, Told, first_of, visited, lookup, named_ending, walk, walk_each, most_deep, most_wide, most_path_bytes, negative, failing, no_replica, too_deep, too_wide, bound, or_else}
+use Rattle.bind_core.specs.Delegation.{Ending, Names, Visit, Told, first_of, visited, lookup, named_ending, walk, walk_each, most_deep, most_wide, most_path_bytes, negative, too_deep, or_else}
 use Rattle.bind_core.specs.Kept.{kept_of, nothing_kept}
 use Rattle.bind_core.specs.Outcome.{ending_of, ended_as, traced}
-use Rattle.bind_core.specs.Stack.{ends_all, behind, closed, end_items, with_item, tree_work, list_work, path_work, stack_work, frame_work, choice_work, choice_names, union_branches, choice_told, choice_on, lookup_on, frame_on, resume, Fits, IsTooWide, IsStep, LeadsTo}
+use Rattle.bind_core.specs.Rewritten.{labels_of, tree_of}
+use Rattle.bind_core.specs.declared.rewritten.HeldPath.{HeldPath}
+use Rattle.bind_core.specs.declared.rewritten.Rewritten.{Rewritten}
+use Rattle.bind_core.specs.Stack.{ends_all, behind, closed, end_items, with_item, tree_work, list_work, path_work, choice_work, choice_names, union_branches, lookup_on, Fits, IsStep, LeadsTo}
 use Rattle.bind_core.proofs.Trees.{walk_all-tree_values, all_work-tree_values}
 use Rattle.bind_core.proofs.Narrow.{IsNarrow, walk_each-AreNarrow, lookup-IsNarrow, or_else-IsNarrow, first_of-IsNarrow, named_ending-IsNarrow}
 use Rattle.bind_core.proofs.Unions.{union_told-together}
@@ -31,9 +33,18 @@ use Rattle.bind_core.proofs.Closing.{length-closed, kept-closed, kept-begun, clo
 use Rattle.bind_core.proofs.Stacks.{or_else-assoc, ended}
 
 -- what a test of a length says where it fails
-pub longer : (test : Bool) (n most : ℕ) → (IsTrue test → n ≤ most) × (n ≤ most → IsTrue test) → test ≡ false → most < n
+longer : (test : Bool) (n most : ℕ) → (IsTrue test → n ≤ most) × (n ≤ most → IsTrue test) → test ≡ false → most < n
 longer true n most fits no_fit = cc
 longer false n most fits no_fit = elim (cases_lt most n) [ inl long ↦ long | inr short ↦ (let test : IsTrue false = fits.1 short in cc) ]
+
+-- and so of a path that is seen
+pub long_path : (test : Bool) (seen path : Labels) → seen ≡ path → (IsTrue test → length (canon_path seen) ≤ most_path_bytes) × (length (canon_path seen) ≤ most_path_bytes → IsTrue test) → test ≡ false
+    → most_path_bytes < length (canon_path path)
+long_path test seen path is fits no_fit = subst (λ (ls : Labels). most_path_bytes < length (canon_path ls)) is (longer test (length (canon_path seen)) most_path_bytes fits no_fit)
+
+-- a path that is seen is as short as it is
+pub short_path : (seen path : Labels) → seen ≡ path → length (canon_path seen) ≤ most_path_bytes → length (canon_path path) ≤ most_path_bytes
+short_path seen path is short = subst (λ (ls : Labels). length (canon_path ls) ≤ most_path_bytes) is short
 
 closed-is : (visit : Option ℕ) (e : Ending) (vs : List Visit) → ends_all e ≡ false → closed visit (e, vs) ≡ (e, (closed visit (e, vs)).1)
 closed-is None e vs goes_on = refl
@@ -71,11 +82,11 @@ module _ (rules : List Rule) (names : Names) (most : ℕ) where
   }
 
   -- a step that leaves a tree to try, and a frame with those behind it
-  pub push_step : (old new : Work) (g : Choice) (tree : Tree) (left : ℕ) → old.count ≤ most_wide → new.stack.items ≡ old.stack.items ++ frame.Choice g ∷ [] → new.count ≡ old.count
+  pub push_step : (old new : Work) (g : Choice) (tree : Rewritten) (left : ℕ) → old.count ≤ most_wide → new.stack.items ≡ old.stack.items ++ frame.Choice g ∷ [] → new.count ≡ old.count
       → new.visits ≡ old.visits → g.left ≡ left
       → IsStep rules names most
-      (λ vs. closed g.visit (behind vs (or_else (or_else (walk (lookup rules names left) (value_of tree)) (first_of (lookup rules names left) (choice_names g))) (named_ending g.named, []))))
-      (1 + (tree_work (path_work rules left) (value_of tree) + list_work (path_work rules left) (choice_names g))) old new (task.Try tree left)
+      (λ vs. closed g.visit (behind vs (or_else (or_else (walk (lookup rules names left) (tree_of tree)) (first_of (lookup rules names left) (choice_names g))) (named_ending g.named, []))))
+      (1 + (tree_work (path_work rules left) (tree_of tree) + list_work (path_work rules left) (choice_names g))) old new (task.Try tree left)
   push_step old new g tree left few pushed count_is visits_are left_is =
       let look = lookup rules names left in
       let frame_turns : choice_work rules g ≡ list_work (path_work rules left) (choice_names g) = rw left_is refl in
@@ -90,17 +101,17 @@ module _ (rules : List Rule) (names : Names) (most : ℕ) where
           same =
               rw left_is
               (ap (closed g.visit)
-              (or_else-assoc (negative, vs) (walk look (value_of tree)) (or_else (first_of look (choice_names g)) (named_ending g.named, []))
-              ∙ ap (behind vs) (sym (or_else-assoc (walk look (value_of tree)) (first_of look (choice_names g)) (named_ending g.named, [])))));
+              (or_else-assoc (negative, vs) (walk look (tree_of tree)) (or_else (first_of look (choice_names g)) (named_ending g.named, []))
+              ∙ ap (behind vs) (sym (or_else-assoc (walk look (tree_of tree)) (first_of look (choice_names g)) (named_ending g.named, [])))));
         });
       }
 
   -- a step that leaves nothing but a tree to try, where no lookup is kept
-  pub last_step : (old : Work) (tree : Tree) (visit left : ℕ) → most ≡ 0 → old.count ≤ most_wide → visit < old.count
-      → IsStep rules names most (λ vs. closed (Some visit) (behind vs (or_else (or_else (walk (lookup rules names left) (value_of tree)) (negative, [])) (negative, []))))
-      (1 + (tree_work (path_work rules left) (value_of tree) + 1)) old old (task.Try tree left)
+  pub last_step : (old : Work) (tree : Rewritten) (visit left : ℕ) → most ≡ 0 → old.count ≤ most_wide → visit < old.count
+      → IsStep rules names most (λ vs. closed (Some visit) (behind vs (or_else (or_else (walk (lookup rules names left) (tree_of tree)) (negative, [])) (negative, []))))
+      (1 + (tree_work (path_work rules left) (tree_of tree) + 1)) old old (task.Try tree left)
   last_step old tree visit left none few before =
-      let told = walk (lookup rules names left) (value_of tree) in
+      let told = walk (lookup rules names left) (tree_of tree) in
       record {
         more = [];
         pushed = sym (append-nil old.stack.items);
@@ -201,14 +212,28 @@ module _ (rules : List Rule) (names : Names) (path : Labels) where
             subst (λ (whole : Told). LeadsTo rules names most whole step.more new next) same (step.leads (vs ++ v ∷ []) begun);
       }
 
-pub looked_up : (rules : List Rule) (names : Names) (path : Labels) (left : ℕ) (old mid new : Work) (next : Task) (ts : List TreeValue) (named : Option Leaf) → 0 < left
+looked_up_as : (rules : List Rule) (names : Names) (path : Labels) (left : ℕ) (old mid new : Work) (next : Task) (ts : List TreeValue) (named : Option Leaf) → 0 < left
     → length (canon_path path) ≤ most_path_bytes → ts ≡ rewrites rules path → named ≡ names path → mid.stack.items ≡ old.stack.items → mid.count ≡ old.count + 1 → mid.visits.most ≡ old.visits.most
     → mid.visits.items.items ≡ with_item old.visits.most old.count (traced (record { depth = most_deep - left; path = path; ending = too_deep })) old.visits.items.items
     → IsStep rules names mid.visits.most (λ vs. lookup_on rules names ts named old.count (left - 1) vs) (list_work (path_work rules (left - 1)) ts) mid new next
     → IsStep rules names old.visits.most (λ vs. behind vs (lookup rules names left path)) (path_work rules left path) old new next
-looked_up rules names path left old mid new next ts named some short trees_are named_is stack_is count_is most_is items_are step =
+looked_up_as rules names path left old mid new next ts named some short trees_are named_is stack_is count_is most_is items_are step =
     lookup_step rules names path old.visits.most left old mid new next ts named some short trees_are named_is stack_is count_is most_is items_are
     (subst (λ (k : ℕ). IsStep rules names k (λ vs. lookup_on rules names ts named old.count (left - 1) vs) (list_work (path_work rules (left - 1)) ts) mid new next) most_is step)
+
+-- a lookup of a path that is seen
+pub looked_up : (rules : List Rule) (names : Names) (seen path : Labels) (left : ℕ) (old mid new : Work) (next : Task) (entries left_over : List (Bor Entry)) (named : Option Leaf) → seen ≡ path → left_over ≡ entries
+    → 0 < left → length (canon_path seen) ≤ most_path_bytes → rewritten_by_each seen entries ≡ rewrites rules seen → named ≡ names seen → mid.stack.items ≡ old.stack.items → mid.count ≡ old.count + 1
+    → mid.visits.most ≡ old.visits.most
+    → mid.visits.items.items ≡ with_item old.visits.most old.count (traced (record { depth = most_deep - left; path = seen; ending = too_deep })) old.visits.items.items
+    → IsStep rules names mid.visits.most (λ vs. lookup_on rules names (rewritten_by_each path left_over) named old.count (left - 1) vs) (list_work (path_work rules (left - 1)) (rewritten_by_each path left_over)) mid new next
+    → IsStep rules names old.visits.most (λ vs. behind vs (lookup rules names left path)) (path_work rules left path) old new next
+looked_up rules names seen path left old mid new next entries left_over named is all some short trees_are named_is stack_is count_is most_is items_are step =
+    let Stepped : Labels → List (Bor Entry) → Type 0 = λ ls es.
+    IsStep rules names mid.visits.most (λ vs. lookup_on rules names (rewritten_by_each ls es) named old.count (left - 1) vs) (list_work (path_work rules (left - 1)) (rewritten_by_each ls es)) mid new next in
+    subst (λ (ls : Labels). IsStep rules names old.visits.most (λ vs. behind vs (lookup rules names left ls)) (path_work rules left ls) old new next) is
+    (looked_up_as rules names seen left old mid new next (rewritten_by_each seen entries) named some short trees_are named_is stack_is count_is most_is items_are
+    (subst (Stepped seen) all (subst (λ (ls : Labels). Stepped ls left_over) (sym is) step)))
 
 module _ (rules : List Rule) (names : Names) (most : ℕ) (tree : TreeValue) (left : ℕ) (old new : Work) (few : old.count ≤ most_wide) (count_is : new.count ≡ old.count) (visits_are : new.visits ≡ old.visits) where
   kept_fits : (vs : List Visit) → Fits most vs old → Fits most vs new
@@ -257,9 +282,23 @@ mark_step rules names most tree mark left old o few is comes some =
     tell_step rules names most (λ vs. behind vs (walk (lookup rules names left) tree)) (tree_work (path_work rules left) tree) old o (rw is some) few
     (λ vs. rw (is, comes) (ap (λ (xs : List Visit). (ending_of o, xs)) (sym (append-nil vs))))
 
--- and a leaf is looked up
-pub leaf_step : {E : Type 0} (rules : List Rule) (names : Names) (most : ℕ) (tree : TreeValue) (path : Labels) (left : ℕ) (old new : Work) (r : Result Task E) → tree ≡ leaf path
-    → IfOk r (IsStep rules names most (λ vs. behind vs (lookup rules names left path)) (path_work rules left path) old new)
+-- and a leaf is looked up, with the rest behind it
+pub leaf_step : {E : Type 0} (rules : List Rule) (names : Names) (most : ℕ) (tree : TreeValue) (path : Labels) (left : ℕ) (old new : Work) (r : Result Task E) (joined : Option HeldPath) (held : HeldPath) → tree ≡ leaf path
+    → joined ≡ Some held → MatchOption joined (most_path_bytes < length (canon_path path)) (λ h. labels_of h ≡ path)
+    → IfOk r (IsStep rules names most (λ vs. behind vs (lookup rules names left (labels_of held))) (path_work rules left (labels_of held)) old new)
     → IfOk r (IsStep rules names most (λ vs. behind vs (walk (lookup rules names left) tree)) (tree_work (path_work rules left) tree) old new)
-leaf_step rules names most tree path left old new r is step =
-    subst (λ (t : TreeValue). IfOk r (IsStep rules names most (λ vs. behind vs (walk (lookup rules names left) t)) (tree_work (path_work rules left) t) old new)) (sym is) step
+leaf_step rules names most tree path left old new r joined held is there said step =
+    let Joined : Option HeldPath → Type 0 = λ o. MatchOption o (most_path_bytes < length (canon_path path)) (λ h. labels_of h ≡ path) in
+    let same : labels_of held ≡ path = subst Joined there said in
+    let Stepped : TreeValue → Type 0 = λ t. IfOk r (IsStep rules names most (λ vs. behind vs (walk (lookup rules names left) t)) (tree_work (path_work rules left) t) old new) in
+    subst Stepped (ap leaf same ∙ sym is) step
+
+-- one that is too long is too deep
+pub long_leaf_step : (rules : List Rule) (names : Names) (most : ℕ) (tree : TreeValue) (path : Labels) (left : ℕ) (old : Work) (joined : Option HeldPath) → old.count ≤ most_wide → tree ≡ leaf path
+    → joined ≡ None → MatchOption joined (most_path_bytes < length (canon_path path)) (λ h. labels_of h ≡ path)
+    → IsStep rules names most (λ vs. behind vs (walk (lookup rules names left) tree)) (tree_work (path_work rules left) tree) old old (task.Tell outcome.TooDeep)
+long_leaf_step rules names most tree path left old joined few is none said =
+    let Joined : Option HeldPath → Type 0 = λ o. MatchOption o (most_path_bytes < length (canon_path path)) (λ h. labels_of h ≡ path) in
+    let long : most_path_bytes < length (canon_path path) = subst Joined none said in
+    subst (λ (t : TreeValue). IsStep rules names most (λ vs. behind vs (walk (lookup rules names left) t)) (tree_work (path_work rules left) t) old old (task.Tell outcome.TooDeep)) (sym is)
+    (deep_step rules names path most left old few (lookup-long rules names path left long))

@@ -5,9 +5,8 @@ use Rattle.dtab_table.specs.Rules.{Rule}
 use Rattle.bind_core.specs.declared.outcome.Delegated.{Delegated}
 use Rattle.bind_core.specs.declared.outcome.Wanted.{Wanted}
 use Rattle.bind_core.specs.declared.outcome.Wanted.TheVariants as wanted
-use Rattle.bind_core.specs.declared.trace.TraceItem.{TraceItem}
 use Rattle.bind_core.specs.declared.work.Work.{Work}
-use Rattle.bind_core.specs.Delegation.{Names, Visit, Told, told_in, visits_within, most_asked, most_wide}
+use Rattle.bind_core.specs.Delegation.{Names, Visit, told_in, visits_within, most_asked}
 use Rattle.bind_core.specs.Outcome.{traced, most_for, paths_for, items_for, asked_told, trace_told, IsDelegated}
 use Rattle.bind_core.specs.Stack.{IsAnswer}
 

@@ -6,11 +6,8 @@ use Rattle.std.specs.declared.vec.IntoIter.{IntoIter}
 use Rattle.std.specs.Vec.Iter.{into_iter_items, into_iter_len}
 use Rattle.std.proofs.lemmas.Bool.Decides.{nat_tests}
 use Rattle.std.proofs.lemmas.List.{append-nil}
-use Rattle.name_tree.specs.declared.tree.Tree.{Tree}
-use Rattle.name_tree.specs.declared.tree.Branch.{Branch}
 use Rattle.name_tree.specs.Path.{Labels}
 use Rattle.name_tree.specs.Value.{TreeValue, Branches, no_branch, branch}
-use Rattle.name_tree.specs.Tree.{value_of}
 use Rattle.dtab_table.specs.Rules.{Rule}
 use Rattle.bind_core.specs.declared.frame.Choice.{Choice}
 use Rattle.bind_core.specs.declared.frame.Union.{Union}
@@ -23,11 +20,13 @@ use Rattle.bind_core.specs.declared.work.Work.{Work}
 use Rattle.bind_core.specs.declared.work.Task.{Task}
 use Rattle.bind_core.specs.declared.work.Task.TheVariants as task
 use Rattle.bind_core.specs.Outcome.{ending_of, ended_as, traced}
-use Rattle.bind_core.specs.Delegation.{Ending, Names, Visit, negative, Told, or_else, walk, walk_each, first_of, lookup, named_ending, most_wide, visits_within}
+use Rattle.bind_core.specs.Rewritten.{tree_of}
+use Rattle.bind_core.specs.declared.rewritten.Rewritten.{Rewritten}
+use Rattle.bind_core.specs.Delegation.{Names, Visit, negative, Told, or_else, walk, walk_each, lookup, named_ending, most_wide}
 use Rattle.bind_core.specs.Kept.{Kept, kept_of, kept_with, kept_ending}
 use Rattle.bind_core.specs.Stack.{ends_all, behind, closed, end_items, tree_work, list_work, each_work, path_work, choice_work, union_work, frame_work, stack_work, task_work, choice_names, union_branches, choice_told, choice_on, lookup_on, union_on, frame_on, resume, task_told, weighted, Fits, LeadsTo, IsStep, IsAnswer}
 use Rattle.bind_core.proofs.Trees.{walk_each-weighted, each_work-weighted, walk_each-some}
-use Rattle.bind_core.proofs.Stacks.{resume-append, resume-ended, resume-more, stack_work-append, or_else-assoc, ended}
+use Rattle.bind_core.proofs.Stacks.{resume-append, resume-ended, resume-more, stack_work-append}
 use Rattle.bind_core.proofs.Stepping.{tell_step, close_step, push_step, last_step}
 
 keeps : (o : Outcome) (vs : List Visit) (x : Told) → (o ≡ outcome.Neg → ⊥) → or_else (ending_of o, vs) x ≡ (ending_of o, vs)
@@ -50,9 +49,9 @@ no_elements : {X : Type 0} (xs : List X) → length xs ≡ 0 → xs ≡ []
 no_elements [] none = refl
 no_elements (x ∷ xs) none = absurd (omega arith)
 
--- an iterator with no length has no tree
-pub no_trees : (trees : IntoIter Tree Global) → into_iter_len trees ≡ 0 → into_iter_items trees ≡ []
-no_trees trees none = no_elements (into_iter_items trees) (omega arith)
+-- an iterator with no length has no item
+pub no_items : {X : Type 0} (it : IntoIter X Global) → into_iter_len it ≡ 0 → into_iter_items it ≡ []
+no_items it none = no_elements (into_iter_items it) (omega arith)
 
 named-goes_on : (named : Option Leaf) → ends_all (named_ending named) ≡ false
 named-goes_on None = refl
@@ -96,7 +95,7 @@ pub few_told : (rules : List Rule) (names : Names) (most : ℕ) (whole : Told) (
 few_told rules names most whole stack work now o is (inl open') goes_on = open'.few
 few_told rules names most whole stack work now o is (inr wide) goes_on = absurd (not_wide o goes_on cc)
 
-pub few_tried : (rules : List Rule) (names : Names) (most : ℕ) (whole : Told) (stack : List Frame) (work : Work) (now : Task) (tree : Tree) (left : ℕ) → now ≡ task.Try tree left
+pub few_tried : (rules : List Rule) (names : Names) (most : ℕ) (whole : Told) (stack : List Frame) (work : Work) (now : Task) (tree : Rewritten) (left : ℕ) → now ≡ task.Try tree left
     → LeadsTo rules names most whole stack work now → work.count ≤ most_wide
 few_tried rules names most whole stack work now tree left is (inl open') = open'.few
 few_tried rules names most whole stack work now tree left is (inr wide) = let other : task.Try tree left ≡ task.Tell outcome.TooWide = cc in cc
@@ -135,13 +134,13 @@ module _ (rules : List Rule) (names : Names) (most : ℕ) (whole : Told) where
   begins old new next asked turns none fits same step = leads_on [] asked turns old new next none step [] fits same
 
   -- a tree that is tried
-  pub tried : (work new : Work) (now next : Task) (tree : Tree) (left : ℕ) → now ≡ task.Try tree left
-      → IsStep rules names work.visits.most (λ vs. behind vs (walk (lookup rules names left) (value_of tree))) (tree_work (path_work rules left) (value_of tree)) work new next
+  pub tried : (work new : Work) (now next : Task) (tree : Rewritten) (left : ℕ) → now ≡ task.Try tree left
+      → IsStep rules names work.visits.most (λ vs. behind vs (walk (lookup rules names left) (tree_of tree))) (tree_work (path_work rules left) (tree_of tree)) work new next
       → LeadsTo rules names most whole work.stack.items work now → LeadsTo rules names most whole new.stack.items new next
   tried work new now next tree left is step (inl on) =
-      let asked : List Visit → Told = λ vs. behind vs (walk (lookup rules names left) (value_of tree)) in
-      leads_on work.stack.items asked (tree_work (path_work rules left) (value_of tree)) work new next refl
-      (subst (λ (k : ℕ). IsStep rules names k asked (tree_work (path_work rules left) (value_of tree)) work new next) on.fits.most_is step) on.visits on.fits (rw is at on.same)
+      let asked : List Visit → Told = λ vs. behind vs (walk (lookup rules names left) (tree_of tree)) in
+      leads_on work.stack.items asked (tree_work (path_work rules left) (tree_of tree)) work new next refl
+      (subst (λ (k : ℕ). IsStep rules names k asked (tree_work (path_work rules left) (tree_of tree)) work new next) on.fits.most_is step) on.visits on.fits (rw is at on.same)
   tried work new now next tree left is step (inr wide) = let other : task.Try tree left ≡ task.Tell outcome.TooWide = cc in cc
 
   module _ (work mid new : Work) (f : Frame) (now : Task) (o : Outcome) (next : Task) (is : now ≡ task.Tell o) (popped : work.stack.items ≡ mid.stack.items ++ f ∷ [])
@@ -155,11 +154,11 @@ module _ (rules : List Rule) (names : Names) (most : ℕ) (whole : Told) where
         (sym (resume-append rules names mid.stack.items (f ∷ []) (ending_of o, on.visits)) ∙ (ap (λ (xs : List Frame). resume rules names xs (ending_of o, on.visits)) (sym popped) ∙ rw is at on.same))
     turned (inr wide) goes_on = absurd (not_wide o goes_on cc)
 
-pub tried_fewer : (rules : List Rule) (names : Names) (most : ℕ) (work new : Work) (now next : Task) (tree : Tree) (left : ℕ) → now ≡ task.Try tree left
-    → IsStep rules names most (λ vs. behind vs (walk (lookup rules names left) (value_of tree))) (tree_work (path_work rules left) (value_of tree)) work new next
+pub tried_fewer : (rules : List Rule) (names : Names) (most : ℕ) (work new : Work) (now next : Task) (tree : Rewritten) (left : ℕ) → now ≡ task.Try tree left
+    → IsStep rules names most (λ vs. behind vs (walk (lookup rules names left) (tree_of tree))) (tree_work (path_work rules left) (tree_of tree)) work new next
     → stack_work rules new.stack.items + task_work rules next < stack_work rules work.stack.items + task_work rules now
 tried_fewer rules names most work new now next tree left is step =
-    rw is (fewer rules names most (negative, []) work.stack.items (λ vs. behind vs (walk (lookup rules names left) (value_of tree))) (tree_work (path_work rules left) (value_of tree)) work new next refl step)
+    rw is (fewer rules names most (negative, []) work.stack.items (λ vs. behind vs (walk (lookup rules names left) (tree_of tree))) (tree_work (path_work rules left) (tree_of tree)) work new next refl step)
 
 pub turned_fewer : (rules : List Rule) (names : Names) (most : ℕ) (work mid new : Work) (f : Frame) (now : Task) (o : Outcome) (next : Task) → now ≡ task.Tell o → work.stack.items ≡ mid.stack.items ++ f ∷ []
     → IsStep rules names most (λ vs. frame_on rules names f (ending_of o, vs)) (frame_work rules f) mid new next
@@ -201,17 +200,16 @@ module _ (rules : List Rule) (names : Names) (most : ℕ) (f : Choice) (old new 
       most_is items_are (λ vs. ap (closed f.visit) (sym (keeps o vs (choice_told rules names f) other)))
 
   -- and where no tree is left, it comes to what its path names
-  pub emptied : (told o : Outcome) → told ≡ outcome.Neg → into_iter_len f.trees ≡ 0 → ending_of o ≡ named_ending f.named → new.stack.items ≡ old.stack.items → new.count ≡ old.count
+  pub emptied : (told o : Outcome) → told ≡ outcome.Neg → choice_names f ≡ [] → ending_of o ≡ named_ending f.named → new.stack.items ≡ old.stack.items → new.count ≡ old.count
       → new.visits.most ≡ old.visits.most → new.visits.items.items ≡ end_items f.visit (ended_as (ending_of o)) old.visits.items.items
       → IsStep rules names most (λ vs. choice_on rules names f (ending_of told, vs)) (choice_work rules f) old new (task.Tell o)
   emptied told o is none end_is stack_is count_is most_is items_are =
-      let trees : choice_names f ≡ [] = ap (map value_of) (no_trees f.trees none) in
       let goes_on : ends_all (ending_of o) ≡ false = ap ends_all end_is ∙ named-goes_on f.named in
       close_step rules names most (λ vs. choice_on rules names f (ending_of told, vs)) (choice_work rules f) old new f.visit o (some_work (path_work rules f.left) (choice_names f)) few goes_on stack_is count_is
-      most_is items_are (λ vs. rw (is, trees, end_is) (ap (λ (xs : List Visit). closed f.visit (named_ending f.named, xs)) (sym (append-nil vs))))
+      most_is items_are (λ vs. rw (is, none, end_is) (ap (λ (xs : List Visit). closed f.visit (named_ending f.named, xs)) (sym (append-nil vs))))
 
   -- else it is left with the trees behind the next
-  pub chosen : (g : Choice) (tree : Tree) (told : Outcome) → told ≡ outcome.Neg → choice_names f ≡ value_of tree ∷ choice_names g → g.left ≡ f.left → g.named ≡ f.named → g.visit ≡ f.visit
+  pub chosen : (g : Choice) (tree : Rewritten) (told : Outcome) → told ≡ outcome.Neg → choice_names f ≡ tree_of tree ∷ choice_names g → g.left ≡ f.left → g.named ≡ f.named → g.visit ≡ f.visit
       → new.stack.items ≡ old.stack.items ++ frame.Choice g ∷ [] → new.count ≡ old.count → new.visits ≡ old.visits
       → IsStep rules names most (λ vs. choice_on rules names f (ending_of told, vs)) (choice_work rules f) old new (task.Try tree f.left)
   chosen g tree told is cut left named visit pushed count_is visits_are =
@@ -228,7 +226,7 @@ bare rules names most ts named visit left old new o none few end_is stack_is cou
     most_is items_are (λ vs. rw (none, end_is) (ap (λ (xs : List Visit). closed (Some visit) (named_ending named, xs)) (sym (append-nil vs))))
 
 -- one with trees leaves those behind the first
-pub first : (rules : List Rule) (names : Names) (most : ℕ) (ts : List TreeValue) (named : Option Leaf) (visit left : ℕ) (old new : Work) (g : Choice) (tree : Tree) → ts ≡ value_of tree ∷ choice_names g
+pub first : (rules : List Rule) (names : Names) (most : ℕ) (ts : List TreeValue) (named : Option Leaf) (visit left : ℕ) (old new : Work) (g : Choice) (tree : Rewritten) → ts ≡ tree_of tree ∷ choice_names g
     → old.count ≤ most_wide → g.left ≡ left → g.named ≡ named → g.visit ≡ Some visit
     → new.stack.items ≡ old.stack.items ++ frame.Choice g ∷ [] → new.count ≡ old.count → new.visits ≡ old.visits
     → IsStep rules names most (λ vs. lookup_on rules names ts named visit left vs) (list_work (path_work rules left) ts) old new (task.Try tree left)
@@ -236,7 +234,7 @@ first rules names most ts named visit left old new g tree cut few left_is named_
     rw cut (rw (named_is, visit_is) at (push_step rules names most old new g tree left few pushed count_is visits_are left_is))
 
 -- and nothing where there is none behind it, its path names nothing, and no lookup is kept
-pub last : (rules : List Rule) (names : Names) (most : ℕ) (ts : List TreeValue) (named : Option Leaf) (visit left : ℕ) (old : Work) (tree : Tree) → ts ≡ value_of tree ∷ [] → named ≡ None → most ≡ 0
+pub last : (rules : List Rule) (names : Names) (most : ℕ) (ts : List TreeValue) (named : Option Leaf) (visit left : ℕ) (old : Work) (tree : Rewritten) → ts ≡ tree_of tree ∷ [] → named ≡ None → most ≡ 0
     → old.count ≤ most_wide → visit < old.count
     → IsStep rules names most (λ vs. lookup_on rules names ts named visit left vs) (list_work (path_work rules left) ts) old old (task.Try tree left)
 last rules names most ts named visit left old tree only nothing none few before = rw (only, nothing) (last_step rules names most old tree visit left none few before)
@@ -255,14 +253,14 @@ module _ (rules : List Rule) (names : Names) (most : ℕ) (f : Union) (kept : Ke
       (λ vs. rw (no_more, goes_on, end_is, kept_is) refl)
 
   -- else it is left with the branches behind the next
-  pub branched : (new : Work) (g : Union) (b : Branch) → weighted (union_branches f) ≡ branch b.weight (value_of b.tree) (union_branches g) → 0 < b.weight → g.left ≡ f.left → g.weight ≡ b.weight
+  pub branched : (new : Work) (g : Union) (n : ℕ) (tree : Rewritten) → weighted (union_branches f) ≡ branch n (tree_of tree) (union_branches g) → 0 < n → g.left ≡ f.left → g.weight ≡ n
       → kept_of g.gathered ≡ kept → new.stack.items ≡ old.stack.items ++ frame.Union g ∷ [] → new.count ≡ old.count → new.visits ≡ old.visits
-      → IsStep rules names most (λ vs. union_on rules names f (ending_of o, vs)) (union_work rules f) old new (task.Try b.tree f.left)
-  branched new g b cut some left weight kept_g pushed count_is visits_are =
-      let each : walk_each look (union_branches f) ≡ record { weight = b.weight; told = walk look (value_of b.tree) } ∷ walk_each look (union_branches g) =
-      sym (walk_each-weighted look (union_branches f)) ∙ (ap (walk_each look) cut ∙ walk_each-some look b.weight (value_of b.tree) (union_branches g) some) in
+      → IsStep rules names most (λ vs. union_on rules names f (ending_of o, vs)) (union_work rules f) old new (task.Try tree f.left)
+  branched new g n tree cut some left weight kept_g pushed count_is visits_are =
+      let each : walk_each look (union_branches f) ≡ record { weight = n; told = walk look (tree_of tree) } ∷ walk_each look (union_branches g) =
+      sym (walk_each-weighted look (union_branches f)) ∙ (ap (walk_each look) cut ∙ walk_each-some look n (tree_of tree) (union_branches g) some) in
       let rest_work : union_work rules g ≡ each_work (path_work rules f.left) (union_branches g) = rw left refl in
-      let cut_work : each_work (path_work rules f.left) (weighted (union_branches f)) ≡ 1 + (tree_work (path_work rules f.left) (value_of b.tree) + each_work (path_work rules f.left) (union_branches g)) =
+      let cut_work : each_work (path_work rules f.left) (weighted (union_branches f)) ≡ 1 + (tree_work (path_work rules f.left) (tree_of tree) + each_work (path_work rules f.left) (union_branches g)) =
       ap (each_work (path_work rules f.left)) cut in
       record {
         more = frame.Union g ∷ [];

@@ -1,13 +1,17 @@
 -- What a stack of frames makes of an ending, how many turns it takes, and what one step does to it.
-use Rattle.std.specs.Prelude.{◌≡◌, ℕ, zero, suc, ◌+◌, ◌<◌, ◌≤◌, ◌⊎◌, ◌==◌, Bool, true, false, nat_lt, if◌then◌else◌, min, List, [], ◌∷◌, ◌++◌, length, map, Option, Some, None}
+use Rattle.std.specs.Prelude.{◌≡◌, ℕ, zero, suc, ◌+◌, ◌<◌, ◌≤◌, ◌⊎◌, ◌==◌, Bool, true, false, nat_lt, if◌then◌else◌, min, List, [], ◌∷◌, ◌++◌, length, map, drop, Option, Some, None}
+use Rattle.std.specs.Borrow.{Bor}
+use Rattle.std.specs.Slice.Iter.{iter_rest}
 use Rattle.std.specs.Vec.Iter.{into_iter_items}
 use Rattle.name_tree.specs.Path.{Labels}
-use Rattle.name_tree.specs.Value.{TreeValue, TreeValues, Branches, leaf, neg, fail, empty, alt, union, none, more, no_branch, branch}
+use Rattle.name_tree.specs.Value.{TreeValue, TreeValues, Branches, leaf, neg, fail, empty, alt, union, none, more, no_branch, branch, append_rest, append_rest_branches}
 use Rattle.name_tree.specs.Tree.{value_of, listed}
-use Rattle.name_tree.specs.declared.tree.Branch.{Branch}
-use Rattle.dtab_table.specs.Dtab.{rewrites}
+use Rattle.name_tree.specs.declared.tree.Tree.{Tree}
+use Rattle.dtab_table.specs.Dtab.{rewrites, rewritten_by_each}
 use Rattle.dtab_table.specs.Rules.{Rule}
 use Rattle.bind_core.specs.declared.frame.Choice.{Choice}
+use Rattle.bind_core.specs.declared.frame.TreesLeft.{TreesLeft}
+use Rattle.bind_core.specs.declared.frame.TreesLeft.TheVariants as trees
 use Rattle.bind_core.specs.declared.frame.Union.{Union}
 use Rattle.bind_core.specs.declared.frame.Frame.{Frame}
 use Rattle.bind_core.specs.declared.frame.Frame.TheVariants as frame
@@ -24,6 +28,7 @@ use Rattle.addr_book.specs.Namer.{named_in}
 use Rattle.bind_core.specs.Delegation.{Ending, negative, too_deep, too_wide, Names, Visit, Told, or_else, Evaluated, walk, walk_each, first_of, named_ending, lookup, within_width, most_wide, visits_within}
 use Rattle.bind_core.specs.Kept.{Kept, kept_of, kept_with, kept_ending}
 use Rattle.bind_core.specs.Outcome.{ending_of, traced}
+use Rattle.bind_core.specs.Rewritten.{labels_of, tree_of}
 use Rattle.bind_core.specs.Tables.{rules_in}
 
 -- the rules of a delegation, and what paths name in it by themselves
@@ -59,10 +64,10 @@ abbrev pub weighted : Branches → Branches
 weighted no_branch = no_branch
 weighted (branch n t bs) = if n == 0 then weighted bs else branch n t bs
 
--- the next branch whose weight is not 0, and those behind it
-abbrev pub IsNextWeighted : Branches → Branches → Option Branch → Type 0
+-- the weight and the tree of the next branch whose weight is not 0, and those behind it
+abbrev pub IsNextWeighted : Branches → Branches → Option (ℕ × Bor Tree) → Type 0
 IsNextWeighted old new None = weighted old ≡ no_branch
-IsNextWeighted old new (Some b) = (weighted old ≡ branch b.weight (value_of b.tree) new) × (0 < b.weight)
+IsNextWeighted old new (Some b) = (weighted old ≡ branch b.0 (value_of b.1.now) new) × (0 < b.0)
 
 module _ (work : Labels → ℕ) where
   abbrev mutual
@@ -88,13 +93,27 @@ module _ (work : Labels → ℕ) where
   list_work [] = 1
   list_work (t ∷ ts) = 1 + (tree_work t + list_work ts)
 
+-- the trees that are left, with the rest of a path behind their leaves
+abbrev pub trees_left : TreesLeft → Labels → List TreeValue
+trees_left (trees.Entries entries) path = rewritten_by_each path (into_iter_items entries)
+trees_left (trees.Alternatives left) path = map (λ t. append_rest (value_of t) (drop left.from path)) (iter_rest left.trees)
+
+-- there is none
+abbrev pub NoTreeLeft : TreesLeft → Type 0
+NoTreeLeft left = (path : Labels) → trees_left left path ≡ []
+
+-- the next of them, and how many labels of the path its prefix took
+abbrev pub IsNextTree : TreesLeft → TreesLeft → Option (Bor Tree × ℕ) → Type 0
+IsNextTree old new None = NoTreeLeft old
+IsNextTree old new (Some next) = (path : Labels) → trees_left old path ≡ append_rest (value_of next.0.now) (drop next.1 path) ∷ trees_left new path
+
 -- the trees that are left in a frame
 abbrev pub choice_names : Choice → List TreeValue
-choice_names f = map value_of (into_iter_items f.trees)
+choice_names f = trees_left f.trees (labels_of f.path)
 
 -- the branches that are left in a frame
 abbrev pub union_branches : Union → Branches
-union_branches f = listed (into_iter_items f.branches)
+union_branches f = append_rest_branches (listed (iter_rest f.branches)) (drop f.from (labels_of f.path))
 
 -- what is told, unless that ends all; then it is the first
 abbrev pub unless_ended : Told → Told → Told
@@ -162,7 +181,7 @@ module _ (rules : List Rule) where
 
   -- the turns that a task takes by itself
   abbrev pub task_work : Task → ℕ
-  task_work (task.Try tree left) = tree_work (path_work left) (value_of tree)
+  task_work (task.Try tree left) = tree_work (path_work left) (tree_of tree)
   task_work (task.Tell outcome) = 0
 
 module _ (rules : List Rule) (names : Names) where
@@ -194,7 +213,7 @@ module _ (rules : List Rule) (names : Names) where
 
   -- what a task tells, after these lookups
   abbrev pub task_told : Task → List Visit → Told
-  task_told (task.Try tree left) visits = behind visits (walk (lookup rules names left) (value_of tree))
+  task_told (task.Try tree left) visits = behind visits (walk (lookup rules names left) (tree_of tree))
   task_told (task.Tell outcome) visits = (ending_of outcome, visits)
 
   -- the task and the stack come to what was asked

@@ -1,19 +1,20 @@
 //! Delegation, with a stack of what is left to try in place of a recursion.
-ghost use Rattle.std.specs.Prelude.{◌≡◌, ◌+◌, ◌<◌, ◌≤◌, ◌↔◌, List, [], map, length, min, false, IfOk};
+ghost use Rattle.std.specs.Prelude.{◌≡◌, ◌+◌, ◌<◌, ◌≤◌, ◌↔◌, List, [], length, min, false, IfOk};
 ghost use Rattle.dtab_table.specs.TableCanon.{AreSoundRules};
-ghost use Rattle.name_tree.specs.Tree.{value_of};
 ghost use Rattle.addr_book.specs.Found.{IsFilled, IsBounded};
 ghost use Rattle.dtab_table.specs.Rules.{Rule};
 ghost use Rattle.addr_book.specs.Namer.{named_in};
 ghost use Rattle.bind_core.specs.Delegation.{Names, lookup, walk, named_ending, IfBound};
 ghost use Rattle.bind_core.specs.Outcome.{IsDelegated, ending_of, most_for, paths_for, items_for};
+ghost use Rattle.bind_core.specs.Rewritten.{labels_of, tree_of};
 ghost use Rattle.bind_core.specs.Tables.{rules_in};
-ghost use Rattle.bind_core.specs.Stack.{IsStep, IsAnswer, Fits, rules_at, names_at, behind, ends_all, frame_on, frame_work, choice_on, choice_work, union_on, union_work, lookup_on, path_work, tree_work, list_work};
+ghost use Rattle.bind_core.specs.Stack.{IsStep, IsAnswer, Fits, rules_at, names_at, behind, ends_all, frame_on, frame_work, choice_on, choice_work, union_on, union_work, lookup_on, path_work, tree_work, list_work, trees_left};
 
 use crate::Mem;
-use crate::frame::{Choice, Frame, Union, next_weighted};
+use crate::frame::{Alternatives, Choice, Frame, TreesLeft, Union, next_weighted};
 use crate::gathered::Gathered;
 use crate::outcome::{Delegated, Outcome, Wanted};
+use crate::rewritten::{HeldPath, MOST_PATH_BYTES, Rewritten};
 use crate::tables::Tables;
 use crate::trace::{PathList, Trace};
 use crate::visits::Visits;
@@ -32,9 +33,6 @@ const MOST_WIDE: u32 = 10_000;
 
 /// The most lookups of which the paths are told.
 const MOST_ASKED: u32 = 256;
-
-/// The most bytes of the text of a path that is looked up.
-const MOST_PATH_BYTES: usize = 2_048;
 
 /// What a path comes to in the tables, and which lookups that takes (Finagle user guide, "Names and Naming in Finagle").
 ///
@@ -118,11 +116,11 @@ fn told_lists(alloc: Global, wanted: Wanted, visits: Visits) -> Mem<(PathList, T
 /// What a path comes to, with so many lookups left in its chain.
 ///
 /// Each turn does the next task. What is told goes to the last frame; where it ends all, the frames that are left are let go.
-fn evaluate<L: Ledger>(
+fn evaluate<'a, L: Ledger>(
     alloc: Global,
-    scene: &Scene<'_>,
-    work: &mut Work,
-    path: &Path,
+    scene: &Scene<'a>,
+    work: &mut Work<'a>,
+    path: &'a Path,
     left: u32,
     steps: &mut Steps<L>,
 ) -> Mem<Outcome>
@@ -132,7 +130,7 @@ fn evaluate<L: Ledger>(
     ensures answer { IfOk result (IsAnswer work.old.visits.most (lookup (rules_at scene.now) (names_at scene.now) left path.now) work.new) }
     ensures counted { IfOk result (λ _. steps.old + min work.new.count 10000 ≤ steps.new) }
 {
-    let mut task = look_up(alloc, scene, work, path, left, steps)?;
+    let mut task = look_up(alloc, scene, work, HeldPath::Lent(path), left, steps)?;
     loop {
         task = match task {
             Task::Try(tree, left) => step(alloc, scene, work, tree, left, steps)?,
@@ -151,11 +149,11 @@ fn evaluate<L: Ledger>(
 
 /// One turn: a frame that was taken off the stack gets what was told, which doesn't end all. If something is left of
 /// it to try, it goes back on the stack, and the next of it is tried.
-fn turn(work: &mut Work, frame: Frame, told: Outcome) -> Mem<Task>
+fn turn<'a>(work: &mut Work<'a>, frame: Frame<'a>, told: Outcome) -> Mem<Task<'a>>
     requires few { work.old.count ≤ 10000 }
     requires goes_on { ends_all (ending_of told) ≡ false }
     ensures step { (rules : List Rule) → (names : Names) → IfOk result (IsStep rules names work.old.visits.most
-        (λ visits. frame_on rules names frame (ending_of told, visits)) (frame_work rules frame) work.old work.new) }
+        (λ visits. frame_on rules names frame.entry (ending_of told, visits)) (frame_work rules frame.entry) work.old work.new) }
     ensures count { work.new.count ≡ work.old.count }
 {
     match frame {
@@ -166,69 +164,83 @@ fn turn(work: &mut Work, frame: Frame, told: Outcome) -> Mem<Task>
 
 /// A turn of a lookup or an alternation: its next tree is tried where negative was told, and what its path names where
 /// there is none. Anything else that was told is told on.
-fn next_tree(work: &mut Work, mut choice: Choice, told: Outcome) -> Mem<Task>
+fn next_tree<'a>(work: &mut Work<'a>, mut choice: Choice<'a>, told: Outcome) -> Mem<Task<'a>>
     requires few { work.old.count ≤ 10000 }
     requires goes_on { ends_all (ending_of told) ≡ false }
     ensures step { (rules : List Rule) → (names : Names) → IfOk result (IsStep rules names work.old.visits.most
-        (λ visits. choice_on rules names choice (ending_of told, visits)) (choice_work rules choice) work.old work.new) }
+        (λ visits. choice_on rules names choice.entry (ending_of told, visits)) (choice_work rules choice.entry) work.old work.new) }
     ensures count { work.new.count ≡ work.old.count }
 {
     let Outcome::Neg = told else {
         work.visits.end(choice.visit, &told);
         return Ok(Task::Tell(told));
     };
-    let Some(tree) = choice.trees.next() else {
+    let Some((tree, from)) = choice.trees.next() else {
         let named = named_outcome(choice.named);
         work.visits.end(choice.visit, &named);
         return Ok(Task::Tell(named));
     };
+    let path = choice.path.share()?;
     let left = choice.left;
     work.stack.push(Frame::Choice(choice))?;
-    Ok(Task::Try(tree, left))
+    Ok(Task::Try(Rewritten { tree, path, from }, left))
 }
 
 /// A turn of a union: it keeps what was told of the branch that was evaluated, and the next of those whose weight isn't 0
 /// is tried. Where there is none, it tells what its branches come to together.
-fn next_branch(work: &mut Work, mut union: Union, told: Outcome) -> Mem<Task>
+fn next_branch<'a>(work: &mut Work<'a>, mut union: Union<'a>, told: Outcome) -> Mem<Task<'a>>
     requires few { work.old.count ≤ 10000 }
     requires goes_on { ends_all (ending_of told) ≡ false }
     ensures step { (rules : List Rule) → (names : Names) → IfOk result (IsStep rules names work.old.visits.most
-        (λ visits. union_on rules names union (ending_of told, visits)) (union_work rules union) work.old work.new) }
+        (λ visits. union_on rules names union.entry (ending_of told, visits)) (union_work rules union.entry) work.old work.new) }
     ensures count { work.new.count ≡ work.old.count }
 {
-    union.gathered.add(union.weight, told)?;
-    let Some(branch) = next_weighted(&mut union.branches) else {
+    let told_of = union.weight;
+    union.gathered.add(told_of, told)?;
+    let Some((weight, tree)) = next_weighted(&mut union.branches) else {
         return Ok(Task::Tell(union.gathered.into_outcome()));
     };
-    union.weight = branch.weight;
+    union.weight = weight;
+    let path = union.path.share()?;
+    let from = union.from;
     let left = union.left;
     work.stack.push(Frame::Union(union))?;
-    Ok(Task::Try(branch.tree, left))
+    Ok(Task::Try(Rewritten { tree, path, from }, left))
 }
 
 /// One step: a tree is tried. What has to be tried of it later goes on the stack.
-fn step<L: Ledger>(
+fn step<'a, L: Ledger>(
     alloc: Global,
-    scene: &Scene<'_>,
-    work: &mut Work,
-    tree: Tree,
+    scene: &Scene<'a>,
+    work: &mut Work<'a>,
+    tried: Rewritten<'a>,
     left: u32,
     steps: &mut Steps<L>,
-) -> Mem<Task>
+) -> Mem<Task<'a>>
     requires { work.old.count ≤ 10000 }
     ensures step { IfOk result (IsStep (rules_at scene.now) (names_at scene.now) work.old.visits.most
-        (λ visits. behind visits (walk (lookup (rules_at scene.now) (names_at scene.now) left) (value_of tree)))
-        (tree_work (path_work (rules_at scene.now) left) (value_of tree)) work.old work.new) }
+        (λ visits. behind visits (walk (lookup (rules_at scene.now) (names_at scene.now) left) (tree_of tried.entry)))
+        (tree_work (path_work (rules_at scene.now) left) (tree_of tried.entry)) work.old work.new) }
     ensures counted { IfOk result (λ _. steps.old + min work.new.count 10000 ≤ steps.new + work.old.count) }
 {
-    match tree {
+    match tried.tree {
         Tree::Neg => Ok(Task::Tell(Outcome::Neg)),
         Tree::Fail => Ok(Task::Tell(Outcome::Fail)),
         Tree::Empty => Ok(Task::Tell(Outcome::Empty)),
-        Tree::Leaf(path) => look_up(alloc, scene, work, &path, left, steps),
+        Tree::Leaf(leaf) => {
+            let joined = tried.path.behind(alloc, leaf, tried.from)?;
+            match joined {
+                Some(path) => look_up(alloc, scene, work, path, left, steps),
+                None => Ok(Task::Tell(Outcome::TooDeep)),
+            }
+        }
         Tree::Alt(trees) => {
             work.stack.push(Frame::Choice(Choice {
-                trees: trees.into_items().into_iter(),
+                trees: TreesLeft::Alternatives(Alternatives {
+                    trees: trees.items().iter(),
+                    from: tried.from,
+                }),
+                path: tried.path,
                 named: None,
                 visit: None,
                 left,
@@ -237,7 +249,9 @@ fn step<L: Ledger>(
         }
         Tree::Union(branches) => {
             work.stack.push(Frame::Union(Union {
-                branches: branches.into_items().into_iter(),
+                branches: branches.items().iter(),
+                path: tried.path,
+                from: tried.from,
                 weight: 0,
                 gathered: Gathered::new(alloc),
                 left,
@@ -248,21 +262,22 @@ fn step<L: Ledger>(
 }
 
 /// One lookup of a path. The first tree that it is rewritten to is tried next, and what is left to try after it goes on the stack.
-fn look_up<L: Ledger>(
+fn look_up<'a, L: Ledger>(
     alloc: Global,
-    scene: &Scene<'_>,
-    work: &mut Work,
-    path: &Path,
+    scene: &Scene<'a>,
+    work: &mut Work<'a>,
+    path: HeldPath<'a>,
     left: u32,
     steps: &mut Steps<L>,
-) -> Mem<Task>
+) -> Mem<Task<'a>>
     requires { work.old.count ≤ 10000 }
     ensures step { IfOk result (IsStep (rules_at scene.now) (names_at scene.now) work.old.visits.most
-        (λ visits. behind visits (lookup (rules_at scene.now) (names_at scene.now) left path.now))
-        (path_work (rules_at scene.now) left path.now) work.old work.new) }
+        (λ visits. behind visits (lookup (rules_at scene.now) (names_at scene.now) left (labels_of path.entry)))
+        (path_work (rules_at scene.now) left (labels_of path.entry)) work.old work.new) }
     ensures counted { IfOk result (λ _. steps.old + min work.new.count 10000 ≤ steps.new + work.old.count) }
 {
-    if left == 0 || !path.text_fits(MOST_PATH_BYTES) {
+    let looked_up = path.as_path();
+    if left == 0 || !looked_up.text_fits(MOST_PATH_BYTES) {
         return Ok(Task::Tell(Outcome::TooDeep));
     }
     if work.count >= MOST_WIDE {
@@ -270,47 +285,50 @@ fn look_up<L: Ledger>(
         work.visits.clear();
         return Ok(Task::Tell(Outcome::TooWide));
     }
-    let trees = scene.tables.rewritten(alloc, path, steps)?;
-    let named = name_answer(alloc, scene.book, path)?;
+    let entries = scene.tables.matching(alloc, looked_up, steps)?;
+    let named = name_answer(alloc, scene.book, looked_up)?;
     let depth = MOST_DEEP.saturating_sub(left);
-    work.visits.begin(alloc, work.count, depth, path)?;
+    work.visits.begin(alloc, work.count, depth, looked_up)?;
     let visit = work.count;
     work.count += 1;
-    first_tree(work, trees, named, visit, left - 1)
+    let trees = TreesLeft::Entries(entries.into_iter());
+    first_tree(work, trees, path, named, visit, left - 1)
 }
 
 /// The first of the trees of a lookup, whose leaves have so many lookups left in the chain, is tried next. What the path names by itself is
 /// told where there are none. Where nothing is left to try after it and no lookup is kept, no frame is left either.
-fn first_tree(
-    work: &mut Work,
-    trees: Vec<Tree>,
+fn first_tree<'a>(
+    work: &mut Work<'a>,
+    mut trees: TreesLeft<'a>,
+    path: HeldPath<'a>,
     named: Option<Leaf>,
     visit: u32,
     left: u32,
-) -> Mem<Task>
+) -> Mem<Task<'a>>
     requires few { work.old.count ≤ 10000 }
     requires begun { visit < work.old.count }
     ensures step { (rules : List Rule) → (names : Names) → IfOk result (IsStep rules names work.old.visits.most
-        (λ visits. lookup_on rules names (map value_of trees.items) named visit left visits)
-        (list_work (path_work rules left) (map value_of trees.items)) work.old work.new) }
+        (λ visits. lookup_on rules names (trees_left trees.entry (labels_of path.entry)) named visit left visits)
+        (list_work (path_work rules left) (trees_left trees.entry (labels_of path.entry))) work.old work.new) }
     ensures count { work.new.count ≡ work.old.count }
 {
-    let mut trees = trees.into_iter();
-    let Some(tree) = trees.next() else {
+    let Some((tree, from)) = trees.next() else {
         let named = named_outcome(named);
         work.visits.end(Some(visit), &named);
         return Ok(Task::Tell(named));
     };
-    if trees.len() == 0 && named.is_none() && !work.visits.are_kept() {
-        return Ok(Task::Try(tree, left));
+    if trees.is_empty() && named.is_none() && !work.visits.are_kept() {
+        return Ok(Task::Try(Rewritten { tree, path, from }, left));
     }
+    let kept = path.share()?;
     work.stack.push(Frame::Choice(Choice {
         trees,
+        path: kept,
         named,
         visit: Some(visit),
         left,
     }))?;
-    Ok(Task::Try(tree, left))
+    Ok(Task::Try(Rewritten { tree, path, from }, left))
 }
 
 /// The outcome of a lookup whose trees are all negative.

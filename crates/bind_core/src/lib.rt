@@ -36,6 +36,7 @@ mod frame;
 mod gathered;
 mod laws;
 mod outcome;
+mod rewritten;
 mod tables;
 mod trace;
 mod visits;

@@ -1,13 +1,12 @@
 //! The tables of a delegation.
-ghost use Rattle.std.specs.Prelude.{◌≡◌, ◌<◌, ◌≤◌, ◌++◌, map, IfOk, OnOk};
-ghost use Rattle.name_tree.specs.Tree.{value_of};
-ghost use Rattle.dtab_table.specs.Dtab.{rules_of, rewrites};
+ghost use Rattle.std.specs.Prelude.{◌≡◌, ◌<◌, ◌≤◌, ◌++◌, IfOk, OnOk};
+ghost use Rattle.dtab_table.specs.Dtab.{rules_of, rewrites, rewritten_by_each};
 ghost use Rattle.bind_core.specs.Tables.{rules_in};
 
 use crate::Mem;
-use dtab_table::Dtab;
+use dtab_table::{Dtab, Entry};
 use line_base::Steps;
-use name_tree::{Path, Tree};
+use name_tree::Path;
 use std::alloc::Global;
 use std::sync::ledger::Ledger;
 
@@ -23,47 +22,47 @@ pub struct Tables<'a> {
     pub local: &'a Dtab,
 }
 
-impl Tables<'_> {
-    /// What the tables rewrite a path to, the last entry first. It ticks at least once.
-    pub(crate) fn rewritten<L: Ledger>(
+impl<'a> Tables<'a> {
+    /// The entries of the tables that match a path, in the order in which their trees are tried. It ticks at least once.
+    pub(crate) fn matching<L: Ledger>(
         &self,
         alloc: Global,
         path: &Path,
         steps: &mut Steps<L>,
-    ) -> Mem<Vec<Tree>>
-        ensures trees { IfOk result (λ trees. map value_of trees.items ≡ rewrites (rules_in self.now) path.now) }
+    ) -> Mem<Vec<&'a Entry>>
+        ensures trees { IfOk result (λ found. rewritten_by_each path.now found.items ≡ rewrites (rules_in self.now) path.now) }
         ensures ticks { steps.old < steps.new }
     {
         steps.tick();
-        let mut trees = Vec::new(alloc);
-        append_rewritten(alloc, self.local, path, &mut trees, steps)?;
-        append_rewritten(alloc, self.base, path, &mut trees, steps)?;
-        append_rewritten(alloc, self.space, path, &mut trees, steps)?;
-        Ok(trees)
+        let mut found = Vec::new(alloc);
+        append_matching(alloc, self.local, path, &mut found, steps)?;
+        append_matching(alloc, self.base, path, &mut found, steps)?;
+        append_matching(alloc, self.space, path, &mut found, steps)?;
+        Ok(found)
     }
 }
 
-/// Puts what a table rewrites a path to behind some trees.
-fn append_rewritten<L: Ledger>(
+/// Puts the entries of a table that match a path behind others.
+fn append_matching<'a, L: Ledger>(
     alloc: Global,
-    table: &Dtab,
+    table: &'a Dtab,
     path: &Path,
-    trees: &mut Vec<Tree>,
+    found: &mut Vec<&'a Entry>,
     steps: &mut Steps<L>,
 ) -> Mem<()>
-    ensures trees { OnOk result (map value_of trees.new.items ≡ map value_of trees.old.items ++ rewrites (rules_of table.now) path.now) }
+    ensures trees { OnOk result (rewritten_by_each path.now found.new.items ≡ rewritten_by_each path.now found.old.items ++ rewrites (rules_of table.now) path.now) }
     ensures ticks { steps.old ≤ steps.new }
 {
     if table.len() == 0 {
         return Ok(());
     }
-    let more = table.lookup(alloc, path, steps)?.into_items();
-    if trees.is_empty() {
-        *trees = more;
+    let more = table.matching(alloc, path, steps)?;
+    if found.is_empty() {
+        *found = more;
         return Ok(());
     }
-    for tree in more {
-        trees.push(tree)?;
+    for entry in more {
+        found.push(entry)?;
     }
     Ok(())
 }

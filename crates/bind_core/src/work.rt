@@ -3,10 +3,10 @@ ghost use Rattle.std.specs.Prelude.{◌≡◌, []};
 
 use crate::frame::Frame;
 use crate::outcome::Outcome;
+use crate::rewritten::Rewritten;
 use crate::tables::Tables;
 use crate::visits::Visits;
 use addr_book::Book;
-use name_tree::Tree;
 use std::alloc::Global;
 
 /// What a delegation goes by.
@@ -20,20 +20,20 @@ pub(crate) struct Scene<'a> {
 
 /// What a delegation has done, and what it has left for later.
 #[derive(Drop)]
-pub(crate) struct Work {
+pub(crate) struct Work<'a> {
     /// What is left of lookups, alternations and unions that have not ended, the innermost last.
-    pub(crate) stack: Vec<Frame>,
+    pub(crate) stack: Vec<Frame<'a>>,
     /// How many lookups were made.
     pub(crate) count: u32,
     /// Those lookups, as far as they are kept.
     pub(crate) visits: Visits,
 }
 
-impl Work {
+impl<'a> Work<'a> {
     ghost use Rattle.bind_core.specs.Stack.{Fits};
 
     /// Nothing was done, and so many lookups are kept at most. It takes no memory.
-    pub(crate) fn new(alloc: Global, most: u32) -> Work
+    pub(crate) fn new(alloc: Global, most: u32) -> Work<'a>
         ensures stack { result.stack.items ≡ [] }
         ensures fits { Fits most [] result }
     {
@@ -47,9 +47,9 @@ impl Work {
 
 /// What a delegation does next.
 #[derive(Drop)]
-pub(crate) enum Task {
+pub(crate) enum Task<'a> {
     /// It tries a tree, with so many lookups left in the chain for its leaves.
-    Try(Tree, u32),
+    Try(Rewritten<'a>, u32),
     /// It tells an outcome to the last frame.
     Tell(Outcome),
 }

@@ -1,16 +1,16 @@
 -- How turns add up to a body that is read.
-use Rattle.std.proofs.Common.{◌≡◌, ◌≢◌, ℕ, ◌+◌, ◌-◌, ◌<◌, ◌≤◌, List, [], ◌∷◌, ◌++◌, length, refl, sym, ap, ◌∙◌, subst, arith, append_assoc, append-nil, length-append, Result, Ok, Err, Vec, Global}
+use Rattle.std.proofs.Common.{◌≡◌, ℕ, ◌+◌, ◌-◌, ◌<◌, List, [], ◌++◌, length, refl, sym, ap, ◌∙◌, subst, arith, append_assoc, append-nil, length-append, Result, Ok, Err, Vec, Global}
 use Rattle.http_wire.specs.declared.frames.Framing.{Framing}
 use Rattle.http_wire.specs.declared.frames.Framing.TheVariants.{Nothing, Length, Chunked, ToEnd}
 use Rattle.body_wire.specs.declared.decoder.Decoder.{Decoder}
-use Rattle.body_wire.specs.declared.decoder.Stop.{Stop}
 use Rattle.body_wire.specs.declared.decoder.Stop.TheVariants.{More, Whole, Bad, TooLong}
 use Rattle.body_wire.specs.declared.end.BodyEnd.{BodyEnd}
 use Rattle.body_wire.specs.declared.form.Form.{Form}
-use Rattle.body_wire.specs.Bodies.{IsWholeBody, IsUnfinished, IsBadBody, IsTooLong}
+use Rattle.body_wire.specs.Bodies.{IsWholeBody, IsUnfinished, IsBadBody, IsTooLong, IsFrontBody}
 use Rattle.body_wire.specs.Passing.{most_read, ReadEnds, ReadsBody}
-use Rattle.body_wire.specs.Stands.{Holds, GoesOn, Stops, most_left}
+use Rattle.body_wire.specs.Stands.{Holds, Stops, most_left}
 use Rattle.body_wire.specs.Turns.{Taken, read_at_end}
+use Rattle.body_wire.proofs.Fronts.{front_body}
 use Rattle.body_wire.proofs.Stopping.{no_bytes}
 
 -- the content of the bytes that were taken so far
@@ -83,10 +83,12 @@ module _ (framing : Framing) (d : Decoder) (kept came content rest : List ℕ) (
       (shown (λ f n. IsTooLong framing f n reads.taken content d.count rest) (stops.shows framing reads.taken content reads.holds))
 
   pub no_memory : ReadsBody framing kept came rest (Err BodyEnd.OutOfMemory)
-  no_memory = ended_as (Err BodyEnd.OutOfMemory) tt
+  no_memory =
+      ended_as (Err BodyEnd.OutOfMemory)
+      (shown (λ f n. IsFrontBody framing f n reads.taken content d.count) (front_body framing d reads.taken content reads.holds))
 
-  unfinished : Stops d rest More → IsUnfinished framing Form.Content reads.taken content d.count rest
-  unfinished stops = shown (λ f n. IsUnfinished framing f reads.taken content d.count rest) (stops.shows framing reads.taken content reads.holds)
+  unfinished : Stops d rest More → IsUnfinished framing Form.Content most_read reads.taken content d.count rest
+  unfinished stops = shown (λ f n. IsUnfinished framing f n reads.taken content d.count rest) (stops.shows framing reads.taken content reads.holds)
 
   pub fault : (rest1 : List ℕ) → rest1 ≡ rest → Stops d rest More → ReadsBody framing kept came rest1 (Err BodyEnd.ReadFault)
   fault rest1 is stops =
@@ -102,7 +104,7 @@ module _ (framing : Framing) (d : Decoder) (kept came content rest : List ℕ) (
       (subst (λ (xs : List ℕ). ReadsBody framing kept xs rest (read_at_end framing body)) (sym same_came)
       (ended_as (read_at_end framing body) (ends framing is (unfinished stops))))
     where
-      ends : (f : Framing) → body.items ≡ content → IsUnfinished f Form.Content reads.taken content d.count rest
+      ends : (f : Framing) → body.items ≡ content → IsUnfinished f Form.Content most_read reads.taken content d.count rest
           → ReadEnds f reads.taken content d.count rest (read_at_end f body)
       ends Nothing is' u = absurd u
       ends (Length n) is' u = (λ e. cc, u)

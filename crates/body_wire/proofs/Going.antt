@@ -1,9 +1,9 @@
 -- How steps of a decoder add up.
-use Rattle.std.proofs.Common.{◌≡◌, ℕ, ◌+◌, ◌<◌, ◌≤◌, List, [], ◌∷◌, ◌++◌, length, take, drop, refl, sym, ap, ◌∙◌, subst, arith, append_assoc, append-nil, length-append}
+use Rattle.std.proofs.Common.{◌≡◌, ℕ, ◌<◌, List, [], ◌++◌, length, take, drop, refl, sym, ap, ◌∙◌, subst, arith, append_assoc, append-nil, length-append}
 use Rattle.std.proofs.lemmas.List.{take-append-drop, length-drop}
 use Rattle.body_wire.specs.declared.decoder.Decoder.{Decoder}
 use Rattle.body_wire.specs.declared.decoder.Stop.{Stop}
-use Rattle.body_wire.specs.Stands.{Holds, GoesOn, Moves, Stops, most_left}
+use Rattle.body_wire.specs.Stands.{Holds, GoesOn, Moves, Stops}
 use Rattle.body_wire.specs.Turns.{Taken}
 
 pub stays : (d : Decoder) → GoesOn d d [] []

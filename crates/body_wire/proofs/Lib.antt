@@ -1,5 +1,6 @@
 pub mod Collected
 pub mod Digits
+pub mod Fronts
 pub mod Going
 pub mod Lines
 pub mod Passes

@@ -1,9 +1,9 @@
 -- Chunk lines at the front of bytes.
-use Rattle.std.proofs.Common.{◌≡◌, ℕ, ◌+◌, ◌<◌, ◌≤◌, List, [], ◌∷◌, ◌++◌, length, take, drop, refl, sym, ap, ◌∙◌, subst, arith, inl, inr, length-append}
+use Rattle.std.proofs.Common.{◌≡◌, ℕ, ◌<◌, ◌≤◌, List, ◌++◌, length, take, drop, sym, ap, ◌∙◌, subst, arith, length-append}
 use Rattle.std.proofs.lemmas.List.{length-take, take_all, take-append-le, take-append-drop}
-use Rattle.httparse.specs.Grammar.{ChunkLine, IsChunkLine, print_extension, print_chunk_line, chunk_size, HasNoChunkLine, NeverHasChunkLine, MayBecomeChunkLine}
+use Rattle.httparse.specs.Grammar.{ChunkLine, IsChunkLine, print_chunk_line, HasNoChunkLine, MayBecomeChunkLine}
 use Rattle.body_wire.specs.declared.decoder.Decoder.{Decoder}
-use Rattle.body_wire.specs.Chunks.{most_line, IsLine, IsOpenLine, IsBadLine}
+use Rattle.body_wire.specs.Chunks.{most_line, IsOpenLine}
 use Rattle.body_wire.specs.Pieces.{IsLineAt}
 use Rattle.body_wire.specs.Stands.{GoesOn, Moves}
 

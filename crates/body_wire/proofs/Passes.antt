@@ -1,5 +1,5 @@
 -- How turns add up to a body that is passed on.
-use Rattle.std.proofs.Common.{◌≡◌, ◌≢◌, ◌⊎◌, inl, inr, ℕ, Bool, true, false, ◌+◌, ◌-◌, ◌<◌, ◌≤◌, List, [], ◌∷◌, ◌++◌, length, take, drop, refl, sym, ap, ◌∙◌, subst, arith, append_assoc, append-nil, length-append, Option, Some, None, Result, Ok, Err}
+use Rattle.std.proofs.Common.{◌≡◌, ◌≢◌, inl, inr, ℕ, false, ◌+◌, ◌-◌, ◌<◌, ◌≤◌, List, [], ◌∷◌, ◌++◌, length, refl, sym, ap, ◌∙◌, subst, arith, append_assoc, append-nil, length-append, Some, None, Result, Ok, Err}
 use Rattle.std.specs.List.{concat}
 use Rattle.std.proofs.lemmas.List.Folds.{concat-append}
 use Rattle.http_wire.specs.declared.frames.Framing.{Framing}
@@ -10,11 +10,12 @@ use Rattle.body_wire.specs.declared.decoder.Stop.TheVariants.{More, Whole, Bad, 
 use Rattle.body_wire.specs.declared.end.BodyEnd.{BodyEnd}
 use Rattle.body_wire.specs.declared.form.Form.{Form}
 use Rattle.body_wire.specs.declared.turn.TurnFault.{TurnFault}
-use Rattle.body_wire.specs.Bodies.{IsUnfinished}
+use Rattle.body_wire.specs.Bodies.{IsFrontBody, IsUnfinished}
 use Rattle.body_wire.specs.declared.decoder.Place.{Place}
 use Rattle.body_wire.specs.Passing.{most_piece, is_at_end, runs_to_end, Ends, IsFrontOf, IsSent, LastPiece, InTurn, PassesOn}
-use Rattle.body_wire.specs.Stands.{Holds, HoldsAt, CanEnd, GoesOn, Stops, most_left}
+use Rattle.body_wire.specs.Stands.{Holds, HoldsAt, CanEnd, Stops, most_left}
 use Rattle.body_wire.specs.Turns.{Turns, answer_of, end_answer}
+use Rattle.body_wire.proofs.Fronts.{front_body}
 use Rattle.body_wire.proofs.Stopping.{no_bytes}
 
 -- a body on its way: what was sent and what waits is the head and what goes on for the bytes that were taken
@@ -27,7 +28,7 @@ pub record OnWay
   pub holds : Holds framing d taken passed
   pub bytes : kept ++ concat pieces ≡ taken ++ rest
   pub sends : sent ++ waiting ≡ head ++ passed
-  pub turns : InTurn framing form head kept pieces sent
+  pub turns : InTurn framing form limit head kept pieces sent
 
 -- before the first turn
 pub begins : (framing : Framing) (form : Form) (limit : ℕ) (d : Decoder) (head kept : List ℕ) → Holds framing d [] [] → d.form ≡ form → d.limit ≡ limit
@@ -44,10 +45,10 @@ begins framing form limit d head kept holds form_is limit_is = record {
 }
 
 -- more was sent
-in_turn_more : (framing : Framing) (form : Form) (head kept : List ℕ) (pieces : List (List ℕ)) (sent more : List ℕ) → InTurn framing form head kept pieces sent
-    → InTurn framing form head kept pieces (sent ++ more)
-in_turn_more framing form head kept pieces sent more (inl none) = inl none
-in_turn_more framing form head kept pieces sent more (inr p) = inr (record {
+in_turn_more : (framing : Framing) (form : Form) (limit : ℕ) (head kept : List ℕ) (pieces : List (List ℕ)) (sent more : List ℕ) → InTurn framing form limit head kept pieces sent
+    → InTurn framing form limit head kept pieces (sent ++ more)
+in_turn_more framing form limit head kept pieces sent more (inl none) = inl none
+in_turn_more framing form limit head kept pieces sent more (inr p) = inr (record {
   before = p.before;
   last = p.last;
   whole = p.whole;
@@ -89,7 +90,7 @@ module _ (framing : Framing) (form : Form) (limit : ℕ) (d0 d1 : Decoder) (head
     holds = t.goes.holds framing way.taken way.passed way.holds;
     bytes = turn_bytes t.took t.kept;
     sends = append-nil (sent ++ now) ∙ turn_sends t.put t.sends.0;
-    turns = in_turn_more framing form head kept pieces sent now way.turns;
+    turns = in_turn_more framing form limit head kept pieces sent now way.turns;
   }
 
   -- that has an answer
@@ -105,7 +106,7 @@ module _ (framing : Framing) (form : Form) (limit : ℕ) (d0 d1 : Decoder) (head
     within = let w = d1.within in let limit_is = t.goes.limit ∙ way.limit_is in omega arith;
     sends = sends;
     ends = ends;
-    in_turn = in_turn_more framing form head kept pieces sent now way.turns;
+    in_turn = in_turn_more framing form limit head kept pieces sent now way.turns;
   }
 
   holds_now : (turn : Result Stop TurnFault) → (t : Turns d0 d1 rest0 rest1 waiting now turn) → Holds framing d1 (way.taken ++ t.took) (way.passed ++ t.put)
@@ -115,10 +116,16 @@ module _ (framing : Framing) (form : Form) (limit : ℕ) (d0 d1 : Decoder) (head
   at_form P turn t p =
       subst (λ (f : Form). P f limit) (t.goes.form ∙ way.form_is) (subst (λ (n : ℕ). P d1.form n) (t.goes.limit ∙ way.limit_is) p)
 
-  -- `fault` is an end at which a front was sent, and which says nothing of the body
+  front_now : (turn : Result Stop TurnFault) → (t : Turns d0 d1 rest0 rest1 waiting now turn)
+      → IsFrontBody framing form limit (way.taken ++ t.took) (way.passed ++ t.put) d1.count
+  front_now turn t =
+      at_form (λ f n. IsFrontBody framing f n (way.taken ++ t.took) (way.passed ++ t.put) d1.count) turn t
+      (front_body framing d1 (way.taken ++ t.took) (way.passed ++ t.put) (holds_now turn t))
+
+  -- `fault` is an end at which a front was sent, and which says that a front of the body was taken
   pub answered : (fault : BodyEnd) (turn : Result Stop TurnFault) (result : Result ℕ BodyEnd)
       → ((all went : List ℕ) → IsFrontOf all went → IsSent all went (Err fault))
-      → ((taken passed : List ℕ) (count : ℕ) (rest : List ℕ) → Ends framing form limit taken passed count rest (Err fault))
+      → ((taken passed rest : List ℕ) → IsFrontBody framing form limit taken passed d1.count → Ends framing form limit taken passed d1.count rest (Err fault))
       → Turns d0 d1 rest0 rest1 waiting now turn → answer_of d1.count fault turn ≡ Some result
       → PassesOn framing form limit head kept pieces (sent ++ now) rest1 result
   answered fault (Ok More) result front says t is = cc
@@ -139,10 +146,12 @@ module _ (framing : Framing) (form : Form) (limit : ℕ) (d0 d1 : Decoder) (head
       (t.sends.1.shows framing (way.taken ++ t.took) (way.passed ++ t.put) (holds_now (Ok TooLong) t))))
   answered fault (Err TurnFault.Failed) result front says t is =
       subst (PassesOn framing form limit head kept pieces (sent ++ now) rest1) (some_is _ result is)
-      (ended_as (Err TurnFault.Failed) (Err fault) t (front _ _ (turn_front t.put t.sends)) (says (way.taken ++ t.took) (way.passed ++ t.put) d1.count rest1))
+      (ended_as (Err TurnFault.Failed) (Err fault) t (front _ _ (turn_front t.put t.sends))
+      (says (way.taken ++ t.took) (way.passed ++ t.put) rest1 (front_now (Err TurnFault.Failed) t)))
   answered fault (Err TurnFault.OutOfMemory) result front says t is =
       subst (PassesOn framing form limit head kept pieces (sent ++ now) rest1) (some_is _ result is)
-      (ended_as (Err TurnFault.OutOfMemory) (Err BodyEnd.OutOfMemory) t (turn_front t.put t.sends) tt)
+      (ended_as (Err TurnFault.OutOfMemory) (Err BodyEnd.OutOfMemory) t (turn_front t.put t.sends)
+      (front_now (Err TurnFault.OutOfMemory) t))
 
 -- a body that is whole whatever follows does not run to the end of the connection
 not_to_end : (p : Place) (framing : Framing) (d : Decoder) (taken passed : List ℕ) → CanEnd p → HoldsAt p framing d taken passed → runs_to_end framing ≡ false
@@ -194,16 +203,17 @@ module _ (framing : Framing) (form : Form) (limit : ℕ) (d : Decoder) (head kep
   all_went : sent ≡ head ++ way.passed
   all_went = sym (append-nil sent) ∙ way.sends
 
-  unfinished : IsUnfinished framing form way.taken way.passed d.count rest
+  unfinished : IsUnfinished framing form limit way.taken way.passed d.count rest
   unfinished =
-      subst (λ (f : Form). IsUnfinished framing f way.taken way.passed d.count rest) way.form_is (stops.shows framing way.taken way.passed way.holds)
+      subst (λ (f : Form). IsUnfinished framing f limit way.taken way.passed d.count rest) way.form_is
+      (subst (λ (n : ℕ). IsUnfinished framing d.form n way.taken way.passed d.count rest) way.limit_is (stops.shows framing way.taken way.passed way.holds))
 
   came : (piece : List ℕ) → kept ++ concat (pieces ++ piece ∷ []) ≡ way.taken ++ (rest ++ piece)
   came piece =
       ap (λ xs. kept ++ xs) (concat-append pieces (piece ∷ []) ∙ ap (λ xs. concat pieces ++ xs) (append-nil piece))
       ∙ sym (append_assoc kept (concat pieces) piece) ∙ ap (λ xs. xs ++ piece) way.bytes ∙ append_assoc way.taken rest piece
 
-  last_piece : (piece : List ℕ) → length piece ≤ most_piece → LastPiece framing form head kept (pieces ++ piece ∷ []) sent
+  last_piece : (piece : List ℕ) → length piece ≤ most_piece → LastPiece framing form limit head kept (pieces ++ piece ∷ []) sent
   last_piece piece short = record {
     before = pieces;
     last = piece;
@@ -234,7 +244,7 @@ module _ (framing : Framing) (form : Form) (limit : ℕ) (d : Decoder) (head kep
   }
 
   ended_here : (result : Result ℕ BodyEnd) (rest1 : List ℕ) (more : List (List ℕ)) → kept ++ concat more ≡ way.taken ++ rest1
-      → IsSent (head ++ way.passed) sent result → Ends framing form limit way.taken way.passed d.count rest1 result → InTurn framing form head kept more sent
+      → IsSent (head ++ way.passed) sent result → Ends framing form limit way.taken way.passed d.count rest1 result → InTurn framing form limit head kept more sent
       → PassesOn framing form limit head kept more sent rest1 result
   ended_here result rest1 more bytes sends ends turns = record {
     taken = way.taken;
@@ -263,7 +273,7 @@ module _ (framing : Framing) (form : Form) (limit : ℕ) (d : Decoder) (head kep
   end_came piece rest1 none is =
       let same : rest1 ≡ rest = is ∙ ap (λ xs. rest ++ xs) (no_bytes piece none) ∙ append-nil rest in
       ended_here (end_answer framing d.count) rest1 (pieces ++ piece ∷ []) (came piece ∙ ap (λ xs. way.taken ++ xs) (sym is))
-      (all_at_end framing all_went) (ends_at framing (subst (λ (xs : List ℕ). IsUnfinished framing form way.taken way.passed d.count xs) (sym same) unfinished))
+      (all_at_end framing all_went) (ends_at framing (subst (λ (xs : List ℕ). IsUnfinished framing form limit way.taken way.passed d.count xs) (sym same) unfinished))
       (inr (last_piece piece (omega arith)))
     where
       all_at_end : (f : Framing) → sent ≡ head ++ way.passed → IsSent (head ++ way.passed) sent (end_answer f d.count)
@@ -272,7 +282,7 @@ module _ (framing : Framing) (form : Form) (limit : ℕ) (d : Decoder) (head kep
       all_at_end Chunked went = went
       all_at_end ToEnd went = went
 
-      ends_at : (f : Framing) → IsUnfinished f form way.taken way.passed d.count rest1
+      ends_at : (f : Framing) → IsUnfinished f form limit way.taken way.passed d.count rest1
           → Ends f form limit way.taken way.passed d.count rest1 (end_answer f d.count)
       ends_at Nothing u = absurd u
       ends_at (Length n) u = (λ e. cc, u)

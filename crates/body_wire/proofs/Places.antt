@@ -1,12 +1,9 @@
 -- How a decoder goes on from place to place.
-use Rattle.std.proofs.Common.{get_or, ◌≡◌, ◌≢◌, ℕ, ◌+◌, ◌-◌, ◌*◌, ◌<◌, ◌≤◌, List, [], ◌∷◌, ◌++◌, length, take, refl, sym, ap, ◌∙◌, subst, arith, inl, inr, length-append, append_assoc, append-nil, Some, None, IsSome}
-use Rattle.std.specs.Prelude.{All, sum_by}
-use Rattle.std.specs.List.{flat_map}
+use Rattle.std.proofs.Common.{get_or, ◌≡◌, ℕ, ◌+◌, ◌-◌, ◌<◌, ◌≤◌, List, [], ◌∷◌, ◌++◌, length, take, refl, sym, ap, ◌∙◌, subst, arith, length-append, append_assoc, append-nil, Some, IsSome}
 use Rattle.std.proofs.lemmas.Grind.{flat_map-append}
 use Rattle.std.proofs.lemmas.List.{length-take, length-take-le}
 use Rattle.std.proofs.lemmas.List.Elements.{All-push}
 use Rattle.std.proofs.lemmas.List.Sums.{sum_by-append}
-use Rattle.body_wire.specs.declared.trailers.LineAt.{LineAt}
 use Rattle.body_wire.specs.declared.trailers.LineAt.TheVariants.{Fresh}
 use Rattle.http_wire.specs.declared.frames.Framing.{Framing}
 use Rattle.httparse.specs.Ascii.{crlf_bytes, line_feed, carriage_return}
@@ -15,10 +12,10 @@ use Rattle.body_wire.specs.declared.form.Form.{Form}
 use Rattle.body_wire.specs.declared.decoder.Decoder.{Decoder}
 use Rattle.body_wire.specs.declared.decoder.Place.{Place}
 use Rattle.body_wire.specs.declared.decoder.Place.TheVariants.{Counted, ToEnd, Line, Content, Trailers, LongLength, LongChunk, Whole}
-use Rattle.body_wire.specs.Chunks.{Chunk, IsChunk, IsLine, AreChunks, InChunk, AtLine, InTrailers, AreTrailers, AreAllChunks, AreOpenTrailers, most_trailers, last_chunk, line_behind, print_chunk, passed_chunk, size_line, chunk_end}
+use Rattle.body_wire.specs.Chunks.{Chunk, IsChunk, IsLine, AreChunks, InChunk, InTrailers, AreTrailers, AreAllChunks, most_trailers, last_chunk, line_behind, size_line, chunk_end}
 use Rattle.body_wire.specs.Bodies.{IsPlain}
 use Rattle.body_wire.specs.Pieces.{EndsAt}
-use Rattle.body_wire.specs.Stands.{IsCounted, HoldsAt, Holds, InContent, Following, LineOver, GoesOn, Moves, IsRun, most_at, most_left}
+use Rattle.body_wire.specs.Stands.{IsCounted, HoldsAt, GoesOn, Moves, IsRun, most_at}
 use Rattle.body_wire.proofs.Trails.{behind_more, ends_within}
 
 -- content that is taken and goes on as it is

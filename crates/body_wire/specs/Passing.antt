@@ -1,5 +1,5 @@
 -- What a call that passes a body on, or reads it, answers and leaves.
-use Rattle.std.specs.Prelude.{◌≡◌, ◌≢◌, ◌⊎◌, ℕ, ◌+◌, ◌-◌, ◌^◌, ◌<◌, ◌≤◌, Bool, true, false, List, [], ◌∷◌, ◌++◌, length, map, Option, Some, None, Result, Ok, Err}
+use Rattle.std.specs.Prelude.{◌≡◌, ◌≢◌, ◌⊎◌, ℕ, ◌-◌, ◌^◌, ◌≤◌, Bool, true, false, List, [], ◌∷◌, ◌++◌, length, map, Option, Some, None, Result, Ok, Err}
 use Rattle.std.specs.List.{concat}
 use Rattle.line_base.specs.Counts.{raised}
 use Rattle.line_base.specs.declared.dialer.DialEvent.{DialEvent}
@@ -11,7 +11,7 @@ use Rattle.body_wire.specs.declared.end.BodyEnd.TheVariants.{BadChunk, Cut, TooL
 use Rattle.body_wire.specs.declared.form.Form.{Form}
 use Rattle.std.specs.declared.vec.Vec.{Vec}
 use Rattle.std.specs.declared.alloc.Global.{Global}
-use Rattle.body_wire.specs.Bodies.{IsWholeBody, IsUnfinished, IsBadBody, IsTooLong}
+use Rattle.body_wire.specs.Bodies.{IsWholeBody, IsUnfinished, IsBadBody, IsTooLong, IsFrontBody}
 
 -- the most content bytes of a body that is passed on
 abbrev pub most_passed : ℕ
@@ -32,16 +32,19 @@ Ends framing form limit taken passed count kept (Ok n) =
 Ends framing form limit taken passed count kept (Err (BadChunk n)) =
     (n ≡ count) × IsBadBody framing form taken passed count kept
 Ends framing form limit taken passed count kept (Err Cut) =
-    (framing ≢ ToEnd) × IsUnfinished framing form taken passed count kept
+    (framing ≢ ToEnd) × IsUnfinished framing form limit taken passed count kept
 Ends framing form limit taken passed count kept (Err TooLong) =
     IsTooLong framing form limit taken passed count kept
 Ends framing form limit taken passed count kept (Err ReadFault) =
-    IsUnfinished framing form taken passed count kept
+    IsUnfinished framing form limit taken passed count kept
 Ends framing form limit taken passed count kept (Err RecvFault) =
-    IsUnfinished framing form taken passed count kept
-Ends framing form limit taken passed count kept (Err WriteFault) = Unit {0}
-Ends framing form limit taken passed count kept (Err SendFault) = Unit {0}
-Ends framing form limit taken passed count kept (Err OutOfMemory) = Unit {0}
+    IsUnfinished framing form limit taken passed count kept
+Ends framing form limit taken passed count kept (Err WriteFault) =
+    IsFrontBody framing form limit taken passed count
+Ends framing form limit taken passed count kept (Err SendFault) =
+    IsFrontBody framing form limit taken passed count
+Ends framing form limit taken passed count kept (Err OutOfMemory) =
+    IsFrontBody framing form limit taken passed count
 
 -- what was sent is a front of these bytes
 abbrev pub IsFrontOf : List ℕ → List ℕ → Type 0
@@ -60,7 +63,7 @@ IsSent all sent (Err SendFault) = IsFrontOf all sent
 IsSent all sent (Err OutOfMemory) = IsFrontOf all sent
 
 -- the last piece that came: before it the body had not ended, and all that goes on for what had come of it was sent
-pub record LastPiece (framing : Framing) (form : Form) (head kept : List ℕ) (pieces : List (List ℕ)) (sent : List ℕ) : Type 0 where
+pub record LastPiece (framing : Framing) (form : Form) (limit : ℕ) (head kept : List ℕ) (pieces : List (List ℕ)) (sent : List ℕ) : Type 0 where
   pub before : List (List ℕ)
   pub last : List ℕ
   pub whole : pieces ≡ before ++ last ∷ []
@@ -70,13 +73,13 @@ pub record LastPiece (framing : Framing) (form : Form) (head kept : List ℕ) (p
   pub count : ℕ
   pub waiting : List ℕ
   pub bytes : kept ++ concat before ≡ taken ++ waiting
-  pub open_ : IsUnfinished framing form taken passed count waiting
+  pub open_ : IsUnfinished framing form limit taken passed count waiting
   pub more : List ℕ
   pub went : sent ≡ (head ++ passed) ++ more
 
 -- pieces came one by one, each once all before it had gone on
-abbrev pub InTurn : Framing → Form → List ℕ → List ℕ → List (List ℕ) → List ℕ → Type 0
-InTurn framing form head kept pieces sent = (pieces ≡ []) ⊎ LastPiece framing form head kept pieces sent
+abbrev pub InTurn : Framing → Form → ℕ → List ℕ → List ℕ → List (List ℕ) → List ℕ → Type 0
+InTurn framing form limit head kept pieces sent = (pieces ≡ []) ⊎ LastPiece framing form limit head kept pieces sent
 
 -- a body goes on behind `head`: `kept` are the bytes that were there, `pieces` those that came, and `kept_after` those that are kept
 pub record PassesOn
@@ -89,7 +92,7 @@ pub record PassesOn
   pub within : count ≤ limit
   pub sends : IsSent (head ++ passed) sent result
   pub ends : Ends framing form limit taken passed count kept_after result
-  pub in_turn : InTurn framing form head kept pieces sent
+  pub in_turn : InTurn framing form limit head kept pieces sent
 
 -- the framing is that of a body that runs to the end of the connection
 abbrev pub runs_to_end : Framing → Bool

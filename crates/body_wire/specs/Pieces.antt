@@ -1,5 +1,5 @@
 -- What the parts of the decoder find in the bytes before them.
-use Rattle.std.specs.Prelude.{◌≡◌, ℕ, ◌<◌, ◌≤◌, List, [], ◌∷◌, ◌++◌, length, take, drop, Some, None}
+use Rattle.std.specs.Prelude.{◌≡◌, ℕ, ◌<◌, ◌≤◌, List, [], ◌∷◌, ◌++◌, length, take, Some, None}
 use Rattle.httparse.specs.Grammar.{ChunkLine, print_chunk_line, chunk_size, HasNoChunkLine, NeverHasChunkLine, MayBecomeChunkLine}
 use Rattle.body_wire.specs.declared.line.LineSeen.{LineSeen}
 use Rattle.body_wire.specs.declared.line.LineSeen.TheVariants.{Found, Open, Bad}

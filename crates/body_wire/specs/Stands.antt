@@ -1,5 +1,5 @@
 -- What of a body was taken, by its framing, and what a decoder that stands inside a body has taken.
-use Rattle.std.specs.Prelude.{◌≡◌, ◌≢◌, ◌⊎◌, ℕ, ◌+◌, ◌*◌, ◌-◌, ◌<◌, ◌≤◌, List, [], ◌++◌, length, take, Some, Result, Ok, Err}
+use Rattle.std.specs.Prelude.{◌≡◌, ℕ, ◌+◌, ◌*◌, ◌-◌, ◌<◌, ◌≤◌, List, [], ◌++◌, length, take, Some, Result, Ok, Err}
 use Rattle.std.specs.declared.alloc.AllocError.{AllocError}
 use Rattle.http_wire.specs.declared.frames.Framing.{Framing}
 use Rattle.body_wire.specs.declared.form.Form.{Form}
@@ -95,7 +95,7 @@ pub record Moves (old new : Decoder) (kept : List ℕ) (n : ℕ) (out_old out_ne
 
 -- what the bytes show behind which a decoder stopped
 abbrev pub Shown : Framing → Decoder → List ℕ → List ℕ → List ℕ → Stop → Type 0
-Shown framing d taken passed kept Stop.More = IsUnfinished framing d.form taken passed d.count kept
+Shown framing d taken passed kept Stop.More = IsUnfinished framing d.form d.limit taken passed d.count kept
 Shown framing d taken passed kept Stop.Whole = IsWholeBody framing d.form taken passed d.count kept
 Shown framing d taken passed kept Stop.Bad = IsBadBody framing d.form taken passed d.count kept
 Shown framing d taken passed kept Stop.TooLong = IsTooLong framing d.form d.limit taken passed d.count kept

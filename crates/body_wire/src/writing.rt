@@ -10,8 +10,8 @@ use crate::{Bytes, Mem};
 use http_wire::Rest;
 use line_base::{Failed, Peer};
 
-/// Writes all bytes to a peer.
-fn write_all<P: Peer>(peer: &mut P, bytes: &[u8]) -> Result<(), Failed>
+/// Writes all bytes to a peer, in as many calls as it takes, or a front of them where one fails.
+pub fn write_all<P: Peer>(peer: &mut P, bytes: &[u8]) -> Result<(), Failed>
     ensures bytes { (sent : List ℕ) × Appends (P.given peer.old) (P.given peer.new) sent × SendsAll bytes.now sent result }
     ensures others { (Keeps (P.left peer.old) (P.left peer.new)) × (P.read_faults peer.new ≡ P.read_faults peer.old)
         × (P.ends peer.new ≡ P.ends peer.old) }

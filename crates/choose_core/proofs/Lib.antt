@@ -3,3 +3,4 @@ pub mod Drawing
 pub mod Equals
 pub mod Finding
 pub mod Passing
+pub mod Ways

@@ -5,6 +5,6 @@ pub mod Live
 pub mod Mark
 pub mod Marked
 pub mod Marks
-pub mod Over
 pub mod Pair
 pub mod Sieve
+pub mod Way

@@ -28,6 +28,7 @@ use std::alloc::AllocError;
 
 mod draw;
 mod laws;
+mod left;
 mod live;
 mod load;
 mod mark;
@@ -35,14 +36,16 @@ mod marked;
 mod marks;
 mod pruning;
 mod sieve;
+mod way;
 
 pub use draw::{drawn_pair, pair};
 pub use laws::equal_weights_do_not_matter;
+pub use left::is_open;
 pub use live::{live_at, live_count};
 pub use load::lesser;
 pub use mark::{Limits, Mark};
 pub use marks::{MOST_MARKS, Marks};
-pub use pruning::{branch, is_open};
+pub use pruning::branch;
 
 /// A value, unless there was no memory for it.
 pub type Mem<T> = Result<T, AllocError>;

@@ -1,14 +1,15 @@
 //! The choice of a leaf, in what pruning leaves of a bound.
-ghost use Rattle.std.specs.Prelude.{◌≡◌, ◌≤◌, length, is_some, option_copied, IfSome, IfNone};
-ghost use Rattle.addr_book.specs.Found.{IsFilled, IsBounded, AreBounded};
+ghost use Rattle.std.specs.Prelude.{◌≡◌, ◌+◌, ◌<◌, ◌≤◌, is_some, option_copied, IfNone, IfSome};
+ghost use Rattle.std.specs.Option.{option_and_then};
+ghost use Rattle.addr_book.specs.Found.{one, IsFilled, IsBounded};
 ghost use Rattle.addr_book.specs.Bound.{found_of, listed_items};
-ghost use Rattle.choose_core.specs.Branch.{is_open, pruned, pruned_members, total_weight, chosen};
-ghost use Rattle.choose_core.specs.Over.{IsFoundOver};
+ghost use Rattle.addr_book.proofs.Bounds.{found_size};
+ghost use Rattle.choose_core.specs.Branch.{pruned, pruned_members, total_weight, chosen};
+ghost use Rattle.choose_core.specs.Way.{through, leaf_among, leaf_in, items_size, choice_size, way_size, IsGoodWay, IsGoodAmong, IsGoodChoice};
 
-use addr_book::{Book, Bound, BoundItem, Cluster, Leaf};
-
-/// How many words of 64 bits there are.
-const WORDS: u128 = 1 << 64;
+use crate::left::{is_left, is_open};
+use crate::way::{Among, Choice, Turn, Way, turn_of};
+use addr_book::{Book, Bound, Leaf};
 
 /// The leaf that a word chooses. Leaves whose service has no address are left out, and so are branches of which nothing is left then; their
 /// weights do not count. At a union the word, as a part of all words, chooses a branch by the weights; what is left of the word chooses
@@ -16,102 +17,91 @@ const WORDS: u128 = 1 << 64;
 ///
 /// For a word that is drawn evenly, each branch is chosen with a probability of its weight over the sum of the weights that are left.
 ///
-/// A union of one branch on its way costs nothing but a multiplication. Over the branches of each other union on its way it goes twice,
-/// once for the sum and once for the branch, and looks for a leaf that is left in each: so it visits what lies below such a union at most
-/// twice, and looks a leaf's service up in the book at most twice for each of these unions above it, and once more where it is chosen. The
-/// stack is as deep as the bound.
+/// It takes at most two look-ups in the book for each leaf, however deep the unions stand in each other, and one for a bound that is a
+/// leaf. It looks for the first leaf that is left, then for one in each later branch of the unions above that leaf, down to the union at
+/// which the choice takes another branch, and then goes on in that branch alone. The stack is as deep as the bound.
 pub fn branch<'a>(bound: &'a Bound, book: &Book, word: u64) -> Option<&'a Leaf>
     requires filled { IsFilled (found_of bound.now) }
     requires bounded { IsBounded (found_of bound.now) }
     ensures leaf { option_copied result ≡ chosen book.now.services (found_of bound.now) word }
     ensures none { is_some result ≡ is_some (pruned book.now.services (found_of bound.now)) }
 {
-    let mut bound = bound;
-    let mut word = word;
+    let mut choice = first_left(bound, book, &Way::Word(word));
     loop {
-        match bound {
-            Bound::One(leaf) => return if is_open(leaf, book) {
-                Some(leaf)
-            } else {
-                None
-            },
-            Bound::Many(list) => {
-                let items = list.items();
-                if let [only] = items {
-                    // Each word falls into the part of the one branch.
-                    bound = &only.bound;
-                    word = word.wrapping_mul(only.weight);
-                    continue;
-                }
-                let product = u128::from(word) * u128::from(left_weight(items, book));
-                match left_over(items, book, (product / WORDS) as u64) {
-                    None => return None,
-                    Some(item) => {
-                        bound = &item.bound;
-                        word = (product % WORDS) as u64;
-                    }
-                }
-            }
+        match choice {
+            None => return None,
+            Some(Choice::Leaf(leaf)) => return Some(leaf),
+            Some(Choice::Among(among)) => choice = among_later(&among, book),
         }
     }
 }
 
-/// Whether a leaf has an address to go to. It takes one look-up in the book, and no memory.
-pub fn is_open(leaf: &Leaf, book: &Book) -> bool
-    ensures { result ≡ is_open book.now.services leaf.now.cluster }
-{
-    match &leaf.cluster {
-        Cluster::Inet(_) => true,
-        Cluster::Fs(service) => match book.cluster(service) {
-            None => false,
-            Some(list) => !list.is_empty(),
-        },
-    }
-}
-
-/// Whether pruning leaves something of a bound. It stops at the first leaf that is left.
-fn is_left(bound: &Bound, book: &Book) -> bool
-    ensures { result ≡ is_some (pruned book.now.services (found_of bound.now)) }
+/// How far a choice comes that goes through the first leaf that is left of a bound, at the end of a way: to that leaf, or to later branches.
+/// `None` exactly where nothing is left.
+fn first_left<'a>(bound: &'a Bound, book: &Book, way: &Way<'a, '_>) -> Option<Choice<'a>>
+    requires filled { IsFilled (found_of bound.now) }
+    requires bounded { IsBounded (found_of bound.now) }
+    requires way { IsGoodWay way.now }
+    ensures left { is_some result ≡ is_some (pruned book.now.services (found_of bound.now)) }
+    ensures leaf { option_and_then (leaf_in book.now.services) result ≡ option_and_then (through book.now.services way.now) (pruned book.now.services (found_of bound.now)) }
+    ensures good { IfSome result (IsGoodChoice book.now.services) }
+    ensures size { IfSome result (λ choice. choice_size choice < found_size (found_of bound.now) + way_size way.now) }
 {
     match bound {
-        Bound::One(leaf) => is_open(leaf, book),
+        Bound::One(leaf) => {
+            if is_open(leaf, book) {
+                Some(choice_at(leaf, way, book))
+            } else {
+                None
+            }
+        }
         Bound::Many(list) => {
-            for item in list.items() {
-                if is_left(&item.bound, book) {
-                    return true;
+            let items = list.items();
+            for (at, item) in items.iter().enumerate() {
+                let through = Way::Through {
+                    weight: item.weight,
+                    later: &items[at + 1..],
+                    above: &*way,
+                };
+                let choice = first_left(&item.bound, book, &through);
+                if choice.is_some() {
+                    return choice;
                 }
             }
-            false
+            None
         }
     }
 }
 
-/// The sum of the weights of the branches of which something is left.
-fn left_weight(items: &[BoundItem], book: &Book) -> u64
-    requires few { length items.now ≤ 65536 }
-    requires bounded { AreBounded (listed_items items.now) }
-    ensures { result ≡ total_weight (pruned_members book.now.services (listed_items items.now)) }
+/// How far a choice comes at the end of a way, where this leaf is left.
+fn choice_at<'a>(leaf: &'a Leaf, way: &Way<'a, '_>, book: &Book) -> Choice<'a>
+    requires { IsGoodWay way.now }
+    ensures leaf { leaf_in book.now.services result ≡ through book.now.services way.now (one leaf.now) }
+    ensures good { IsGoodChoice book.now.services result }
+    ensures size { choice_size result ≤ way_size way.now }
 {
-    let mut total = 0;
-    for item in items {
-        if is_left(&item.bound, book) {
-            total += item.weight;
-        }
+    match turn_of(way, book) {
+        Turn::Into(_) => Choice::Leaf(leaf),
+        Turn::Away(among) => Choice::Among(among),
     }
-    total
 }
 
-/// The first branch of those of which something is left whose cumulative weight exceeds a number.
-fn left_over<'a>(items: &'a [BoundItem], book: &Book, over: u64) -> Option<&'a BoundItem>
-    ensures found { IfSome result (λ item. IsFoundOver book.now.services items.now over item.now) }
-    ensures none { IfNone result (total_weight (pruned_members book.now.services (listed_items items.now)) ≤ over) }
+/// How far a choice comes that goes on among some branches.
+fn among_later<'a>(among: &Among<'a>, book: &Book) -> Option<Choice<'a>>
+    requires { IsGoodAmong book.now.services among.now }
+    ensures leaf { option_and_then (leaf_in book.now.services) result ≡ leaf_among book.now.services among.now }
+    ensures none { IfNone result (total_weight (pruned_members book.now.services (listed_items among.now.items.now)) ≤ among.now.over) }
+    ensures good { IfSome result (IsGoodChoice book.now.services) }
+    ensures size { IfSome result (λ choice. choice_size choice < items_size among.now.items.now) }
 {
-    let mut left = over;
-    for item in items {
-        if is_left(&item.bound, book) {
-            if left < item.weight {
-                return Some(item);
+    let mut left = among.over;
+    for item in among.items {
+        if left < item.weight {
+            let choice = first_left(&item.bound, book, &Way::Word(among.word));
+            if choice.is_some() {
+                return choice;
             }
+        } else if is_left(&item.bound, book) {
             left -= item.weight;
         }
     }

@@ -1,27 +1,26 @@
 -- What a table rewrites a path to, from the positions that its index gives.
-use Rattle.std.proofs.Common.{◌≡◌, ℕ, zero, suc, ◌+◌, ◌<◌, ◌≤◌, List, [], ◌∷◌, ◌++◌, Bool, true, false, ◌&&◌, length, map, drop, get_or, Option, Some, None, refl, sym, ap, ◌∙◌, arith, append_assoc, add-one, drop-cons}
+use Rattle.std.proofs.Common.{◌≡◌, ℕ, zero, suc, ◌+◌, ◌<◌, ◌≤◌, List, [], ◌∷◌, ◌++◌, Bool, true, false, ◌&&◌, Bor, length, map, drop, get_or, Option, Some, None, refl, sym, ap, ◌∙◌, arith, append_assoc, add-one, drop-cons}
 use Rattle.std.specs.Prelude.{if◌then◌else◌}
-use Rattle.std.specs.List.{slice_get, flat_map}
+use Rattle.std.specs.List.{slice_get, flat_map, All}
 use Rattle.std.specs.Option.{option_to_list}
 use Rattle.std.specs.Str.{bytes_eq}
 use Rattle.std.proofs.lemmas.List.{map-append, append-nil, length-map, drop_all}
+use Rattle.std.proofs.lemmas.List.Elements.{All-same, All-push}
 use Rattle.std.proofs.lemmas.List.Concat.{flat_map-cons, flat_map-append}
 use Rattle.std.proofs.lemmas.Option.{slice_get_within, get_or_from_slice_get}
 use Rattle.name_tree.specs.Path.{Labels}
-use Rattle.name_tree.specs.declared.tree.Tree.{Tree}
-use Rattle.name_tree.specs.Value.{TreeValue, append_rest}
-use Rattle.name_tree.specs.Tree.{value_of}
+use Rattle.name_tree.specs.Value.{TreeValue}
 use Rattle.dtab_index.specs.Index.{Placed, matches, matching}
 use Rattle.dtab_table.specs.declared.entry.Entry.{Entry}
 use Rattle.dtab_table.specs.declared.prefix.PrefixLabel.{PrefixLabel}
 use Rattle.dtab_table.specs.Pattern.{Pattern, pattern_of}
 use Rattle.dtab_table.specs.Rules.{rule_of, placed_from}
-use Rattle.dtab_table.specs.Dtab.{rest_behind, rewrite, rewrites}
+use Rattle.dtab_table.specs.Dtab.{rest_behind, rewrite, rewrites, rewritten_by, rewritten_by_each}
 
--- the tree of an entry that matches, with the rest of the path behind every leaf
+-- what an entry that matches rewrites the path to
 abbrev pub tree_of : Option Entry → Labels → List TreeValue
 tree_of None path = []
-tree_of (Some e) path = append_rest (value_of e.tree) (drop (length e.prefix) path) ∷ []
+tree_of (Some e) path = rewritten_by path e ∷ []
 
 -- the trees of the entries at some positions
 abbrev pub trees_at : List Entry → Labels → List ℕ → List TreeValue
@@ -108,8 +107,8 @@ module _ (all : List Entry) (path : Labels) where
     stand : StandFrom 0 all
     stand k = let same : 0 + k ≡ k = omega arith in rw same refl
 
-    pub begun : (trees : List Tree) → trees ≡ [] → map value_of trees ++ trees_at all path found ≡ rewrites (map rule_of all) path
-    begun trees none = rw (none, found_is) (rewritten 0 all stand)
+    pub begun : (entries : List (Bor Entry)) → entries ≡ [] → rewritten_by_each path entries ++ trees_at all path found ≡ rewrites (map rule_of all) path
+    begun entries none = rw (none, found_is) (rewritten 0 all stand)
 
     usable_here : (i : ℕ) → i < length found → IsUsable all path (get_or found i 0)
     usable_here i within = usable_at found i within (rw found_is (usable 0 all stand))
@@ -123,13 +122,18 @@ module _ (all : List Entry) (path : Labels) where
         let same : entry ≡ here.0 = is ∙ get_or_from_slice_get all (get_or found i 0) here.0 entry here.1 in
         (here.1 ∙ ap Some (sym same), rw same here.2)
 
-  pub one_more : (found : List ℕ) (i rest : ℕ) (entry : Entry) (tree : Tree) (trees more : List Tree) (total : List TreeValue) → i < length found → slice_get all (get_or found i 0) ≡ Some entry
-      → rest ≡ length entry.prefix → value_of tree ≡ append_rest (value_of entry.tree) (drop rest path) → more ≡ trees ++ tree ∷ []
-      → map value_of trees ++ trees_at all path (drop i found) ≡ total → map value_of more ++ trees_at all path (drop (i + 1) found) ≡ total
-  one_more found i rest entry tree trees more total within here many is pushed stands =
-      let first : trees_at all path (drop i found) ≡ value_of tree ∷ trees_at all path (drop (i + 1) found) = rw (drop-cons found i 0, add-one, flat_map-cons, here, is, many) refl in
+  pub one_more : (found : List ℕ) (i : ℕ) (entry : Bor Entry) (entries more : List (Bor Entry)) (total : List TreeValue) → i < length found → slice_get all (get_or found i 0) ≡ Some entry.now
+      → more ≡ entries ++ entry ∷ [] → rewritten_by_each path entries ++ trees_at all path (drop i found) ≡ total → rewritten_by_each path more ++ trees_at all path (drop (i + 1) found) ≡ total
+  one_more found i entry entries more total within here pushed stands =
+      let first : trees_at all path (drop i found) ≡ rewritten_by path entry.now ∷ trees_at all path (drop (i + 1) found) = rw (drop-cons found i 0, add-one, flat_map-cons, here) refl in
       rw (pushed, map-append, append_assoc) (rw first at stands)
 
-  pub done : (found : List ℕ) (i : ℕ) (trees kept : List Tree) (total : List TreeValue) → length found ≤ i → kept ≡ trees → map value_of trees ++ trees_at all path (drop i found) ≡ total → map value_of kept ≡ total
-  done found i trees kept total past same stands =
-      let none : drop i found ≡ [] = drop_all i found past in rw same (sym (append-nil (map value_of trees)) ∙ (rw none at stands))
+  pub done : (found : List ℕ) (i : ℕ) (entries : List (Bor Entry)) (total : List TreeValue) → length found ≤ i → rewritten_by_each path entries ++ trees_at all path (drop i found) ≡ total
+      → rewritten_by_each path entries ≡ total
+  done found i entries total past stands = let none : drop i found ≡ [] = drop_all i found past in sym (append-nil (rewritten_by_each path entries)) ∙ (rw none at stands)
+
+-- one entry more has a prefix no longer than the path
+pub short_more : (path : Labels) (entries more : List (Bor Entry)) (entry : Bor Entry) → more ≡ entries ++ entry ∷ [] → length entry.now.prefix ≤ length path
+    → All (λ e. length e.now.prefix ≤ length path) entries → All (λ e. length e.now.prefix ≤ length path) more
+short_more path entries more entry pushed short are =
+    let P : Bor Entry → Type 0 = λ e. length e.now.prefix ≤ length path in All-same P more (entries ++ entry ∷ []) pushed (All-push P entries entry are short)

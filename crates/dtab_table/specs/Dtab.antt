@@ -1,13 +1,16 @@
 -- Delegation tables as values, and what they rewrite a path to.
-use Rattle.std.specs.Prelude.{Bool, false, ◌||◌, if◌then◌else◌, List, [], ◌∷◌, ◌++◌, map, Option, Some, None, option_map}
+use Rattle.std.specs.Prelude.{Bool, false, ◌||◌, if◌then◌else◌, List, [], ◌∷◌, ◌++◌, length, map, drop, Option, Some, None, option_map}
+use Rattle.std.specs.Borrow.{Bor}
 use Rattle.std.specs.Option.{option_to_list}
 use Rattle.std.specs.Str.{bytes_eq}
 use Rattle.name_tree.specs.Path.{Labels}
 use Rattle.name_tree.specs.Value.{TreeValue, append_rest}
+use Rattle.name_tree.specs.Tree.{value_of}
 use Rattle.dtab_index.specs.Index.{matches}
 use Rattle.dtab_table.specs.Pattern.{Pattern}
 use Rattle.dtab_table.specs.Rules.{Rule, rule_of}
 use Rattle.dtab_table.specs.declared.dtab.Dtab.{Dtab}
+use Rattle.dtab_table.specs.declared.entry.Entry.{Entry}
 
 -- the rules of a table, in their order
 abbrev pub rules_of : Dtab → List Rule
@@ -28,6 +31,14 @@ rewrite rule path = option_map (append_rest rule.tree) (rest_behind rule.prefix 
 abbrev pub rewrites : List Rule → Labels → List TreeValue
 rewrites [] path = []
 rewrites (r ∷ rs) path = rewrites rs path ++ option_to_list (rewrite r path)
+
+-- what an entry whose prefix matches a path rewrites it to: its tree, with the labels of the path behind as many as the prefix has behind every leaf
+abbrev pub rewritten_by : Labels → Entry → TreeValue
+rewritten_by path entry = append_rest (value_of entry.tree) (drop (length entry.prefix) path)
+
+-- what some entries whose prefixes match a path rewrite it to, in their order
+abbrev pub rewritten_by_each : Labels → List (Bor Entry) → List TreeValue
+rewritten_by_each path entries = map (λ entry. rewritten_by path entry.now) entries
 
 -- whether the prefix of some rule matches a path
 abbrev pub some_matches : List Rule → Labels → Bool

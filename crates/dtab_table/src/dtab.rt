@@ -1,5 +1,5 @@
 //! Delegation tables.
-ghost use Rattle.std.specs.Prelude.{◌≡◌, ◌-◌, ◌<◌, ◌≤◌, ◌^◌, [], length, map, take, drop, slice_get, Some, IfOk};
+ghost use Rattle.std.specs.Prelude.{◌≡◌, ◌-◌, ◌<◌, ◌≤◌, ◌^◌, [], length, map, take, drop, slice_get, Some, IfOk, All};
 ghost use Rattle.name_tree.specs.Tree.{value_of};
 ghost use Rattle.dtab_table.specs.Rules.{rule_of, placed_from};
 
@@ -30,7 +30,7 @@ pub struct Dtab {
 }
 
 impl Dtab {
-    ghost use Rattle.dtab_table.specs.Dtab.{rules_of, rewrites, some_matches};
+    ghost use Rattle.dtab_table.specs.Dtab.{rules_of, rewrites, rewritten_by_each, some_matches};
     ghost use Rattle.dtab_table.specs.Rules.{rule_of};
 
     /// The table with no entry. It takes no memory.
@@ -109,10 +109,36 @@ impl Dtab {
             .matches_any(from as u32, to as u32, path.labels())
     }
 
+    /// The entries whose prefix matches a path, the last entry first. The prefix of each takes the first labels of the path, as many as it has
+    /// itself, and the labels behind those are the rest. One call is at least one step.
+    ///
+    /// The cost is one look-up in the table's index for each shape of its prefixes, and the memory of the answer, a reference for each entry
+    /// that matches. No tree is looked at, and none is copied.
+    pub fn matching<'a, L: Ledger>(
+        &'a self,
+        alloc: Global,
+        path: &Path,
+        steps: &mut Steps<L>,
+    ) -> Mem<Vec<&'a Entry>>
+        ensures trees { IfOk result (λ found. rewritten_by_each path.now found.items ≡ rewrites (rules_of self.now) path.now) }
+        ensures long { IfOk result (λ found. All (λ entry. length entry.now.prefix ≤ length path.now) found.items) }
+        ensures ticks { steps.old < steps.new }
+    {
+        steps.tick();
+        let places = self.index.matching(alloc, path.labels())?;
+        let mut found = Vec::with_capacity(alloc, places.len())?;
+        for at in &places {
+            let entry = &self.entries[*at as usize];
+            found.push(entry)?;
+        }
+        Ok(found)
+    }
+
     /// What the table rewrites a path to: the trees of all entries whose prefix matches, the last entry first, each with the
     /// rest of the path behind every leaf, as the Finagle user guide has it. One lookup is at least one step.
     ///
-    /// It takes one look-up in the table's index for each shape of its prefixes, and memory for the entries that match alone.
+    /// The cost is that of [`Dtab::matching`], and a copy of the tree of each entry that matches, with the rest of the path behind each of
+    /// its leaves. Where only some of the trees will be tried, [`Dtab::matching`] lends them instead.
     pub fn lookup<L: Ledger>(
         &self,
         alloc: Global,
@@ -122,11 +148,9 @@ impl Dtab {
         ensures trees { IfOk result (λ trees. map value_of trees ≡ rewrites (rules_of self.now) path.now) }
         ensures ticks { steps.old < steps.new }
     {
-        steps.tick();
-        let found = self.index.matching(alloc, path.labels())?;
+        let found = self.matching(alloc, path, steps)?;
         let mut trees = Vec::with_capacity(alloc, found.len())?;
-        for at in &found {
-            let entry = &self.entries[*at as usize];
+        for entry in &found {
             let rest = entry.prefix.labels().len();
             trees.push(entry.tree.with_rest(alloc, path, rest)?)?;
         }

@@ -16,7 +16,6 @@ use Rattle.name_tree.specs.Value.{TreeValue, leaf, neg, fail, empty, alt, union,
 use Rattle.name_tree.specs.Canon.{decimals_text, point_text, canon_weight, grouped, is_alt, is_union, canon, canon_alts, canon_more_alts, canon_branches, canon_more_branches, IsSound, AreSound, AreSoundBranches, IsByteLabel, AreByteLabels, HasLabels, HaveLabels, BranchesHaveLabels}
 use Rattle.dtab_table.specs.Pattern.{Pattern}
 use Rattle.dtab_table.specs.Rules.{Rule}
-use Rattle.forward.specs.Sound.{is_clear_byte}
 use Rattle.dtab_table.specs.TableCanon.{canon_pattern, canon_prefix, canon_rule, canon_more, canon_table, IsPattern, ArePatterns, IsSoundRule, AreSoundRules}
 
 abbrev pub IsValue : ℕ → Type 0
@@ -65,43 +64,6 @@ labels_text (l ∷ ls) are =
 pub path_text : (ls : Labels) → AreByteLabels ls → All IsValue (canon_path ls)
 path_text [] are = first 47 [] refl (All-nil IsValue)
 path_text (l ∷ ls) are = labels_text (l ∷ ls) are
-
--- the text of any path ends no line, whatever its labels hold
-abbrev pub IsClear : ℕ → Type 0
-IsClear b = IsTrue (is_clear_byte b)
-
-clear_plain : (b : ℕ) → IsTrue (is_plain b) → IsClear b
-unfolding is_plain
-clear_plain b plain = grind (arith, nat_tests)
-
-clear_hex : (n : ℕ) → IsClear (hex_digit n)
-clear_hex n = grind (arith, nat_tests)
-
-clear_byte : (b : ℕ) → All IsClear (canon_byte b)
-clear_byte b = by_test (is_plain b) refl
-  where
-    by_test : (t : Bool) → is_plain b ≡ t → All IsClear (cond t (b ∷ []) (92 ∷ 120 ∷ hex_digit (b / 16) ∷ hex_digit (b % 16) ∷ []))
-    by_test true test = All-cons IsClear b [] (clear_plain b test) (All-nil IsClear)
-    by_test false test =
-        All-cons IsClear 92 (120 ∷ hex_digit (b / 16) ∷ hex_digit (b % 16) ∷ []) refl
-        (All-cons IsClear 120 (hex_digit (b / 16) ∷ hex_digit (b % 16) ∷ []) refl
-        (All-cons IsClear (hex_digit (b / 16)) (hex_digit (b % 16) ∷ []) (clear_hex (b / 16))
-        (All-cons IsClear (hex_digit (b % 16)) [] (clear_hex (b % 16)) (All-nil IsClear))))
-
-clear_bytes : (bs : List ℕ) → All IsClear (flat_map canon_byte bs)
-clear_bytes [] = All-nil IsClear
-clear_bytes (b ∷ bs) =
-    subst (All IsClear) (sym (flat_map-cons canon_byte b bs)) (All-append IsClear (canon_byte b) (flat_map canon_byte bs) (clear_byte b) (clear_bytes bs))
-
-clear_labels : (ls : Labels) → All IsClear (flat_map canon_label ls)
-clear_labels [] = All-nil IsClear
-clear_labels (l ∷ ls) =
-    subst (All IsClear) (sym (flat_map-cons canon_label l ls))
-    (All-append IsClear (canon_label l) (flat_map canon_label ls) (All-cons IsClear 47 (flat_map canon_byte l) refl (clear_bytes l)) (clear_labels ls))
-
-pub clear_path : (ls : Labels) → All IsClear (canon_path ls)
-clear_path [] = All-cons IsClear 47 [] refl (All-nil IsClear)
-clear_path (l ∷ ls) = clear_labels (l ∷ ls)
 
 -- ---- numbers
 

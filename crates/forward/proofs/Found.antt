@@ -1,5 +1,5 @@
 -- What a search by halves finds among the lowered names.
-use Rattle.std.proofs.Common.{◌≡◌, ℕ, ◌<◌, ◌≤◌, Bool, true, false, List, [], ◌∷◌, ◌&&◌, ◌||◌, not, length, map, filter, get_or, ltb, eqb, cond, refl, sym, ap, ◌∙◌, arith, Result, Ok, Err, All, is_ok, bytes_eq, IsPermutation, IsSorted}
+use Rattle.std.proofs.Common.{◌≡◌, ℕ, ◌<◌, ◌≤◌, Bool, true, false, List, [], ◌∷◌, ◌&&◌, ◌||◌, not, length, map, filter, get_or, ltb, eqb, cond, refl, sym, ap, ◌∙◌, arith, Result, Ok, Err, is_ok, bytes_eq, IsPermutation, IsSorted}
 use Rattle.std.specs.List.{list_any}
 use Rattle.std.specs.List.Sorted.{IsSearchInRange, IsBinarySearchResult}
 use Rattle.std.specs.Ordering.{nat_cmp, is_eq}
@@ -8,7 +8,6 @@ use Rattle.std.specs.declared.vec.Vec.{Vec}
 use Rattle.std.specs.declared.alloc.Global.{Global}
 use Rattle.std.proofs.lemmas.Bool.Decides.{nat_tests}
 use Rattle.std.proofs.lemmas.Cmp.{same_from_slice_cmp}
-use Rattle.std.proofs.lemmas.List.Elements.{All-head, All-tail}
 use Rattle.std.proofs.lemmas.List.Folds.{list_any_at, list_any_none}
 use Rattle.std.proofs.lemmas.List.Sorted.{list_any-IsPermutation, searchable_from_sorted}
 use Rattle.std.proofs.lemmas.Slice.Eq.{bytes_eq-Decides}
@@ -56,38 +55,26 @@ turned xs ys = by_tests (bytes_eq xs ys) (bytes_eq ys xs) refl refl
     by_tests true false a b = let yes = (bytes_eq-Decides ys xs).1 (sym ((bytes_eq-Decides xs ys).0 a)) in cc
     by_tests false true a b = let yes = (bytes_eq-Decides xs ys).1 (sym ((bytes_eq-Decides ys xs).0 b)) in cc
 
--- a name that has a byte is among the lowered names where it is among the names
-among : (name : List ℕ) (pieces : List (List ℕ)) → 0 < length name
+-- a name is among the lowered names where it is among the names
+among : (name : List ℕ) (pieces : List (List ℕ))
     → list_any (λ (t : List ℕ). bytes_eq t (lower name)) (lowered pieces) ≡ list_any (same_ignoring_case name) pieces
 unfolding same_ignoring_case
-among name [] some = refl
-among name ([] ∷ pieces) some = among name pieces some ∙ ap (λ (b : Bool). b || list_any (same_ignoring_case name) pieces) (sym (other name some))
-  where
-    other : (n : List ℕ) → 0 < length n → bytes_eq (lower n) (lower []) ≡ false
-    other [] none = absurd (omega (arith, none))
-    other (b ∷ bs) some = refl
-among name ((p ∷ ps) ∷ pieces) some =
-    ap (λ (t : Bool). list_any (λ (t : List ℕ). bytes_eq t (lower name)) (cond t (lowered pieces) (lower (p ∷ ps) ∷ lowered pieces))) (not_empty p ps)
-    ∙ (λ k. turned (lower (p ∷ ps)) (lower name) k || among name pieces some k)
-  where
-    not_empty : (b : ℕ) (bs : List ℕ) → eqb (length (b ∷ bs)) 0 ≡ false
-    not_empty b bs = let other : length (b ∷ bs) ≡ 0 → ⊥ = λ same. omega (arith, same) in grind (arith, nat_tests, other)
+among name [] = refl
+among name (piece ∷ pieces) = (λ k. turned (lower piece) (lower name) k || among name pieces k)
 
 pub stand_for : (before sorted : List (Vec ℕ Global)) (pieces : List (List ℕ)) → IsPermutation before sorted
     → map (λ (n : Vec ℕ Global). n.items) before ≡ lowered pieces → StandFor sorted pieces
-stand_for before sorted pieces moved same name some =
+stand_for before sorted pieces moved same name =
     sym (list_any-IsPermutation (λ (n : Vec ℕ Global). bytes_eq n.items (lower name)) before sorted moved)
     ∙ list_any-map (λ (t : List ℕ). bytes_eq t (lower name)) (λ (n : Vec ℕ Global). n.items) before
     ∙ ap (list_any (λ (t : List ℕ). bytes_eq t (lower name))) same
-    ∙ among name pieces some
+    ∙ among name pieces
 
 -- where the lowered names stand for those that are listed, what they leave is what goes on
 pub left_is_kept : (never : List (List ℕ)) (listed : Listed) (fields all : List Field) → StandFor listed.names.items (named_in_connection all)
-    → All (λ (f : Field). 0 < length f.name) fields
     → filter (is_left never listed) fields ≡ filter (λ (f : Field). not (has_name_of never f) && not (has_name_of (named_in_connection all) f)) fields
-left_is_kept never listed [] all stands some = refl
-left_is_kept never listed (f ∷ fs) all stands some =
+left_is_kept never listed [] all stands = refl
+left_is_kept never listed (f ∷ fs) all stands =
     let test : is_left never listed f ≡ (not (has_name_of never f) && not (has_name_of (named_in_connection all) f)) =
-    ap (λ (b : Bool). not (has_name_of never f) && not b) (stands f.name (All-head (λ (g : Field). 0 < length g.name) f fs some)) in
-    (λ k. cond (test k) (f ∷ left_is_kept never listed fs all stands (All-tail (λ (g : Field). 0 < length g.name) f fs some) k)
-    (left_is_kept never listed fs all stands (All-tail (λ (g : Field). 0 < length g.name) f fs some) k))
+    ap (λ (b : Bool). not (has_name_of never f) && not b) (stands f.name) in
+    (λ k. cond (test k) (f ∷ left_is_kept never listed fs all stands k) (left_is_kept never listed fs all stands k))

@@ -1,27 +1,27 @@
 -- The lines of a head, added one by one.
-use Rattle.std.proofs.Common.{◌≡◌, ℕ, ◌+◌, ◌<◌, Bool, true, false, cond, All, List, [], ◌∷◌, ◌++◌, length, map, filter, take, get_or, codes, refl, sym, ap, ◌∙◌, append_assoc}
+use Rattle.std.proofs.Common.{◌≡◌, ℕ, ◌+◌, ◌<◌, Bool, true, false, cond, List, [], ◌∷◌, ◌++◌, length, map, filter, take, get_or, codes, refl, sym, ap, ◌∙◌, append_assoc}
 use Rattle.std.proofs.lemmas.List.{take_more, map-append, append-nil}
-use Rattle.std.proofs.lemmas.List.Elements.{All-weaker, filter-append}
+use Rattle.std.proofs.lemmas.List.Elements.{filter-append}
 use Rattle.name_tree.specs.Path.{canon_path}
 use Rattle.dtab_table.specs.Dtab.{rules_of}
 use Rattle.http_wire.specs.declared.head.Field.{Field}
 use Rattle.http_wire.specs.declared.head.Head.{Head}
 use Rattle.forward.specs.declared.going.Going.{Going}
-use Rattle.forward.specs.Lines.{crlf, ended, line_of}
+use Rattle.httparse.specs.Ascii.{crlf_bytes}
+use Rattle.http_wire.specs.Lines.{ended, field_line, line_of}
 use Rattle.forward.specs.declared.listed.Listed.{Listed}
 use Rattle.forward.specs.Dropped.{kept_but, named_in_connection, never_kept, never_back}
 use Rattle.forward.specs.Kept.{is_left, left_by}
 use Rattle.forward.specs.Listed.{StandFor}
 use Rattle.forward.proofs.Found.{left_is_kept}
-use Rattle.http_wire.specs.Heads.{IsSoundField}
 use Rattle.http_wire.specs.declared.head.ReplyHead.{ReplyHead}
 use Rattle.http_wire.specs.declared.frames.Framing.{Framing}
 use Rattle.forward.specs.Returned.{status_line, back_framing_lines, closing_lines, returned}
-use Rattle.forward.specs.Forwarded.{request_line, field_line, framing_lines, via, table_lines, residual_lines, forwarded}
+use Rattle.forward.specs.Forwarded.{request_line, framing_lines, via, table_lines, residual_lines, lines, forwarded}
 
 ended-append : (xs ys : List (List ℕ)) → ended (xs ++ ys) ≡ ended xs ++ ended ys
 ended-append [] ys = refl
-ended-append (x ∷ xs) ys = ap (λ t. x ++ crlf ++ t) (ended-append xs ys) ∙ sym (append_assoc (x ++ crlf) (ended xs) (ended ys))
+ended-append (x ∷ xs) ys = ap (λ t. x ++ crlf_bytes ++ t) (ended-append xs ys) ∙ sym (append_assoc (x ++ crlf_bytes) (ended xs) (ended ys))
 
 -- a name, a value and the end of a line are one line
 pub line_put : (r0 r1 r2 r3 name value end : List ℕ) → r1 ≡ r0 ++ name → r2 ≡ r1 ++ value → r3 ≡ r2 ++ end → r3 ≡ r0 ++ (name ++ value ++ end ++ [])
@@ -31,9 +31,9 @@ line_put r0 r1 r2 r3 name value end e1 e2 e3 =
 
 -- the parts of a status line and the end of a line are one line
 pub status_put : (r0 r1 r2 r3 r4 a b c d : List ℕ) → r1 ≡ r0 ++ a → r2 ≡ r1 ++ b → r3 ≡ r2 ++ c → r4 ≡ r3 ++ d
-    → r4 ++ crlf ≡ r0 ++ ended ((a ++ b ++ c ++ d) ∷ [])
+    → r4 ++ crlf_bytes ≡ r0 ++ ended ((a ++ b ++ c ++ d) ∷ [])
 status_put r0 r1 r2 r3 r4 a b c d e1 e2 e3 e4 =
-    ap (λ r. r ++ crlf) (e4 ∙ ap (λ r. r ++ d) (e3 ∙ ap (λ r. r ++ c) (e2 ∙ ap (λ r. r ++ b) e1))) ∙ simp (append_assoc, append-nil)
+    ap (λ r. r ++ crlf_bytes) (e4 ∙ ap (λ r. r ++ d) (e3 ∙ ap (λ r. r ++ c) (e2 ∙ ap (λ r. r ++ b) e1))) ∙ simp (append_assoc, append-nil)
 
 -- the lines of the fields that are left
 abbrev left_lines : List (List ℕ) → Listed → List Field → List ℕ
@@ -76,17 +76,18 @@ left_more never listed fields k field r0 r1 r2 less at before put =
 
 -- the lines of the fields that are left are those of the fields that go on
 pub left_kept : (never : List (List ℕ)) (listed : Listed) (fields all : List Field) → fields ≡ all
-    → StandFor listed.names.items (named_in_connection all) → All IsSoundField all
+    → StandFor listed.names.items (named_in_connection all)
     → left_lines never listed fields ≡ ended (map field_line (kept_but never all))
 unfolding left_by kept_but
-left_kept never listed fields all same stands sound =
+left_kept never listed fields all same stands =
     ap (left_lines never listed) same
-    ∙ ap (λ fs. ended (map field_line fs))
-    (left_is_kept never listed all all stands (All-weaker IsSoundField (λ (f : Field). 0 < length f.name) (λ f field. field.0.0) all sound))
+    ∙ ap (λ fs. ended (map field_line fs)) (left_is_kept never listed all all stands)
 
 -- more lines behind those that stand
-grown : (lines more : List (List ℕ)) (before after : List ℕ) → before ≡ ended lines → after ≡ before ++ ended more → after ≡ ended (lines ++ more)
-grown lines more before after stand put = put ∙ ap (λ b. b ++ ended more) stand ∙ sym (ended-append lines more)
+grown : (front : List ℕ) (lines more : List (List ℕ)) (before after : List ℕ) → before ≡ front ++ ended lines → after ≡ before ++ ended more
+    → after ≡ front ++ ended (lines ++ more)
+grown front lines more before after stand put =
+    put ∙ ap (λ b. b ++ ended more) stand ∙ append_assoc front (ended lines) (ended more) ∙ ap (λ t. front ++ t) (sym (ended-append lines more))
 
 regrouped : (q h v s c e : List ℕ) (ks fs ts rs : List (List ℕ))
     → ((((((q ∷ h ∷ ks) ++ fs) ++ v ∷ []) ++ ts) ++ s ∷ []) ++ c ∷ []) ++ rs ++ e ∷ []
@@ -94,7 +95,6 @@ regrouped : (q h v s c e : List ℕ) (ks fs ts rs : List (List ℕ))
 regrouped q h v s c e ks fs ts rs = simp append_assoc
 
 all_joined : (q h v s c e : List ℕ) (ks fs ts rs : List (List ℕ)) (r0 r1 r2 r3 r4 r5 r6 r7 r8 r9 r10 : List ℕ)
-    → r0 ≡ []
     → r1 ≡ r0 ++ ended (q ∷ [])
     → r2 ≡ r1 ++ ended (h ∷ [])
     → r3 ≡ r2 ++ ended ks
@@ -105,28 +105,26 @@ all_joined : (q h v s c e : List ℕ) (ks fs ts rs : List (List ℕ)) (r0 r1 r2 
     → r8 ≡ r7 ++ ended (c ∷ [])
     → r9 ≡ r8 ++ ended rs
     → r10 ≡ r9 ++ ended (e ∷ [])
-    → r10 ≡ ended (q ∷ h ∷ ks ++ fs ++ v ∷ ts ++ s ∷ c ∷ rs ++ e ∷ [])
-all_joined q h v s c e ks fs ts rs r0 r1 r2 r3 r4 r5 r6 r7 r8 r9 r10 e0 e1 e2 e3 e4 e5 e6 e7 e8 e9 e10 =
+    → r10 ≡ r0 ++ ended (q ∷ h ∷ ks ++ fs ++ v ∷ ts ++ s ∷ c ∷ rs ++ e ∷ [])
+all_joined q h v s c e ks fs ts rs r0 r1 r2 r3 r4 r5 r6 r7 r8 r9 r10 e1 e2 e3 e4 e5 e6 e7 e8 e9 e10 =
     let l3 = q ∷ h ∷ ks in
     let l4 = l3 ++ fs in
     let l5 = l4 ++ v ∷ [] in
     let l6 = l5 ++ ts in
     let l7 = l6 ++ s ∷ [] in
     let l8 = l7 ++ c ∷ [] in
-    let g1 : r1 ≡ ended (q ∷ []) = e1 ∙ ap (λ r. r ++ ended (q ∷ [])) e0 in
-    let g2 : r2 ≡ ended (q ∷ h ∷ []) = grown (q ∷ []) (h ∷ []) r1 r2 g1 e2 in
-    let g3 : r3 ≡ ended l3 = grown (q ∷ h ∷ []) ks r2 r3 g2 e3 in
-    let g5 : r5 ≡ ended l5 = grown l4 (v ∷ []) r4 r5 (grown l3 fs r3 r4 g3 e4) e5 in
-    let g7 : r7 ≡ ended l7 = grown l6 (s ∷ []) r6 r7 (grown l5 ts r5 r6 g5 e6) e7 in
-    let g9 : r9 ≡ ended (l8 ++ rs) = grown l8 rs r8 r9 (grown l7 (c ∷ []) r7 r8 g7 e8) e9 in
-    grown (l8 ++ rs) (e ∷ []) r9 r10 g9 e10 ∙ ap ended (regrouped q h v s c e ks fs ts rs)
+    let g2 : r2 ≡ r0 ++ ended (q ∷ h ∷ []) = grown r0 (q ∷ []) (h ∷ []) r1 r2 e1 e2 in
+    let g3 : r3 ≡ r0 ++ ended l3 = grown r0 (q ∷ h ∷ []) ks r2 r3 g2 e3 in
+    let g5 : r5 ≡ r0 ++ ended l5 = grown r0 l4 (v ∷ []) r4 r5 (grown r0 l3 fs r3 r4 g3 e4) e5 in
+    let g7 : r7 ≡ r0 ++ ended l7 = grown r0 l6 (s ∷ []) r6 r7 (grown r0 l5 ts r5 r6 g5 e6) e7 in
+    let g9 : r9 ≡ r0 ++ ended (l8 ++ rs) = grown r0 l8 rs r8 r9 (grown r0 l7 (c ∷ []) r7 r8 g7 e8) e9 in
+    grown r0 (l8 ++ rs) (e ∷ []) r9 r10 g9 e10 ∙ ap (λ ls. r0 ++ ended ls) (regrouped q h v s c e ks fs ts rs)
 
 -- the bytes behind all lines are the head
 pub head_joined : (head : Head) (to : Going) (method said : List ℕ)
     (r0 r1 r2 r3 r4 r5 r6 r7 r8 r9 r10 r11 : List ℕ)
     → method ≡ head.method
     → said ≡ via head.version
-    → r0 ≡ []
     → r1 ≡ r0 ++ ended (request_line method to.target.now ∷ [])
     → r2 ≡ r1 ++ ended (line_of (codes "Host") to.host.now ∷ [])
     → r3 ≡ r2 ++ ended (map field_line (kept_but never_kept head.fields))
@@ -137,50 +135,49 @@ pub head_joined : (head : Head) (to : Going) (method said : List ℕ)
     → r8 ≡ r7 ++ ended (line_of (codes "l5d-dst-client") to.client.now ∷ [])
     → r9 ≡ r8 ++ ended (residual_lines to.residual.now)
     → r10 ≡ r9 ++ ended (line_of (codes "Connection") (codes "close") ∷ [])
-    → r11 ≡ r10 ++ crlf
-    → r11 ≡ forwarded head to
+    → r11 ≡ r10 ++ crlf_bytes
+    → r11 ≡ r0 ++ forwarded head to
 unfolding forwarded
-head_joined head to method said r0 r1 r2 r3 r4 r5 r6 r7 r8 r9 r10 r11 m v e0 e1 e2 e3 e4 e5 e6 e7 e8 e9 e10 e11 =
+head_joined head to method said r0 r1 r2 r3 r4 r5 r6 r7 r8 r9 r10 r11 m v e1 e2 e3 e4 e5 e6 e7 e8 e9 e10 e11 =
     let first : r1 ≡ r0 ++ ended (request_line head.method to.target.now ∷ [])
     = e1 ∙ ap (λ t. r0 ++ ended (request_line t to.target.now ∷ [])) m in
     let fifth : r5 ≡ r4 ++ ended (line_of (codes "Via") (via head.version) ∷ []) = e5 ∙ ap (λ t. r4 ++ ended (line_of (codes "Via") t ∷ [])) v in
     e11
-    ∙ ap (λ b. b ++ crlf)
+    ∙ ap (λ b. b ++ crlf_bytes)
     (all_joined (request_line head.method to.target.now) (line_of (codes "Host") to.host.now) (line_of (codes "Via") (via head.version))
     (line_of (codes "l5d-dst-service") (canon_path to.service.now)) (line_of (codes "l5d-dst-client") to.client.now)
     (line_of (codes "Connection") (codes "close")) (map field_line (kept_but never_kept head.fields)) (framing_lines to.framing)
-    (table_lines (rules_of to.local.now)) (residual_lines to.residual.now) r0 r1 r2 r3 r4 r5 r6 r7 r8 r9 r10 e0 first e2 e3 e4 fifth e6 e7 e8 e9 e10)
+    (table_lines (rules_of to.local.now)) (residual_lines to.residual.now) r0 r1 r2 r3 r4 r5 r6 r7 r8 r9 r10 first e2 e3 e4 fifth e6 e7 e8 e9 e10)
+    ∙ append_assoc r0 (ended (lines head to)) crlf_bytes
 
 back_joined : (q v : List ℕ) (ks fs cs : List (List ℕ)) (r0 r1 r2 r3 r4 r5 r6 : List ℕ)
-    → r0 ≡ []
     → r1 ≡ r0 ++ ended (q ∷ [])
     → r2 ≡ r1 ++ ended ks
     → r3 ≡ r2 ++ ended fs
     → r4 ≡ r3 ++ ended (v ∷ [])
     → r5 ≡ r4 ++ ended cs
-    → r6 ≡ r5 ++ crlf
-    → r6 ≡ ended (q ∷ ks ++ fs ++ v ∷ cs) ++ crlf
-back_joined q v ks fs cs r0 r1 r2 r3 r4 r5 r6 e0 e1 e2 e3 e4 e5 e6 =
-    let g1 : r1 ≡ ended (q ∷ []) = e1 ∙ ap (λ r. r ++ ended (q ∷ [])) e0 in
-    let g2 : r2 ≡ ended (q ∷ ks) = grown (q ∷ []) ks r1 r2 g1 e2 in
-    let g3 : r3 ≡ ended ((q ∷ ks) ++ fs) = grown (q ∷ ks) fs r2 r3 g2 e3 in
-    let g4 : r4 ≡ ended (((q ∷ ks) ++ fs) ++ v ∷ []) = grown ((q ∷ ks) ++ fs) (v ∷ []) r3 r4 g3 e4 in
-    let g5 : r5 ≡ ended ((((q ∷ ks) ++ fs) ++ v ∷ []) ++ cs) = grown (((q ∷ ks) ++ fs) ++ v ∷ []) cs r4 r5 g4 e5 in
-    e6 ∙ ap (λ b. b ++ crlf) (g5 ∙ ap ended (append_assoc ((q ∷ ks) ++ fs) (v ∷ []) cs))
+    → r6 ≡ r5 ++ crlf_bytes
+    → r6 ≡ r0 ++ (ended (q ∷ ks ++ fs ++ v ∷ cs) ++ crlf_bytes)
+back_joined q v ks fs cs r0 r1 r2 r3 r4 r5 r6 e1 e2 e3 e4 e5 e6 =
+    let g2 : r2 ≡ r0 ++ ended (q ∷ ks) = grown r0 (q ∷ []) ks r1 r2 e1 e2 in
+    let g3 : r3 ≡ r0 ++ ended ((q ∷ ks) ++ fs) = grown r0 (q ∷ ks) fs r2 r3 g2 e3 in
+    let g4 : r4 ≡ r0 ++ ended (((q ∷ ks) ++ fs) ++ v ∷ []) = grown r0 ((q ∷ ks) ++ fs) (v ∷ []) r3 r4 g3 e4 in
+    let g5 : r5 ≡ r0 ++ ended ((((q ∷ ks) ++ fs) ++ v ∷ []) ++ cs) = grown r0 (((q ∷ ks) ++ fs) ++ v ∷ []) cs r4 r5 g4 e5 in
+    e6 ∙ ap (λ b. b ++ crlf_bytes) (g5 ∙ ap (λ ls. r0 ++ ended ls) (append_assoc ((q ∷ ks) ++ fs) (v ∷ []) cs))
+    ∙ append_assoc r0 (ended (q ∷ ks ++ fs ++ v ∷ cs)) crlf_bytes
 
 pub returned_joined : (head : ReplyHead) (framing : Framing) (chunked closing : Bool) (said reason : List ℕ) (r0 r1 r2 r3 r4 r5 r6 : List ℕ)
     → reason ≡ head.reason
     → said ≡ via head.version
-    → r0 ≡ []
     → r1 ≡ r0 ++ ended (status_line head.status reason ∷ [])
     → r2 ≡ r1 ++ ended (map field_line (kept_but never_back head.fields))
     → r3 ≡ r2 ++ ended (back_framing_lines head framing chunked)
     → r4 ≡ r3 ++ ended (line_of (codes "Via") said ∷ [])
     → r5 ≡ r4 ++ ended (closing_lines closing)
-    → r6 ≡ r5 ++ crlf
-    → r6 ≡ returned head framing chunked closing
+    → r6 ≡ r5 ++ crlf_bytes
+    → r6 ≡ r0 ++ returned head framing chunked closing
 unfolding returned
-returned_joined head framing chunked closing said reason r0 r1 r2 r3 r4 r5 r6 p v e0 e1 e2 e3 e4 e5 e6 =
+returned_joined head framing chunked closing said reason r0 r1 r2 r3 r4 r5 r6 p v e1 e2 e3 e4 e5 e6 =
     back_joined (status_line head.status head.reason) (line_of (codes "Via") (via head.version)) (map field_line (kept_but never_back head.fields))
-    (back_framing_lines head framing chunked) (closing_lines closing) r0 r1 r2 r3 r4 r5 r6 e0
+    (back_framing_lines head framing chunked) (closing_lines closing) r0 r1 r2 r3 r4 r5 r6
     (e1 ∙ ap (λ t. r0 ++ ended (status_line head.status t ∷ [])) p) e2 e3 (e4 ∙ ap (λ t. r3 ++ ended (line_of (codes "Via") t ∷ [])) v) e5 e6

@@ -3,4 +3,3 @@ pub mod Joined
 pub mod Named
 pub mod CanonBytes
 pub mod Written
-pub mod Whole

@@ -1,5 +1,5 @@
 -- The names that Connection fields list, field by field.
-use Rattle.std.proofs.Common.{◌≡◌, ℕ, ◌+◌, ◌<◌, Bool, true, false, eqb, cond, List, [], ◌∷◌, ◌++◌, length, map, filter, take, get_or, codes, refl, sym, ap, ◌∙◌, append_assoc, ◌||◌, Bor, Option, subst}
+use Rattle.std.proofs.Common.{◌≡◌, ℕ, ◌+◌, ◌<◌, Bool, true, false, cond, List, [], ◌∷◌, ◌++◌, length, map, filter, take, get_or, codes, refl, sym, ap, ◌∙◌, append_assoc, ◌||◌, Bor, Option, subst}
 use Rattle.std.specs.List.{list_any}
 use Rattle.std.proofs.lemmas.List.{take_more, map-append, append-nil}
 use Rattle.std.proofs.lemmas.List.Elements.{filter-append}
@@ -49,13 +49,7 @@ listed-append xs ys =
 -- ---- in lower case
 
 lowered-append : (xs ys : List (List ℕ)) → lowered (xs ++ ys) ≡ lowered xs ++ lowered ys
-lowered-append [] ys = refl
-lowered-append (x ∷ xs) ys = by_test (eqb (length x) 0) (lowered-append xs ys)
-  where
-    by_test : (t : Bool) → lowered (xs ++ ys) ≡ lowered xs ++ lowered ys
-        → cond t (lowered (xs ++ ys)) (lower x ∷ lowered (xs ++ ys)) ≡ cond t (lowered xs) (lower x ∷ lowered xs) ++ lowered ys
-    by_test true later = later
-    by_test false later = ap (λ ns. lower x ∷ ns) later
+lowered-append xs ys = map-append lower xs ys
 
 -- one field more
 pub listed_more : (fields : List Field) (k : ℕ) (field : Field) (n1 n2 : List (List ℕ)) → k < length fields → field ≡ get_or fields k field

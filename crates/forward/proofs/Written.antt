@@ -31,9 +31,10 @@ use Rattle.http_wire.proofs.Lengths.{led, length_agreed, trimmed_digits}
 use Rattle.http_wire.proofs.Looks.{differ, skip-other, token_byte_low, uri_byte_low}
 use Rattle.forward.specs.declared.going.Going.{Going}
 use Rattle.forward.specs.Dropped.{goes_on, has_name_of, kept, kept_but, named_in_connection, never_kept}
-use Rattle.forward.specs.Forwarded.{field_line, forwarded, framing_lines, lines, request_line, residual_lines, table_lines, via}
-use Rattle.forward.specs.Laws.{HeadsReadBack, IsPlainWay, IsRequestFraming}
-use Rattle.forward.specs.Lines.{ended, line_of, crlf}
+use Rattle.forward.specs.Forwarded.{forwarded, framing_lines, lines, request_line, residual_lines, table_lines, via}
+use Rattle.forward.specs.Laws.{HeadsReadBack, IsPlainWay, IsRequestFraming, table_texts}
+use Rattle.httparse.specs.Ascii.{crlf_bytes}
+use Rattle.http_wire.specs.Lines.{ended, field_line, line_of}
 use Rattle.forward.proofs.CanonBytes.{IsValue, decimal_text, path_text, table_text}
 
 -- ---- names and values, in their order
@@ -118,7 +119,7 @@ line_field p = record { name = p.0; raw = 32 ∷ p.1; end = cr_lf }
 ended_is : (ps : List Pair) → ended (map pair_line ps) ≡ flat_map print_field (map line_field ps)
 ended_is [] = refl
 ended_is (p ∷ ps) =
-    (λ i. (append_assoc p.0 (58 ∷ 32 ∷ []) p.1 i ++ crlf) ++ ended_is ps i) ∙ sym (flat_map-cons print_field (line_field p) (map line_field ps))
+    (λ i. (append_assoc p.0 (58 ∷ 32 ∷ []) p.1 i ++ crlf_bytes) ++ ended_is ps i) ∙ sym (flat_map-cons print_field (line_field p) (map line_field ps))
 
 abbrev parts : Head → Going → RequestHead
 parts head to = record {
@@ -131,15 +132,15 @@ parts head to = record {
   last = cr_lf;
 }
 
-regrouped : (m t s : List ℕ) → (((((m ++ 32 ∷ []) ++ t) ++ codes " HTTP/1.1") ++ crlf) ++ s) ++ crlf
-    ≡ m ++ 32 ∷ (t ++ 32 ∷ (codes "HTTP/1.1" ++ (crlf ++ ((s ++ crlf) ++ []))))
+regrouped : (m t s : List ℕ) → (((((m ++ 32 ∷ []) ++ t) ++ codes " HTTP/1.1") ++ crlf_bytes) ++ s) ++ crlf_bytes
+    ≡ m ++ 32 ∷ (t ++ 32 ∷ (codes "HTTP/1.1" ++ (crlf_bytes ++ ((s ++ crlf_bytes) ++ []))))
 regrouped m t s = simp (append_assoc, append-nil)
 
 printed : (head : Head) (to : Going) → forwarded head to ≡ print_request (parts head to) ++ []
 unfolding forwarded
 printed head to =
-    ap (λ (ls : List (List ℕ)). ended ls ++ crlf) (lines_are head to)
-    ∙ (ap (λ (t : List ℕ). ((request_line head.method to.target.now ++ crlf) ++ t) ++ crlf) (ended_is (pairs head to))
+    ap (λ (ls : List (List ℕ)). ended ls ++ crlf_bytes) (lines_are head to)
+    ∙ (ap (λ (t : List ℕ). ((request_line head.method to.target.now ++ crlf_bytes) ++ t) ++ crlf_bytes) (ended_is (pairs head to))
     ∙ (regrouped head.method to.target.now (flat_map print_field (map line_field (pairs head to))) ∙ sym (print_request-append (parts head to) [])))
 
 -- ---- each part is of its class
@@ -229,7 +230,7 @@ five a b c d e x y z u v =
 sound_pairs : (head : Head) (to : Going) → IsSoundHead head → IsPlainWay to → All IsSoundPair (pairs head to)
 sound_pairs head to sound way =
     five (first_pairs head to) (framing_pairs to.framing) (via_pairs head to) (own_pairs to) last_pairs
-    (sound_first head to sound way.sound.host) (sound_framing to.framing way.framing)
+    (sound_first head to sound way.host_bytes) (sound_framing to.framing way.framing)
     (All-cons IsSoundPair (codes "Via", via head.version) (table_pairs (rules_of to.local.now)) (via_name, via_text head.version)
     (sound_table (rules_of to.local.now) way.local))
     (All-cons IsSoundPair (codes "l5d-dst-service", canon_path to.service.now) ((codes "l5d-dst-client", to.client.now) ∷ residual_pairs to.residual.now)
@@ -244,8 +245,8 @@ good_field p sound = record { name = sound.0; raw = All-cons IsValue 32 p.1 refl
 valid : (head : Head) (to : Going) → IsSoundHead head → IsPlainWay to → IsRequestHead (parts head to)
 valid head to sound way = record {
   method = sound.method;
-  target = (way.sound.target.some, way.sound.target.bytes);
-  target_text = way.sound.target.utf8;
+  target = (way.target.some, way.target.bytes);
+  target_text = way.target.utf8;
   minor = omega arith;
   fields = All-map IsField line_field (pairs head to) (All-weaker IsSoundPair (λ p. IsField (line_field p)) good_field (pairs head to) (sound_pairs head to sound way));
 }
@@ -306,7 +307,7 @@ clean_line head to sound way =
     (All-append IsNoFeed (head.method ++ codes " ") to.target.now
     (All-append IsNoFeed head.method (codes " ")
     (All-weaker (λ b. IsTrue (is_token_byte b)) IsNoFeed (λ b t. (token_byte_low b t).0) head.method sound.method.1) (literal (codes " ") refl))
-    (All-weaker (λ b. IsTrue (is_uri_byte b)) IsNoFeed uri_byte_low to.target.now way.sound.target.bytes)) (literal (codes " HTTP/1.1") refl)) (literal (13 ∷ []) refl)
+    (All-weaker (λ b. IsTrue (is_uri_byte b)) IsNoFeed uri_byte_low to.target.now way.target.bytes)) (literal (codes " HTTP/1.1") refl)) (literal (13 ∷ []) refl)
 
 no_empty_line : (method rest : List ℕ) → IsToken method → skip_empty_lines (method ++ rest) ≡ method ++ rest
 no_empty_line [] rest token_ = absurd (omega (arith, token_.0))
@@ -319,17 +320,17 @@ line_served : (head : Head) (to : Going) → IsSoundHead head → IsPlainWay to
 unfolding forwarded first_line
 line_served head to sound way =
     let line = request_line head.method to.target.now in
-    let behind = (10 ∷ ended (map pair_line (pairs head to))) ++ crlf in
-    let whole : ended (lines head to) ++ crlf ≡ (line ++ 13 ∷ []) ++ behind =
-    ap (λ (ls : List (List ℕ)). ended ls ++ crlf) (lines_are head to) ∙ cut line (ended (map pair_line (pairs head to))) in
+    let behind = (10 ∷ ended (map pair_line (pairs head to))) ++ crlf_bytes in
+    let whole : ended (lines head to) ++ crlf_bytes ≡ (line ++ 13 ∷ []) ++ behind =
+    ap (λ (ls : List (List ℕ)). ended ls ++ crlf_bytes) (lines_are head to) ∙ cut line (ended (map pair_line (pairs head to))) in
     let split : (line ++ 13 ∷ []) ++ behind ≡ head.method ++ (((32 ∷ to.target.now) ++ codes " HTTP/1.1") ++ 13 ∷ behind) = regroup head.method to.target.now behind in
-    let skipped : skip_empty_lines (ended (lines head to) ++ crlf) ≡ (line ++ 13 ∷ []) ++ behind =
+    let skipped : skip_empty_lines (ended (lines head to) ++ crlf_bytes) ≡ (line ++ 13 ∷ []) ++ behind =
     ap skip_empty_lines (whole ∙ split) ∙ (no_empty_line head.method (((32 ∷ to.target.now) ++ codes " HTTP/1.1") ++ 13 ∷ behind) sound.method ∙ sym split) in
-    let found : line_at (skip_empty_lines (ended (lines head to) ++ crlf)) ≡ Some (line ++ 13 ∷ []) =
-    ap line_at skipped ∙ line_found (line ++ 13 ∷ []) (ended (map pair_line (pairs head to)) ++ crlf) (clean_line head to sound way) in
+    let found : line_at (skip_empty_lines (ended (lines head to) ++ crlf_bytes)) ≡ Some (line ++ 13 ∷ []) =
+    ap line_at skipped ∙ line_found (line ++ 13 ∷ []) (ended (map pair_line (pairs head to)) ++ crlf_bytes) (clean_line head to sound way) in
     subst (λ (o : Option (List ℕ)). IsSomeAnd o (λ l. ends_in_other_version l ≡ false)) (sym found) (served ((head.method ++ codes " ") ++ to.target.now))
   where
-    cut : (line rest : List ℕ) → ((line ++ crlf) ++ rest) ++ crlf ≡ (line ++ 13 ∷ []) ++ ((10 ∷ rest) ++ crlf)
+    cut : (line rest : List ℕ) → ((line ++ crlf_bytes) ++ rest) ++ crlf_bytes ≡ (line ++ 13 ∷ []) ++ ((10 ∷ rest) ++ crlf_bytes)
     cut line rest = simp append_assoc
 
     regroup : (m t rest : List ℕ) → ((((m ++ codes " ") ++ t) ++ codes " HTTP/1.1") ++ 13 ∷ []) ++ rest ≡ m ++ (((32 ∷ t) ++ codes " HTTP/1.1") ++ 13 ∷ rest)
@@ -475,6 +476,30 @@ hosts head to =
     none Framing.Chunked = refl
     none Framing.ToEnd = refl
 
+own_table : (rules : List Rule) → told (codes "l5d-ctx-dtab") (table_pairs rules) ≡ map trim_ows (table_texts rules)
+unfolding values_of same_ignoring_case
+own_table [] = refl
+own_table (r ∷ rs) = ap (λ (t : List ℕ). t ∷ []) (led (canon_table (r ∷ rs)))
+
+between : (xs : List (List ℕ)) → (xs ++ []) ++ [] ≡ xs
+between xs = simp append-nil
+
+brought : (head : Head) (to : Going) → told (codes "l5d-ctx-dtab") (pairs head to) ≡ map trim_ows (table_texts (rules_of to.local.now))
+unfolding values_of same_ignoring_case kept_but
+brought head to =
+    let name = codes "l5d-ctx-dtab" in
+    let firsts : told name (first_pairs head to) ≡ [] = kept_none 11 (named_in_connection head.fields) name head.fields (omega arith) (λ f. refl) in
+    let vias : told name (via_pairs head to) ≡ map trim_ows (table_texts (rules_of to.local.now)) = own_table (rules_of to.local.now) in
+    let owns : told name (own_pairs to) ≡ [] = residual_told name to.residual.now refl in
+    told_five name (first_pairs head to) (framing_pairs to.framing) (via_pairs head to) (own_pairs to) last_pairs
+    ∙ ((λ i. (((firsts i ++ none to.framing i) ++ vias i) ++ owns i) ++ []) ∙ between (map trim_ows (table_texts (rules_of to.local.now))))
+  where
+    none : (f : Framing) → told (codes "l5d-ctx-dtab") (framing_pairs f) ≡ []
+    none Framing.Nothing = refl
+    none (Framing.Length n) = refl
+    none Framing.Chunked = refl
+    none Framing.ToEnd = refl
+
 -- ---- all of it
 
 begins : (head : Head) (to : Going) → IsSoundHead head → IsPlainWay to → length (forwarded head to) ≤ most
@@ -503,5 +528,6 @@ heads_read_back head to sound way few = (
     framing = (λ i. framed 1 (codings head to i) (lengths head to i)) ∙ framing_told to.framing way.framing;
     host = hosts head to ∙ ap (λ (t : List ℕ). t ∷ []) (led to.host.now ∙ way.host);
     no_table = tables head to;
+    table = brought head to;
   },
 )

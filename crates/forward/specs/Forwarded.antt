@@ -5,20 +5,16 @@ use Rattle.name_tree.specs.Path.{canon_path}
 use Rattle.dtab_table.specs.Rules.{Rule}
 use Rattle.dtab_table.specs.Dtab.{rules_of}
 use Rattle.dtab_table.specs.TableCanon.{canon_table}
-use Rattle.http_wire.specs.declared.head.Field.{Field}
 use Rattle.http_wire.specs.declared.head.Head.{Head}
 use Rattle.http_wire.specs.declared.frames.Framing.{Framing}
 use Rattle.forward.specs.declared.going.Going.{Going}
-use Rattle.forward.specs.Lines.{crlf, ended, line_of}
+use Rattle.httparse.specs.Ascii.{crlf_bytes}
+use Rattle.http_wire.specs.Lines.{ended, field_line, line_of}
 use Rattle.forward.specs.Dropped.{kept}
 
 -- the request line (RFC 9112 section 3): the target is read already
 abbrev pub request_line : List ℕ → List ℕ → List ℕ
 request_line method target = method ++ codes " " ++ target ++ codes " HTTP/1.1"
-
--- a received field, its name as it was
-abbrev pub field_line : Field → List ℕ
-field_line field = line_of field.name field.value
 
 -- how the body is framed (RFC 9112 section 6); no request is framed by the end of the connection
 abbrev pub framing_lines : Framing → List (List ℕ)
@@ -59,4 +55,4 @@ lines head to =
 
 -- the bytes of the head: each line ends in CR LF, and an empty line ends the head
 unfoldable pub forwarded : Head → Going → List ℕ
-forwarded head to = ended (lines head to) ++ crlf
+forwarded head to = ended (lines head to) ++ crlf_bytes

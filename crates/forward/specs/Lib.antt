@@ -1,8 +1,6 @@
-pub mod Lines
 pub mod Dropped
 pub mod Forwarded
 pub mod Listed
 pub mod Kept
 pub mod Returned
-pub mod Sound
 pub mod Laws

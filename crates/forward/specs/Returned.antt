@@ -5,9 +5,10 @@ use Rattle.http_wire.specs.declared.head.ReplyHead.{ReplyHead}
 use Rattle.http_wire.specs.declared.frames.Framing.{Framing}
 use Rattle.http_wire.specs.Fields.{values_of}
 use Rattle.http_wire.specs.Framing.{agreed, pieces_of}
-use Rattle.forward.specs.Lines.{crlf, ended, line_of}
+use Rattle.httparse.specs.Ascii.{crlf_bytes}
+use Rattle.http_wire.specs.Lines.{ended, field_line, line_of}
 use Rattle.forward.specs.Dropped.{kept_back}
-use Rattle.forward.specs.Forwarded.{field_line, via}
+use Rattle.forward.specs.Forwarded.{via}
 
 -- the three digits of a status code
 abbrev pub three_digits : ℕ → List ℕ
@@ -52,4 +53,4 @@ returned head framing chunked closing =
     ++ line_of (codes "Via") (via head.version)
     ∷ closing_lines closing
     )
-    ++ crlf
+    ++ crlf_bytes

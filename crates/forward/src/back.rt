@@ -1,15 +1,13 @@
 //! The head of a reply, line by line.
-ghost use Rattle.std.specs.Prelude.{◌≡◌, ◌++◌, [], ◌∷◌, IfOk, OnOk};
-ghost use Rattle.http_wire.specs.Sound.{IsSoundReply};
-ghost use Rattle.forward.specs.Lines.{ended};
+ghost use Rattle.std.specs.Prelude.{◌≡◌, ◌++◌, [], ◌∷◌, IfOk, OnErr, OnOk};
+ghost use Rattle.http_wire.specs.Lines.{ended};
 ghost use Rattle.forward.specs.Returned.{back_framing_lines, chunked_lines, closing_lines, length_lines, own_length_lines, returned, status_line, three_digits};
 
 use crate::dropped::{NEVER_BACK, push_kept};
 use crate::going::via;
-use crate::line::{end_line, push_line};
 use crate::listed::Listed;
 use crate::{Bytes, Mem, ROOM};
-use http_wire::{Framing, ReplyHead, content_length};
+use http_wire::{Framing, ReplyHead, content_length, end_line, push_line};
 use itoa::Buffer;
 use std::alloc::Global;
 
@@ -28,18 +26,52 @@ pub fn back_head(
     chunked: bool,
     closing: bool,
 ) -> Mem<Bytes>
-    requires { IsSoundReply head.now }
     ensures { IfOk result (λ bytes. bytes.items ≡ returned head.now framing chunked closing) }
 {
     let mut bytes = Vec::with_capacity(alloc, ROOM)?;
-    let listed = Listed::of(alloc, head.fields.items())?;
-    push_status_line(&mut bytes, head.status, head.reason.bytes())?;
-    push_kept(alloc, &mut bytes, head.fields.items(), &NEVER_BACK, &listed)?;
-    push_framing(&mut bytes, head, framing, chunked)?;
-    push_line(&mut bytes, "Via", via(head.version).as_bytes())?;
-    push_closing(&mut bytes, closing)?;
-    end_line(&mut bytes)?;
+    push_head(alloc, &mut bytes, head, framing, chunked, closing)?;
     Ok(bytes)
+}
+
+/// Puts the same bytes into `out`, in place of what it holds. An `Err` leaves it empty.
+pub fn back_head_into(
+    alloc: Global,
+    head: &ReplyHead,
+    framing: Framing,
+    chunked: bool,
+    closing: bool,
+    out: &mut Bytes,
+) -> Mem<()>
+    ensures ok { OnOk result (out.new.items ≡ returned head.now framing chunked closing) }
+    ensures err { OnErr result (out.new.items ≡ []) }
+{
+    out.clear();
+    let done = push_head(alloc, out, head, framing, chunked, closing);
+    if done.is_err() {
+        out.clear();
+    }
+    done
+}
+
+/// Adds the whole head. An `Err` may leave a part of it there.
+fn push_head(
+    alloc: Global,
+    out: &mut Bytes,
+    head: &ReplyHead,
+    framing: Framing,
+    chunked: bool,
+    closing: bool,
+) -> Mem<()>
+    ensures { OnOk result (out.new.items ≡ out.old.items ++ returned head.now framing chunked closing) }
+{
+    let listed = Listed::of(alloc, head.fields.items())?;
+    push_status_line(out, head.status, head.reason.bytes())?;
+    push_kept(alloc, out, head.fields.items(), &NEVER_BACK, &listed)?;
+    push_framing(out, head, framing, chunked)?;
+    push_line(out, "Via", via(head.version).as_bytes())?;
+    push_closing(out, closing)?;
+    end_line(out)?;
+    Ok(())
 }
 
 /// Adds the status line.

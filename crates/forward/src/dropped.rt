@@ -2,13 +2,11 @@
 ghost use Rattle.std.specs.Prelude.{◌≡◌, ◌++◌, [], ◌∷◌, IfOk, OnOk, map};
 ghost use Rattle.forward.specs.Dropped.{has_name_of};
 ghost use Rattle.forward.specs.Kept.{is_left, left_by};
-ghost use Rattle.forward.specs.Forwarded.{field_line};
-ghost use Rattle.forward.specs.Lines.{ended};
+ghost use Rattle.http_wire.specs.Lines.{ended, field_line};
 
-use crate::line::push_field;
 use crate::listed::Listed;
 use crate::{Bytes, Mem};
-use http_wire::Field;
+use http_wire::{Field, push_field};
 use std::alloc::Global;
 
 /// The names of the fields that never go on: those that are written anew, those of one connection (RFC 9110 section 7.6.1), Expect,

@@ -1,24 +1,22 @@
 //! The whole head, line by line.
-ghost use Rattle.std.specs.Prelude.{◌≡◌, ◌++◌, [], ◌∷◌, codes, IfOk, OnOk};
-ghost use Rattle.http_wire.specs.Sound.{IsSoundHead};
+ghost use Rattle.std.specs.Prelude.{◌≡◌, ◌++◌, [], ◌∷◌, codes, IfOk, OnErr, OnOk};
 ghost use Rattle.name_tree.specs.Path.{canon_path};
 ghost use Rattle.dtab_table.specs.Dtab.{rules_of};
-ghost use Rattle.forward.specs.Lines.{ended, line_of};
-ghost use Rattle.forward.specs.Sound.{IsSoundWay};
+ghost use Rattle.http_wire.specs.Lines.{ended, line_of};
 ghost use Rattle.forward.specs.Forwarded.{forwarded, framing_lines, request_line, residual_lines, table_lines, via};
 
 use crate::dropped::{NEVER_KEPT, push_kept};
-use crate::line::{end_line, push_field, push_line};
 use crate::listed::Listed;
 use crate::{Bytes, Mem, ROOM};
 use dtab_table::{Dtab, write_dtab};
-use http_wire::{Framing, Head};
+use http_wire::{Framing, Head, end_line, push_line};
 use itoa::Buffer;
 use name_tree::{Path, append_path};
 use std::alloc::Global;
 
-/// What the head has on its way to a replica, beside what was received. Each text stands in the head as it is given here, so it has to have
-/// the bytes that may stand there: `IsSoundWay` of `specs/Sound.antt` says which.
+/// What the head has on its way to a replica, beside what was received. Each text stands in the head as it is given here. So a text that has
+/// other bytes than may stand there gives a head that is read as another one, or as none; `IsPlainWay` of `specs/Laws.antt` says of which texts it
+/// is read as it was meant.
 #[derive(Clone, Copy, Debug)]
 pub struct Going<'a> {
     /// The value of the Host field: whom the request asks, or the address that is dialled where it names nobody.
@@ -43,24 +41,43 @@ pub struct Going<'a> {
 /// It takes time for the bytes of both heads, and a search by halves among the names that Connection fields list for each field. It takes
 /// memory for the bytes that it gives, for the listed names, and for the text of the table, if that has an entry.
 pub fn forward_head(alloc: Global, head: &Head, to: &Going<'_>) -> Mem<Bytes>
-    requires head { IsSoundHead head.now }
-    requires way { IsSoundWay to.now }
     ensures { IfOk result (λ bytes. bytes.items ≡ forwarded head.now to.now) }
 {
     let mut bytes = Vec::with_capacity(alloc, ROOM)?;
-    let listed = Listed::of(alloc, head.fields.items())?;
-    push_request_line(&mut bytes, head.method.as_str(), to.target)?;
-    push_line(&mut bytes, "Host", to.host)?;
-    push_kept(alloc, &mut bytes, head.fields.items(), &NEVER_KEPT, &listed)?;
-    push_framing(&mut bytes, to.framing)?;
-    push_line(&mut bytes, "Via", via(head.version).as_bytes())?;
-    push_table(alloc, &mut bytes, to.local)?;
-    push_service(&mut bytes, to.service)?;
-    push_line(&mut bytes, "l5d-dst-client", to.client)?;
-    push_residual(&mut bytes, to.residual)?;
-    push_line(&mut bytes, "Connection", b"close")?;
-    end_line(&mut bytes)?;
+    push_head(alloc, &mut bytes, head, to)?;
     Ok(bytes)
+}
+
+/// Puts the same bytes into `out`, in place of what it holds, so that a connection has one buffer for all its heads. An `Err` leaves it empty.
+pub fn forward_head_into(alloc: Global, head: &Head, to: &Going<'_>, out: &mut Bytes) -> Mem<()>
+    ensures ok { OnOk result (out.new.items ≡ forwarded head.now to.now) }
+    ensures err { OnErr result (out.new.items ≡ []) }
+{
+    out.clear();
+    let done = push_head(alloc, out, head, to);
+    if done.is_err() {
+        out.clear();
+    }
+    done
+}
+
+/// Adds the whole head. An `Err` may leave a part of it there.
+fn push_head(alloc: Global, out: &mut Bytes, head: &Head, to: &Going<'_>) -> Mem<()>
+    ensures { OnOk result (out.new.items ≡ out.old.items ++ forwarded head.now to.now) }
+{
+    let listed = Listed::of(alloc, head.fields.items())?;
+    push_request_line(out, head.method.as_str(), to.target)?;
+    push_line(out, "Host", to.host)?;
+    push_kept(alloc, out, head.fields.items(), &NEVER_KEPT, &listed)?;
+    push_framing(out, to.framing)?;
+    push_line(out, "Via", via(head.version).as_bytes())?;
+    push_table(alloc, out, to.local)?;
+    push_service(out, to.service)?;
+    push_line(out, "l5d-dst-client", to.client)?;
+    push_residual(out, to.residual)?;
+    push_line(out, "Connection", b"close")?;
+    end_line(out)?;
+    Ok(())
 }
 
 /// Adds the request line.

@@ -6,7 +6,8 @@
 //!
 //! # What is proved
 //! [`forward_head`] gives exactly the bytes of `forwarded` of `specs/Forwarded.antt`, for every head and every way, and [`back_head`] those of
-//! `returned` of `specs/Returned.antt`. `kept` and `kept_back` of `specs/Dropped.antt` say which fields are among them.
+//! `returned` of `specs/Returned.antt`. `kept` and `kept_back` of `specs/Dropped.antt` say which fields are among them. [`forward_head_into`] and
+//! [`back_head_into`] put the same bytes into a buffer. [`heads_read_back`] says of which heads and ways what is written is read as it was meant.
 //!
 //! # Example
 //! ```
@@ -21,7 +22,6 @@
 //!     client: b"/$/inet/127.0.0.1/9001",
 //!     residual: b"/",
 //! };
-//! assert!(to.is_sound());
 //! assert_eq!(
 //!     forward_head(alloc, &head, &to)?.as_slice(),
 //!     b"GET / HTTP/1.1\r\nHost: web\r\nX-Kept: 2\r\nVia: 1.1 linkerd\r\nl5d-dst-service: /svc/web\r\nl5d-dst-client: /$/inet/127.0.0.1/9001\r\nConnection: close\r\n\r\n"
@@ -35,13 +35,11 @@ mod back;
 mod dropped;
 mod going;
 mod laws;
-mod line;
 mod listed;
 mod names;
-mod texts;
 
-pub use back::back_head;
-pub use going::{Going, forward_head};
+pub use back::{back_head, back_head_into};
+pub use going::{Going, forward_head, forward_head_into};
 pub use laws::heads_read_back;
 
 /// A value, unless there was no memory for it.

@@ -8,8 +8,7 @@ use crate::{Bytes, Mem};
 use http_wire::{Field, trimmed};
 use std::alloc::Global;
 
-/// The names that the values of the Connection fields list, in order and in lower case (RFC 9110 section 7.6.1), without those that
-/// have no byte.
+/// The names that the values of the Connection fields list, in order and in lower case (RFC 9110 section 7.6.1).
 pub(crate) fn lowered_names(alloc: Global, fields: &[Field]) -> Mem<Vec<Bytes>>
     ensures { IfOk result (λ names. map (λ n. n.items) names.items ≡ lowered (named_in_connection fields.now)) }
 {
@@ -42,14 +41,11 @@ fn push_pieces(alloc: Global, names: &mut Vec<Bytes>, value: &[u8]) -> Mem<()>
     Ok(())
 }
 
-/// Adds a name in lower case, if it has a byte.
+/// Adds a name in lower case.
 fn push_name(alloc: Global, names: &mut Vec<Bytes>, name: &[u8]) -> Mem<()>
     ensures { OnOk result (map (λ n. n.items) names.new.items
         ≡ map (λ n. n.items) names.old.items ++ lowered (name.now ∷ [])) }
 {
-    if name.is_empty() {
-        return Ok(());
-    }
     let mut lowered = Vec::from_slice(alloc, name)?;
     lowered.as_mut_slice().make_ascii_lowercase();
     names.push(lowered)?;

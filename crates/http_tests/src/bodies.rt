@@ -1,7 +1,7 @@
 //! Bodies over peers and dialers in memory: worked rows, each cutting of the bytes, each failing call, and limits.
 mod exchange;
 
-use crate::bodies::exchange::{Calls, Passed, back, onward, whole};
+use crate::bodies::exchange::{Calls, Passed, back, onward, unsent, whole, written};
 use body_wire::BodyEnd::{
     self, BadChunk, Cut, ReadFault, RecvFault, SendFault, TooLong, WriteFault,
 };
@@ -419,6 +419,55 @@ fn a_body_is_read_up_to_its_limit(rt: HostRuntime) -> Result<(), Fail> {
     for (framing, text, count, answer) in &READ {
         let length = read_length(rt.alloc(), *framing, text, *count)?;
         assert!(rt; length == *answer, "{text:?}");
+    }
+    Ok(())
+}
+
+/// Bodies that are refused before the first read, with the bytes that are kept of them.
+const AT_ONCE: [(Framing, &[u8]); 2] = [(Length(1048577), b""), (Chunked, b"100001\r\n")];
+
+#[test]
+fn a_body_is_too_long_before_the_next_read(rt: HostRuntime) -> Result<(), Fail> {
+    for (framing, kept) in &AT_ONCE {
+        let read = whole(rt.alloc(), *framing, kept, b"", Calls::until(0))?;
+        assert!(rt; read.err() == Some(TooLong), "{kept:?}");
+    }
+    Ok(())
+}
+
+/// Bodies, each with what is kept, and what lies behind the body there.
+const BEHIND: [(Framing, &[u8], &[u8]); 4] = [
+    (Nothing, b"GET / HTTP/1.1\n\n", b"GET / HTTP/1.1\n\n"),
+    (Length(0), b"GET", b"GET"),
+    (Length(5), b"helloGET", b"GET"),
+    (Chunked, b"5\r\nhello\r\n0\r\n\r\nGET", b"GET"),
+];
+
+#[test]
+fn what_lies_behind_an_unsent_body_is_kept(rt: HostRuntime) -> Result<(), Fail> {
+    for (framing, kept, behind) in &BEHIND {
+        let (answer, stays) = unsent(rt.alloc(), *framing, kept)?;
+        assert!(rt; answer == Err(SendFault), "{kept:?}");
+        assert!(rt; stays.as_slice().ends_with(behind), "{kept:?}");
+    }
+    Ok(())
+}
+
+/// Calls of 3 bytes, and what is given of `hello`.
+const WRITTEN: [(Option<u64>, bool, &[u8]); 2] = [(None, true, b"hello"), (Some(1), false, b"hel")];
+
+#[test]
+fn bytes_are_written_up_to_a_fault(rt: HostRuntime) -> Result<(), Fail> {
+    for (failing, is_whole, given) in &WRITTEN {
+        let takes = Calls {
+            most: 3,
+            failing: *failing,
+        };
+        let (whole, bytes) = written(rt.alloc(), b"hello", takes)?;
+        assert!(rt;
+            whole == *is_whole && bytes.as_slice() == *given,
+            "{failing:?}"
+        );
     }
     Ok(())
 }

@@ -1,9 +1,6 @@
 //! Heads as they come and as they go on, written out here by hand.
-ghost use Rattle.std.specs.Prelude.{IfOk};
-ghost use Rattle.http_wire.specs.Sound.{IsSoundHead, IsSoundReply};
-
 use dtab_table::{Dtab, read_dtab};
-use forward::{Bytes, Going, back_head, forward_head};
+use forward::{Bytes, Going, back_head, back_head_into, forward_head, forward_head_into};
 use http::Method;
 use http_wire::{
     Head, ReplyHead, Rest, framing, read_host, read_reply_head, read_request_head, read_target,
@@ -15,9 +12,7 @@ use std::alloc::Global;
 use std::test::Fail;
 
 /// Reads the head of a request.
-fn read_head(alloc: Global, request: &str) -> Result<Head, Fail>
-    ensures { IfOk result IsSoundHead }
-{
+fn read_head(alloc: Global, request: &str) -> Result<Head, Fail> {
     let bytes = Vec::from_slice(alloc, request.as_bytes())?;
     let source = MemSource::of(bytes, Vec::new(alloc), Vec::new(alloc));
     let mut peer = MemPeer::of(source, MemSink::of(alloc, Vec::new(alloc), Vec::new(alloc)));
@@ -28,10 +23,14 @@ fn read_head(alloc: Global, request: &str) -> Result<Head, Fail>
     }
 }
 
-/// The way of a request to the service `/svc/web` and one address, and its head as it goes on.
-fn gone(alloc: Global, head: &Head, host: &[u8], target: &[u8], local: &Dtab) -> Result<Bytes, Fail>
-    requires { IsSoundHead head.now }
-{
+/// The way of a request to the service `/svc/web` and one address, and its head as it goes on: as new bytes, and in place of others.
+fn gone(
+    alloc: Global,
+    head: &Head,
+    host: &[u8],
+    target: &[u8],
+    local: &Dtab,
+) -> Result<Bytes, Fail> {
     let (Ok(framing), Ok(service)) = (framing(head), read_path(alloc, b"/svc/web")) else {
         return Err("no framing".into());
     };
@@ -44,10 +43,13 @@ fn gone(alloc: Global, head: &Head, host: &[u8], target: &[u8], local: &Dtab) ->
         client: b"/$/inet/127.0.0.1/9001",
         residual: b"/",
     };
-    if !to.is_sound() {
-        return Err("no way".into());
+    let mut into = Vec::from_slice(alloc, b"old")?;
+    forward_head_into(alloc, head, &to, &mut into)?;
+    let gone = forward_head(alloc, head, &to)?;
+    if gone != into {
+        return Err("another head".into());
     }
-    Ok(forward_head(alloc, head, &to)?)
+    Ok(gone)
 }
 
 /// A request's head as it goes on, with this table.
@@ -127,10 +129,36 @@ fn heads_go_on_as_written_here(rt: HostRuntime) -> Result<(), Fail> {
     Ok(())
 }
 
+/// So many lines of a field.
+fn lines_of(alloc: Global, count: usize) -> Result<String, Fail> {
+    let mut lines = String::new(alloc);
+    for _ in 0..count {
+        lines.push_str("X: 1\r\n")?;
+    }
+    Ok(lines)
+}
+
+/// Whether a request with so many fields goes on with all of them.
+fn goes_whole(alloc: Global, count: usize) -> Result<bool, Fail> {
+    let lines = lines_of(alloc, count)?;
+    let request = format!(in alloc; "GET / HTTP/1.1\r\nHost: web\r\n{lines}\r\n")?;
+    let written = format!(in alloc;
+        "GET / HTTP/1.1\r\nHost: web\r\n{lines}Via: 1.1 linkerd\r\n{LAST}"
+    )?;
+    let head = forwarded(alloc, request.as_str(), "")?;
+    Ok(head.as_slice() == written.as_bytes())
+}
+
+#[test]
+fn heads_of_many_fields_go_on_whole(rt: HostRuntime) -> Result<(), Fail> {
+    for count in [50, 700] {
+        assert!(rt; goes_whole(rt.alloc(), count)?, "{count}");
+    }
+    Ok(())
+}
+
 /// Reads the head of a reply.
-fn read_reply(alloc: Global, reply: &str) -> Result<ReplyHead, Fail>
-    ensures { IfOk result IsSoundReply }
-{
+fn read_reply(alloc: Global, reply: &str) -> Result<ReplyHead, Fail> {
     let mut replies = Vec::new(alloc);
     replies.push(Vec::from_slice(alloc, reply.as_bytes())?)?;
     let mut dialer = MemDialer::of(alloc, replies, Vec::new(alloc), Vec::new(alloc));
@@ -144,7 +172,7 @@ fn read_reply(alloc: Global, reply: &str) -> Result<ReplyHead, Fail>
     }
 }
 
-/// A reply's head as it goes back to a request with this method; chunks stay chunks to a client that keeps its connection.
+/// A reply's head as it goes back to a request with this method, as new bytes and in place of others; chunks stay chunks to a client that keeps its connection.
 fn returned(alloc: Global, method: &str, reply: &str, closing: bool) -> Result<Bytes, Fail> {
     let Ok(method) = Method::from_bytes(alloc, method.as_bytes()) else {
         return Err("no method".into());
@@ -153,7 +181,13 @@ fn returned(alloc: Global, method: &str, reply: &str, closing: bool) -> Result<B
     let Ok(framing) = reply_framing(&method, &head) else {
         return Err("no framing".into());
     };
-    Ok(back_head(alloc, &head, framing, !closing, closing)?)
+    let mut into = Vec::from_slice(alloc, b"old")?;
+    back_head_into(alloc, &head, framing, !closing, closing, &mut into)?;
+    let back = back_head(alloc, &head, framing, !closing, closing)?;
+    if back != into {
+        return Err("another head".into());
+    }
+    Ok(back)
 }
 
 /// The method, the reply, whether the connection closes, and what goes back.

@@ -229,7 +229,7 @@ fn count_of(alloc: Global, entries: usize) -> Result<usize, Fail> {
 
 #[test]
 fn a_table_has_at_most_1024_entries(rt: HostRuntime) -> Result<(), Fail> {
-    for (entries, want) in [(512, 1_024), (513, 0)] {
+    for (entries, want) in [(100, 612), (187, 699), (512, 1_024), (513, 0)] {
         assert!(rt; count_of(rt.alloc(), entries)? == want, "{entries}");
     }
     Ok(())

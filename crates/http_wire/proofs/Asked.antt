@@ -23,7 +23,7 @@ use Rattle.http_wire.specs.Fields.{is_named, values_of}
 use Rattle.http_wire.specs.Heads.{IsSoundField}
 use Rattle.http_wire.specs.Host.{host_of, host_field, over, Gives as GivesHost}
 use Rattle.http_wire.specs.Sound.{IsSoundForm, IsSoundTarget}
-use Rattle.http_wire.specs.Target.{form_of, line_of, served, Form, IsServed}
+use Rattle.http_wire.specs.Target.{form_of, line_behind, served, Form, IsServed}
 
 abbrev IsUri : ℕ → Type 0
 IsUri b = IsTrue (is_uri_byte b)
@@ -70,7 +70,7 @@ origin text sound form = record {
 }
 
 -- what stands behind an authority
-behind : (method tail kept : List ℕ) → All IsUri tail → IsTail tail kept → IsSoundTarget (line_of method tail)
+behind : (method tail kept : List ℕ) → All IsUri tail → IsTail tail kept → IsSoundTarget (line_behind method tail)
 behind method tail kept bytes is = by_length (eqb (length (without_fragment tail)) 0) refl
   where
     clean : All IsUri (without_fragment tail)
@@ -115,7 +115,7 @@ first_part [] ys all = All-nil IsUri
 first_part (x ∷ xs) ys all = All-cons IsUri x xs (All-head IsUri x (xs ++ ys) all) (first_part xs ys (All-tail IsUri x (xs ++ ys) all))
 
 absolute : (method text scheme authority kept : List ℕ) → IsSoundTarget text → IsAbsoluteForm text scheme authority kept → scheme ≡ codes "http"
-    → IsSoundTarget (line_of method (drop (length authority + 7) text)) × AllPass is_value_byte authority
+    → IsSoundTarget (line_behind method (drop (length authority + 7) text)) × AllPass is_value_byte authority
 absolute method text scheme authority kept sound form http =
     let all : All IsUri ((form.name ++ codes "://") ++ (authority ++ form.tail)) =
     subst (All IsUri) (form.spelled ∙ append_assoc (form.name ++ codes "://") authority form.tail) sound.bytes in
@@ -124,22 +124,24 @@ absolute method text scheme authority kept sound form http =
     omega (arith, length-append (form.name ++ codes "://") authority, length-append form.name (codes "://"), four form.name (sym http ∙ form.normal)) in
     let tail : drop (length authority + 7) text ≡ form.tail =
     (λ i. drop (long i) (form.spelled i)) ∙ drop-append_seam ((form.name ++ codes "://") ++ authority) form.tail in (
-      subst (λ (t : List ℕ). IsSoundTarget (line_of method t)) (sym tail) (behind method form.tail kept (parts authority form.tail rest) form.is_tail),
+      subst (λ (t : List ℕ). IsSoundTarget (line_behind method t)) (sym tail) (behind method form.tail kept (parts authority form.tail rest) form.is_tail),
       All-weaker IsUri IsValue uri_is_value authority (first_part authority form.tail rest),
     )
 
 -- the form of a target that is served
 abbrev IsSoundPair : Form → Type 0
-IsSoundPair form = IsSoundTarget form.1 × IfSome form.0 (AllPass is_value_byte)
+IsSoundPair form = IsSoundTarget form.line × IfSome form.authority (AllPass is_value_byte)
 
 served_form : (method text : List ℕ) (scheme authority : Option (List ℕ)) (kept : List ℕ) (form : Form) → IsSoundTarget text
     → IsForm text scheme authority kept → served method text scheme authority ≡ Some form → IsSoundPair form
 served_form method text None None kept form sound is given = by_test (bytes_eq text (codes "*") && not (bytes_eq method (codes "OPTIONS"))) given
   where
-    by_test : (t : Bool) → cond t None (Some (None, without_fragment text)) ≡ Some form → IsSoundPair form
+    plain : Form
+    plain = record { authority = None; line = without_fragment text }
+
+    by_test : (t : Bool) → cond t None (Some plain) ≡ Some form → IsSoundPair form
     by_test true none = absurd (cc)
     by_test false some =
-        let plain : Form = (None, without_fragment text) in
         let same : plain ≡ form = cc in
         subst IsSoundPair same (origin text sound is.0, tt)
 served_form method text None (Some authority) kept form sound is given = absurd (cc)
@@ -147,12 +149,13 @@ served_form method text (Some scheme) None kept form sound is given = absurd is
 served_form method text (Some scheme) (Some authority) kept form sound is given =
     by_tests (bytes_eq scheme (codes "http")) (list_any (λ (b : ℕ). eqb b at_sign) authority) refl given
   where
-    by_tests : (s t : Bool) → bytes_eq scheme (codes "http") ≡ s
-        → cond (s && not t) (Some (Some authority, line_of method (drop (length authority + 7) text))) None ≡ Some form → IsSoundPair form
+    whole : Form
+    whole = record { authority = Some authority; line = line_behind method (drop (length authority + 7) text) }
+
+    by_tests : (s t : Bool) → bytes_eq scheme (codes "http") ≡ s → cond (s && not t) (Some whole) None ≡ Some form → IsSoundPair form
     by_tests false t test some = absurd (cc)
     by_tests true true test some = absurd (cc)
     by_tests true false test some =
-        let whole : Form = (Some authority, line_of method (drop (length authority + 7) text)) in
         let same : whole ≡ form = cc in
         subst IsSoundPair same (absolute method text scheme authority kept sound is ((bytes_eq-Decides scheme (codes "http")).0 test))
 

@@ -1,18 +1,20 @@
 -- What reading in pieces adds up to.
-use Rattle.std.proofs.Common.{◌≡◌, ◌≢◌, ◌≤◌, ◌<◌, ◌-◌, inr, ℕ, List, [], ◌++◌, length, take, drop, refl, sym, ap, ◌∙◌, subst, arith, Option, Some, None, Result, Ok, Err, append_assoc, append-nil, length-append}
+use Rattle.std.proofs.Common.{◌≡◌, ◌≤◌, ◌<◌, ◌-◌, inl, inr, ℕ, Bool, false, List, [], ◌∷◌, ◌++◌, length, take, drop, refl, sym, ap, ◌∙◌, subst, arith, Option, Some, None, Result, Ok, Err, append_assoc, append-nil, length-append}
 use Rattle.std.proofs.lemmas.List.{length-take, take_all, take_rest, drop_at}
-use Rattle.std.specs.Io.KnownBytes.{Consumes, Keeps}
+use Rattle.std.specs.Io.KnownBytes.{Consumes}
 use Rattle.std.proofs.KnownBytes.{Consumes-trans}
-use Rattle.line_base.specs.Counts.{Rose}
+use Rattle.line_base.specs.Counts.{Rose, raised}
 use Rattle.httparse.specs.Grammar.{print_request}
 use Rattle.http_wire.specs.declared.head.Head.{Head}
 use Rattle.http_wire.specs.declared.reading.HeadEnd.{HeadEnd}
+use Rattle.http_wire.specs.declared.reading.Turn.{Turn}
+use Rattle.http_wire.specs.declared.reading.Turn.TheVariants.{Answered, More}
 use Rattle.http_wire.specs.Heads.{window, most, most_piece, BeginsWith, IsOpen, IsUnfinished}
 use Rattle.http_wire.specs.declared.watch.Progress.{Progress}
 use Rattle.http_wire.specs.declared.watch.Watch.{Watch}
 use Rattle.http_wire.specs.FirstLine.{first_line}
 use Rattle.http_wire.specs.Places.{Follows, StandsAt}
-use Rattle.http_wire.specs.Reading.{Answers, AnswersTurn, Grows, IsPrompt, Looks, ReadsHead, Trusts}
+use Rattle.http_wire.specs.Reading.{Answers, AnswersTurn, Grows, HasCauses, IsPrompt, Looks, LooksFirst, ReadsHead, Trusts, is_end, is_fault, raised_at}
 use Rattle.http_wire.proofs.Standing.{stands_first}
 
 pub take_within : (n : ℕ) (bytes : List ℕ) → length (take n bytes) ≤ length bytes
@@ -30,35 +32,37 @@ pub nothing_read : (left : Option (List ℕ)) → Consumes left left []
 nothing_read None = tt
 nothing_read (Some xs) = refl
 
-pub nothing_taken : (before after : Option (List ℕ)) → Keeps before after → Consumes before after []
-nothing_taken None after keeps = tt
-nothing_taken (Some xs) None keeps = absurd keeps
-nothing_taken (Some xs) (Some ys) keeps = sym keeps
-
 -- an answer by a look alone, which reads nothing
-pub looked : (left : Option (List ℕ)) (bytes kept : List ℕ) (head : Head) (ends faults : ℕ) → Looks bytes kept (Ok (Some head))
-    → AnswersTurn left left bytes kept ends ends faults faults (Ok head)
-looked left bytes kept head ends faults looks = record {
-  given = nothing_read left;
-  answers = looks;
-  causes = record { ended = λ no_end. cc; cut = λ no_cut. cc; fault = λ no_fault. cc; ends_later = omega arith; faults_later = omega arith };
-}
+pub looked : (left : Option (List ℕ)) (bytes kept : List ℕ) (result : Result Head HeadEnd) (ends faults : ℕ) → Looks bytes kept (Answered result)
+    → AnswersTurn left left bytes kept ends ends faults faults result
+looked left bytes kept result ends faults looks = by_result result looks
+  where
+    quiet : (r : Result Head HeadEnd) → is_end r ≡ false → is_fault r ≡ false → HasCauses ends ends faults faults r
+    quiet r no_end no_fault = record {
+      ends = ap (λ (b : Bool). raised_at b ends) (sym no_end);
+      faults = ap (λ (b : Bool). raised_at b faults) (sym no_fault);
+      ends_later = omega arith;
+      faults_later = omega arith;
+    }
 
--- a read that failed, and then an answer
-pub fault_answered : (l0 l1 : Option (List ℕ)) (k0 k1 k2 : List ℕ) (e0 e1 f0 f1 : ℕ) (result : Result Head HeadEnd)
-    → Keeps l0 l1 → k1 ≡ k0 → Answers k1 k2 result → (result ≢ Err HeadEnd.Ended) × (result ≢ Err HeadEnd.Cut)
-    → e0 ≤ e1 → f0 ≤ f1 → Rose f0 f1 → AnswersTurn l0 l1 k0 k2 e0 e1 f0 f1 result
-fault_answered l0 l1 k0 k1 k2 e0 e1 f0 f1 result keeps same answers open_ ends faults rose = record {
-  given = nothing_taken l0 l1 keeps;
-  answers = subst (λ (all : List ℕ). Answers all k2 result) same answers;
-  causes = record {
-    ended = λ is. absurd (open_.0 is);
-    cut = λ is. absurd (open_.1 is);
-    fault = λ is. rose;
-    ends_later = ends;
-    faults_later = faults;
-  };
-}
+    by_result : (r : Result Head HeadEnd) → Looks bytes kept (Answered r) → AnswersTurn left left bytes kept ends ends faults faults r
+    by_result (Ok head) l = record { given = nothing_read left; answers = l; causes = quiet (Ok head) refl refl }
+    by_result (Err HeadEnd.Ended) never = absurd never
+    by_result (Err HeadEnd.Cut) never = absurd never
+    by_result (Err HeadEnd.ReadFault) never = absurd never
+    by_result (Err HeadEnd.Bad) l = record { given = nothing_read left; answers = l; causes = quiet (Err HeadEnd.Bad) refl refl }
+    by_result (Err HeadEnd.Version) l = record { given = nothing_read left; answers = l; causes = quiet (Err HeadEnd.Version) refl refl }
+    by_result (Err HeadEnd.TooLarge) l = record { given = nothing_read left; answers = l; causes = quiet (Err HeadEnd.TooLarge) refl refl }
+    by_result (Err HeadEnd.OutOfMemory) l = record { given = nothing_read left; answers = l; causes = quiet (Err HeadEnd.OutOfMemory) refl refl }
+
+-- what an answer's causes are, where the counts stood as they were before
+pub causes_after : (e0 e1 e2 f0 f1 f2 : ℕ) (result : Result Head HeadEnd) → e1 ≡ e0 → f1 ≡ f0 → HasCauses e1 e2 f1 f2 result → HasCauses e0 e2 f0 f2 result
+causes_after e0 e1 e2 f0 f1 f2 result same_ends same_faults causes =
+    subst (λ (e : ℕ). HasCauses e e2 f0 f2 result) same_ends (subst (λ (f : ℕ). HasCauses e1 e2 f f2 result) same_faults causes)
+
+-- a count that is raised rose
+pub rose : (before now : ℕ) → now ≡ raised before → Rose before now
+rose before now is = omega (arith, is)
 
 -- the bytes that came so far, with one piece more behind an unfinished head
 pub prompt_more : (kept taken piece bytes : List ℕ) → bytes ≡ kept ++ taken → length piece ≤ most_piece → IsUnfinished bytes → IsPrompt kept (taken ++ piece)
@@ -86,6 +90,12 @@ all_open bytes unfinished = subst IsOpen (take_all most bytes (let few = unfinis
 pub unfinished_quiet : (bytes : List ℕ) → length bytes < most → IsOpen bytes → IsUnfinished bytes
 unfolding window
 unfinished_quiet bytes few open_ = record { few = few; open_ = subst IsOpen (sym (take_all most bytes (omega arith))) open_ }
+
+-- before any byte has come
+pub nothing_unfinished : (bytes : List ℕ) → length bytes ≡ 0 → IsUnfinished bytes
+unfolding first_line
+nothing_unfinished [] none = unfinished_quiet [] (omega arith) tt
+nothing_unfinished (b ∷ bytes) none = absurd (omega arith)
 
 -- before anything was followed
 pub trusts_first : (rest kept : List ℕ) (w0 w1 : Watch) → kept ≡ rest → w0.progress ≡ Progress.Before
@@ -117,3 +127,31 @@ reads_on l0 l1 l2 k0 k1 k2 taken first so_far grows = (
   prompt_more k0 taken grows.piece k1 so_far grows.short grows.unfinished,
   grows.grown ∙ (ap (λ (xs : List ℕ). xs ++ grows.piece) so_far ∙ append_assoc k0 taken grows.piece),
 )
+
+-- a look at the bytes that are kept and at those that came behind them
+pub looked_after : (l0 l1 : Option (List ℕ)) (k0 k1 k2 taken : List ℕ) (e0 e1 f0 f1 : ℕ) (turn : Turn) → Consumes l0 l1 taken → IsPrompt k0 taken → k1 ≡ k0 ++ taken
+    → e1 ≡ e0 → f1 ≡ f0 → Looks k1 k2 turn → LooksFirst l0 l1 k0 k2 e0 e1 f0 f1 turn
+looked_after l0 l1 k0 k1 k2 taken e0 e1 f0 f1 (Answered result) given prompt grown ends faults looks =
+    let turn = looked l1 k1 k2 result e1 f1 looks in (
+      reads_after l0 l1 l1 k0 k1 k2 taken e1 e1 f1 f1 result given prompt grown turn,
+      causes_after e0 e1 e1 f0 f1 f1 result ends faults turn.causes,
+    )
+looked_after l0 l1 k0 k1 k2 taken e0 e1 f0 f1 More given prompt grown ends faults looks = ((taken, given, prompt, looks.1 ∙ grown), ends, faults)
+
+-- a look at the bytes that are kept
+pub looked_at_hand : (left : Option (List ℕ)) (k0 k1 : List ℕ) (ends faults : ℕ) (turn : Turn) → Looks k0 k1 turn → LooksFirst left left k0 k1 ends ends faults faults turn
+looked_at_hand left k0 k1 ends faults turn looks =
+    looked_after left left k0 k0 k1 [] ends ends faults faults turn (nothing_read left) (inl refl) (sym (append-nil k0)) refl refl looks
+
+-- a look at the first piece
+pub looked_at_first : (l0 l1 : Option (List ℕ)) (k0 k1 k2 : List ℕ) (e0 e1 f0 f1 : ℕ) (turn : Turn) → Grows l0 l1 k0 k1 × (e1 ≡ e0) × (f1 ≡ f0) → Looks k1 k2 turn
+    → LooksFirst l0 l1 k0 k2 e0 e1 f0 f1 turn
+looked_at_first l0 l1 k0 k1 k2 e0 e1 f0 f1 turn (grows, ends, faults) looks =
+    looked_after l0 l1 k0 k1 k2 grows.piece e0 e1 f0 f1 turn grows.given
+    (prompt_more k0 [] grows.piece k0 (sym (append-nil k0)) grows.short grows.unfinished) grows.grown ends faults looks
+
+-- an answer in place of the first piece
+pub answered_first : (l0 l1 : Option (List ℕ)) (k0 k1 : List ℕ) (e0 e1 f0 f1 : ℕ) (result : Result Head HeadEnd) → AnswersTurn l0 l1 k0 k1 e0 e1 f0 f1 result
+    → LooksFirst l0 l1 k0 k1 e0 e1 f0 f1 (Answered result)
+answered_first l0 l1 k0 k1 e0 e1 f0 f1 result turn =
+    (reads_after l0 l0 l1 k0 k0 k1 [] e0 e1 f0 f1 result (nothing_read l0) (inl refl) (sym (append-nil k0)) turn, turn.causes)

@@ -12,7 +12,7 @@ most = 65536
 
 -- the most bytes that are read at once for a head
 abbrev pub most_piece : ℕ
-most_piece = 4096
+most_piece = 16384
 
 -- the bytes that count
 unfoldable pub window : List ℕ → List ℕ

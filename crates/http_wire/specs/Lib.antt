@@ -4,6 +4,7 @@ pub mod Framing
 pub mod Heads
 pub mod Host
 pub mod Laws
+pub mod Lines
 pub mod Parsed
 pub mod Places
 pub mod Reading

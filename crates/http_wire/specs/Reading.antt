@@ -1,5 +1,5 @@
 -- What a call that reads a head answers, and what it leaves.
-use Rattle.std.specs.Prelude.{◌≡◌, ◌≢◌, ◌<◌, ◌≤◌, ◌⊎◌, false, Some, None, ℕ, List, [], ◌++◌, length, drop, Option, Result, Ok, Err}
+use Rattle.std.specs.Prelude.{◌≡◌, ◌≢◌, ◌<◌, ◌≤◌, ◌⊎◌, Bool, true, false, if◌then◌else◌, ℕ, List, [], ◌++◌, length, drop, Option, Result, Ok, Err}
 use Rattle.std.specs.Io.KnownBytes.{Consumes}
 use Rattle.http_wire.specs.declared.head.Head.{Head}
 use Rattle.http_wire.specs.declared.seen.Seen.{Seen}
@@ -7,7 +7,7 @@ use Rattle.http_wire.specs.declared.seen.Seen.TheVariants.{Whole, Bad, Version, 
 use Rattle.http_wire.specs.declared.reading.HeadEnd.{HeadEnd}
 use Rattle.http_wire.specs.declared.reading.Turn.{Turn}
 use Rattle.http_wire.specs.declared.reading.Turn.TheVariants.{Answered, More}
-use Rattle.line_base.specs.Counts.{Rose}
+use Rattle.line_base.specs.Counts.{raised}
 use Rattle.http_wire.specs.FirstLine.{skip_empty_lines}
 use Rattle.http_wire.specs.declared.watch.Watch.{Watch}
 use Rattle.http_wire.specs.Heads.{most_piece, BeginsWith, NamesOtherVersion, IsBad, IsOpen, IsTooLarge, IsUnfinished}
@@ -37,7 +37,7 @@ Answers bytes kept (Err HeadEnd.TooLarge) = Whatever IsTooLarge bytes × (kept �
 Answers bytes kept (Err HeadEnd.ReadFault) = IsUnfinished bytes × (kept ≡ bytes)
 Answers bytes kept (Err HeadEnd.OutOfMemory) = kept ≡ bytes
 
--- the last read of some bytes: it gave a piece of at most 4,096 bytes, and began while the bytes before showed no head and no refusal
+-- the last read of some bytes: it gave a piece of at most 16,384 bytes, and began while the bytes before showed no head and no refusal
 pub record EndsInPiece (kept taken : List ℕ) : Type 0 where
   pub earlier : List ℕ
   pub piece : List ℕ
@@ -58,23 +58,49 @@ pub record ReadsHead
   pub prompt : IsPrompt kept_before taken
   pub answers : Answers (kept_before ++ taken) kept_after result
 
--- what a look at the bytes answers; it reads nothing, so that neither an end nor a fault comes
-abbrev pub Looks : List ℕ → List ℕ → Result (Option Head) HeadEnd → Type 0
-Looks bytes kept (Ok (Some head)) = Answers bytes kept (Ok head)
-Looks bytes kept (Ok None) = IsUnfinished bytes × (kept ≡ bytes)
-Looks bytes kept (Err HeadEnd.Ended) = ⊥
-Looks bytes kept (Err HeadEnd.Cut) = ⊥
-Looks bytes kept (Err HeadEnd.ReadFault) = ⊥
-Looks bytes kept (Err HeadEnd.Bad) = Whatever IsBad bytes × (kept ≡ bytes)
-Looks bytes kept (Err HeadEnd.Version) = Whatever NamesOtherVersion bytes × (kept ≡ bytes)
-Looks bytes kept (Err HeadEnd.TooLarge) = Whatever IsTooLarge bytes × (kept ≡ bytes)
-Looks bytes kept (Err HeadEnd.OutOfMemory) = kept ≡ bytes
+-- what a look at the bytes shows; it reads nothing, so that neither an end nor a fault is answered
+abbrev pub Looks : List ℕ → List ℕ → Turn → Type 0
+Looks bytes kept (Answered (Ok head)) = Answers bytes kept (Ok head)
+Looks bytes kept (Answered (Err HeadEnd.Ended)) = ⊥
+Looks bytes kept (Answered (Err HeadEnd.Cut)) = ⊥
+Looks bytes kept (Answered (Err HeadEnd.ReadFault)) = ⊥
+Looks bytes kept (Answered (Err HeadEnd.Bad)) = Whatever IsBad bytes × (kept ≡ bytes)
+Looks bytes kept (Answered (Err HeadEnd.Version)) = Whatever NamesOtherVersion bytes × (kept ≡ bytes)
+Looks bytes kept (Answered (Err HeadEnd.TooLarge)) = Whatever IsTooLarge bytes × (kept ≡ bytes)
+Looks bytes kept (Answered (Err HeadEnd.OutOfMemory)) = kept ≡ bytes
+Looks bytes kept More = IsUnfinished bytes × (kept ≡ bytes)
 
--- an end is answered only where the number of ends rose, and a fault only where the count of read faults did; neither falls
+-- the answer is that the peer's bytes ended
+abbrev pub is_end : Result Head HeadEnd → Bool
+is_end (Ok head) = false
+is_end (Err HeadEnd.Ended) = true
+is_end (Err HeadEnd.Cut) = true
+is_end (Err HeadEnd.Bad) = false
+is_end (Err HeadEnd.Version) = false
+is_end (Err HeadEnd.TooLarge) = false
+is_end (Err HeadEnd.ReadFault) = false
+is_end (Err HeadEnd.OutOfMemory) = false
+
+-- the answer is that a read failed
+abbrev pub is_fault : Result Head HeadEnd → Bool
+is_fault (Ok head) = false
+is_fault (Err HeadEnd.Ended) = false
+is_fault (Err HeadEnd.Cut) = false
+is_fault (Err HeadEnd.Bad) = false
+is_fault (Err HeadEnd.Version) = false
+is_fault (Err HeadEnd.TooLarge) = false
+is_fault (Err HeadEnd.ReadFault) = true
+is_fault (Err HeadEnd.OutOfMemory) = false
+
+-- one more where the answer is such
+abbrev pub raised_at : Bool → ℕ → ℕ
+raised_at here count = if here then raised count else count
+
+-- the number of ends rose by one exactly where an end is answered, and the count of read faults exactly where a fault is. So a call whose
+-- answer the bytes decide made no read that failed or gave the end: it read no further than they do
 pub record HasCauses (ends_before ends_now faults_before faults_now : ℕ) (result : Result Head HeadEnd) : Type 0 where
-  pub ended : result ≡ Err HeadEnd.Ended → Rose ends_before ends_now
-  pub cut : result ≡ Err HeadEnd.Cut → Rose ends_before ends_now
-  pub fault : result ≡ Err HeadEnd.ReadFault → Rose faults_before faults_now
+  pub ends : ends_now ≡ raised_at (is_end result) ends_before
+  pub faults : faults_now ≡ raised_at (is_fault result) faults_before
   pub ends_later : ends_before ≤ ends_now
   pub faults_later : faults_before ≤ faults_now
 
@@ -101,10 +127,19 @@ pub record Grows (left_before left_after : Option (List ℕ)) (kept_before kept_
   pub short : length piece ≤ most_piece
   pub unfinished : IsUnfinished kept_before
 
--- one turn of reading: an answer, or a piece more behind an unfinished head
+-- one turn of reading: an answer, or a piece more behind an unfinished head, by a read that gave neither the end nor a fault
 abbrev pub Turns :
     Option (List ℕ) → Option (List ℕ) → List ℕ → List ℕ → ℕ → ℕ → ℕ → ℕ → Turn → Type 0
 Turns left_before left_after kept_before kept_after ends_before ends_now faults_before faults_now (Answered result) =
     AnswersTurn left_before left_after kept_before kept_after ends_before ends_now faults_before faults_now result
 Turns left_before left_after kept_before kept_after ends_before ends_now faults_before faults_now More =
-    Grows left_before left_after kept_before kept_after
+    Grows left_before left_after kept_before kept_after × (ends_now ≡ ends_before) × (faults_now ≡ faults_before)
+
+-- the first look at the bytes that are kept, or at the first piece that comes: an answer, or the bytes that came, behind which more are wanted
+abbrev pub LooksFirst :
+    Option (List ℕ) → Option (List ℕ) → List ℕ → List ℕ → ℕ → ℕ → ℕ → ℕ → Turn → Type 0
+LooksFirst left_before left_after kept_before kept_after ends_before ends_now faults_before faults_now (Answered result) =
+    ReadsHead left_before left_after kept_before kept_after result × HasCauses ends_before ends_now faults_before faults_now result
+LooksFirst left_before left_after kept_before kept_after ends_before ends_now faults_before faults_now More =
+    ((taken : List ℕ) × Consumes left_before left_after taken × IsPrompt kept_before taken × (kept_after ≡ kept_before ++ taken))
+    × (ends_now ≡ ends_before) × (faults_now ≡ faults_before)

@@ -84,7 +84,7 @@ LogsGot None new pieces = Unit {0}
 LogsGot (Some old) None pieces = ⊥
 LogsGot (Some old) (Some new) pieces = new ≡ old ++ map Got pieces
 
--- the last receive began while the bytes before showed no head and no refusal, and asked for at most 4,096 bytes
+-- the last receive began while the bytes before showed no head and no refusal, and asked for at most 16,384 bytes
 pub record EndsInReceive (kept : List ℕ) (pieces : List (List ℕ)) : Type 0 where
   pub earlier : List (List ℕ)
   pub piece : List ℕ

@@ -11,27 +11,28 @@ use Rattle.http_wire.specs.declared.target.TargetFault.TheVariants.{Connect, NoT
 
 -- what an absolute target goes on as, by what stands behind its authority: without the fragment, and with the path that
 -- an empty one stands for, which is `*` where the server as a whole is asked (RFC 9112 sections 3.2.1 and 3.2.4)
-abbrev pub line_of : List ℕ → List ℕ → List ℕ
-line_of method behind =
+abbrev pub line_behind : List ℕ → List ℕ → List ℕ
+line_behind method behind =
     let kept = without_fragment behind in
     if length kept == 0 then (if bytes_eq method (codes "OPTIONS") then codes "*" else codes "/")
     else (if slice_index kept 0 == question_mark then slash ∷ kept else kept)
 
--- the authority of a served target, if it has one, and what it goes on as
-abbrev pub Form : Type 0
-Form = Option (List ℕ) × List ℕ
+-- a target that is served: its authority, if it has one, and what it goes on as
+pub record Form : Type 0 where
+  pub authority : Option (List ℕ)
+  pub line : List ℕ
 
 -- the form of a target of this method and text that has this scheme and authority: the origin form, `*` with OPTIONS, and
 -- the absolute form with the scheme `http` and no user information; nothing else is served
 abbrev pub served : List ℕ → List ℕ → Option (List ℕ) → Option (List ℕ) → Option Form
 served method text None None =
     if bytes_eq text (codes "*") && not (bytes_eq method (codes "OPTIONS")) then None
-    else Some (None, without_fragment text)
+    else Some (record { authority = None; line = without_fragment text })
 served method text None (Some authority) = None
 served method text (Some scheme) None = None
 served method text (Some scheme) (Some authority) =
     if bytes_eq scheme (codes "http") && not (list_any (λ b. b == at_sign) authority)
-    then Some (Some authority, line_of method (drop (length authority + 7) text)) else None
+    then Some (record { authority = Some authority; line = line_behind method (drop (length authority + 7) text) }) else None
 
 -- the text spells a target that is served in this form
 abbrev pub IsServed : List ℕ → List ℕ → Form → Type 0
@@ -46,7 +47,7 @@ IsNotServed method text =
 
 -- the form that a target was read as
 abbrev pub form_of : Target → Form
-form_of target = (option_map (λ v. v.items) target.authority, target.line.items)
+form_of target = record { authority = option_map (λ v. v.items) target.authority; line = target.line.items }
 
 -- an answer that gives this form, or nothing
 abbrev pub Gives : Option Form → Result Target TargetFault → Type 0

@@ -1,7 +1,7 @@
 //! The heads of requests and of replies.
-ghost use Rattle.std.specs.Prelude.{◌≡◌, count_by, find, length, slice_get};
+ghost use Rattle.std.specs.Prelude.{◌≡◌, count_by, find, length};
 ghost use Rattle.std.specs.Option.{option_copied};
-ghost use Rattle.http_wire.specs.Fields.{is_named, values_of};
+ghost use Rattle.http_wire.specs.Fields.{first_value, is_named, values_of};
 
 use crate::text::{FieldName, Text};
 use http::Method;
@@ -55,14 +55,14 @@ impl FieldList {
 
     /// The value of the first field of this name, in any case.
     pub fn first(&self, name: &str) -> Option<&[u8]>
-        ensures { option_copied result ≡ slice_get (values_of name.now self.now) 0 }
+        ensures { option_copied result ≡ first_value name.now self.now }
     {
         first_value(self.items(), name.as_bytes())
     }
 
     /// The value of the first field that has the name that this one is, in any case.
     pub fn first_named(&self, name: &FieldName) -> Option<&[u8]>
-        ensures { option_copied result ≡ slice_get (values_of name.now self.now) 0 }
+        ensures { option_copied result ≡ first_value name.now self.now }
     {
         first_value(self.items(), name.bytes())
     }
@@ -77,7 +77,7 @@ fn count_named(fields: &[Field], name: &str) -> usize
 
 /// The value of the first of the fields that has this name.
 fn first_value<'a>(fields: &'a [Field], name: &[u8]) -> Option<&'a [u8]>
-    ensures { option_copied result ≡ slice_get (values_of name.now fields.now) 0 }
+    ensures { option_copied result ≡ first_value name.now fields.now }
 {
     match find_named(fields, name) {
         Some(field) => Some(field.value.bytes()),

@@ -3,14 +3,14 @@
 //! [`read_request_head`] reads a [`Head`] off a [`Peer`](line_base::Peer), in any pieces, and keeps the bytes past it in a
 //! [`Rest`]. [`framing`] says how the body behind it ends, [`read_target`] what its target goes on as, and [`read_host`] whom
 //! it asks. [`read_reply_head`] receives a [`ReplyHead`] from a [`Dialer`](line_base::Dialer) in the same way, and [`reply_framing`] says
-//! how its body ends. The profile is that of RFC 9110 and RFC 9112, stricter where two readers of the same bytes could see two
-//! different requests; `docs/HTTP.md` states it.
+//! how its body ends. [`push_line`] and its kin write the lines of a head. The profile is that of RFC 9110 and RFC 9112, stricter where
+//! two readers of the same bytes could see two different requests; `docs/HTTP.md` states it.
 //!
 //! # What is proved
 //! The head that is read is that of all the bytes, whatever the pieces in which they came and whatever follows, by the
 //! grammar of the crate `httparse`; the bytes past it are kept. A head is refused as bad exactly where no continuation of the
 //! bytes is one, as another version and as too large exactly where the first line and the length say so; the end of the
-//! connection and a failed read are told only where the peer's count of them rose. A head and a refusal are told as soon as the bytes
+//! connection and a failed read are told exactly where the peer's count of them rose. A head and a refusal are told as soon as the bytes
 //! show them: no read begins behind either. Framing, target and host are given, and refused, exactly by the definitions of
 //! `specs/`. The room of a [`Rest`] stays within 69,632 bytes. At most one reading of some bytes holds ([`heads_are_unique`],
 //! [`readings_exclude_one_another`]), and what was read has the bytes that may go on (`specs/Sound.antt`).
@@ -29,12 +29,14 @@
 use std::alloc::AllocError;
 
 mod body;
+mod closing;
 mod ended;
 mod first_line;
 mod frames;
 mod head;
 mod host;
 mod laws;
+mod lines;
 mod list;
 mod parse;
 mod reading;
@@ -50,17 +52,19 @@ mod text;
 mod watch;
 
 pub use body::{content_length, framing, reply_framing};
+pub use closing::names_close;
 pub use ended::Ended;
 pub use frames::{Framing, FramingFault};
 pub use head::{Field, FieldList, Head, ReplyHead};
 pub use host::{HostFault, read_host};
 pub use laws::{heads_are_unique, readings_exclude_one_another};
+pub use lines::{end_line, push_field, push_line};
 pub use list::{before, trimmed};
 pub use reading::{HeadEnd, read_request_head};
 pub use reply_reading::read_reply_head;
-pub use rest::{FillFault, Rest};
+pub use rest::Rest;
 pub use target::{Target, TargetFault, read_target};
-pub use text::{FieldName, Text};
+pub use text::{FieldName, Text, same_bytes};
 
 /// A value, unless there was no memory for it.
 pub type Mem<T> = Result<T, AllocError>;

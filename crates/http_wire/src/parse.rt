@@ -9,8 +9,8 @@ use crate::head::{Field, FieldList, Head};
 use crate::text::{FieldName, Text};
 use http::Method;
 use http::method::MethodError;
-use httparse::Status;
 use httparse::spans::{EMPTY_HEADER_SPAN, HeaderSpan, RequestSpans, parse_request};
+use httparse::{Error, Status};
 use std::alloc::{AllocError, Global};
 
 /// What was parsed of some bytes.
@@ -24,9 +24,28 @@ pub(crate) enum Parsed {
     Partial,
 }
 
-/// Parses the head at the front of the bytes, in time for them. A field ends in a line feed, so that there is room for
-/// every field, and each refusal is for good.
+/// The most fields whose spans take no memory of their own.
+pub(crate) const FEW_FIELDS: usize = 64;
+
+/// Parses the head at the front of the bytes, in time for them. The spans of a head of up to 64 fields lie on the stack.
 pub(crate) fn parse(alloc: Global, bytes: &[u8]) -> Mem<Parsed>
+    ensures { IfOk result (Parses bytes.now) }
+{
+    let mut spans = [EMPTY_HEADER_SPAN; FEW_FIELDS];
+    match parse_request(bytes, &mut spans) {
+        Ok(Status::Complete(parts)) => {
+            let head = head_of(alloc, bytes, &parts, &spans[..parts.headers])?;
+            Ok(Parsed::Whole(head, parts.len))
+        }
+        Ok(Status::Partial) => Ok(Parsed::Partial),
+        Err(Error::TooManyHeaders) => parse_many(alloc, bytes),
+        Err(_) => Ok(Parsed::Bad),
+    }
+}
+
+/// The same, with room for as many fields as there are line feeds: a field ends in one, so that there is room for every field, and
+/// each refusal is for good.
+fn parse_many(alloc: Global, bytes: &[u8]) -> Mem<Parsed>
     ensures { IfOk result (Parses bytes.now) }
 {
     let mut spans = Vec::from_elem(alloc, EMPTY_HEADER_SPAN, line_feeds(bytes))?;

@@ -1,9 +1,9 @@
 //! Reading the head of a request.
-ghost use Rattle.std.specs.Prelude.{◌≡◌, ◌≢◌, ◌<◌, ◌≤◌, Err, IfOk, length};
+ghost use Rattle.std.specs.Prelude.{◌≡◌, IfOk};
 ghost use Rattle.std.specs.Io.KnownBytes.{Keeps};
 ghost use Rattle.http_wire.specs.Heads.{IsUnfinished};
 ghost use Rattle.http_wire.specs.Places.{StandsAt};
-ghost use Rattle.http_wire.specs.Reading.{Answers, HasCauses, Looks, ReadsHead, Trusts, Turns};
+ghost use Rattle.http_wire.specs.Reading.{HasCauses, Looks, LooksFirst, ReadsHead, Trusts, Turns};
 ghost use Rattle.http_wire.specs.Sound.{IsSoundHead};
 
 use crate::first_line::behind_empty_lines;
@@ -27,7 +27,7 @@ pub enum HeadEnd {
     Version,
     /// The first 65,536 bytes hold no whole head.
     TooLarge,
-    /// The peer's count of read faults rose.
+    /// A read failed: the peer's count of read faults rose.
     ReadFault,
     /// There was no memory for the head.
     OutOfMemory,
@@ -36,15 +36,16 @@ pub enum HeadEnd {
 /// Reads the head of the next request: of the bytes that are kept and those that the peer gives behind them, whatever the
 /// pieces in which they come. The bytes behind the head stay in `rest`; without a head all of them do.
 ///
-/// Empty lines before the request line are skipped (RFC 9112 section 2.2), and a line may end in a line feed alone. Where the
-/// RFCs leave the choice between refusing a head and mending it, it is refused: a folded field (RFC 9112 section 5.2), a
-/// control byte in a value (RFC 9110 section 5.5), a lone carriage return and more than one blank in the request line (RFC 9112
-/// sections 2.2 and 3). A reader that mends them and one that doesn't see two different heads (request smuggling).
+/// Empty lines before the request line are skipped (RFC 9112 section 2.2), and a line may end in a line feed alone. A folded field (RFC 9112
+/// section 5.2), a control byte in a value (RFC 9110 section 5.5), and a lone carriage return and more than one blank in the request line
+/// (RFC 9112 sections 2.2 and 3), which a recipient may also mend, refuse the head: a reader that mends them and one that doesn't see two
+/// different heads (request smuggling).
 ///
-/// Each byte is followed once as it comes. The bytes are parsed once the request line has ended, once the head has, at a byte
-/// that can stand in no head, at 65,536 bytes and where no more come: so the time is that of the bytes, however they are cut,
-/// and of one call of [`Peer::read`] for each piece. While a head is parsed it takes 32 bytes of memory for each of its line
-/// feeds, beside its own bytes and those of the answer.
+/// The bytes that are kept, or else the first piece, are parsed at once: mostly they have the whole head. Where they don't, each byte is
+/// followed once as it comes, and the bytes are parsed where the request line has ended, where the head has, at a byte that can stand in no
+/// head and at 65,536 bytes: so the time is that of the bytes, however they are cut, and of one call of [`Peer::read`] for each piece. While
+/// a head of more than 64 fields is parsed it takes 32 bytes of memory for each of the line feeds that came, beside its own bytes and those
+/// of the answer.
 ///
 /// # Errors
 /// Each says what the bytes show, or which count of the peer rose: see [`HeadEnd`].
@@ -60,6 +61,10 @@ pub fn read_request_head<P: Peer>(
     ensures others { (Keeps (P.given peer.old) (P.given peer.new))
         × (P.write_faults peer.new ≡ P.write_faults peer.old) }
 {
+    match first_look(alloc, peer, rest) {
+        Turn::Answered(answer) => return answer,
+        Turn::More => {}
+    }
     let mut watch = Watch::new();
     watch.follow(rest.kept());
     loop {
@@ -75,8 +80,25 @@ pub fn read_request_head<P: Peer>(
 enum Turn {
     /// The answer.
     Answered(Result<Head, HeadEnd>),
-    /// More bytes, and no answer yet.
+    /// More bytes are wanted, or came.
     More,
+}
+
+/// Looks at the bytes that are kept, or where there are none at the first that come: mostly they have a whole head, and nothing is to be
+/// followed.
+fn first_look<P: Peer>(alloc: Global, peer: &mut P, rest: &mut Rest) -> Turn
+    ensures bytes { LooksFirst (P.left peer.old) (P.left peer.new) rest.old rest.new
+        (P.ends peer.old) (P.ends peer.new) (P.read_faults peer.old) (P.read_faults peer.new) result }
+    ensures others { (Keeps (P.given peer.old) (P.given peer.new))
+        × (P.write_faults peer.new ≡ P.write_faults peer.old) }
+{
+    if !rest.kept().is_empty() {
+        return answer(alloc, rest);
+    }
+    match fill_once(peer, rest) {
+        Turn::Answered(answer) => Turn::Answered(answer),
+        Turn::More => answer(alloc, rest),
+    }
 }
 
 /// Looks at the bytes where it is due, and reads once where they show no answer.
@@ -85,83 +107,68 @@ fn take_turn<P: Peer>(alloc: Global, peer: &mut P, rest: &mut Rest, watch: &mut 
     ensures bytes { Turns (P.left peer.old) (P.left peer.new) rest.old rest.new
         (P.ends peer.old) (P.ends peer.new) (P.read_faults peer.old) (P.read_faults peer.new) result }
     ensures trusts { result ≡ Turn.More → Trusts watch.new rest.new }
-    ensures ends { P.ends peer.old ≤ P.ends peer.new }
-    ensures faults { P.read_faults peer.old ≤ P.read_faults peer.new }
     ensures others { (Keeps (P.given peer.old) (P.given peer.new))
         × (P.write_faults peer.new ≡ P.write_faults peer.old) }
 {
     if !watch.is_due() && rest.kept().len() < MOST_HEAD {
-        return read_once(alloc, peer, rest, watch);
+        return read_once(peer, rest, watch);
     }
     match answer(alloc, rest) {
-        Ok(Some(head)) => Turn::Answered(Ok(head)),
-        Ok(None) => read_once(alloc, peer, rest, watch),
-        Err(end) => Turn::Answered(Err(end)),
+        Turn::Answered(answer) => Turn::Answered(answer),
+        Turn::More => read_once(peer, rest, watch),
     }
 }
 
-/// Reads once behind the bytes of an unfinished head.
-fn read_once<P: Peer>(alloc: Global, peer: &mut P, rest: &mut Rest, watch: &mut Watch) -> Turn
+/// Reads once behind the bytes of an unfinished head, and follows what came.
+fn read_once<P: Peer>(peer: &mut P, rest: &mut Rest, watch: &mut Watch) -> Turn
     requires stands { StandsAt watch.old.progress rest.old }
     requires unfinished { IsUnfinished rest.old }
     ensures bytes { Turns (P.left peer.old) (P.left peer.new) rest.old rest.new
         (P.ends peer.old) (P.ends peer.new) (P.read_faults peer.old) (P.read_faults peer.new) result }
     ensures trusts { result ≡ Turn.More → Trusts watch.new rest.new }
-    ensures ends { P.ends peer.old ≤ P.ends peer.new }
-    ensures faults { P.read_faults peer.old ≤ P.read_faults peer.new }
     ensures others { (Keeps (P.given peer.old) (P.given peer.new))
         × (P.write_faults peer.new ≡ P.write_faults peer.old) }
 {
     let followed = rest.kept().len();
-    match rest.fill(peer) {
-        Ok(0) => Turn::Answered(answer_at_end(alloc, rest)),
-        Ok(_) => {
+    match fill_once(peer, rest) {
+        Turn::Answered(answer) => Turn::Answered(answer),
+        Turn::More => {
             watch.follow(&rest.kept()[followed..]);
             Turn::More
         }
-        Err(FillFault::ReadFault) => Turn::Answered(answer_at_fault(alloc, rest)),
+    }
+}
+
+/// Reads once behind the bytes of an unfinished head.
+fn fill_once<P: Peer>(peer: &mut P, rest: &mut Rest) -> Turn
+    requires { IsUnfinished rest.old }
+    ensures bytes { Turns (P.left peer.old) (P.left peer.new) rest.old rest.new
+        (P.ends peer.old) (P.ends peer.new) (P.read_faults peer.old) (P.read_faults peer.new) result }
+    ensures others { (Keeps (P.given peer.old) (P.given peer.new))
+        × (P.write_faults peer.new ≡ P.write_faults peer.old) }
+{
+    match rest.fill(peer) {
+        Ok(0) if behind_empty_lines(rest.kept()).is_empty() => Turn::Answered(Err(HeadEnd::Ended)),
+        Ok(0) => Turn::Answered(Err(HeadEnd::Cut)),
+        Ok(_) => Turn::More,
+        Err(FillFault::ReadFault) => Turn::Answered(Err(HeadEnd::ReadFault)),
         Err(FillFault::OutOfMemory) => Turn::Answered(Err(HeadEnd::OutOfMemory)),
     }
 }
 
-/// The answer that the kept bytes show, if they do.
-fn answer(alloc: Global, rest: &mut Rest) -> Result<Option<Head>, HeadEnd>
+/// The answer that the kept bytes show, or that they show none.
+fn answer(alloc: Global, rest: &mut Rest) -> Turn
     ensures { Looks rest.old rest.new result }
 {
     match look(alloc, rest.kept()) {
         Ok(Seen::Whole(head, len)) => {
             rest.skip(len);
-            Ok(Some(head))
+            Turn::Answered(Ok(head))
         }
-        Ok(Seen::Bad) => Err(HeadEnd::Bad),
-        Ok(Seen::Version) => Err(HeadEnd::Version),
-        Ok(Seen::TooLarge) => Err(HeadEnd::TooLarge),
-        Ok(Seen::NotYet) => Ok(None),
-        Err(_) => Err(HeadEnd::OutOfMemory),
-    }
-}
-
-/// The answer where no more bytes come.
-fn answer_at_end(alloc: Global, rest: &mut Rest) -> Result<Head, HeadEnd>
-    ensures answers { Answers rest.old rest.new result }
-    ensures no_fault { result ≢ Err HeadEnd.ReadFault }
-{
-    match answer(alloc, rest) {
-        Ok(Some(head)) => Ok(head),
-        Ok(None) if behind_empty_lines(rest.kept()).is_empty() => Err(HeadEnd::Ended),
-        Ok(None) => Err(HeadEnd::Cut),
-        Err(end) => Err(end),
-    }
-}
-
-/// The answer where a read failed.
-fn answer_at_fault(alloc: Global, rest: &mut Rest) -> Result<Head, HeadEnd>
-    ensures answers { Answers rest.old rest.new result }
-    ensures no_end { (result ≢ Err HeadEnd.Ended) × (result ≢ Err HeadEnd.Cut) }
-{
-    match answer(alloc, rest) {
-        Ok(Some(head)) => Ok(head),
-        Ok(None) => Err(HeadEnd::ReadFault),
-        Err(end) => Err(end),
+        Ok(Seen::Bad) => Turn::Answered(Err(HeadEnd::Bad)),
+        Ok(Seen::Version) => Turn::Answered(Err(HeadEnd::Version)),
+        Ok(Seen::TooLarge) => Turn::Answered(Err(HeadEnd::TooLarge)),
+        Ok(Seen::NotYet) => Turn::More,
+        Err(_) => Turn::Answered(Err(HeadEnd::OutOfMemory)),
     }
 }

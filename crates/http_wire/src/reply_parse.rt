@@ -5,10 +5,10 @@ ghost use Rattle.http_wire.specs.ReplyReading.{IsReplyAt, ParsesReply};
 
 use crate::Mem;
 use crate::head::ReplyHead;
-use crate::parse::{fields_of, line_feeds};
+use crate::parse::{FEW_FIELDS, fields_of, line_feeds};
 use crate::text::Text;
-use httparse::Status;
 use httparse::spans::{EMPTY_HEADER_SPAN, HeaderSpan, ResponseSpans, parse_response};
+use httparse::{Error, Status};
 use std::alloc::Global;
 
 /// What was parsed of some bytes.
@@ -22,9 +22,25 @@ pub(crate) enum ParsedReply {
     Partial,
 }
 
-/// Parses the head at the front of the bytes, in time for them. A field ends in a line feed, so that there is room for every field,
-/// and each refusal is for good.
+/// Parses the head at the front of the bytes, in time for them. The spans of a head of up to 64 fields lie on the stack.
 pub(crate) fn parse_reply(alloc: Global, bytes: &[u8]) -> Mem<ParsedReply>
+    ensures { IfOk result (ParsesReply bytes.now) }
+{
+    let mut spans = [EMPTY_HEADER_SPAN; FEW_FIELDS];
+    match parse_response(bytes, &mut spans) {
+        Ok(Status::Complete(parts)) => {
+            let head = head_of(alloc, bytes, &parts, &spans[..parts.headers])?;
+            Ok(ParsedReply::Whole(head, parts.len))
+        }
+        Ok(Status::Partial) => Ok(ParsedReply::Partial),
+        Err(Error::TooManyHeaders) => parse_many(alloc, bytes),
+        Err(_) => Ok(ParsedReply::Bad),
+    }
+}
+
+/// The same, with room for as many fields as there are line feeds: a field ends in one, so that there is room for every field, and
+/// each refusal is for good.
+fn parse_many(alloc: Global, bytes: &[u8]) -> Mem<ParsedReply>
     ensures { IfOk result (ParsesReply bytes.now) }
 {
     let mut spans = Vec::from_elem(alloc, EMPTY_HEADER_SPAN, line_feeds(bytes))?;

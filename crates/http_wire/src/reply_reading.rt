@@ -21,7 +21,7 @@ use std::alloc::Global;
 /// in which they come. The bytes behind the head stay in `rest`; without a head all of them do.
 ///
 /// It reads as [`read_request_head`](crate::read_request_head) does: empty lines before the status line are skipped, a line may end in a
-/// line feed alone, and a head that another reader would mend is refused. The status line is not looked at beforehand, so a version that
+/// line feed alone, and what refuses a request's head there refuses a reply's. The status line is not looked at beforehand, so a version that
 /// is not served is `Bad`. Each byte is followed once as it comes, and the bytes are parsed once: where they show the head's end or that
 /// there is none, or at 65,536 bytes.
 ///

@@ -1,12 +1,12 @@
 //! The bytes that were read past a head.
 ghost use Rattle.std.specs.Prelude.{◌≡◌, ◌≤◌, ◌<◌, [], ◌++◌, drop, length, IfOk, OnOk, OnErr, Ok, Err, IsTrue};
 ghost use Rattle.std.specs.Io.KnownBytes.{Keeps};
-ghost use Rattle.line_base.specs.Counts.{HasCause, CountsEnds, Rose};
+ghost use Rattle.line_base.specs.Counts.{HasCause, CountsEnds, Rose, raised};
 ghost use Rattle.http_wire.specs.Heads.{most, most_piece};
 ghost use Rattle.http_wire.specs.Rest.{Fills, Receives};
 
 use crate::Mem;
-use crate::room::{BODY_ROOM, HEAD_PIECE, MOST_ROOM, Room};
+use crate::room::{BODY_ROOM, MOST_ROOM, Room};
 use line_base::{Dialer, Failed, Peer};
 use std::alloc::{AllocError, Global};
 use std::marker::Model;
@@ -32,7 +32,7 @@ impl Model for Rest {
 
 /// Why no bytes could be read.
 #[derive(Clone, Copy, Debug, PartialEq, Eq)]
-pub enum FillFault {
+pub(crate) enum FillFault {
     /// The count of read faults rose.
     ReadFault,
     /// There was no memory for them.
@@ -85,27 +85,29 @@ impl Rest {
         Ok(())
     }
 
-    /// Reads once from a peer, up to 4,096 bytes, and gives their number: 0 is the end. An `Err` changes nothing, since
+    /// Reads once from a peer, up to 16,384 bytes, and gives their number: 0 is the end. An `Err` changes nothing, since
     /// the room for the bytes is made first.
-    pub fn fill<P: Peer>(&mut self, peer: &mut P) -> Result<usize, FillFault>
+    pub(crate) fn fill<P: Peer>(&mut self, peer: &mut P) -> Result<usize, FillFault>
         requires { length self.old < most }
         ensures bytes { Fills (P.left peer.old) (P.left peer.new) self.old self.new result }
         ensures short { IfOk result (λ n. n ≤ most_piece) }
-        ensures ended { result ≡ Ok 0 → Rose (P.ends peer.old) (P.ends peer.new) }
+        ensures ended { result ≡ Ok 0 → P.ends peer.new ≡ raised (P.ends peer.old) }
         ensures going { IfOk result (λ n. 0 < n → P.ends peer.new ≡ P.ends peer.old) }
+        ensures stopped { OnErr result (P.ends peer.new ≡ P.ends peer.old) }
         ensures ends { P.ends peer.old ≤ P.ends peer.new }
-        ensures fault { result ≡ Err FillFault.ReadFault
-            → Rose (P.read_faults peer.old) (P.read_faults peer.new) }
+        ensures fault { result ≡ Err FillFault.ReadFault → P.read_faults peer.new ≡ raised (P.read_faults peer.old) }
+        ensures kept { OnOk result (P.read_faults peer.new ≡ P.read_faults peer.old) }
+        ensures spared { result ≡ Err FillFault.OutOfMemory → P.read_faults peer.new ≡ P.read_faults peer.old }
         ensures faults { P.read_faults peer.old ≤ P.read_faults peer.new }
         ensures others { (Keeps (P.given peer.old) (P.given peer.new))
             × (P.write_faults peer.new ≡ P.write_faults peer.old) }
     {
-        if self.room.make(HEAD_PIECE).is_err() {
-            return Err(FillFault::OutOfMemory);
-        }
-        match self.room.read(peer, HEAD_PIECE) {
-            Ok(count) => Ok(count),
-            Err(_) => Err(FillFault::ReadFault),
+        match self.room.open() {
+            Ok(most) => match self.room.read(peer, most) {
+                Ok(count) => Ok(count),
+                Err(_) => Err(FillFault::ReadFault),
+            },
+            Err(_) => Err(FillFault::OutOfMemory),
         }
     }
 
@@ -126,7 +128,7 @@ impl Rest {
     }
 
     /// Receives once from a dialer, as [`Rest::fill`] reads from a peer. 0 is the end.
-    pub fn fill_from<D: Dialer>(&mut self, dialer: &mut D) -> Result<usize, FillFault>
+    pub(crate) fn fill_from<D: Dialer>(&mut self, dialer: &mut D) -> Result<usize, FillFault>
         requires open_ { IsTrue (D.is_open dialer.old) }
         requires few { length self.old < most }
         ensures bytes { Receives (D.left dialer.old) (D.left dialer.new) (D.log dialer.old) (D.log dialer.new)
@@ -136,12 +138,12 @@ impl Rest {
         ensures faults { D.faults dialer.old ≤ D.faults dialer.new }
         ensures stays { D.is_open dialer.new ≡ D.is_open dialer.old }
     {
-        if self.room.make(HEAD_PIECE).is_err() {
-            return Err(FillFault::OutOfMemory);
-        }
-        match self.room.receive(dialer, HEAD_PIECE) {
-            Ok(count) => Ok(count),
-            Err(_) => Err(FillFault::ReadFault),
+        match self.room.open() {
+            Ok(most) => match self.room.receive(dialer, most) {
+                Ok(count) => Ok(count),
+                Err(_) => Err(FillFault::ReadFault),
+            },
+            Err(_) => Err(FillFault::OutOfMemory),
         }
     }
 

@@ -9,9 +9,12 @@ use std::alloc::Global;
 pub(crate) const BODY_ROOM: usize = 16384;
 
 /// The most bytes that are read at once for a head.
-pub(crate) const HEAD_PIECE: usize = 4096;
+const MOST_PIECE: usize = 16384;
 
-/// The greatest room: the longest unfinished head, and one more piece behind it.
+/// The least room that a head's piece is read into.
+const LEAST_PIECE: usize = 4096;
+
+/// The greatest room: the longest unfinished head, and the least room for a piece behind it.
 pub(crate) const MOST_ROOM: usize = 69632;
 
 /// Bytes in a room: those from `at` to `end` are held, and reads go behind them. Nothing is moved but to make room.
@@ -67,10 +70,25 @@ impl Room {
         self.move_to_front();
         let wanted = self.end + more;
         if self.bytes.len() < wanted {
-            let doubled = 2 * self.bytes.len();
-            self.bytes.resize(wanted.max(doubled.min(MOST_ROOM)), 0)?;
+            let grown = wanted.max((2 * self.bytes.len()).min(MOST_ROOM));
+            self.bytes.reserve_exact(grown - self.bytes.len())?;
+            self.bytes.resize(grown, 0)?;
         }
         Ok(())
+    }
+
+    /// Makes room for a piece of a head behind the bytes that are held, and gives how many bytes may be read into it: all that there is
+    /// room for, and at most 16,384.
+    pub(crate) fn open(&mut self) -> Mem<usize>
+        requires { length (held self.old) < 65536 }
+        ensures ok { IfOk result (λ most. (0 < most) × (most ≤ 16384) × (self.new.end + most ≤ vec_len self.new.bytes)) }
+        ensures same { held self.new ≡ held self.old }
+    {
+        if self.at == self.end {
+            self.move_to_front();
+        }
+        self.make(LEAST_PIECE)?;
+        Ok((self.bytes.len() - self.end).min(MOST_PIECE))
     }
 
     /// Moves the bytes that are held to the front.

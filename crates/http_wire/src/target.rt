@@ -5,7 +5,7 @@ ghost use Rattle.http_uri.specs.ByteClasses.{at_sign};
 ghost use Rattle.http_uri.specs.Grammar.{without_fragment};
 ghost use Rattle.http_uri.specs.Uri.{uri_authority, uri_scheme};
 ghost use Rattle.http_wire.specs.Sound.{IsSoundForm, IsSoundTarget};
-ghost use Rattle.http_wire.specs.Target.{form_of, line_of, served, Gives, IsRefused, IsServed};
+ghost use Rattle.http_wire.specs.Target.{form_of, line_behind, served, Gives, IsRefused, IsServed};
 
 use crate::head::Head;
 use crate::list::position_of;
@@ -123,7 +123,7 @@ fn has_user(authority: &[u8]) -> bool
 
 /// What an absolute target goes on as, by the bytes behind its authority.
 fn line_behind(alloc: Global, method: &str, behind: &[u8]) -> Mem<Bytes>
-    ensures { IfOk result (λ line. line.items ≡ line_of method.now behind.now) }
+    ensures { IfOk result (λ line. line.items ≡ line_behind method.now behind.now) }
 {
     let kept = before_fragment(behind);
     if kept.is_empty() {

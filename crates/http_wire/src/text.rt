@@ -73,15 +73,15 @@ impl FieldName {
     }
 
     /// Whether these bytes spell it, in any case.
-    pub fn is_spelt(&self, name: &[u8]) -> bool
+    pub(crate) fn is_spelt(&self, name: &[u8]) -> bool
         ensures { result ≡ same_ignoring_case self.now name.now }
     {
         same_bytes(self.bytes(), name)
     }
 }
 
-/// Whether two texts are alike but for the case of ASCII letters.
-pub(crate) fn same_bytes(a: &[u8], b: &[u8]) -> bool
+/// Whether two texts are alike but for the case of ASCII letters, as names of fields and some values are compared (RFC 9110 section 5.1).
+pub fn same_bytes(a: &[u8], b: &[u8]) -> bool
     ensures { result ≡ same_ignoring_case a.now b.now }
 {
     a.eq_ignore_ascii_case(b)

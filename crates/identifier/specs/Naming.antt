@@ -1,12 +1,12 @@
 -- Which path a request names.
-use Rattle.std.specs.Prelude.{◌≡◌, ◌≢◌, ⊤, ℕ, Bool, true, false, ◌==◌, nat_le, if◌then◌else◌, List, [], ◌∷◌, ◌++◌, length, take, filter, codes, bytes_eq, slice_get, Option, Some, None, option_map, Result, Ok, Err}
+use Rattle.std.specs.Prelude.{◌≡◌, ◌≢◌, ⊤, ℕ, Bool, true, false, ◌==◌, nat_le, if◌then◌else◌, List, [], ◌∷◌, ◌++◌, length, take, filter, codes, bytes_eq, Option, Some, None, option_map, Result, Ok, Err}
 use Rattle.std.specs.List.{before_first, slice_split}
 use Rattle.std.specs.Option.{option_and_then}
 use Rattle.name_tree.specs.Path.{Labels}
 use Rattle.name_tree.specs.Computed.{path_of}
 use Rattle.http_wire.specs.declared.head.Field.{Field}
 use Rattle.http_wire.specs.declared.head.Head.{Head}
-use Rattle.http_wire.specs.Fields.{lower, same_ignoring_case, values_of}
+use Rattle.http_wire.specs.Fields.{first_value, lower, same_ignoring_case}
 use Rattle.http_wire.specs.Target.{Form, IsServed}
 use Rattle.http_uri.specs.ByteClasses.{question_mark, slash}
 use Rattle.identifier.specs.declared.rule.Kind.{Kind}
@@ -19,10 +19,6 @@ use Rattle.identifier.specs.declared.fault.IdentifyFault.TheVariants.{Unidentifi
 abbrev pub one_label : List ℕ → Option Labels
 one_label [] = None
 one_label (b ∷ bs) = Some ((b ∷ bs) ∷ [])
-
--- the value of the first field of this name
-abbrev pub first_value : List ℕ → List Field → Option (List ℕ)
-first_value name fields = slice_get (values_of name fields) 0
 
 -- by a field's value as it was received; by the host where the field is Host
 abbrev pub by_token : List ℕ → List Field → List ℕ → Option Labels
@@ -62,7 +58,7 @@ named_by (Static path) head host line = Some path
 
 -- the path that a request names
 abbrev pub identified : Rule → Head → List ℕ → List ℕ → Option Labels
-identified rule head host line = option_map (λ labels. rule.prefix ++ labels) (named_by rule.kind head host line)
+identified rule head host line = option_map (λ more. rule.prefix ++ more) (named_by rule.kind head host line)
 
 -- the target of the head is one that is served, and the method is not CONNECT
 pub record IsTaken (head : Head) : Type 0 where
@@ -76,7 +72,11 @@ Answers named (Ok path) = named ≡ Some path
 Answers named (Err Unidentified) = named ≡ None
 Answers named (Err OutOfMemory) = ⊤
 
+-- an answer that gives these labels behind a prefix
+abbrev pub AnswersBehind : Labels → Option Labels → Result Labels IdentifyFault → Type 0
+AnswersBehind prefix labels result = Answers (option_map (λ more. prefix ++ more) labels) result
+
 -- an answer by the target that goes on
 abbrev pub AnswersBy : Head → (List ℕ → Option Labels) → Result Labels IdentifyFault → Type 0
 AnswersBy head named result =
-    (form : Form) → IsServed head.method head.target form → Answers (named form.1) result
+    (form : Form) → IsServed head.method head.target form → Answers (named form.line) result

@@ -1,35 +1,35 @@
-//! Paths of few labels.
-ghost use Rattle.identifier.specs.Naming.{one_label, Answers};
+//! Paths that grow by a label.
+ghost use Rattle.std.specs.Prelude.{◌≡◌, IfOk};
 ghost use Rattle.http_wire.specs.Fields.{lower};
+ghost use Rattle.identifier.specs.Naming.{one_label, AnswersBehind};
 
 use crate::fault::IdentifyFault;
 use name_tree::Path;
-use std::alloc::Global;
+use std::alloc::{AllocError, Global};
 
-/// The path of this one label.
-pub(crate) fn label(alloc: Global, bytes: &[u8]) -> Result<Path, IdentifyFault>
-    ensures { Answers (one_label bytes.now) result }
+/// A copy of a path.
+pub(crate) fn copied(alloc: Global, path: &Path) -> Result<Path, AllocError>
+    ensures { IfOk result (λ copy. copy ≡ path.now) }
 {
-    label_of(alloc, Vec::from_slice(alloc, bytes)?)
+    path.part(alloc, 0, path.len())
 }
 
-/// The path of this one label, in lower case.
-pub(crate) fn lower_label(alloc: Global, bytes: &[u8]) -> Result<Path, IdentifyFault>
-    ensures { Answers (one_label (lower bytes.now)) result }
+/// A copy of some bytes, in lower case.
+pub(crate) fn lowered(alloc: Global, bytes: &[u8]) -> Result<Vec<u8>, AllocError>
+    ensures { IfOk result (λ copy. copy.items ≡ lower bytes.now) }
 {
-    let mut label = Vec::from_slice(alloc, bytes)?;
-    label.as_mut_slice().make_ascii_lowercase();
-    label_of(alloc, label)
+    let mut copy = Vec::from_slice(alloc, bytes)?;
+    copy.as_mut_slice().make_ascii_lowercase();
+    Ok(copy)
 }
 
-/// The path of this one label, unless it is empty.
-fn label_of(alloc: Global, label: Vec<u8>) -> Result<Path, IdentifyFault>
-    ensures { Answers (one_label label.items) result }
+/// The path with this label behind the others, unless that one is empty.
+pub(crate) fn with_label(mut path: Path, label: Vec<u8>) -> Result<Path, IdentifyFault>
+    ensures { AnswersBehind path (one_label label.items) result }
 {
     if label.is_empty() {
         return Err(IdentifyFault::Unidentified);
     }
-    let mut path = Path::new(alloc);
     path.push(label)?;
     Ok(path)
 }

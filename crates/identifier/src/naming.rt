@@ -1,12 +1,13 @@
 //! Which path a request names.
-ghost use Rattle.std.specs.Prelude.{◌++◌, Option, option_map};
+ghost use Rattle.std.specs.Prelude.{Option};
 ghost use Rattle.std.specs.Option.{option_and_then};
 ghost use Rattle.name_tree.specs.Path.{Labels};
 ghost use Rattle.name_tree.specs.Computed.{path_of as path_of_text};
-ghost use Rattle.identifier.specs.Naming.{by_method_and_host, by_token, first_value as first_value_of, identified, named_by, Answers, AnswersBy, IsTaken};
+ghost use Rattle.http_wire.specs.Fields.{first_value};
+ghost use Rattle.identifier.specs.Naming.{by_method_and_host, by_token, identified, Answers, AnswersBehind, AnswersBy, IsTaken};
 
 use crate::fault::IdentifyFault;
-use crate::labels::{label, lower_label};
+use crate::labels::{copied, lowered, with_label};
 use crate::rule::{Kind, Rule};
 use crate::segments::segments;
 use http_wire::{FieldName, Head};
@@ -26,7 +27,14 @@ pub fn identify(alloc: Global, rule: &Rule, head: &Head, host: &[u8]) -> Result<
     requires { IsTaken head.now }
     ensures { AnswersBy head.now (identified rule.now head.now host.now) result }
 {
-    behind(alloc, &rule.prefix, named(alloc, &rule.kind, head, host))
+    let prefix = &rule.prefix;
+    match &rule.kind {
+        Kind::Token(name) => token(alloc, prefix, name, head, host),
+        Kind::MethodAndHost => method_and_host(alloc, prefix, head, host),
+        Kind::Segments(count) => behind(alloc, prefix, segments(alloc, head, *count)),
+        Kind::PathField(name) => behind(alloc, prefix, path_field(alloc, name, head)),
+        Kind::Static(path) => Ok(prefix.joined(alloc, path)?),
+    }
 }
 
 /// The labels behind the prefix.
@@ -35,56 +43,53 @@ fn behind(
     prefix: &Path,
     rest: Result<Path, IdentifyFault>,
 ) -> Result<Path, IdentifyFault>
-    ensures { (labels : Option Labels) → Answers labels rest → Answers (option_map (λ more. prefix.now ++ more) labels) result }
+    ensures { (labels : Option Labels) → Answers labels rest → AnswersBehind prefix.now labels result }
 {
     let rest = rest?;
     Ok(prefix.joined(alloc, &rest)?)
 }
 
-/// What a request is named behind the prefix.
-fn named(alloc: Global, kind: &Kind, head: &Head, host: &[u8]) -> Result<Path, IdentifyFault>
-    requires { IsTaken head.now }
-    ensures { AnswersBy head.now (named_by kind.now head.now host.now) result }
-{
-    match kind {
-        Kind::Token(name) => token(alloc, name, head, host),
-        Kind::MethodAndHost => method_and_host(alloc, head, host),
-        Kind::Segments(count) => segments(alloc, head, *count),
-        Kind::PathField(name) => path_field(alloc, name, head),
-        Kind::Static(path) => Ok(path.part(alloc, 0, path.len())?),
-    }
-}
-
-/// A field's value as it was received, or the host where the field is Host.
-fn token(alloc: Global, name: &FieldName, head: &Head, host: &[u8]) -> Result<Path, IdentifyFault>
-    ensures { Answers (by_token name.now head.now.fields host.now) result }
+/// Behind the prefix a field's value as it was received, or the host where the field is Host.
+fn token(
+    alloc: Global,
+    prefix: &Path,
+    name: &FieldName,
+    head: &Head,
+    host: &[u8],
+) -> Result<Path, IdentifyFault>
+    ensures { AnswersBehind prefix.now (by_token name.now head.now.fields host.now) result }
 {
     if name.is("host") {
-        return lower_label(alloc, host);
+        return with_label(copied(alloc, prefix)?, lowered(alloc, host)?);
     }
     match head.fields.first_named(name) {
-        Some(value) => label(alloc, value),
+        Some(value) => with_label(copied(alloc, prefix)?, Vec::from_slice(alloc, value)?),
         None => Err(IdentifyFault::Unidentified),
     }
 }
 
-/// The version, the method and the host.
-fn method_and_host(alloc: Global, head: &Head, host: &[u8]) -> Result<Path, IdentifyFault>
-    ensures { Answers (by_method_and_host head.now.version head.now.method host.now) result }
+/// Behind the prefix the version, the method and the host.
+fn method_and_host(
+    alloc: Global,
+    prefix: &Path,
+    head: &Head,
+    host: &[u8],
+) -> Result<Path, IdentifyFault>
+    ensures { AnswersBehind prefix.now (by_method_and_host head.now.version head.now.method host.now) result }
 {
     let version = if head.version == 0 { "1.0" } else { "1.1" };
-    let mut path = label(alloc, version.as_bytes())?;
+    let mut path = copied(alloc, prefix)?;
+    path.push(Vec::from_slice(alloc, version.as_bytes())?)?;
     path.push(Vec::from_slice(alloc, head.method.as_str().as_bytes())?)?;
     if head.version == 0 {
         return Ok(path);
     }
-    let host = lower_label(alloc, host)?;
-    Ok(path.joined(alloc, &host)?)
+    with_label(path, lowered(alloc, host)?)
 }
 
 /// The path in a field's value.
 fn path_field(alloc: Global, name: &FieldName, head: &Head) -> Result<Path, IdentifyFault>
-    ensures { Answers (option_and_then path_of_text (first_value_of name.now head.now.fields)) result }
+    ensures { Answers (option_and_then path_of_text (first_value name.now head.now.fields)) result }
 {
     let Some(text) = head.fields.first_named(name) else {
         return Err(IdentifyFault::Unidentified);

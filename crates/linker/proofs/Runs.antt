@@ -7,6 +7,7 @@ use Rattle.std.proofs.KnownBytes.{Appends-trans, Appends-nil, Consumes-nil}
 use Rattle.linker.specs.declared.run.Status.{Status}
 use Rattle.linker.specs.declared.run.Status.TheVariants as status
 use Rattle.line_base.specs.Counts.{Rose}
+use Rattle.proxy_session.specs.Outside.{Line}
 use Rattle.linker.specs.Run.{AppendsFront, Course, words_refused, read_failed, too_long, script_read, line_told, no_memory, served, Begins, Input, Filed, Linked, Output, Takes, Ended, Ran, output_of, status_of}
 use Rattle.linker.specs.Served.{memory_line}
 use Rattle.linker.specs.Words.{Asked, replay, check, serve, storm, weave, command_of}
@@ -48,18 +49,20 @@ pub tells_memory_first : (course : Course) (result : Status) (old new : Output) 
 tells_memory_first course result old new told = tells_memory course result old old new [] (output_of course) refl (Appends-nil old.held) refl (begins_nothing course) told
 
 -- nothing is read yet
-nothing_read : (asked : Result Asked ℕ) (input : Input) (files : Filed) (net : Linked) → (course : Course) × Takes asked input input files files net net course
-nothing_read (Err place) input files net = (words_refused place, (refl, refl, refl, refl))
-nothing_read (Ok replay) input files net = (no_memory, ((([], Consumes-nil input.left, omega arith), refl), refl, refl))
-nothing_read (Ok (check path)) input files net = (no_memory, (refl, refl, refl, refl))
-nothing_read (Ok (serve path)) input files net = (no_memory, ((refl, refl), refl, refl))
-nothing_read (Ok (storm turns seed)) input files net = (no_memory, (inr refl, refl, refl, refl))
-nothing_read (Ok (weave turns seed)) input files net = (no_memory, (inr refl, refl, refl, refl))
+nothing_read : {P : Type 0} (line_of : P → Line) (moments : Option (List ℕ)) (asked : Result Asked ℕ) (input : Input) (files : Filed) (net : Linked P) → (course : Course)
+    × Takes line_of moments asked input input files files net net course
+nothing_read line_of moments (Err place) input files net = (words_refused place, (refl, refl, refl, refl))
+nothing_read line_of moments (Ok replay) input files net = (no_memory, ((([], Consumes-nil input.left, omega arith), refl), refl, refl))
+nothing_read line_of moments (Ok (check path)) input files net = (no_memory, (refl, refl, refl, refl))
+nothing_read line_of moments (Ok (serve path)) input files net = (no_memory, ((refl, refl), refl, refl))
+nothing_read line_of moments (Ok (storm turns seed)) input files net = (no_memory, (inr refl, refl, refl, refl))
+nothing_read line_of moments (Ok (weave turns seed)) input files net = (no_memory, (inr refl, refl, refl, refl))
 
 -- memory was wanting for the words themselves
-pub no_words : (words : List (List ℕ)) (input : Input) (files : Filed) (net : Linked) (old new : Output) (result : Status) → Tells memory_line status.Memory old new result → Ran words input input files files net net old new (code_of result)
-no_words words input files net old new result told =
-    let first = nothing_read (command_of words) input files net in (first.0, first.1, tells_memory_first first.0 result old new told)
+pub no_words : {P : Type 0} (line_of : P → Line) (moments : Option (List ℕ)) (words : List (List ℕ)) (input : Input) (files : Filed) (net : Linked P) (old new : Output) (result : Status)
+    → Tells memory_line status.Memory old new result → Ran line_of moments words input input files files net net old new (code_of result)
+no_words line_of moments words input files net old new result told =
+    let first = nothing_read line_of moments (command_of words) input files net in (first.0, first.1, tells_memory_first first.0 result old new told)
 
 -- a last line behind what was written
 pub tells_behind : (course : Course) (first line : List ℕ) (end result : Status) (old mid new : Output) → output_of course ≡ first ++ line → code_of end ≡ status_of course

@@ -1,19 +1,23 @@
 -- What a run of the program does: by its words, by what it reads, and by what becomes of its writing.
-use Rattle.std.specs.Prelude.{◌≡◌, ◌⊎◌, ℕ, ◌<◌, ◌≤◌, Bool, true, false, nat_le, if◌then◌else◌, List, [], ◌∷◌, ◌++◌, length, map, take, drop, codes, string_bytes, String, Option, Some, Result, Ok, Err}
+use Rattle.std.specs.Prelude.{◌≡◌, ◌⊎◌, ℕ, ◌+◌, ◌<◌, ◌≤◌, Bool, true, false, nat_le, if◌then◌else◌, List, [], ◌∷◌, ◌++◌, length, map, take, drop, codes, string_bytes, String, Option, Some, Result, Ok, Err}
 use Rattle.std.specs.Global.{Global}
 use Rattle.std.specs.Vec.Iter.{into_iter_items}
 use Rattle.std.specs.declared.vec.IntoIter.{IntoIter}
+use Rattle.std.specs.declared.marker.Brand.{Brand}
 use Rattle.std.specs.Fmt.{decimal}
 use Rattle.std.specs.Io.KnownBytes.{Appends, Consumes, IsAtEnd}
 use Rattle.line_base.specs.Counts.{Rose}
 use Rattle.line_base.specs.Files.{File}
+use Rattle.line_base.specs.Nets.{Networking}
+use Rattle.proxy_session.specs.Outside.{Line}
+use Rattle.workers.specs.Served.{raised_by}
 use Rattle.addr_book.specs.FileLine.{lines_of}
 use Rattle.machine.specs.State.{opening}
 use Rattle.linker_config.specs.declared.config.Config.{Config}
 use Rattle.linker.specs.Check.{TellsPath}
 use Rattle.linker.specs.Generated.{storm_line, weave_line}
 use Rattle.linker.specs.Replay.{played, replay_of}
-use Rattle.linker.specs.Served.{Finish, shut_down, broken, short, finish_code, HasServed, IsConfig, IsRefused, TellsNet, memory_line}
+use Rattle.linker.specs.Served.{Finish, shut_down, broken, short, finish_code, IsConfig, IsRefused, TellsNet, TellsServing, memory_line}
 use Rattle.linker.specs.Words.{Asked, replay, check, serve, storm, weave, command_of}
 
 -- the most bytes of a script
@@ -105,34 +109,38 @@ Checks path old new (line_told good line) = TellsPath old.files path good line �
 Checks path old new no_memory = new.faults ≡ old.faults
 Checks path old new (served lines finish) = ⊥
 
--- what the net tells of itself: its faults
-pub record Linked : Type 0 where
+-- what the net tells of itself: what came back to it, with its numbers, and its faults
+pub record Linked (P : Type 0) : Type 0 where
+  pub state : Networking P
   pub faults : ℕ
-
--- the course of serving by the configuration at a path: it is refused, or a service is; it could not be read; memory was wanting; or there is a right one, and the lines tell how it was
-abbrev pub Serves : List ℕ → Filed → Filed → Linked → Linked → Course → Type 0
-Serves path old new net net_after (words_refused place) = ⊥
-Serves path old new net net_after read_failed = Rose old.faults new.faults × (net_after ≡ net)
-Serves path old new net net_after too_long = ⊥
-Serves path old new net net_after (script_read script) = ⊥
-Serves path old new net net_after (line_told true line) = ⊥
-Serves path old new net net_after (line_told false line) = IsRefused old.files path line × (new.faults ≡ old.faults) × (net_after ≡ net)
-Serves path old new net net_after no_memory = (new.faults ≡ old.faults) × (net_after ≡ net)
-Serves path old new net net_after (served lines finish) = (config : Config) × IsConfig old.files path config × HasServed config lines finish × TellsNet net.faults net_after.faults finish × (new.faults ≡ old.faults)
 
 -- the course of a line that rests on nothing that is read: only memory may be wanting for it
 abbrev pub Makes : List ℕ → Course → Type 0
 Makes line course = (course ≡ line_told true line) ⊎ (course ≡ no_memory)
 
--- the course that the words show, with the input and the folder before and after the run: a command reads what it is about and nothing else, and nothing
--- is read where the words fit none
-abbrev pub Takes : Result Asked ℕ → Input → Input → Filed → Filed → Linked → Linked → Course → Type 0
-Takes (Err place) old_in new_in old_files new_files net net_after course = (course ≡ words_refused place) × (new_in ≡ old_in) × (new_files ≡ old_files) × (net_after ≡ net)
-Takes (Ok replay) old_in new_in old_files new_files net net_after course = Reads old_in new_in course × (new_files ≡ old_files) × (net_after ≡ net)
-Takes (Ok (check path)) old_in new_in old_files new_files net net_after course = Checks path old_files new_files course × (new_in ≡ old_in) × (new_files.files ≡ old_files.files) × (net_after ≡ net)
-Takes (Ok (serve path)) old_in new_in old_files new_files net net_after course = Serves path old_files new_files net net_after course × (new_in ≡ old_in) × (new_files.files ≡ old_files.files)
-Takes (Ok (storm turns seed)) old_in new_in old_files new_files net net_after course = Makes (storm_line turns seed) course × (new_in ≡ old_in) × (new_files ≡ old_files) × (net_after ≡ net)
-Takes (Ok (weave turns seed)) old_in new_in old_files new_files net net_after course = Makes (weave_line turns seed) course × (new_in ≡ old_in) × (new_files ≡ old_files) × (net_after ≡ net)
+-- a run, over a net whose peers tell so much, and with a clock whose forks have these moments to come
+module _ {P : Type 0} (line_of : P → Line) (moments : Option (List ℕ)) where
+  -- the course of serving by the configuration at a path: it is refused, or a service is; it could not be read; memory was wanting; or there is a right one, and the lines tell how it was
+  abbrev pub Serves : List ℕ → Filed → Filed → Linked P → Linked P → Course → Type 0
+  Serves path old new net net_after (words_refused place) = ⊥
+  Serves path old new net net_after read_failed = Rose old.faults new.faults × (net_after ≡ net)
+  Serves path old new net net_after too_long = ⊥
+  Serves path old new net net_after (script_read script) = ⊥
+  Serves path old new net net_after (line_told true line) = ⊥
+  Serves path old new net net_after (line_told false line) = IsRefused old.files path line × (new.faults ≡ old.faults) × (net_after ≡ net)
+  Serves path old new net net_after no_memory = (new.faults ≡ old.faults) × (net_after.faults ≡ net.faults)
+  Serves path old new net net_after (served lines finish) = (config : Config) × IsConfig old.files path config × TellsServing Brand line_of moments old.files config net.state net_after.state lines finish
+      × TellsNet net.faults net_after.faults finish × (new.faults ≡ old.faults)
+
+  -- the course that the words show, with the input and the folder before and after the run: a command reads what it is about and nothing else, and nothing
+  -- is read where the words fit none
+  abbrev pub Takes : Result Asked ℕ → Input → Input → Filed → Filed → Linked P → Linked P → Course → Type 0
+  Takes (Err place) old_in new_in old_files new_files net net_after course = (course ≡ words_refused place) × (new_in ≡ old_in) × (new_files ≡ old_files) × (net_after ≡ net)
+  Takes (Ok replay) old_in new_in old_files new_files net net_after course = Reads old_in new_in course × (new_files ≡ old_files) × (net_after ≡ net)
+  Takes (Ok (check path)) old_in new_in old_files new_files net net_after course = Checks path old_files new_files course × (new_in ≡ old_in) × (new_files.files ≡ old_files.files) × (net_after ≡ net)
+  Takes (Ok (serve path)) old_in new_in old_files new_files net net_after course = Serves path old_files new_files net net_after course × (new_in ≡ old_in) × (new_files.files ≡ old_files.files)
+  Takes (Ok (storm turns seed)) old_in new_in old_files new_files net net_after course = Makes (storm_line turns seed) course × (new_in ≡ old_in) × (new_files ≡ old_files) × (net_after ≡ net)
+  Takes (Ok (weave turns seed)) old_in new_in old_files new_files net net_after course = Makes (weave_line turns seed) course × (new_in ≡ old_in) × (new_files ≡ old_files) × (net_after ≡ net)
 
 -- known bytes grow by a front of these
 abbrev pub AppendsFront : Option (List ℕ) → Option (List ℕ) → List ℕ → Type 0
@@ -165,17 +173,35 @@ Ended course old new status =
     ⊎ (((status ≡ 7) × (new.faults ≡ old.faults) × (bytes : List ℕ) × IsCutShort course bytes × Appends old.held new.held bytes)
     ⊎ ((status ≡ 5) × Rose old.faults new.faults × (bytes : List ℕ) × ((bytes ≡ output_of course) ⊎ IsCutShort course bytes) × AppendsFront old.held new.held bytes))
 
--- how a router that was to serve by a configuration ends, whose own answers come first: its book has no room for a service, or memory was wanting before it could serve
-abbrev pub EndsServing : Config → ℕ → ℕ → Output → Output → ℕ → Type 0
-EndsServing config net net_after old new status =
-    ((lines : List ℕ) × (finish : Finish) × HasServed config lines finish × TellsNet net net_after finish × Ended (served lines finish) old new status)
-    ⊎ (((net_after ≡ net) × Ended (line_told false (codes "error book\n")) old new status)
-    ⊎ ((net_after ≡ net) × Ended no_memory old new status))
+module _ (J : Type 0) {P : Type 0} (line_of : P → Line) (moments : Option (List ℕ)) where
+  -- how a router that was to serve by a configuration ends, whose own answers come first: its book has no room for a service, or memory was wanting before it could serve
+  abbrev pub EndsServing : Option (List File) → Config → Linked P → Linked P → Output → Output → ℕ → Type 0
+  EndsServing files config net net_after old new status =
+      ((lines : List ℕ) × (finish : Finish) × TellsServing J line_of moments files config net.state net_after.state lines finish × TellsNet net.faults net_after.faults finish
+      × Ended (served lines finish) old new status)
+      ⊎ (((net_after ≡ net) × Ended (line_told false (codes "error book\n")) old new status)
+      ⊎ ((net_after.faults ≡ net.faults) × Ended no_memory old new status))
 
--- the whole of a run
-abbrev pub Ran : List (List ℕ) → Input → Input → Filed → Filed → Linked → Linked → Output → Output → ℕ → Type 0
-Ran words old_in new_in old_files new_files net net_after old_out new_out status =
-    (course : Course) × Takes (command_of words) old_in new_in old_files new_files net net_after course × Ended course old_out new_out status
+module _ {P : Type 0} (line_of : P → Line) (moments : Option (List ℕ)) where
+  -- the whole of a run
+  abbrev pub Ran : List (List ℕ) → Input → Input → Filed → Filed → Linked P → Linked P → Output → Output → ℕ → Type 0
+  Ran words old_in new_in old_files new_files net net_after old_out new_out status =
+      (course : Course) × Takes line_of moments (command_of words) old_in new_in old_files new_files net net_after course × Ended course old_out new_out status
+
+-- all listeners of a router with so many workers came back clean, and the numbers of stops that were handed out and of those that came back rose alike
+pub record AllBack {P : Type 0} (workers : ℕ) (net net_after : Networking P) : Type 0 where
+  pub clean : net_after.clean ≡ raised_by (workers + 4) net.clean
+  pub given : net_after.stops_given ≡ raised_by (workers + 4) net.stops_given
+  pub returned : net_after.stops_returned ≡ raised_by (workers + 4) net.stops_returned
+
+-- so they did, where a router served
+abbrev pub EndsWhole : {P : Type 0} → Result Asked ℕ → Filed → Linked P → Linked P → Type 0
+EndsWhole (Err place) files net net_after = Unit {0}
+EndsWhole (Ok replay) files net net_after = Unit {0}
+EndsWhole (Ok (check path)) files net net_after = Unit {0}
+EndsWhole (Ok (serve path)) files net net_after = (config : Config) × IsConfig files.files path config × AllBack config.workers net.state net_after.state
+EndsWhole (Ok (storm turns seed)) files net net_after = Unit {0}
+EndsWhole (Ok (weave turns seed)) files net net_after = Unit {0}
 
 -- memory was wanting, or a write failed: each status yields to these two
 abbrev pub Yields : ℕ → Output → Output → Type 0

@@ -1,6 +1,19 @@
 -- What `serve` writes, and why it ends.
-use Rattle.std.specs.Prelude.{◌≡◌, ◌⊎◌, ℕ, Bool, false, if◌then◌else◌, List, [], ◌∷◌, ◌++◌, codes, Option, None, Some, Ok, Err}
+use Rattle.std.specs.Prelude.{◌≡◌, ◌⊎◌, ℕ, ◌+◌, Bool, true, false, if◌then◌else◌, List, [], ◌∷◌, ◌++◌, codes, Option, None, Some, Ok, Err}
 use Rattle.line_base.specs.Counts.{Rose}
+use Rattle.line_base.specs.Nets.{Networking}
+use Rattle.machine.specs.Code.{settings_of}
+use Rattle.machine.specs.Values.{SettingsValue}
+use Rattle.proxy_session.specs.Outside.{Line}
+use Rattle.load_words.specs.Seats.{Words}
+use Rattle.snap_cell.specs.declared.kept.Origin.{Origin}
+use Rattle.router.specs.declared.current.Current.{Current}
+use Rattle.router.specs.declared.naming.Naming.{Ghosts}
+use Rattle.router.specs.declared.pass.Pass.{Pass}
+use Rattle.router.specs.declared.update.Update.{Update}
+use Rattle.serving.specs.declared.running.Served.{Served}
+use Rattle.serving.specs.Ending.{HasServed}
+use Rattle.serving.specs.Returning.{listened}
 use Rattle.serving.specs.declared.site.Site.{Site}
 use Rattle.linker_config.specs.declared.loaded.LoadedItem.{LoadedItem}
 use Rattle.std.specs.Fmt.{decimal}
@@ -52,9 +65,16 @@ RefusesService files config line =
 abbrev pub IsRefused : Option (List File) → List ℕ → List ℕ → Type 0
 IsRefused files path line = TellsPath files path false line ⊎ ((config : Config) × IsConfig files path config × RefusesService files config line)
 
+-- where a router serves by a configuration, and how
+abbrev pub site_of : Config → Site
+site_of c = record { server = c.server; namerd = c.namerd; admin = c.admin; rule = c.rule; workers = c.workers; seed = c.seed }
+
 -- the line that tells where a router serves: its own address, and those of the two interfaces
+abbrev pub site_line : Site → List ℕ
+site_line s = codes "serving " ++ port_text s.server ++ 32 ∷ port_text s.namerd ++ 32 ∷ port_text s.admin ++ 10 ∷ []
+
 abbrev pub serving_line : Config → List ℕ
-serving_line c = codes "serving " ++ port_text c.server ++ 32 ∷ port_text c.namerd ++ 32 ∷ port_text c.admin ++ 10 ∷ []
+serving_line c = site_line (site_of c)
 
 -- the line that tells how many changes there were
 abbrev pub closed_line : ℕ → List ℕ
@@ -64,35 +84,55 @@ closed_line place = codes "closed " ++ decimal place ++ 10 ∷ []
 abbrev pub memory_line : List ℕ
 memory_line = codes "error memory\n"
 
--- what is told last: how many changes there were, behind which it may be told that memory was wanting in a session; or that the net failed; or that memory was wanting before it could be
--- served
-abbrev pub IsLast : List ℕ → Finish → Type 0
-IsLast last shut_down = (place : ℕ) × (last ≡ closed_line place)
-IsLast last broken = last ≡ codes "error net\n"
-IsLast last short = (last ≡ memory_line) ⊎ ((place : ℕ) × (last ≡ closed_line place ++ memory_line))
+-- what the code's answer on services says of the folder that a configuration names: where it names none there are no services
+abbrev pub LoadsRoot : Option (List File) → Option (List ℕ) → Services → Type 0
+LoadsRoot files None told = told ≡ Ok []
+LoadsRoot files (Some root) told = Loads files root told
 
--- these lines tell how it was to serve: where, and then what is told last. Where an address can't be listened on, that is told alone
-pub record HasServed (c : Config) (lines : List ℕ) (finish : Finish) : Type 0 where
-  pub last : List ℕ
-  pub is_last : IsLast last finish
-  pub lines_are : (lines ≡ serving_line c ++ last) ⊎ ((finish ≡ broken) × (lines ≡ last))
+-- which router it is, by the type that names it, and by its cell, its settings, its load words, and the number of its passes
+abbrev pub router_of : (J : Type 0) → Option (Origin Current Update) → SettingsValue → Option Words → ℕ → Ghosts J
+router_of J cell settings words seats = record { cell = cell; settings = settings; words = words; seats = seats }
+
+module _ (J : Type 0) {P : Type 0} (line_of : P → Line) (moments : Option (List ℕ)) (files : Option (List File)) (c : Config) (net net_after : Networking P) where
+  -- a router served by a configuration, with its settings and the services of the folder that it names and over a net that had made its listeners, and ended so
+  pub record ServedBy (end : Served) : Type 0 where
+    pub loaded : List LoadedItem
+    pub loads : LoadsRoot files c.root (Ok loaded)
+    pub cell : Option (Origin Current Update)
+    pub words : Option Words
+    pub seats : ℕ
+    pub passes : List (Pass J (router_of J cell (settings_of c.settings) words seats))
+    pub whole : HasServed line_of (site_of c) moments loaded passes (listened (c.workers + 4) net) net_after end
+
+  -- what is told last: how many changes there were, behind which it is told where memory was wanting in a session; or that the net failed; or that memory was wanting before it could be served
+  abbrev pub IsLast : List ℕ → Finish → Type 0
+  IsLast last shut_down = (end : Served) × ServedBy end × (end.lacked_memory ≡ false) × (last ≡ closed_line end.place)
+  IsLast last broken = last ≡ codes "error net\n"
+  IsLast last short = (last ≡ memory_line) ⊎ ((end : Served) × ServedBy end × (end.lacked_memory ≡ true) × (last ≡ closed_line end.place ++ memory_line))
+
+  -- these lines tell how it was to serve: where, and then what is told last. Where an address can't be listened on, that is told alone
+  pub record TellsServing (lines : List ℕ) (finish : Finish) : Type 0 where
+    pub last : List ℕ
+    pub is_last : IsLast last finish
+    pub lines_are : (lines ≡ serving_line c ++ last) ⊎ ((finish ≡ broken) × (lines ≡ last))
 
 -- the net's count of faults rose exactly where it is said to have failed
 pub record TellsNet (before now : ℕ) (finish : Finish) : Type 0 where
   pub rose : finish ≡ broken → Rose before now
   pub kept : (finish ≡ broken → ⊥) → now ≡ before
 
--- where a site is, by a configuration
-pub record IsSite (c : Config) (site : Site) : Type 0 where
-  pub server : site.server ≡ c.server
-  pub namerd : site.namerd ≡ c.namerd
-  pub admin : site.admin ≡ c.admin
-
--- what the code's answer on services says of the folder that a configuration names, if it names one
-abbrev pub LoadsRoot : Option (List File) → Option (List ℕ) → Services → Type 0
-LoadsRoot files None told = (items : List LoadedItem) × (told ≡ Ok items)
-LoadsRoot files (Some root) told = Loads files root told
-
 -- the last line was told, or the write failed
 abbrev pub last_of : ℕ → Bool → List ℕ
 last_of place lacked_memory = if lacked_memory then closed_line place ++ memory_line else closed_line place
+
+-- how a router that served is told of, unless memory is wanting for the line
+abbrev pub TellsEnd : Served → List ℕ → Finish → Type 0
+TellsEnd end last shut_down = (end.lacked_memory ≡ false) × (last ≡ closed_line end.place)
+TellsEnd end last broken = ⊥
+TellsEnd end last short = (last ≡ memory_line) ⊎ ((end.lacked_memory ≡ true) × (last ≡ closed_line end.place ++ memory_line))
+
+-- a router is made by a configuration
+pub record IsMadeBy (files : Option (List File)) (c : Config) (site : Site) (settings : SettingsValue) (loaded : List LoadedItem) : Type 0 where
+  pub site_is : site ≡ site_of c
+  pub settings_are : settings ≡ settings_of c.settings
+  pub loads : LoadsRoot files c.root (Ok loaded)

@@ -12,8 +12,9 @@
 //! # What is proved
 //! At status 0 the output has grown by the replay of what was read, as `specs/Replay.antt` defines it over the whole language of scripts, or by the one line
 //! of the configuration that was found, as `specs/Check.antt` says, or by the line of the generated run, as `specs/Generated.antt` has it, or by the lines
-//! that tell where a router served and how many changes there were, as `specs/Served.antt` has them; each other status has its cause; and where nothing
-//! fails, a script is carried out in full, and a configuration and a generated run are told of. These are clauses of [`program::linker`]. The code to exit
+//! that tell where a router served and how many changes there were, as `specs/Served.antt` has them: that router did what `serving` says of a run, with all
+//! its listeners clean; each other status has its cause; and where nothing fails, a script is carried out in full, and a configuration and a generated run
+//! are told of. These are clauses of [`program::linker`]. The code to exit
 //! with is the status for exactly the words after the program's name: a clause of [`start::run_arguments`].
 //!
 //! # Examples

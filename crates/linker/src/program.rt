@@ -2,8 +2,9 @@
 ghost use Rattle.std.specs.Prelude.{◌≡◌, ◌⊎◌, ◌<◌, Contains, IsErr, IsSome, true, false, map, string_bytes};
 ghost use Rattle.line_base.specs.Counts.{Rose};
 ghost use Rattle.linker.specs.Generated.{storm_line, weave_line};
-ghost use Rattle.linker.specs.Run.{Ran, Input, Filed, Linked, Output, statuses, Shows, ReadsLong, Yields, ReplaysAll, ChecksAll, MakesAll};
+ghost use Rattle.linker.specs.Run.{Ran, Input, Filed, Linked, Output, statuses, EndsWhole, Shows, ReadsLong, Yields, ReplaysAll, ChecksAll, MakesAll};
 ghost use Rattle.linker.specs.Words.{command_of, storm, weave};
+ghost use Rattle.serving.specs.Sessions.{line_by};
 
 use crate::run::run;
 use line_base::{Clock, Folder, Listener, Net, Sink, Source};
@@ -57,10 +58,11 @@ pub fn linker<
 where
     <N::L as Listener>::P: Send,
     // What was read, what was written, and the status go together: at 0 the output has grown by the replay of what was read, or by the line that tells of the
-    // configuration that was found, or of the generated run, or by those that tell where a router served and how many changes there were.
-    ensures ran { Ran (map string_bytes words.now)
+    // configuration that was found, or of the generated run, or by those that tell where a router served and how many changes there were. That router served by
+    // the configuration and the services of its folder: all its connections were served, and all its listeners and stops came back.
+    ensures ran { Ran (line_by N.L.P.left N.L.P.given N.L.P.read_faults N.L.P.write_faults N.L.P.ends) (C.of_fork clock.old) (map string_bytes words.now)
         (record { left = S.left input.old; faults = S.faults input.old; ends = S.ends input.old }) (record { left = S.left input.new; faults = S.faults input.new; ends = S.ends input.new })
-        (record { files = F.files folder.old; faults = F.faults folder.old }) (record { files = F.files folder.new; faults = F.faults folder.new }) (record { faults = N.faults net.old }) (record { faults = N.faults net.new })
+        (record { files = F.files folder.old; faults = F.faults folder.old }) (record { files = F.files folder.new; faults = F.faults folder.new }) (record { state = N.state net.old; faults = N.faults net.old }) (record { state = N.state net.new; faults = N.faults net.new })
         (record { held = K.held out.old; faults = K.faults out.old }) (record { held = K.held out.new; faults = K.faults out.new }) result }
 
     // 2 exactly where the words fit no command.
@@ -71,6 +73,10 @@ where
     // services are refused. A generated run is never wrong.
     ensures done { result ≡ 0 → Shows (command_of (map string_bytes words.now)) (record { left = S.left input.old; faults = S.faults input.old; ends = S.ends input.old }) (record { left = S.left input.new; faults = S.faults input.new; ends = S.ends input.new }) (record { files = F.files folder.old; faults = F.faults folder.old }) true }
     ensures wrong { result ≡ 3 → Shows (command_of (map string_bytes words.now)) (record { left = S.left input.old; faults = S.faults input.old; ends = S.ends input.old }) (record { left = S.left input.new; faults = S.faults input.new; ends = S.ends input.new }) (record { files = F.files folder.old; faults = F.faults folder.old }) false }
+
+    // 0 of `serve` only where every listener came back clean, and as many stops came back as were handed out.
+    ensures all_back { result ≡ 0 → EndsWhole (command_of (map string_bytes words.now)) (record { files = F.files folder.old; faults = F.faults folder.old })
+        (record { state = N.state net.old; faults = N.faults net.old }) (record { state = N.state net.new; faults = N.faults net.new }) }
 
     // 5 exactly where the output's count of faults rose, 4 exactly where the input's or the folder's did, and 6 exactly where the net's did, but for want of
     // memory.

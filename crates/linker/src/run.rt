@@ -2,6 +2,7 @@
 ghost use Rattle.std.specs.Prelude.{◌≡◌, ◌<◌, ◌≤◌, ℕ, List, length, map, string_bytes, IfOk};
 ghost use Rattle.linker.specs.Run.{Ran, Course, words_refused, script_read, output_of, status_if, Reads, Checks, Makes, Ended, Input, Filed, Output};
 ghost use Rattle.linker.specs.Told.{code_of, Tells};
+ghost use Rattle.serving.specs.Sessions.{line_by};
 
 use crate::check::{CheckEnd, check};
 use crate::ends::{ReadEnd, read_all, write_all};
@@ -184,9 +185,9 @@ where
     requires name { blank.name ≡ L.name }
     requires parts { blank.parts ≡ L.parts }
     requires some { 0 < blank.parts }
-    ensures { Ran (map string_bytes words.now)
+    ensures { Ran (line_by N.L.P.left N.L.P.given N.L.P.read_faults N.L.P.write_faults N.L.P.ends) (C.of_fork clock.old) (map string_bytes words.now)
         (record { left = S.left input.old; faults = S.faults input.old; ends = S.ends input.old }) (record { left = S.left input.new; faults = S.faults input.new; ends = S.ends input.new })
-        (record { files = F.files folder.old; faults = F.faults folder.old }) (record { files = F.files folder.new; faults = F.faults folder.new }) (record { faults = N.faults net.old }) (record { faults = N.faults net.new })
+        (record { files = F.files folder.old; faults = F.faults folder.old }) (record { files = F.files folder.new; faults = F.faults folder.new }) (record { state = N.state net.old; faults = N.faults net.old }) (record { state = N.state net.new; faults = N.faults net.new })
         (record { held = K.held out.old; faults = K.faults out.old }) (record { held = K.held out.new; faults = K.faults out.new }) (code_of result) }
 {
     let mut steps = Steps::<L>::start(blank);

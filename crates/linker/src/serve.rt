@@ -1,14 +1,18 @@
 //! `serve`: a router with its interfaces, from its configuration until it is stopped.
-ghost use Rattle.std.specs.Prelude.{◌≡◌, ◌⊎◌, ◌+◌, ◌≤◌, ◌++◌, ℕ, List, [], ◌∷◌, Err, Some, IfOk, OnOk, false, codes, map, string_bytes};
-ghost use Rattle.line_base.specs.Counts.{Rose};
+ghost use Rattle.std.specs.Prelude.{◌≡◌, ◌+◌, ◌≤◌, ℕ, List, Option, Some, IfOk, false, length, string_bytes};
 ghost use Rattle.line_base.specs.Files.{File};
-ghost use Rattle.linker.specs.Run.{Course, Ended, EndsServing, Filed, Linked, Output, Serves, line_told, no_memory, served};
-ghost use Rattle.linker.specs.Served.{Finish, HasServed, IsConfig, IsLast, IsSite, LoadsRoot, TellsNet, closed_line, file_line, finish_code, last_of, serving_line};
+ghost use Rattle.line_base.specs.Nets.{Networking};
+ghost use Rattle.linker.specs.Run.{Course, Ended, EndsServing, Filed, Linked, Output, Serves, line_told};
+ghost use Rattle.linker.specs.Served.{Finish, IsConfig, IsLast, IsMadeBy, LoadsRoot, TellsEnd, TellsNet, file_line, finish_code, last_of, site_line};
 ghost use Rattle.linker.specs.Told.{Tells, code_of};
+ghost use Rattle.linker_config.specs.declared.loaded.LoadedItem.{LoadedItem};
 ghost use Rattle.linker_config.specs.Loading.{HasLoadCause};
 ghost use Rattle.load_words.specs.Seats.{words_of};
 ghost use Rattle.router.specs.Values.{settings_in};
-ghost use Rattle.serving.specs.Running.{IsReady};
+ghost use Rattle.serving.specs.Services.{HaveSeen};
+ghost use Rattle.serving.specs.Returning.{listened};
+ghost use Rattle.serving.specs.Sessions.{line_by};
+ghost use Rattle.serving.specs.Running.{IsReady, Listens, bound_of, passes_of};
 ghost use Rattle.snap_cell.specs.Writers.{cell_written, opening_written};
 
 use crate::check::{ConfigEnd, configured};
@@ -48,8 +52,8 @@ fn refused_line(alloc: Global, name: &Name) -> Mem<Bytes>
 }
 
 /// The line that tells where a router serves: its own address, and those of the two interfaces.
-fn site_line(alloc: Global, site: &Site) -> Mem<Bytes>
-    ensures { IfOk result (λ line. (c : Config) → IsSite c site.now → line.items ≡ serving_line c) }
+fn site_text(alloc: Global, site: &Site) -> Mem<Bytes>
+    ensures { IfOk result (λ line. line.items ≡ site_line site.now) }
 {
     let mut line = Vec::from_slice(alloc, b"serving ")?;
     append_port(site.server, &mut line)?;
@@ -85,7 +89,7 @@ fn tell_file<K: Sink>(alloc: Global, out: &mut K, name: &Name) -> Status
 
 /// Tells how it was to serve.
 fn tell_served<K: Sink>(alloc: Global, out: &mut K, served: Served) -> Status
-    ensures { (last : List ℕ) × (finish : Finish) × (end : Status) × IsLast last finish × ((finish ≡ Finish.broken) → ⊥) × (code_of end ≡ finish_code finish) × Tells last end (record { held = K.held out.old; faults = K.faults out.old }) (record { held = K.held out.new; faults = K.faults out.new }) result }
+    ensures { (last : List ℕ) × (finish : Finish) × (end : Status) × TellsEnd served last finish × (code_of end ≡ finish_code finish) × Tells last end (record { held = K.held out.old; faults = K.faults out.old }) (record { held = K.held out.new; faults = K.faults out.new }) result }
 {
     let Ok(line) = last_line(alloc, served) else {
         return tell(out, b"error memory\n", Status::Memory);
@@ -116,8 +120,12 @@ fn serve_on<
 where
     <N::L as Listener>::P: Send,
     requires ready { IsReady serving }
+    requires listens { Listens N.L.state (N.state net.old).told site.now (bound_of serving) }
+    requires seats { length (passes_of serving) ≡ site.now.workers + 5 }
     requires parts { J.parts ≡ J.seats }
-    ensures { (last : List ℕ) × (finish : Finish) × (end : Status) × IsLast last finish × TellsNet (N.faults net.old) (N.faults net.new) finish × (code_of end ≡ finish_code finish) × Tells last end (record { held = K.held out.old; faults = K.faults out.old }) (record { held = K.held out.new; faults = K.faults out.new }) result }
+    ensures { (files : Option (List File)) → (c : Config) → (before : Networking N.L.P) → (loaded : List LoadedItem) → IsMadeBy files c site.now J.settings loaded → HaveSeen loaded (passes_of serving)
+        → N.state net.old ≡ listened (c.workers + 4) before
+        → (last : List ℕ) × (finish : Finish) × (end : Status) × IsLast J (line_by N.L.P.left N.L.P.given N.L.P.read_faults N.L.P.write_faults N.L.P.ends) (C.of_fork clock.now) files c before (N.state net.new) last finish × TellsNet (N.faults net.old) (N.faults net.new) finish × (code_of end ≡ finish_code finish) × Tells last end (record { held = K.held out.old; faults = K.faults out.old }) (record { held = K.held out.new; faults = K.faults out.new }) result }
 {
     match serving.run(rt, alloc, site, net, clock) {
         Ok(served) => tell_served(alloc, out, served),
@@ -151,7 +159,7 @@ where
     requires name { opened.blank.name ≡ J.name }
     requires parts { (opened.blank.parts ≡ J.parts) × (J.parts ≡ J.seats) }
     requires seats { (opened.seats ≡ J.seats) × (opened.seats ≡ site.now.workers + 5) }
-    ensures { (c : Config) → IsSite c site.now → EndsServing c (N.faults net.old) (N.faults net.new) (record { held = K.held out.old; faults = K.faults out.old }) (record { held = K.held out.new; faults = K.faults out.new }) (code_of result) }
+    ensures { (files : Option (List File)) → (c : Config) → IsMadeBy files c site.now J.settings loaded → EndsServing J (line_by N.L.P.left N.L.P.given N.L.P.read_faults N.L.P.write_faults N.L.P.ends) (C.of_fork clock.now) files c (record { state = N.state net.old; faults = N.faults net.old }) (record { state = N.state net.new; faults = N.faults net.new }) (record { held = K.held out.old; faults = K.faults out.old }) (record { held = K.held out.new; faults = K.faults out.new }) (code_of result) }
 {
     let serving = match start::<J, R, N>(rt, alloc, opened, loaded, site, net) {
         Ok(serving) => serving,
@@ -159,7 +167,7 @@ where
         Err(StartFault::Net) => return tell(out, b"error net\n", Status::Net),
         Err(StartFault::OutOfMemory) => return tell(out, b"error memory\n", Status::Memory),
     };
-    let Ok(line) = site_line(alloc, site) else {
+    let Ok(line) = site_text(alloc, site) else {
         serving.close(rt);
         return tell(out, b"error memory\n", Status::Memory);
     };
@@ -186,7 +194,7 @@ where
     <N::L as Listener>::P: Send,
     requires workers { config.workers ≤ 256 }
     ensures served { (path : List ℕ) → IsConfig (F.files folder.old) path config → (course : Course)
-        × Serves path (record { files = F.files folder.old; faults = F.faults folder.old }) (record { files = F.files folder.new; faults = F.faults folder.new }) (record { faults = N.faults net.old }) (record { faults = N.faults net.new }) course
+        × Serves (line_by N.L.P.left N.L.P.given N.L.P.read_faults N.L.P.write_faults N.L.P.ends) (C.of_fork clock.now) path (record { files = F.files folder.old; faults = F.faults folder.old }) (record { files = F.files folder.new; faults = F.faults folder.new }) (record { state = N.state net.old; faults = N.faults net.old }) (record { state = N.state net.new; faults = N.faults net.new }) course
         × Ended course (record { held = K.held out.old; faults = K.faults out.old }) (record { held = K.held out.new; faults = K.faults out.new }) (code_of result) }
     ensures files { F.files folder.new ≡ F.files folder.old }
 {
@@ -234,7 +242,7 @@ pub fn serve<R: Threads + Wait + Sync, F: Folder, N: Net + Send, C: Clock + Drop
 where
     <N::L as Listener>::P: Send,
     ensures served { (course : Course)
-        × Serves path.now (record { files = F.files folder.old; faults = F.faults folder.old }) (record { files = F.files folder.new; faults = F.faults folder.new }) (record { faults = N.faults net.old }) (record { faults = N.faults net.new }) course
+        × Serves (line_by N.L.P.left N.L.P.given N.L.P.read_faults N.L.P.write_faults N.L.P.ends) (C.of_fork clock.now) path.now (record { files = F.files folder.old; faults = F.faults folder.old }) (record { files = F.files folder.new; faults = F.faults folder.new }) (record { state = N.state net.old; faults = N.faults net.old }) (record { state = N.state net.new; faults = N.faults net.new }) course
         × Ended course (record { held = K.held out.old; faults = K.faults out.old }) (record { held = K.held out.new; faults = K.faults out.new }) (code_of result) }
     ensures files { F.files folder.new ≡ F.files folder.old }
 {

@@ -190,8 +190,13 @@ fn state_and_replies(rt: HostRuntime) -> Result<(), Fail> {
             "ok 0\nok\nempty\ndropped\n127.0.0.1:9 /$/inet/127.0.0.1/9 /web\nmissing\n",
         ),
         (
-            "dtab /s => 0.3 * /$/inet/127.0.0.1/1 & 0.7 * /$/inet/127.0.0.1/2\npick /s 0 0 0 0\npick /s 0 5534023222112865484 0 0\npick /s 0 5534023222112865485 0 0",
-            "ok\n127.0.0.1:1 /$/inet/127.0.0.1/1 /\n127.0.0.1:1 /$/inet/127.0.0.1/1 /\n127.0.0.1:2 /$/inet/127.0.0.1/2 /\n",
+            "dtab /s => 0.3 * /$/inet/127.0.0.1/1 & 0.7 * /$/inet/127.0.0.1/2\npick /s 0 0 0 0\npick /s 0 5534023222112865484 0 0\npick /s 0 5534023222112865485 0 0\npick /s 0 9223372036854775808 0 0",
+            "ok\n127.0.0.1:1 /$/inet/127.0.0.1/1 /\n127.0.0.1:1 /$/inet/127.0.0.1/1 /\n127.0.0.1:2 /$/inet/127.0.0.1/2 /\n127.0.0.1:2 /$/inet/127.0.0.1/2 /\n",
+        ),
+        // A union of one branch takes its part of the word, and hands the rest on.
+        (
+            "dtab /s => 0.000002 * (0.3 * /$/inet/127.0.0.1/1 & 0.7 * /$/inet/127.0.0.1/2)\npick /s 0 2767011611056432742 0 0\npick /s 0 2767011611056432743 0 0\npick /s 0 9223372036854775807 0 0\npick /s 0 9223372036854775808 0 0",
+            "ok\n127.0.0.1:1 /$/inet/127.0.0.1/1 /\n127.0.0.1:2 /$/inet/127.0.0.1/2 /\n127.0.0.1:2 /$/inet/127.0.0.1/2 /\n127.0.0.1:1 /$/inet/127.0.0.1/1 /\n",
         ),
         (
             "addrs web 127.0.0.1:1*3 127.0.0.1:2\ndtab /svc => /#/io.l5d.fs\npick /svc/web 0 0 13835058055282163711 0\npick /svc/web 0 0 13835058055282163712 0",
@@ -208,8 +213,8 @@ fn state_and_replies(rt: HostRuntime) -> Result<(), Fail> {
             "ok 1\nmark 1 0\nok 0\nok 1\nmark 1 0\n",
         ),
         (
-            "dtab /svc => /$/inet/127.0.0.1/8080\nview /svc/\\x2F",
-            "ok\n{\"lookups\":[{\"depth\":0,\"outcome\":\"bound\",\"path\":\"/svc/\\\\x2f\"},{\"depth\":1,\"outcome\":\"bound\",\"path\":\"/$/inet/127.0.0.1/8080/\\\\x2f\"}],\"outcome\":\"bound\"}\n",
+            "dtab /svc => /$/inet/127.0.0.1/8080\nview /svc/a\nview /svc/\\x2F",
+            "ok\n{\"lookups\":[{\"depth\":0,\"outcome\":\"bound\",\"path\":\"/svc/a\"},{\"depth\":1,\"outcome\":\"bound\",\"path\":\"/$/inet/127.0.0.1/8080/a\"}],\"outcome\":\"bound\"}\n{\"lookups\":[{\"depth\":0,\"outcome\":\"bound\",\"path\":\"/svc/\\\\x2f\"},{\"depth\":1,\"outcome\":\"bound\",\"path\":\"/$/inet/127.0.0.1/8080/\\\\x2f\"}],\"outcome\":\"bound\"}\n",
         ),
     ];
     for (script, written) in rows {
@@ -354,7 +359,7 @@ fn words(rt: HostRuntime) -> Result<(), Fail> {
 fn words_of_generated_runs(rt: HostRuntime) -> Result<(), Fail> {
     let alloc = rt.alloc();
     let empty = "changes 1 refused 0 picked 0 none 0 ports 0\n";
-    let rows: [(&[&str], &str, u8); 19] = [
+    let rows: [(&[&str], &str, u8); 21] = [
         (&["storm"], "error words 2\n", 2),
         (&["storm", "", "5"], "error words 2\n", 2),
         (&["storm", "01", "5"], "error words 2\n", 2),
@@ -378,6 +383,16 @@ fn words_of_generated_runs(rt: HostRuntime) -> Result<(), Fail> {
         (&["weave", "01", "5"], "error words 2\n", 2),
         (&["weave", "5", "x"], "error words 3\n", 2),
         (&["weave", "0", "7"], "history 1 looks 0 kept 0\n", 0),
+        (
+            &["storm", "100000", "7"],
+            "changes 31178 refused 18675 picked 20804 none 29344 ports 63923968\n",
+            0,
+        ),
+        (
+            &["weave", "100000", "7"],
+            "history 25133 looks 12522 kept 466\n",
+            0,
+        ),
     ];
     for (words, written, status) in rows {
         let (sink, ended) = run(&rt, words, source(alloc, SAMPLE)?, sink(alloc))?;

@@ -5,8 +5,8 @@
 //! of its own, and a [`SocketStop`] closes the listeners.
 //!
 //! All listeners of an address wait in one queue. Sockets send what is written at once. A read or a write of theirs ends after [`IDLE_SECONDS`], a dial after
-//! [`DIAL_SECONDS`], as a fault. A connection is ended gently: what was written still arrives, since the other end is first told that no more comes, and what it has
-//! yet to say is read and dropped, within bounds.
+//! [`DIAL_SECONDS`], as a fault. An accepted connection is ended gently: what was written still arrives, since the other end is first told that no more comes, and what it has
+//! yet to say is read and dropped, within bounds. A dialed one is ended at once, by a reset, and its socket is connected again by the next dial.
 //!
 //! # What is proved
 //! Each adapter meets its trait: every call that fails is counted, and the counts of ends, peers, closes and stops are right. What the machine's bytes and moments
@@ -21,6 +21,7 @@
 //! ```
 #![tactic(auto)]
 
+mod calls;
 mod clock;
 mod dialer;
 mod files;
@@ -29,12 +30,14 @@ mod net;
 mod peer;
 mod stop;
 mod streams;
+mod upstream;
 
 pub use clock::SystemClock;
-pub use dialer::{DIAL_SECONDS, SocketDialer};
+pub use dialer::SocketDialer;
 pub use files::FileSystem;
 pub use listener::SocketListener;
 pub use net::SocketNet;
 pub use peer::{IDLE_SECONDS, SocketPeer};
 pub use stop::SocketStop;
 pub use streams::{ReaderSource, WriterSink};
+pub use upstream::DIAL_SECONDS;

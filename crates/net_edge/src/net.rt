@@ -4,9 +4,10 @@ ghost use Rattle.line_base.specs.Counts.{HasCause};
 ghost use Rattle.line_base.specs.Nets.{after_end};
 ghost use Rattle.net_edge.specs.Sockets.{AllFresh, listening, networking};
 
-use crate::dialer::{SocketDialer, address};
+use crate::dialer::SocketDialer;
 use crate::listener::SocketListener;
 use crate::stop::{Closing, SocketStop, Sockets};
+use crate::upstream::address;
 use line_base::{BROKEN_RUN, Failed, Listeners, Net, NetFault};
 use std::alloc::{AllocError, AllocGlobal, Global};
 use std::io::{self, ErrorKind};

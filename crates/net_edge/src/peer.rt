@@ -1,8 +1,9 @@
 //! A connection that was accepted.
 ghost use Rattle.std.specs.Prelude.{◌≡◌, None};
 
+use crate::calls::{read_some, write_some};
 use line_base::{Failed, Peer};
-use std::io::{self, Read, Write};
+use std::io::{self, Read};
 use std::net::{Shutdown, TcpStream};
 use std::time::Duration;
 
@@ -91,7 +92,7 @@ impl Peer for SocketPeer {
         if into.is_empty() {
             return Ok(0);
         }
-        match self.stream.read(into) {
+        match read_some(&mut self.stream, into) {
             Ok(0) => {
                 self.ends = self.ends.saturating_add(1);
                 Ok(0)
@@ -108,7 +109,7 @@ impl Peer for SocketPeer {
         if bytes.is_empty() {
             return Ok(0);
         }
-        match self.stream.write(bytes) {
+        match write_some(&mut self.stream, bytes) {
             Ok(count) if count > 0 => Ok(count),
             _ => {
                 self.write_faults = self.write_faults.saturating_add(1);

@@ -77,13 +77,13 @@ module _ {J : Type 0} {g : Ghosts J} where
 
   -- and what is known of one form of the target is known of each
   pub answers_by : (head : Head) (last : Bool) (demand : List ℕ → DemandValue) (old new : Pass J g) (result : Result ApiReply AllocError) (form : Form) → IsServed head.method head.target form
-      → IfOk result (IsCarriedOut (demand form.1) (delivery_of head last) old new) → IfOk result (AnswersBy head last demand old new)
+      → IfOk result (IsCarriedOut (demand form.line) (delivery_of head last) old new) → IfOk result (AnswersBy head last demand old new)
   answers_by head last demand old new (Ok reply) form served h = λ other is.
-      let P : Form → Type 0 = λ f. IsCarriedOut (demand f.1) (delivery_of head last) old new reply in subst P (one_form head.method head.target form other served is) h
+      let P : Form → Type 0 = λ f. IsCarriedOut (demand f.line) (delivery_of head last) old new reply in subst P (one_form head.method head.target form other served is) h
   answers_by head last demand old new (Err want) form served h = tt
 
   pub leaves_by : (head : Head) (demand : List ℕ → DemandValue) (old new : Pass J g) (result : Result ApiReply AllocError) (form : Form) → IsServed head.method head.target form
-      → OnErr result (Leaves (demand form.1) old new) → OnErr result (LeavesBy head demand old new)
+      → OnErr result (Leaves (demand form.line) old new) → OnErr result (LeavesBy head demand old new)
   leaves_by head demand old new (Ok reply) form served h = tt
   leaves_by head demand old new (Err want) form served h = λ other is.
-      let P : Form → Type 0 = λ f. Leaves (demand f.1) old new in subst P (one_form head.method head.target form other served is) h
+      let P : Form → Type 0 = λ f. Leaves (demand f.line) old new in subst P (one_form head.method head.target form other served is) h

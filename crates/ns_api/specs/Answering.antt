@@ -85,7 +85,7 @@ module _ {J : Type 0} {g : Ghosts J} where
   -- the same by the target that goes on
   abbrev pub AnswersBy : Head → Bool → (List ℕ → DemandValue) → Pass J g → Pass J g → ApiReply → Type 0
   AnswersBy head last demand old new reply =
-      (form : Form) → IsServed head.method head.target form → IsCarriedOut (demand form.1) (delivery_of head last) old new reply
+      (form : Form) → IsServed head.method head.target form → IsCarriedOut (demand form.line) (delivery_of head last) old new reply
 
   abbrev pub LeavesBy : Head → (List ℕ → DemandValue) → Pass J g → Pass J g → Type 0
-  LeavesBy head demand old new = (form : Form) → IsServed head.method head.target form → Leaves (demand form.1) old new
+  LeavesBy head demand old new = (form : Form) → IsServed head.method head.target form → Leaves (demand form.line) old new

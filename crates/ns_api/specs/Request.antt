@@ -1,13 +1,11 @@
 -- The parts of a request that the interfaces look at.
-use Rattle.std.specs.Prelude.{ℕ, ◌+◌, ◌-◌, ◌^◌, ◌==◌, ◌&&◌, ◌||◌, Bool, not, nat_le, if◌then◌else◌, List, [], ◌∷◌, length, take, drop, codes, slice_get, slice_index, slice_range, bytes_eq, Option, Some, None}
+use Rattle.std.specs.Prelude.{ℕ, ◌+◌, ◌-◌, ◌^◌, ◌==◌, ◌&&◌, ◌||◌, Bool, not, nat_le, if◌then◌else◌, List, [], ◌∷◌, length, take, drop, codes, slice_index, slice_range, bytes_eq, Option, Some, None}
 use Rattle.std.specs.Option.{unwrap_or}
-use Rattle.std.specs.List.{before_first, after_first, list_any, list_all, slice_split}
-use Rattle.httparse.specs.Ascii.{comma}
-use Rattle.httparse.specs.Grammar.{trim_ows}
+use Rattle.std.specs.List.{before_first, after_first, list_any, list_all}
 use Rattle.http_uri.specs.ByteClasses.{question_mark, slash}
 use Rattle.http_wire.specs.declared.head.Field.{Field}
 use Rattle.http_wire.specs.declared.head.Head.{Head}
-use Rattle.http_wire.specs.Fields.{is_named, same_ignoring_case, values_of}
+use Rattle.http_wire.specs.Fields.{first_value, is_named, names_close, same_ignoring_case}
 use Rattle.addr_book.specs.Addr.{number_value, at_most}
 use Rattle.addr_book.specs.Name.{is_name_byte}
 
@@ -30,10 +28,6 @@ segment_behind front path = if bytes_eq (take (length front) path) front then on
 -- the name that a segment is: 1 to 255 bytes of letters, digits and `_ : . -`
 abbrev pub name_of : List ℕ → Option (List ℕ)
 name_of segment = if (nat_le 1 (length segment) && nat_le (length segment) 255) && list_all is_name_byte segment then Some segment else None
-
--- the value of the first field of this name
-abbrev pub first_value : List ℕ → List Field → Option (List ℕ)
-first_value name fields = slice_get (values_of name fields) 0
 
 -- a number of 64 bits: decimal digits without leading zeros
 abbrev pub number_of : List ℕ → Option ℕ
@@ -73,17 +67,9 @@ value_begins word value = begins_with word (unwrap_or value [])
 abbrev pub is_json : List Field → Bool
 is_json fields = value_begins (codes "application/json") (first_value (codes "content-type") fields)
 
--- a value lists this word, between commas, without case and without the blanks around it (RFC 9110 section 5.6.1)
-abbrev pub lists : List ℕ → List ℕ → Bool
-lists word value = list_any (λ piece. same_ignoring_case (trim_ows piece) word) (slice_split (λ b. b == comma) value)
-
--- a Connection field says `close` (RFC 9112 section 9.6)
-abbrev pub says_close : List Field → Bool
-says_close fields = list_any (λ field. is_named (codes "connection") field && lists (codes "close") field.value) fields
-
--- the connection closes behind the response: the request is HTTP/1.0, or says so, or is the last that its connection carries
+-- the connection closes behind the response: the request is HTTP/1.0, or a Connection field of it names `close`, or it is the last that its connection carries
 abbrev pub closes : Head → Bool → Bool
-closes head last = (head.version == 0) || (says_close head.fields || last)
+closes head last = (head.version == 0) || (names_close head.fields || last)
 
 -- a response to HEAD has no body
 abbrev pub has_body : Head → Bool

@@ -1,6 +1,8 @@
 -- Responses of the interfaces, and their bytes.
 use Rattle.std.specs.Prelude.{ℕ, Bool, if◌then◌else◌, List, [], ◌∷◌, ◌++◌, length, codes, Option, Some, None, option_map}
 use Rattle.std.specs.Fmt.{decimal}
+use Rattle.httparse.specs.Ascii.{crlf_bytes}
+use Rattle.http_wire.specs.Lines.{ended, line_of}
 use Rattle.ns_api.specs.declared.verb.Methods.{Methods}
 use Rattle.ns_api.specs.declared.response.Status.{Status}
 use Rattle.ns_api.specs.declared.response.Status.TheVariants as status
@@ -59,28 +61,25 @@ media_text media.Plain = codes "text/plain"
 media_text media.Json = codes "application/json"
 media_text media.Dtab = codes "application/dtab"
 
--- a line of a name and a value
-abbrev pub line_of : List ℕ → List ℕ → List ℕ
-line_of name value = name ++ value ++ 13 ∷ 10 ∷ []
-
+-- the status line (RFC 9112 section 4)
 abbrev pub status_line : Status → List ℕ
-status_line s = codes "HTTP/1.1 " ++ line_of (decimal (status_code s) ++ codes " ") (reason_of s)
+status_line s = codes "HTTP/1.1 " ++ decimal (status_code s) ++ codes " " ++ reason_of s
 
 -- the version of a table is an entity tag (RFC 9110 section 8.8.3)
-abbrev pub version_field : Option ℕ → List ℕ
-version_field None = []
-version_field (Some version) = line_of (codes "ETag: ") (codes "\"" ++ decimal version ++ codes "\"")
+abbrev pub version_lines : Option ℕ → List (List ℕ)
+version_lines None = []
+version_lines (Some version) = line_of (codes "ETag") (codes "\"" ++ decimal version ++ codes "\"") ∷ []
 
-abbrev pub allow_field : Option Methods → List ℕ
-allow_field None = []
-allow_field (Some methods) = line_of (codes "Allow: ") (methods_text methods)
+abbrev pub allow_lines : Option Methods → List (List ℕ)
+allow_lines None = []
+allow_lines (Some methods) = line_of (codes "Allow") (methods_text methods) ∷ []
 
-abbrev pub content_fields : Option (Media × List ℕ) → List ℕ
-content_fields None = []
-content_fields (Some content) = line_of (codes "Content-Type: ") (media_text content.0) ++ line_of (codes "Content-Length: ") (decimal (length content.1))
+abbrev pub content_lines : Option (Media × List ℕ) → List (List ℕ)
+content_lines None = []
+content_lines (Some content) = line_of (codes "Content-Type") (media_text content.0) ∷ line_of (codes "Content-Length") (decimal (length content.1)) ∷ []
 
-abbrev pub connection_field : Bool → List ℕ
-connection_field closing = if closing then line_of (codes "Connection: ") (codes "close") else []
+abbrev pub connection_lines : Bool → List (List ℕ)
+connection_lines closing = if closing then line_of (codes "Connection") (codes "close") ∷ [] else []
 
 abbrev pub content_bytes : Option (Media × List ℕ) → List ℕ
 content_bytes None = []
@@ -89,5 +88,5 @@ content_bytes (Some content) = content.1
 -- the status line, the fields that are there, an empty line, and the body where it is written
 abbrev pub bytes_of : ResponseValue → Bool → Bool → List ℕ
 bytes_of r closing with_body =
-    status_line r.status ++ version_field r.version ++ allow_field r.allow ++ content_fields r.content ++ connection_field closing ++ (13 ∷ 10 ∷ [])
-    ++ (if with_body then content_bytes r.content else [])
+    ended (status_line r.status ∷ []) ++ ended (version_lines r.version) ++ ended (allow_lines r.allow) ++ ended (content_lines r.content)
+    ++ ended (connection_lines closing) ++ crlf_bytes ++ (if with_body then content_bytes r.content else [])

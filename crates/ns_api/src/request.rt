@@ -2,14 +2,12 @@
 ghost use Rattle.std.specs.Prelude.{◌≡◌, ◌==◌, ◌-◌, ◌^◌, bytes_eq, codes, position, MatchResult, None, Some, option_map};
 ghost use Rattle.std.specs.Option.{option_copied};
 ghost use Rattle.std.specs.List.{list_any};
-ghost use Rattle.httparse.specs.Grammar.{trim_ows};
 ghost use Rattle.http_uri.specs.ByteClasses.{slash};
-ghost use Rattle.http_wire.specs.Fields.{same_ignoring_case};
 ghost use Rattle.addr_book.specs.Addr.{at_most, digits_behind};
-ghost use Rattle.ns_api.specs.Request.{accepts_dtab, begins_with, closes, has_body, has_in_it, is_json, lists, name_of, number_of, one_segment, path_in, query_in, says_close, segment_behind, unquoted, value_begins, version_asked, version_for};
+ghost use Rattle.ns_api.specs.Request.{accepts_dtab, begins_with, closes, has_body, has_in_it, is_json, name_of, number_of, one_segment, path_in, query_in, segment_behind, unquoted, value_begins, version_asked, version_for};
 
 use addr_book::{Name, NameFault};
-use http_wire::{FieldList, Head, trimmed};
+use http_wire::{FieldList, Head, names_close, same_bytes};
 use std::alloc::Global;
 
 /// The path of a target: what stands before its query.
@@ -139,19 +137,12 @@ fn read_digits(text: &[u8]) -> Option<u64>
     Some(number)
 }
 
-/// Whether two texts are alike but for the case of ASCII letters.
-fn same_text(a: &[u8], b: &[u8]) -> bool
-    ensures { result ≡ same_ignoring_case a.now b.now }
-{
-    a.eq_ignore_ascii_case(b)
-}
-
 /// Whether a text begins with a media type.
 #[tactic(auto, unfolding(crate::specs::Request::begins_with))]
 fn begins_with(word: &[u8], text: &[u8]) -> bool
     ensures { result ≡ begins_with word.now text.now }
 {
-    same_text(&text[..word.len().min(text.len())], word)
+    same_bytes(&text[..word.len().min(text.len())], word)
 }
 
 /// Whether a text has a media type in it.
@@ -187,33 +178,11 @@ pub fn is_json(fields: &FieldList) -> bool
     )
 }
 
-/// Whether a value lists `close`.
-fn lists_close(value: &[u8]) -> bool
-    ensures { result ≡ lists (codes "close") value.now }
-{
-    value.split(|b| *b == b',').any(|piece| is_close(piece))
-}
-
-/// Whether a piece of a list says `close`.
-fn is_close(piece: &[u8]) -> bool
-    ensures { result ≡ same_ignoring_case (trim_ows piece.now) (codes "close") }
-{
-    same_text(trimmed(piece), b"close")
-}
-
-/// Whether a Connection field says `close`.
-fn says_close(fields: &FieldList) -> bool
-    ensures { result ≡ says_close fields.now }
-{
-    fields.items().iter().any(|field| field.name.is("connection")
-        && lists_close(field.value.bytes()))
-}
-
 /// Whether the connection closes behind the response to this request, which may be the last that its connection carries.
 pub fn closes(head: &Head, last: bool) -> bool
     ensures { result ≡ closes head.now last }
 {
-    head.version == 0 || says_close(&head.fields) || last
+    head.version == 0 || names_close(&head.fields) || last
 }
 
 /// Whether the response to this request has its body written.

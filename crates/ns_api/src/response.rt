@@ -1,10 +1,12 @@
 //! Responses of the interfaces, and their bytes.
-ghost use Rattle.std.specs.Prelude.{◌≡◌, ◌++◌, if◌then◌else◌, [], codes, length, IfOk, OnOk, None, Some, option_map, string_bytes};
+ghost use Rattle.std.specs.Prelude.{◌≡◌, ◌++◌, if◌then◌else◌, [], ◌∷◌, codes, length, IfOk, OnOk, None, Some, option_map, string_bytes};
 ghost use Rattle.std.specs.Fmt.{decimal};
-ghost use Rattle.ns_api.specs.Response.{allow_field, bytes_of, connection_field, content_bytes, content_fields, line_of, media_text, plain, reason_of, response_value, status_code, status_line, version_field};
+ghost use Rattle.http_wire.specs.Lines.{ended, line_of};
+ghost use Rattle.ns_api.specs.Response.{allow_lines, bytes_of, connection_lines, content_bytes, content_lines, media_text, plain, reason_of, response_value, status_code, status_line, version_lines};
 
 use crate::verb::Methods;
 use crate::{Bytes, Mem};
+use http_wire::{end_line, push_line};
 use std::alloc::Global;
 
 /// The status of a response.
@@ -153,7 +155,7 @@ impl Response {
         put_allow(self.allow, &mut out)?;
         put_content_fields(&self.content, &mut out)?;
         put_connection(closing, &mut out)?;
-        out.extend_from_slice(b"\r\n")?;
+        end_line(&mut out)?;
         if with_body {
             put_content(&self.content, &mut out)?;
         }
@@ -161,49 +163,43 @@ impl Response {
     }
 }
 
-/// Puts a line of a name and a value behind some bytes.
-fn put_line(name: &str, value: &str, out: &mut Bytes) -> Mem<()>
-    ensures { OnOk result (out.new.items ≡ out.old.items ++ line_of name.now value.now) }
-{
-    out.extend_from_slice(name.as_bytes())?;
-    out.extend_from_slice(value.as_bytes())?;
-    out.extend_from_slice(b"\r\n")
-}
-
 /// The status line.
 fn put_status_line(status: Status, out: &mut Bytes) -> Mem<()>
-    ensures { OnOk result (out.new.items ≡ out.old.items ++ status_line status) }
+    ensures { OnOk result (out.new.items ≡ out.old.items ++ ended (status_line status ∷ [])) }
 {
     let code = status.code();
-    let digits = format!(in *out.allocator(); "{code} ")?;
+    let digits = format!(in *out.allocator(); "{code}")?;
     out.extend_from_slice(b"HTTP/1.1 ")?;
-    put_line(digits.as_str(), status.reason(), out)
+    out.extend_from_slice(digits.as_bytes())?;
+    out.extend_from_slice(b" ")?;
+    out.extend_from_slice(status.reason().as_bytes())?;
+    end_line(out)
 }
 
 /// The field `ETag`, where there is a version.
 fn put_version(version: Option<u64>, out: &mut Bytes) -> Mem<()>
-    ensures { OnOk result (out.new.items ≡ out.old.items ++ version_field version) }
+    ensures { OnOk result (out.new.items ≡ out.old.items ++ ended (version_lines version)) }
 {
     let Some(version) = version else {
         return Ok(());
     };
     let quoted = format!(in *out.allocator(); "\"{version}\"")?;
-    put_line("ETag: ", quoted.as_str(), out)
+    push_line(out, "ETag", quoted.as_bytes())
 }
 
 /// The field `Allow`, where the method is not allowed.
 fn put_allow(allow: Option<Methods>, out: &mut Bytes) -> Mem<()>
-    ensures { OnOk result (out.new.items ≡ out.old.items ++ allow_field allow) }
+    ensures { OnOk result (out.new.items ≡ out.old.items ++ ended (allow_lines allow)) }
 {
     match allow {
         None => Ok(()),
-        Some(methods) => put_line("Allow: ", methods.text(), out),
+        Some(methods) => push_line(out, "Allow", methods.text().as_bytes()),
     }
 }
 
 /// The fields that tell of the body, where there is one.
 fn put_content_fields(content: &Option<Content>, out: &mut Bytes) -> Mem<()>
-    ensures { OnOk result (out.new.items ≡ out.old.items ++ content_fields (option_map (λ c. (c.media, c.body.items)) content.now)) }
+    ensures { OnOk result (out.new.items ≡ out.old.items ++ ended (content_lines (option_map (λ c. (c.media, c.body.items)) content.now))) }
 {
     match content {
         None => Ok(()),
@@ -213,27 +209,27 @@ fn put_content_fields(content: &Option<Content>, out: &mut Bytes) -> Mem<()>
 
 /// The fields that tell of a body.
 fn put_fields_of(content: &Content, out: &mut Bytes) -> Mem<()>
-    ensures { OnOk result (out.new.items ≡ out.old.items ++ content_fields (Some (content.now.media, content.now.body.items))) }
+    ensures { OnOk result (out.new.items ≡ out.old.items ++ ended (content_lines (Some (content.now.media, content.now.body.items)))) }
 {
-    put_line("Content-Type: ", content.media.text(), out)?;
+    push_line(out, "Content-Type", content.media.text().as_bytes())?;
     put_length(content.body.as_slice(), out)
 }
 
 /// The field that tells how long a body is.
 fn put_length(body: &[u8], out: &mut Bytes) -> Mem<()>
-    ensures { OnOk result (out.new.items ≡ out.old.items ++ line_of (codes "Content-Length: ") (decimal (length body.now))) }
+    ensures { OnOk result (out.new.items ≡ out.old.items ++ ended (line_of (codes "Content-Length") (decimal (length body.now)) ∷ [])) }
 {
     let length = body.len();
     let digits = format!(in *out.allocator(); "{length}")?;
-    put_line("Content-Length: ", digits.as_str(), out)
+    push_line(out, "Content-Length", digits.as_bytes())
 }
 
 /// The field `Connection`, where the connection closes.
 fn put_connection(closing: bool, out: &mut Bytes) -> Mem<()>
-    ensures { OnOk result (out.new.items ≡ out.old.items ++ connection_field closing) }
+    ensures { OnOk result (out.new.items ≡ out.old.items ++ ended (connection_lines closing)) }
 {
     if closing {
-        put_line("Connection: ", "close", out)?;
+        push_line(out, "Connection", b"close")?;
     }
     Ok(())
 }

@@ -10,6 +10,7 @@ use Rattle.std.proofs.lemmas.List.Concat.{flat_map-cons}
 use Rattle.std.proofs.lemmas.List.Elements.{All-cons, All-map, All-nil, All-weaker}
 use Rattle.std.proofs.lemmas.List.Sums.{AllPass-from_list_all}
 use Rattle.httparse.specs.Grammar.{crlf as cr_lf, is_token_byte, is_value_byte, trim_ows, print_field, print_response, AllPass, IsField, IsResponseHead, IsToken, ResponseHead, Field as Line}
+use Rattle.httparse.specs.Ascii.{crlf_bytes}
 use Rattle.httparse.specs.Spans.{name_and_value}
 use Rattle.httparse.proofs.GrammarLemmas.{print_response-append}
 use Rattle.http_wire.specs.declared.head.Field.{Field}
@@ -17,11 +18,12 @@ use Rattle.http_wire.specs.declared.head.ReplyHead.{ReplyHead}
 use Rattle.http_wire.specs.Fields.{same_ignoring_case, values_of}
 use Rattle.http_wire.specs.Framing.{framed, length_framing}
 use Rattle.http_wire.specs.Heads.{most, window}
+use Rattle.http_wire.specs.Lines.{ended}
 use Rattle.http_wire.specs.Replies.{BeginsWithReply, IsReplyOf}
 use Rattle.http_wire.proofs.Lengths.{decimal_digits, decimal_value, length_agreed, trimmed_digits}
 use Rattle.own_reply.specs.declared.error.OwnError.{OwnError}
 use Rattle.own_reply.specs.declared.error.OwnError.TheVariants.{Version, BadHead, HeadTooLarge, Connect, Target, Length, Coding, TooLong, Host, Unidentified, Dtab, Body, Negative, Failing, Empty, TooDeep, TooWide, Dial, Upstream}
-use Rattle.own_reply.specs.Reply.{body_of, connection_of, crlf, ended, head_of, lines_of, reason_of, reply_of, status_of, text_of}
+use Rattle.own_reply.specs.Reply.{body_of, connection_of, head_of, lines_of, reason_of, reply_of, status_line, status_of, text_of}
 use Rattle.own_reply.specs.Laws.{OwnRepliesAreReplies}
 
 -- ---- what each refusal says
@@ -186,9 +188,6 @@ pairs err closing =
 abbrev pair_line : Pair → List ℕ
 pair_line p = p.0 ++ 58 ∷ 32 ∷ p.1
 
-abbrev status_line : OwnError → List ℕ
-status_line err = codes "HTTP/1.1 " ++ decimal (status_of err) ++ codes " " ++ reason_of err
-
 lines_are : (err : OwnError) (closing : Bool) → lines_of err closing ≡ status_line err ∷ map pair_line (pairs err closing)
 lines_are err true = refl
 lines_are err false = refl
@@ -198,7 +197,7 @@ line_field p = record { name = p.0; raw = 32 ∷ p.1; end = cr_lf }
 
 ended_is : (ps : List Pair) → ended (map pair_line ps) ≡ flat_map print_field (map line_field ps)
 ended_is [] = refl
-ended_is (p ∷ ps) = (λ i. (pair_line p ++ crlf) ++ ended_is ps i) ∙ sym (flat_map-cons print_field (line_field p) (map line_field ps))
+ended_is (p ∷ ps) = (λ i. (pair_line p ++ crlf_bytes) ++ ended_is ps i) ∙ sym (flat_map-cons print_field (line_field p) (map line_field ps))
 
 abbrev parts : OwnError → Bool → ResponseHead
 parts err closing = record {
@@ -211,15 +210,15 @@ parts err closing = record {
   last = cr_lf;
 }
 
-regrouped : (d r s rest : List ℕ) → (((((codes "HTTP/1.1 " ++ d) ++ codes " ") ++ r) ++ crlf) ++ s) ++ crlf ++ rest
-    ≡ codes "HTTP/1.1" ++ 32 ∷ (d ++ ((32 ∷ r) ++ (crlf ++ ((s ++ crlf) ++ rest))))
+regrouped : (d r s rest : List ℕ) → (((((codes "HTTP/1.1 " ++ d) ++ codes " ") ++ r) ++ crlf_bytes) ++ s) ++ crlf_bytes ++ rest
+    ≡ codes "HTTP/1.1" ++ 32 ∷ (d ++ ((32 ∷ r) ++ (crlf_bytes ++ ((s ++ crlf_bytes) ++ rest))))
 regrouped d r s rest = simp append_assoc
 
 printed : (err : OwnError) (closing : Bool) (rest : List ℕ) → head_of err closing ++ rest ≡ print_response (parts err closing) ++ rest
 unfolding head_of
 printed err closing rest =
-    ap (λ (ls : List (List ℕ)). (ended ls ++ crlf) ++ rest) (lines_are err closing)
-    ∙ (ap (λ (t : List ℕ). (((status_line err ++ crlf) ++ t) ++ crlf) ++ rest) (ended_is (pairs err closing))
+    ap (λ (ls : List (List ℕ)). (ended ls ++ crlf_bytes) ++ rest) (lines_are err closing)
+    ∙ (ap (λ (t : List ℕ). (((status_line err ++ crlf_bytes) ++ t) ++ crlf_bytes) ++ rest) (ended_is (pairs err closing))
     ∙ (regrouped (decimal (status_of err)) (reason_of err) (flat_map print_field (map line_field (pairs err closing))) rest
     ∙ sym (print_response-append (parts err closing) rest)))
 
@@ -334,7 +333,7 @@ head_short err closing =
     let long = size (length (body_of err)) (body_short err) in
     let last = closing_short closing in
     subst (λ (n : ℕ). n ≤ 200)
-    (sym (sizes (codes "HTTP/1.1 ") (decimal (status_of err)) (codes " ") (reason_of err) crlf (codes "Content-Type: text/plain") (codes "l5d-err: ")
+    (sym (sizes (codes "HTTP/1.1 ") (decimal (status_of err)) (codes " ") (reason_of err) crlf_bytes (codes "Content-Type: text/plain") (codes "l5d-err: ")
     (text_of err) (codes "Content-Length: ") (decimal (length (body_of err))) (ended (connection_of closing)))) (omega (arith, text, reason, digits, long, last))
 
 begins : (err : OwnError) (closing with_body : Bool) → BeginsWithReply (reply_of err closing with_body) (read err closing) (length (head_of err closing))

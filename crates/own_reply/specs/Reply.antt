@@ -1,6 +1,8 @@
 -- The router's own replies: what each refusal says, and the bytes of its reply.
 use Rattle.std.specs.Prelude.{ℕ, Bool, List, [], ◌∷◌, ◌++◌, length, codes, if◌then◌else◌}
 use Rattle.std.specs.Fmt.{decimal}
+use Rattle.httparse.specs.Ascii.{crlf_bytes}
+use Rattle.http_wire.specs.Lines.{ended, line_of}
 use Rattle.own_reply.specs.declared.error.OwnError.{OwnError}
 use Rattle.own_reply.specs.declared.error.OwnError.TheVariants.{Version, BadHead, HeadTooLarge, Connect, Target, Length, Coding, TooLong, Host, Unidentified, Dtab, Body, Negative, Failing, Empty, TooDeep, TooWide, Dial, Upstream}
 
@@ -70,35 +72,30 @@ reason_of TooWide = codes "Bad Gateway"
 reason_of Dial = codes "Bad Gateway"
 reason_of Upstream = codes "Bad Gateway"
 
--- CR LF, which ends each line of a head
-abbrev pub crlf : List ℕ
-crlf = 13 ∷ 10 ∷ []
-
 -- the body: the word and a line feed
 abbrev pub body_of : OwnError → List ℕ
 body_of err = text_of err ++ 10 ∷ []
 
--- each line with its CR LF
-abbrev pub ended : List (List ℕ) → List ℕ
-ended [] = []
-ended (line ∷ lines) = (line ++ crlf) ++ ended lines
+-- the status line (RFC 9112 section 4)
+abbrev pub status_line : OwnError → List ℕ
+status_line err = codes "HTTP/1.1 " ++ decimal (status_of err) ++ codes " " ++ reason_of err
+
+-- the field that tells the length of the body
+abbrev pub length_line : OwnError → List ℕ
+length_line err = line_of (codes "Content-Length") (decimal (length (body_of err)))
 
 -- the field that says that the connection closes
 abbrev pub connection_of : Bool → List (List ℕ)
-connection_of closing = if closing then codes "Connection: close" ∷ [] else []
+connection_of closing = if closing then line_of (codes "Connection") (codes "close") ∷ [] else []
 
 -- the status line and the fields
 abbrev pub lines_of : OwnError → Bool → List (List ℕ)
 lines_of err closing =
-    (codes "HTTP/1.1 " ++ decimal (status_of err) ++ codes " " ++ reason_of err)
-    ∷ codes "Content-Type: text/plain"
-    ∷ (codes "l5d-err: " ++ text_of err)
-    ∷ (codes "Content-Length: " ++ decimal (length (body_of err)))
-    ∷ connection_of closing
+    status_line err ∷ line_of (codes "Content-Type") (codes "text/plain") ∷ line_of (codes "l5d-err") (text_of err) ∷ length_line err ∷ connection_of closing
 
 -- the head: each line ends in CR LF, and an empty line ends the head
 unfoldable pub head_of : OwnError → Bool → List ℕ
-head_of err closing = ended (lines_of err closing) ++ crlf
+head_of err closing = ended (lines_of err closing) ++ crlf_bytes
 
 -- the whole reply: the head, and the body where it is written
 abbrev pub reply_of : OwnError → Bool → Bool → List ℕ

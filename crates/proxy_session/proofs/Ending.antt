@@ -115,9 +115,9 @@ refusing reply result old mid new fell (Err ended.UpstreamCut) w is = absurd w
 
 ends_without : (end : HeadEnd) (old mid new : Standing) (result : Ended) → Reads old mid (Err end) → AnswersEnd (own_of_end end) mid.line new.line (ended_of_end end) result
     → Without result old.line mid.line new.line
-ends_without HeadEnd.Ended old mid new result x a = quietly ended.PeerEnded result old.line mid.line new.line (reads_last old mid _ x).fell a.0 a.1 (x.causes.ended refl) (λ no. cc)
-ends_without HeadEnd.Cut old mid new result x a = quietly ended.Cut result old.line mid.line new.line (reads_last old mid _ x).fell a.0 a.1 (x.causes.cut refl) (λ no. cc)
-ends_without HeadEnd.ReadFault old mid new result x a = quietly ended.ReadFault result old.line mid.line new.line (reads_last old mid _ x).fell a.0 a.1 (x.causes.fault refl) (λ no. cc)
+ends_without HeadEnd.Ended old mid new result x a = quietly ended.PeerEnded result old.line mid.line new.line (reads_last old mid _ x).fell a.0 a.1 (rose_by old.line.ends mid.line.ends x.causes.ends) (λ no. cc)
+ends_without HeadEnd.Cut old mid new result x a = quietly ended.Cut result old.line mid.line new.line (reads_last old mid _ x).fell a.0 a.1 (rose_by old.line.ends mid.line.ends x.causes.ends) (λ no. cc)
+ends_without HeadEnd.ReadFault old mid new result x a = quietly ended.ReadFault result old.line mid.line new.line (reads_last old mid _ x).fell a.0 a.1 (rose_by old.line.read_faults mid.line.read_faults x.causes.faults) (λ no. cc)
 ends_without HeadEnd.OutOfMemory old mid new result x a = quietly ended.OutOfMemory result old.line mid.line new.line (reads_last old mid _ x).fell a.0 a.1 tt (λ no. cc)
 ends_without HeadEnd.Bad old mid new result x a = refusing _ result old.line mid.line new.line (reads_last old mid _ x).fell a.0 a.1 a.2
 ends_without HeadEnd.Version old mid new result x a = refusing _ result old.line mid.line new.line (reads_last old mid _ x).fell a.0 a.1 a.2

@@ -4,9 +4,6 @@ use Rattle.std.specs.Prelude.{IfSome, ◌<◌}
 use Rattle.rand_pcg.specs.Lcg.{Lcg}
 use Rattle.addr_book.specs.declared.addr.Addr.{Addr}
 use Rattle.dtab_table.specs.Rules.{Rule as DtabRule}
-use Rattle.forward.proofs.CanonBytes.{clear_path}
-use Rattle.forward.specs.Sound.{is_clear_byte}
-use Rattle.httparse.specs.Grammar.{AllPass}
 use Rattle.http_wire.specs.declared.ended.Ended.{Ended}
 use Rattle.http_wire.specs.declared.ended.Ended.TheVariants as ended
 use Rattle.http_wire.specs.declared.frames.Framing.{Framing}
@@ -29,7 +26,7 @@ use Rattle.proxy_session.specs.Found.{IsReplica, Says, client_in, residual_in}
 use Rattle.proxy_session.specs.Onward.{IsForwarded, IsHeadTo, host_for}
 use Rattle.proxy_session.specs.Outside.{IsIdle, Line, Rests, Upstream}
 use Rattle.proxy_session.specs.Seeking.{Seeks, Sought}
-use Rattle.proxy_session.specs.Sending.{AreClear, AnswersAlone, HasWord, RefusesAs, SendsFound}
+use Rattle.proxy_session.specs.Sending.{AnswersAlone, HasWord, RefusesAs, SendsFound}
 use Rattle.proxy_session.specs.Sought.{SeeksAs}
 use Rattle.proxy_session.proofs.Resting.{idle_same, rests_same}
 
@@ -40,16 +37,6 @@ refused_so settings rule head last old new result (refusal.Own err) seeks nothin
     inl (record { err = err; seeks = seeks; nothing = nothing; refuses = refuses })
 refused_so settings rule head last old new result refusal.OutOfMemory seeks nothing refuses =
     inr (inl (record { nothing = nothing; line = refuses.0; ends = refuses.1 }))
-
-clear_by : (client : List ℕ) (labels : Labels) → client ≡ canon_path labels → AllPass is_clear_byte client
-clear_by client labels is = subst (AllPass is_clear_byte) (sym is) (clear_path labels)
-
--- the texts of names that are canonical end no line
-pub clear_found : (said : PickValue) (names : Names) (f : Found) → Says said names f → AreClear names f
-clear_found (replica r) names (found.Replica choice texts) says = (clear_by _ r.client says.client_is, clear_by _ r.residual says.residual_is)
-clear_found (replica r) names (found.None why) says = absurd says
-clear_found (none why) names (found.Replica choice texts) says = absurd says
-clear_found (none why) names (found.None other) says = tt
 
 -- the slot of a replica that was said is that of the one that was found
 pub word_found : (said : PickValue) (names : Names) (f : Found) → Says said names f → IsWord said → HasWord f

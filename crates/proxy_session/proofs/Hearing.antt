@@ -29,7 +29,7 @@ pub record Dropped (l0 l1 : Option (List DialEvent)) (k0 k1 : List ℕ) (n : ℕ
 module _ (left0 left1 : Option (List ℕ)) (l0 l1 l2 : Option (List DialEvent)) (k0 k1 k2 : List ℕ) (n : ℕ) (before : Dropped l0 l1 k0 k1 n) where
   -- one more head was received, and shows this
   pub last_shows : (result : Result ReplyHead HeadEnd) (read : ReadsReply left0 left1 l1 l2 k1 k2 result) → Shows k1 k2 read.pieces result
-  last_shows result read = record { answers = read.answers; end = ends_pieces left1 read.pieces result read.end }
+  last_shows result read = record { prompt = read.prompt; answers = read.answers; end = ends_pieces left1 read.pieces result read.end }
 
   -- and is dropped
   pub one_dropped : (head : ReplyHead) → ReadsReply left0 left1 l1 l2 k1 k2 (Ok head) → is_interim head.status ≡ true → Dropped l0 l2 k0 k2 (n + 1)

@@ -5,7 +5,7 @@ use Rattle.http_wire.specs.declared.frames.Framing.{Framing}
 use Rattle.http_wire.specs.declared.head.ReplyHead.{ReplyHead}
 use Rattle.http_wire.specs.declared.reading.HeadEnd.{HeadEnd}
 use Rattle.http_wire.specs.Framing.{framing_of, reply_framing_of}
-use Rattle.http_wire.specs.ReplyReading.{AnswersReply, EndsAtEnd, joined}
+use Rattle.http_wire.specs.ReplyReading.{AnswersReply, EndsAtEnd, IsPromptReply, joined}
 use Rattle.proxy_session.specs.declared.final_head.HeadFault.{HeadFault}
 
 -- the head of an interim reply that is dropped: 100, and 102 to 199. 101 asks for another protocol
@@ -23,8 +23,9 @@ EndsPieces pieces (Err HeadEnd.TooLarge) = Unit {0}
 EndsPieces pieces (Err HeadEnd.ReadFault) = Unit {0}
 EndsPieces pieces (Err HeadEnd.OutOfMemory) = Unit {0}
 
--- these pieces were got behind the bytes that were kept, and show this
+-- these pieces were got behind the bytes that were kept, and show this; no more was received than was needed
 pub record Shows (kept kept_after : List ℕ) (pieces : List (List ℕ)) (result : Result ReplyHead HeadEnd) : Type 0 where
+  pub prompt : IsPromptReply kept pieces
   pub answers : AnswersReply (kept ++ joined pieces) kept_after result
   pub end : EndsPieces pieces result
 
@@ -39,14 +40,16 @@ Interims (suc n) kept kept_after pieces =
 abbrev pub most_interims : ℕ
 most_interims = 8
 
--- what a head behind so many interim ones is: the final one, unless it asks for another protocol, is one interim head too many, or frames no body
+-- what a head behind so many interim ones is: the final one, unless it asks for another protocol, is one interim head too many, or is that of no interim reply and
+-- frames no body. How an interim head would frame a body is not looked at
 abbrev pub HeadDecides : List ℕ → ℕ → ReplyHead → Result (ReplyHead × Framing) HeadFault → Type 0
 HeadDecides method n head (Ok final) =
     (final.0 ≡ head) × (is_interim head.status ≡ false) × ((head.status == 101) ≡ false)
     × (reply_framing_of method head.status (framing_of head.version head.fields) ≡ Ok final.1)
 HeadDecides method n head (Err HeadFault.NoReply) =
     ((head.status == 101) ≡ true)
-    ⊎ (((is_interim head.status ≡ true) × (n ≡ most_interims)) ⊎ IsErr (reply_framing_of method head.status (framing_of head.version head.fields)))
+    ⊎ (((is_interim head.status ≡ true) × (n ≡ most_interims))
+    ⊎ ((is_interim head.status ≡ false) × IsErr (reply_framing_of method head.status (framing_of head.version head.fields))))
 HeadDecides method n head (Err HeadFault.OutOfMemory) = ⊥
 
 -- bytes that begin no head, a head that is too long, an early end and a failed receive are no reply

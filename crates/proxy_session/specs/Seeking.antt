@@ -38,7 +38,7 @@ by_host rule head framing line (Some host) = by_path head framing host line (ide
 abbrev pub by_framing : Rule → Head → Form → Result Framing FramingFault → Result Sought OwnError
 by_framing rule head form (Err FramingFault.Length) = Err own.Length
 by_framing rule head form (Err FramingFault.Coding) = Err own.Coding
-by_framing rule head form (Ok framing) = by_host rule head framing form.1 (host_of head.version head.fields form.0)
+by_framing rule head form (Ok framing) = by_host rule head framing form.line (host_of head.version head.fields form.authority)
 
 abbrev pub sought_by : Rule → Head → Form → Result Sought OwnError
 sought_by rule head form = by_framing rule head form (framing_of head.version head.fields)

@@ -1,8 +1,6 @@
 -- What the parts of an exchange do, by what was found before.
 use Rattle.std.specs.Prelude.{◌≡◌, ◌<◌, ℕ, Bool, List, Option, Some, IfSome}
-use Rattle.httparse.specs.Grammar.{AllPass}
 use Rattle.dtab_table.specs.Rules.{Rule}
-use Rattle.forward.specs.Sound.{is_clear_byte}
 use Rattle.http_wire.specs.declared.ended.Ended.{Ended}
 use Rattle.http_wire.specs.declared.ended.Ended.TheVariants as ended
 use Rattle.http_wire.specs.declared.frames.Framing.{Framing}
@@ -25,11 +23,6 @@ use Rattle.proxy_session.specs.Outside.{IsIdle, Line, Rests, Upstream}
 abbrev pub RefusesAs : Refusal → Head → Bool → Line → Line → Option Ended → Type 0
 RefusesAs (refusal.Own err) head last old new result = Refuses err head last old new result
 RefusesAs refusal.OutOfMemory head last old new result = Rests old new × (result ≡ Some ended.OutOfMemory)
-
--- the texts of a replica's names end no line
-abbrev pub AreClear : Names → Found → Type 0
-AreClear names (found.Replica choice texts) = AllPass is_clear_byte (client_in names texts) × AllPass is_clear_byte (residual_in names texts)
-AreClear names (found.None why) = Unit {0}
 
 -- the slot of the replica, where it has one, is that of a load word
 abbrev pub HasWord : Found → Type 0

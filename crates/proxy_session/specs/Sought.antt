@@ -1,10 +1,7 @@
 -- What the code knows of a request for which a replica is to be found.
 use Rattle.std.specs.Prelude.{◌≡◌, ⊤, Result, Ok, Err}
-use Rattle.httparse.specs.Grammar.{AllPass, is_value_byte}
 use Rattle.dtab_table.specs.Dtab.{rules_of}
-use Rattle.dtab_table.specs.TableCanon.{AreSoundRules}
 use Rattle.http_wire.specs.declared.head.Head.{Head}
-use Rattle.http_wire.specs.Sound.{IsSoundForm}
 use Rattle.identifier.specs.declared.rule.Rule.{Rule}
 use Rattle.own_reply.specs.declared.error.OwnError.{OwnError}
 use Rattle.proxy_session.specs.declared.seeking.Request.{Request}
@@ -14,12 +11,6 @@ use Rattle.proxy_session.specs.Seeking.{Seeks, Sought}
 
 abbrev pub sought_of : Request → Sought
 sought_of r = record { path = r.path; rules = rules_of r.local; framing = r.framing; host = r.host.items; line = r.target.line.items }
-
--- its texts may go on
-pub record IsSoundRequest (r : Request) : Type 0 where
-  pub form : IsSoundForm r.target
-  pub host : AllPass is_value_byte r.host.items
-  pub rules : AreSoundRules (rules_of r.local)
 
 -- an answer that gives what is expected, but for want of memory
 abbrev pub TestedAs : Result Sought OwnError → Result Request Refusal → Type 0

@@ -11,7 +11,7 @@ use Rattle.http_wire.specs.declared.frames.Framing.{Framing}
 use Rattle.http_wire.specs.declared.head.Head.{Head}
 use Rattle.http_wire.specs.declared.head.Field.{Field}
 use Rattle.http_wire.specs.declared.head.ReplyHead.{ReplyHead}
-use Rattle.http_wire.specs.Fields.{is_named, same_ignoring_case}
+use Rattle.http_wire.specs.Fields.{names_close}
 use Rattle.body_wire.specs.declared.end.BodyEnd.{BodyEnd}
 use Rattle.body_wire.specs.declared.end.BodyEnd.TheVariants.{BadChunk, Cut, TooLong, ReadFault, WriteFault, SendFault, RecvFault, OutOfMemory}
 use Rattle.body_wire.specs.Passing.{CountsEnd, EndsPieces, PassesOn, RaisedAt, form_of, most_passed, runs_to_end}
@@ -75,14 +75,6 @@ tried_of_back status closes (Err WriteFault) = tried.WrittenShort
 tried_of_back status closes (Err SendFault) = tried.OutOfMemory
 tried_of_back status closes (Err RecvFault) = tried.ReplyCut
 tried_of_back status closes (Err OutOfMemory) = tried.OutOfMemory
-
--- `close` stands between the commas of a value, in any case
-abbrev pub says_close : List ℕ → Bool
-says_close value = list_any (λ piece. same_ignoring_case (trim_ows piece) (codes "close")) (slice_split (λ b. b == comma) value)
-
--- a Connection field names `close` (RFC 9112 section 9.6)
-abbrev pub names_close : List Field → Bool
-names_close fields = list_any (λ (f : Field). says_close f.value) (filter (is_named (codes "connection")) fields)
 
 -- a request behind which its connection closes, whatever the reply is: one of HTTP/1.0, and one that asks for that
 abbrev pub asks_to_close : Head → Bool

@@ -1,7 +1,7 @@
 //! What a session uses again from request to request.
 ghost use Rattle.std.specs.Prelude.{◌≡◌};
 
-use crate::Mem;
+use crate::{Bytes, Mem};
 use http_wire::Rest;
 use router::Names;
 use std::alloc::Global;
@@ -13,7 +13,12 @@ pub(crate) struct Buffers {
     pub(crate) names: Names,
     /// For the bytes that an upstream gives.
     pub(crate) back: Rest,
+    /// For the head that goes on to an upstream, and then for the one that goes back to the client.
+    pub(crate) out: Bytes,
 }
+
+/// How many bytes a head has room for from the start.
+const HEAD_ROOM: usize = 1024;
 
 impl Buffers {
     /// Room for one request at a time.
@@ -21,6 +26,7 @@ impl Buffers {
         Ok(Buffers {
             names: Names::room(alloc)?,
             back: Rest::room(alloc)?,
+            out: Vec::with_capacity(alloc, HEAD_ROOM)?,
         })
     }
 }

@@ -1,11 +1,10 @@
 //! Behind which replies a connection closes.
 ghost use Rattle.std.specs.Prelude.{◌≡◌, ◌||◌};
 ghost use Rattle.body_wire.specs.Passing.{runs_to_end};
-ghost use Rattle.http_wire.specs.Fields.{same_ignoring_case};
 ghost use Rattle.proxy_session.specs.Answering.{end_of, has_body, has_reply_body, is_early, own_closes};
-ghost use Rattle.proxy_session.specs.Trying.{asks_to_close, closes_behind, knows_chunks, names_close, says_close};
+ghost use Rattle.proxy_session.specs.Trying.{asks_to_close, closes_behind, knows_chunks};
 
-use http_wire::{Ended, Field, Framing, FramingFault, Head, framing, trimmed};
+use http_wire::{Ended, Framing, FramingFault, Head, framing, names_close};
 use own_reply::OwnError;
 
 /// Whether the client knows chunks.
@@ -26,33 +25,7 @@ pub(crate) fn has_reply_body(head: &Head) -> bool
 pub(crate) fn asks_to_close(head: &Head) -> bool
     ensures { result ≡ asks_to_close head.now }
 {
-    head.version == 0 || names_close(head.fields.items())
-}
-
-/// Whether a Connection field names `close`.
-fn names_close(fields: &[Field]) -> bool
-    ensures { result ≡ names_close fields.now }
-{
-    fields
-        .iter()
-        .filter(|field| field.name.is("connection"))
-        .any(|field| says_close(field.value.bytes()))
-}
-
-/// Whether a value is a list with `close` in it, in any case.
-fn says_close(value: &[u8]) -> bool
-    ensures { result ≡ says_close value.now }
-{
-    value
-        .split(|b| *b == b',')
-        .any(|piece| is_same(trimmed(piece), b"close"))
-}
-
-/// Whether two texts are alike but for the case of ASCII letters.
-fn is_same(a: &[u8], b: &[u8]) -> bool
-    ensures { result ≡ same_ignoring_case a.now b.now }
-{
-    a.eq_ignore_ascii_case(b)
+    head.version == 0 || names_close(&head.fields)
 }
 
 /// Whether the connection closes behind a reply that is passed on, whose body is framed so.

@@ -1,9 +1,7 @@
 //! One request on a connection, from its head on.
-ghost use Rattle.std.specs.Prelude.{◌≡◌, ◌<◌, false, None, IfOk, IfSome};
+ghost use Rattle.std.specs.Prelude.{◌≡◌, ◌<◌, false, None, OnOk, IfSome};
 ghost use Rattle.dtab_table.specs.Dtab.{rules_of};
-ghost use Rattle.forward.specs.Sound.{is_clear_byte};
-ghost use Rattle.http_wire.specs.Sound.{IsSoundHead, IsSoundTarget};
-ghost use Rattle.httparse.specs.Grammar.{AllPass, is_value_byte};
+ghost use Rattle.dtab_table.specs.TableCanon.{AreSoundRules};
 ghost use Rattle.router.specs.Passes.{number_in, slot_in};
 ghost use Rattle.proxy_session.specs.Answering.{own_of_why};
 ghost use Rattle.proxy_session.specs.Callers.{Holds, caller_of};
@@ -11,8 +9,8 @@ ghost use Rattle.proxy_session.specs.Causes.{FitsLast, HasCauseOf};
 ghost use Rattle.proxy_session.specs.Exchange.{Exchanges, Routes, Sends};
 ghost use Rattle.proxy_session.specs.Found.{client_in, residual_in};
 ghost use Rattle.proxy_session.specs.Onward.{IsHeadTo, host_for};
-ghost use Rattle.proxy_session.specs.Sending.{AreClear, HasWord, RefusesAs, SendsFound};
-ghost use Rattle.proxy_session.specs.Sought.{IsSoundRequest, sought_of};
+ghost use Rattle.proxy_session.specs.Sending.{HasWord, RefusesAs, SendsFound};
+ghost use Rattle.proxy_session.specs.Sought.{sought_of};
 ghost use Rattle.proxy_session.specs.Trying.{Tries};
 
 use crate::answering::settle;
@@ -53,8 +51,7 @@ pub fn proxy_once<J: Naming, P: Peer, D: Dialer, C: Clock, R: Wait>(
     clock: &mut C,
     words: &mut Pcg64,
 ) -> Option<Ended>
-    requires head { IsSoundHead head.now }
-    requires free { slot_in pass.old ≡ None }
+    requires { slot_in pass.old ≡ None }
     ensures exchange { Exchanges J.settings rule.now head.now last (record { line = record { left = P.left peer.old; given = P.given peer.old; read_faults = P.read_faults peer.old; write_faults = P.write_faults peer.old; ends = P.ends peer.old }; kept = rest.old; upstream = record { log = D.log dialer.old; is_open = D.is_open dialer.old; faults = D.faults dialer.old }; caller = caller_of pass.old; moments = C.to_come clock.old; words = words.old }) (record { line = record { left = P.left peer.new; given = P.given peer.new; read_faults = P.read_faults peer.new; write_faults = P.write_faults peer.new; ends = P.ends peer.new }; kept = rest.new; upstream = record { log = D.log dialer.new; is_open = D.is_open dialer.new; faults = D.faults dialer.new }; caller = caller_of pass.new; moments = C.to_come clock.new; words = words.new }) result }
     ensures slot { slot_in pass.new ≡ None }
     ensures cause { HasCauseOf result (record { left = P.left peer.old; given = P.given peer.old; read_faults = P.read_faults peer.old; write_faults = P.write_faults peer.old; ends = P.ends peer.old }) (record { left = P.left peer.new; given = P.given peer.new; read_faults = P.read_faults peer.new; write_faults = P.write_faults peer.new; ends = P.ends peer.new }) }
@@ -98,8 +95,7 @@ pub(crate) fn exchange<J: Naming, P: Peer, D: Dialer, C: Clock, R: Wait>(
     words: &mut Pcg64,
     buffers: &mut Buffers,
 ) -> Option<Ended>
-    requires head { IsSoundHead head.now }
-    requires free { slot_in pass.old ≡ None }
+    requires { slot_in pass.old ≡ None }
     ensures exchange { Exchanges J.settings rule.now head.now last (record { line = record { left = P.left peer.old; given = P.given peer.old; read_faults = P.read_faults peer.old; write_faults = P.write_faults peer.old; ends = P.ends peer.old }; kept = rest.old; upstream = record { log = D.log dialer.old; is_open = D.is_open dialer.old; faults = D.faults dialer.old }; caller = caller_of pass.old; moments = C.to_come clock.old; words = words.old }) (record { line = record { left = P.left peer.new; given = P.given peer.new; read_faults = P.read_faults peer.new; write_faults = P.write_faults peer.new; ends = P.ends peer.new }; kept = rest.new; upstream = record { log = D.log dialer.new; is_open = D.is_open dialer.new; faults = D.faults dialer.new }; caller = caller_of pass.new; moments = C.to_come clock.new; words = words.new }) result }
     ensures slot { slot_in pass.new ≡ None }
 {
@@ -143,8 +139,7 @@ fn route<J: Naming, P: Peer, D: Dialer, C: Clock, R: Wait>(
     words: &mut Pcg64,
     buffers: &mut Buffers,
 ) -> Option<Ended>
-    requires head { IsSoundHead head.now }
-    requires request { IsSoundRequest request }
+    requires rules { AreSoundRules (rules_of request.local) }
     requires free { slot_in pass.old ≡ None }
     ensures routes { Routes J.settings head.now last (sought_of request) (record { line = record { left = P.left peer.old; given = P.given peer.old; read_faults = P.read_faults peer.old; write_faults = P.write_faults peer.old; ends = P.ends peer.old }; kept = rest.old; upstream = record { log = D.log dialer.old; is_open = D.is_open dialer.old; faults = D.faults dialer.old }; caller = caller_of pass.old; moments = C.to_come clock.old; words = words.old }) (record { line = record { left = P.left peer.new; given = P.given peer.new; read_faults = P.read_faults peer.new; write_faults = P.write_faults peer.new; ends = P.ends peer.new }; kept = rest.new; upstream = record { log = D.log dialer.new; is_open = D.is_open dialer.new; faults = D.faults dialer.new }; caller = caller_of pass.new; moments = C.to_come clock.new; words = words.new }) result }
     ensures slot { slot_in pass.new ≡ None }
@@ -212,10 +207,6 @@ fn send_found<J: Naming, P: Peer, D: Dialer, C: Clock, R: Wait>(
     clock: &mut C,
     buffers: &mut Buffers,
 ) -> Option<Ended>
-    requires head { IsSoundHead head.now }
-    requires target { IsSoundTarget target.now }
-    requires host { AllPass is_value_byte host.now }
-    requires clear { AreClear buffers.old.names found.now }
     requires word { HasWord found.now }
     requires free { slot_in pass.old ≡ None }
     ensures sends { SendsFound J.settings head.now last framing host.now target.now (rules_of ask.now.local) ask.now.path buffers.old.names found.now
@@ -251,11 +242,6 @@ fn send_to<J: Naming, P: Peer, D: Dialer, C: Clock, R: Wait>(
     clock: &mut C,
     buffers: &mut Buffers,
 ) -> Option<Ended>
-    requires head { IsSoundHead head.now }
-    requires target { IsSoundTarget target.now }
-    requires host { AllPass is_value_byte host.now }
-    requires client { AllPass is_clear_byte (client_in buffers.old.names texts.now) }
-    requires residual { AllPass is_clear_byte (residual_in buffers.old.names texts.now) }
     requires word { IfSome choice.slot (λ word. word < 8192) }
     requires free { slot_in pass.old ≡ None }
     ensures sends { Sends J.settings head.now last framing choice.addr choice.slot
@@ -263,7 +249,8 @@ fn send_to<J: Naming, P: Peer, D: Dialer, C: Clock, R: Wait>(
         (record { left = P.left peer.old; given = P.given peer.old; read_faults = P.read_faults peer.old; write_faults = P.write_faults peer.old; ends = P.ends peer.old }) (record { left = P.left peer.new; given = P.given peer.new; read_faults = P.read_faults peer.new; write_faults = P.write_faults peer.new; ends = P.ends peer.new }) rest.old rest.new (record { log = D.log dialer.old; is_open = D.is_open dialer.old; faults = D.faults dialer.old }) (record { log = D.log dialer.new; is_open = D.is_open dialer.new; faults = D.faults dialer.new }) (caller_of pass.old) (caller_of pass.new) (C.to_come clock.old) (C.to_come clock.new) result }
     ensures slot { slot_in pass.new ≡ None }
 {
-    let onward = named_head(
+    let Buffers { names, back, out } = buffers;
+    let written = named_head(
         alloc,
         head,
         framing,
@@ -272,9 +259,10 @@ fn send_to<J: Naming, P: Peer, D: Dialer, C: Clock, R: Wait>(
         ask,
         choice.addr,
         texts,
-        &buffers.names,
+        names,
+        out,
     );
-    let Ok(mut out) = onward else {
+    let Ok(()) = written else {
         return Some(Ended::OutOfMemory);
     };
     let tried = try_held(
@@ -283,14 +271,14 @@ fn send_to<J: Naming, P: Peer, D: Dialer, C: Clock, R: Wait>(
         pass,
         choice.slot,
         head,
-        &mut out,
+        out,
         framing,
         last,
         choice.addr,
         peer,
         rest,
         dialer,
-        &mut buffers.back,
+        back,
     );
     settle(
         rt,
@@ -306,7 +294,7 @@ fn send_to<J: Naming, P: Peer, D: Dialer, C: Clock, R: Wait>(
     )
 }
 
-/// The head of a request as it goes on to a replica, with the texts of its names.
+/// Puts the head of a request as it goes on to a replica, with the texts of its names, into `out`.
 fn named_head(
     alloc: Global,
     head: &Head,
@@ -317,13 +305,9 @@ fn named_head(
     addr: Addr,
     texts: &Texts,
     names: &Names,
-) -> Mem<Bytes>
-    requires head { IsSoundHead head.now }
-    requires target { IsSoundTarget target.now }
-    requires host { AllPass is_value_byte host.now }
-    requires client { AllPass is_clear_byte (client_in names.now texts.now) }
-    requires residual { AllPass is_clear_byte (residual_in names.now texts.now) }
-    ensures { IfOk result (λ bytes. IsHeadTo head.now (host_for host.now addr) target.now framing (rules_of ask.now.local) ask.now.path (client_in names.now texts.now) (residual_in names.now texts.now) bytes.items) }
+    out: &mut Bytes,
+) -> Mem<()>
+    ensures { OnOk result (IsHeadTo head.now (host_for host.now addr) target.now framing (rules_of ask.now.local) ask.now.path (client_in names.now texts.now) (residual_in names.now texts.now) out.new.items) }
 {
     match texts {
         Texts::Kept => onward_head(
@@ -336,6 +320,7 @@ fn named_head(
             addr,
             names.client(),
             names.residual(),
+            out,
         ),
         Texts::Own { client, residual } => onward_head(
             alloc,
@@ -347,6 +332,7 @@ fn named_head(
             addr,
             client.as_slice(),
             residual.as_slice(),
+            out,
         ),
     }
 }

@@ -1,7 +1,6 @@
 //! The head of a reply behind those of interim replies.
-ghost use Rattle.std.specs.Prelude.{◌≡◌, ◌<◌, ◌≤◌, true, ℕ, List, IfOk, IfSome, IfNone, IsTrue};
+ghost use Rattle.std.specs.Prelude.{◌≡◌, ◌<◌, ◌≤◌, true, ℕ, List, IfSome, IfNone, IsTrue};
 ghost use Rattle.http_wire.specs.ReplyReading.{LogsGot};
-ghost use Rattle.http_wire.specs.Sound.{IsSoundReply};
 ghost use Rattle.proxy_session.specs.Heads.{HeadDecides, Hears, fault_of, is_interim};
 
 use http::Method;
@@ -55,7 +54,6 @@ pub(crate) fn receive_final<D: Dialer>(
     requires { IsTrue (D.is_open dialer.old) }
     ensures hears { (pieces : List (List ℕ)) × LogsGot (D.log dialer.old) (D.log dialer.new) pieces
         × Hears method.now rest.old rest.new pieces (D.faults dialer.old) (D.faults dialer.new) result }
-    ensures sound { IfOk result (λ r. IsSoundReply r.0) }
     ensures stays { D.is_open dialer.new ≡ D.is_open dialer.old }
 {
     'heads: for dropped in 0..MOST_HEADS {
@@ -76,10 +74,8 @@ fn decide(
     dropped: u32,
     head: ReplyHead,
 ) -> Option<Result<(ReplyHead, Framing), HeadFault>>
-    requires few { dropped ≤ 8 }
-    requires sound { IsSoundReply head }
+    requires { dropped ≤ 8 }
     ensures decided { IfSome result (HeadDecides method.now dropped head) }
-    ensures sound { IfSome result (λ r. IfOk r (λ f. IsSoundReply f.0)) }
     ensures more { IfNone result ((is_interim head.status ≡ true) × (dropped < 8)) }
 {
     if is_interim(head.status) {

@@ -1,20 +1,18 @@
 //! The head with which a request goes on to a replica.
-ghost use Rattle.std.specs.Prelude.{◌≡◌, IfOk};
-ghost use Rattle.httparse.specs.Grammar.{AllPass, is_value_byte};
+ghost use Rattle.std.specs.Prelude.{◌≡◌, IfOk, OnOk};
 ghost use Rattle.addr_book.specs.Addr.{addr_text};
 ghost use Rattle.dtab_table.specs.Dtab.{rules_of};
-ghost use Rattle.forward.specs.Sound.{is_clear_byte};
-ghost use Rattle.http_wire.specs.Sound.{IsSoundHead, IsSoundTarget};
 ghost use Rattle.proxy_session.specs.Onward.{IsHeadTo, host_for};
 
 use crate::{Bytes, Mem};
 use addr_book::{Addr, append_addr};
-use forward::{Going, forward_head};
+use forward::{Going, forward_head_into};
 use http_wire::{Framing, Head};
 use machine::Ask;
 use std::alloc::Global;
 
-/// The head of a request as it goes on to the replica at an address, whose names have these canonical texts. Where the request names no host, it asks the address.
+/// Puts the head of a request as it goes on to the replica at an address, whose names have these canonical texts, into `out`. Where the request names no host, it asks
+/// the address.
 pub(crate) fn onward_head(
     alloc: Global,
     head: &Head,
@@ -25,16 +23,14 @@ pub(crate) fn onward_head(
     addr: Addr,
     client: &[u8],
     residual: &[u8],
-) -> Mem<Bytes>
-    requires head { IsSoundHead head.now }
-    requires target { IsSoundTarget target.now }
-    requires host { AllPass is_value_byte host.now }
-    requires client { AllPass is_clear_byte client.now }
-    requires residual { AllPass is_clear_byte residual.now }
-    ensures { IfOk result (λ bytes. IsHeadTo head.now (host_for host.now addr) target.now framing (rules_of ask.now.local) ask.now.path client.now residual.now bytes.items) }
+    out: &mut Bytes,
+) -> Mem<()>
+    ensures { OnOk result (IsHeadTo head.now (host_for host.now addr) target.now framing (rules_of ask.now.local) ask.now.path client.now residual.now out.new.items) }
 {
     if !host.is_empty() {
-        return head_to(alloc, head, framing, target, host, ask, client, residual);
+        return head_to(
+            alloc, head, framing, target, host, ask, client, residual, out,
+        );
     }
     match address(alloc, addr.ip, addr.port) {
         Ok(text) => head_to(
@@ -46,6 +42,7 @@ pub(crate) fn onward_head(
             ask,
             client,
             residual,
+            out,
         ),
         Err(want) => Err(want),
     }
@@ -53,8 +50,7 @@ pub(crate) fn onward_head(
 
 /// The text of an address.
 fn address(alloc: Global, ip: u32, port: u16) -> Mem<Bytes>
-    ensures text { IfOk result (λ text. text.items ≡ addr_text (record { ip = ip; port = port })) }
-    ensures sound { IfOk result (λ text. AllPass is_value_byte text.items) }
+    ensures { IfOk result (λ text. text.items ≡ addr_text (record { ip = ip; port = port })) }
 {
     let mut text = Vec::new(alloc);
     match append_addr(Addr { ip, port }, &mut text) {
@@ -73,13 +69,9 @@ fn head_to(
     ask: &Ask,
     client: &[u8],
     residual: &[u8],
-) -> Mem<Bytes>
-    requires head { IsSoundHead head.now }
-    requires target { IsSoundTarget target.now }
-    requires host { AllPass is_value_byte host.now }
-    requires client { AllPass is_clear_byte client.now }
-    requires residual { AllPass is_clear_byte residual.now }
-    ensures { IfOk result (λ bytes. IsHeadTo head.now host.now target.now framing (rules_of ask.now.local) ask.now.path client.now residual.now bytes.items) }
+    out: &mut Bytes,
+) -> Mem<()>
+    ensures { OnOk result (IsHeadTo head.now host.now target.now framing (rules_of ask.now.local) ask.now.path client.now residual.now out.new.items) }
 {
     let to = Going {
         host,
@@ -90,5 +82,5 @@ fn head_to(
         client,
         residual,
     };
-    forward_head(alloc, head, &to)
+    forward_head_into(alloc, head, &to, out)
 }

@@ -1,33 +1,14 @@
 //! The replies that the router makes itself.
-ghost use Rattle.std.specs.Prelude.{◌≡◌, List, ℕ};
-ghost use Rattle.std.specs.Io.KnownBytes.{Appends, Keeps};
-ghost use Rattle.line_base.specs.Counts.{HasCause};
-ghost use Rattle.body_wire.specs.Turns.{SendsAll};
+ghost use Rattle.std.specs.Prelude.{◌≡◌};
 ghost use Rattle.own_reply.specs.Reply.{reply_of};
 ghost use Rattle.proxy_session.specs.Answering.{Refuses, Writes};
 
 use crate::closing::{end_of, has_reply_body, is_closing, own_closes};
+use body_wire::write_all;
 use http_wire::{Ended, Head};
-use line_base::{Failed, Peer};
+use line_base::Peer;
 use own_reply::{OwnError, own_reply};
 use std::alloc::Global;
-
-/// Writes all bytes to a peer.
-fn write_all<P: Peer>(peer: &mut P, bytes: &[u8]) -> Result<(), Failed>
-    ensures bytes { (sent : List ℕ) × Appends (P.given peer.old) (P.given peer.new) sent × SendsAll bytes.now sent result }
-    ensures others { (Keeps (P.left peer.old) (P.left peer.new)) × (P.read_faults peer.new ≡ P.read_faults peer.old)
-        × (P.ends peer.new ≡ P.ends peer.old) }
-    ensures cause { HasCause (P.write_faults peer.old) (P.write_faults peer.new) result }
-{
-    let mut at = 0;
-    while at < bytes.len() {
-        match peer.write(&bytes[at..]) {
-            Ok(count) => at += count,
-            Err(failed) => return Err(failed),
-        }
-    }
-    Ok(())
-}
 
 /// Writes one of the router's own replies, and says how the session ends where that fails.
 pub(crate) fn write_own<P: Peer>(

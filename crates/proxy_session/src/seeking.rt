@@ -1,17 +1,14 @@
 //! What a request seeks.
-ghost use Rattle.std.specs.Prelude.{◌≡◌, ◌≢◌, codes, IfOk, IfErr, All};
-ghost use Rattle.httparse.specs.Grammar.{AllPass, is_value_byte};
+ghost use Rattle.std.specs.Prelude.{◌≡◌, ◌≢◌, codes, IfOk};
 ghost use Rattle.http_wire.specs.Framing.{framing_of};
-ghost use Rattle.http_wire.specs.Heads.{IsSoundField};
 ghost use Rattle.http_wire.specs.Host.{host_of};
-ghost use Rattle.http_wire.specs.Sound.{IsSoundForm, IsSoundHead, IsSoundTarget};
 ghost use Rattle.http_wire.specs.Target.{IsServed, form_of};
 ghost use Rattle.dtab_table.specs.Dtab.{rules_of};
 ghost use Rattle.dtab_table.specs.TableCanon.{AreSoundRules};
 ghost use Rattle.identifier.specs.Naming.{IsTaken, identified};
 ghost use Rattle.identifier.specs.Local.{local_rules};
 ghost use Rattle.proxy_session.specs.Seeking.{by_host, by_path, by_table, sought_by};
-ghost use Rattle.proxy_session.specs.Sought.{IsSoundRequest, SeeksAs, TestedAs};
+ghost use Rattle.proxy_session.specs.Sought.{SeeksAs, TestedAs};
 
 use crate::Bytes;
 use dtab_table::Dtab;
@@ -50,9 +47,8 @@ pub(crate) enum Refusal {
 /// Reads what a request seeks. The tests come in this order: its target, the framing of its body, its host, the path that it names, and the table that it brings
 /// along.
 pub(crate) fn seek(alloc: Global, rule: &Rule, head: &Head) -> Result<Request, Refusal>
-    requires { IsSoundHead head.now }
     ensures seeks { SeeksAs rule.now head.now result }
-    ensures sound { IfOk result IsSoundRequest }
+    ensures sound { IfOk result (λ r. AreSoundRules (rules_of r.local)) }
 {
     match read_target(alloc, head) {
         Ok(target) => framed(alloc, rule, head, target),
@@ -64,12 +60,10 @@ pub(crate) fn seek(alloc: Global, rule: &Rule, head: &Head) -> Result<Request, R
 
 /// The tests from the framing on.
 fn framed(alloc: Global, rule: &Rule, head: &Head, target: Target) -> Result<Request, Refusal>
-    requires head { IsSoundHead head.now }
     requires other { head.now.method ≢ codes "CONNECT" }
     requires served { IsServed head.now.method head.now.target (form_of target) }
-    requires form { IsSoundForm target }
     ensures tested { TestedAs (sought_by rule.now head.now (form_of target)) result }
-    ensures sound { IfOk result IsSoundRequest }
+    ensures sound { IfOk result (λ r. AreSoundRules (rules_of r.local)) }
 {
     match framing(head) {
         Ok(framing) => hosted(alloc, rule, head, target, framing),
@@ -86,12 +80,10 @@ fn hosted(
     target: Target,
     framing: Framing,
 ) -> Result<Request, Refusal>
-    requires head { IsSoundHead head.now }
     requires other { head.now.method ≢ codes "CONNECT" }
     requires served { IsServed head.now.method head.now.target (form_of target) }
-    requires form { IsSoundForm target }
-    ensures tested { TestedAs (by_host rule.now head.now framing target.line.items (host_of head.now.version head.now.fields (form_of target).0)) result }
-    ensures sound { IfOk result IsSoundRequest }
+    ensures tested { TestedAs (by_host rule.now head.now framing target.line.items (host_of head.now.version head.now.fields (form_of target).authority)) result }
+    ensures sound { IfOk result (λ r. AreSoundRules (rules_of r.local)) }
 {
     match read_host(alloc, head, &target) {
         Ok(host) => identified_by(alloc, rule, head, target, framing, host),
@@ -111,10 +103,8 @@ fn identified_by(
 ) -> Result<Request, Refusal>
     requires other { head.now.method ≢ codes "CONNECT" }
     requires served { IsServed head.now.method head.now.target (form_of target) }
-    requires form { IsSoundForm target }
-    requires host { AllPass is_value_byte host.items }
     ensures tested { TestedAs (by_path head.now framing host.items target.line.items (identified rule.now head.now host.items target.line.items)) result }
-    ensures sound { IfOk result IsSoundRequest }
+    ensures sound { IfOk result (λ r. AreSoundRules (rules_of r.local)) }
 {
     match identify(alloc, rule, head, host.as_slice()) {
         Ok(path) => with_table(alloc, head, target, framing, host, path),
@@ -132,10 +122,8 @@ fn with_table(
     host: Bytes,
     path: Path,
 ) -> Result<Request, Refusal>
-    requires form { IsSoundForm target }
-    requires host { AllPass is_value_byte host.items }
     ensures tested { TestedAs (by_table framing host.items target.line.items path (local_rules head.now.fields)) result }
-    ensures sound { IfOk result IsSoundRequest }
+    ensures sound { IfOk result (λ r. AreSoundRules (rules_of r.local)) }
 {
     match local_dtab(alloc, head) {
         Ok(local) => Ok(Request {

@@ -2,7 +2,6 @@
 ghost use Rattle.std.specs.Prelude.{◌≡◌, ◌++◌, ℕ, List, IsTrue, map};
 ghost use Rattle.std.specs.List.{concat};
 ghost use Rattle.line_base.specs.declared.dialer.DialEvent.TheVariants.{Sent, Got};
-ghost use Rattle.http_wire.specs.Sound.{IsSoundReply};
 ghost use Rattle.proxy_session.specs.Outside.{Grows};
 ghost use Rattle.proxy_session.specs.Trying.{Backs, Converses, Replies, Tries};
 
@@ -12,13 +11,13 @@ use crate::final_head::receive_final;
 use crate::tried::Tried;
 use addr_book::Addr;
 use body_wire::{pass_back, pass_body};
-use forward::back_head;
+use forward::back_head_into;
 use http_wire::{Framing, Head, ReplyHead, Rest};
 use line_base::{Dialer, Peer};
 use std::alloc::Global;
 
 /// Tries a replica: dials its address, sends the request's head, which is what `out` holds, and its body, and passes the reply back. No connection is open behind
-/// it. `back` is room for what the replica gives.
+/// it. `out` is room for the reply's head, and `back` for what the replica gives.
 ///
 /// Each side's bytes go on as they come: the head leaves with the first bytes of the body, on both ways.
 pub(crate) fn try_replica<P: Peer, D: Dialer>(
@@ -63,7 +62,7 @@ fn converse<P: Peer, D: Dialer>(
     ensures stays { D.is_open dialer.new ≡ D.is_open dialer.old }
 {
     match pass_body(peer, rest, framing, out, dialer) {
-        Ok(_) => receive_reply(alloc, head, last, peer, dialer, back),
+        Ok(_) => receive_reply(alloc, head, last, peer, dialer, back, out),
         Err(end) => Tried::of_body(end),
     }
 }
@@ -76,6 +75,7 @@ fn receive_reply<P: Peer, D: Dialer>(
     peer: &mut P,
     dialer: &mut D,
     back: &mut Rest,
+    out: &mut Bytes,
 ) -> Tried
     requires { IsTrue (D.is_open dialer.old) }
     ensures replies { (got : List (List ℕ)) × Grows (D.log dialer.old) (D.log dialer.new) (map Got got)
@@ -85,7 +85,7 @@ fn receive_reply<P: Peer, D: Dialer>(
     back.clear();
     match receive_final(alloc, &head.method, dialer, back) {
         Ok((reply, framing)) => {
-            pass_reply(alloc, head, last, &reply, framing, peer, dialer, back)
+            pass_reply(alloc, head, last, &reply, framing, peer, dialer, back, out)
         }
         Err(fault) => Tried::of_head(fault),
     }
@@ -101,19 +101,26 @@ fn pass_reply<P: Peer, D: Dialer>(
     peer: &mut P,
     dialer: &mut D,
     back: &mut Rest,
+    out: &mut Bytes,
 ) -> Tried
-    requires open_ { IsTrue (D.is_open dialer.old) }
-    requires sound { IsSoundReply reply.now }
+    requires { IsTrue (D.is_open dialer.old) }
     ensures backs { (got : List (List ℕ)) × Grows (D.log dialer.old) (D.log dialer.new) (map Got got)
         × Backs head.now last reply.now framing (record { left = P.left peer.old; given = P.given peer.old; read_faults = P.read_faults peer.old; write_faults = P.write_faults peer.old; ends = P.ends peer.old }) (record { left = P.left peer.new; given = P.given peer.new; read_faults = P.read_faults peer.new; write_faults = P.write_faults peer.new; ends = P.ends peer.new }) back.old (D.faults dialer.old) (D.faults dialer.new) got result }
     ensures stays { D.is_open dialer.new ≡ D.is_open dialer.old }
 {
     let chunked = knows_chunks(head);
     let closes = closes_behind(head, framing);
-    let written = back_head(alloc, reply, framing, chunked, is_closing(closes, last));
-    let Ok(mut out) = written else {
+    let written = back_head_into(
+        alloc,
+        reply,
+        framing,
+        chunked,
+        is_closing(closes, last),
+        out,
+    );
+    let Ok(()) = written else {
         return Tried::OutOfMemory;
     };
-    let passed = pass_back(dialer, back, framing, chunked, &mut out, peer);
+    let passed = pass_back(dialer, back, framing, chunked, out, peer);
     Tried::of_back(reply.status, closes, passed)
 }

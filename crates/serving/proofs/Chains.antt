@@ -1,7 +1,7 @@
 -- What stays over many connections, and over the jobs that ran.
-use Rattle.std.proofs.Common.{◌≡◌, ℕ, false, ◌++◌, append_assoc, List, [], ◌∷◌, length, map, ap, refl, ◌∙◌, ◌≢◌, ◌+◌, suc, Some, None, slice_get, arith, sym, subst}
-use Rattle.std.specs.Prelude.{All}
-use Rattle.std.specs.List.{AllByRecursion, AllZip}
+use Rattle.std.proofs.Common.{◌≡◌, ℕ, false, true, ◌||◌, Bool, ◌++◌, List, [], ◌∷◌, length, ap, refl, ◌∙◌, ◌≢◌, ◌+◌, suc, Some, None, slice_get, arith, sym, subst}
+use Rattle.line_base.specs.Counts.{Rose}
+use Rattle.std.specs.List.{AllZip}
 use Rattle.one_history.specs.Order.{Distinct}
 use Rattle.router.specs.declared.naming.Naming.{Ghosts}
 use Rattle.router.specs.declared.pass.Pass.{Pass}
@@ -20,16 +20,15 @@ module _ {S P : Type 0} (serves : S → P → P → S → Type 0) (number : S �
   each_same old [] new is = ap number is
   each_same old (p ∷ ps) new served = each_same served.0 ps new served.2 ∙ same old p.0 p.1 served.0 served.1
 
-module _ {A B : Type 0} (runs : A → A → B → Type 0) (number : A → ℕ) (same : (a b : A) (e : B) → runs a b e → number b ≡ number a) where
-  -- nor what no run alters
-  pub zip_same : (jobs : List A) (back : List (A × B)) → AllZip (ComesBack runs) jobs back → map (λ (b : A × B). number b.0) back ≡ map number jobs
-  zip_same [] [] all = refl
-  zip_same [] (b ∷ bs) all = absurd all
-  zip_same (a ∷ js) [] all = absurd all
-  zip_same (a ∷ js) (b ∷ bs) all = ap2 (same a b.0 b.1 all.0) (zip_same js bs all.1)
-    where
-      ap2 : {x y : ℕ} {xs ys : List ℕ} → x ≡ y → xs ≡ ys → x ∷ xs ≡ y ∷ ys
-      ap2 p q = λ i. p i ∷ q i
+-- what one connection does shows in what is seen of the server, where what tells how it serves stays
+module _ {S T R P : Type 0} (serves : S → P → P → S → Type 0) (seen : S → T) (how : S → R) (shows : R → T → P → P → T → Type 0)
+    (step : (s : S) (p q : P) (t : S) → serves s p q t → shows (how s) (seen s) p q (seen t) × (how t ≡ how s)) where
+  pub chain_shows : (r : R) (old : S) (served : List (P × P)) (new : S) → how old ≡ r → ServesEach serves old served new → ServesEach (shows r) (seen old) served (seen new)
+  chain_shows r old [] new is same = ap seen same
+  chain_shows r old (p ∷ ps) new is all =
+      let one = step old p.0 p.1 all.0 all.1 in
+      let shown = subst (λ (k : R). shows k (seen old) p.0 p.1 (seen all.0)) is one.0 in
+      (seen all.0, shown, chain_shows r all.0 ps new (one.1 ∙ is) all.2)
 
 module _ {A B : Type 0} (runs : A → A → B → Type 0) where
   -- each job that ran comes back
@@ -48,6 +47,19 @@ rising k (n ∷ ns) at = (
 )
 
 module _ {J : Type 0} {g : Ghosts J} where
+  pub numbers_append : (ps qs : List (Pass J g)) → numbers_of (ps ++ qs) ≡ numbers_of ps ++ numbers_of qs
+  numbers_append [] qs = refl
+  numbers_append (p ∷ ps) qs = ap (λ (ns : List ℕ). number_in p ∷ ns) (numbers_append ps qs)
+
+  -- passes that came back behind others
+  pub numbers_back : (all old back ran : List (Pass J g)) → all ≡ old ++ back → numbers_of back ≡ numbers_of ran → numbers_of all ≡ numbers_of old ++ numbers_of ran
+  numbers_back all old back ran is same = ap numbers_of is ∙ (numbers_append old back ∙ ap (λ (ns : List ℕ). numbers_of old ++ ns) same)
+
+  -- the numbers stay while passes are handed to jobs and come back
+  pub numbers_stay : (passes jobs rest ran all : List (Pass J g)) → jobs ++ rest ≡ passes → numbers_of ran ≡ numbers_of jobs → all ≡ ran ++ rest → numbers_of all ≡ numbers_of passes
+  numbers_stay passes jobs rest ran all begun same ended =
+      ap numbers_of ended ∙ (numbers_append ran rest ∙ (ap (λ (ns : List ℕ). ns ++ numbers_of rest) same ∙ (sym (numbers_append jobs rest) ∙ ap numbers_of begun)))
+
   -- the passes of a new router are apart
   pub new_apart : (ps : List (Pass J g)) → AreNew ps → Distinct (numbers_of ps)
   new_apart ps new =
@@ -76,15 +88,27 @@ module _ {J : Type 0} {g : Ghosts J} where
       last [] f = f.0
       last (q ∷ ps) f = last ps f.1
 
+  -- the others are, too
+  pub free_rest : (whole rest : List (Pass J g)) (p : Pass J g) → whole ≡ p ∷ rest → AreFree whole → AreFree rest
+  free_rest whole rest p cut free = let all = subst AreFree cut free in all.1
+
   -- one more that is free
   pub free_push : (ps : List (Pass J g)) (p : Pass J g) → AreFree ps → slot_in p ≡ None → AreFree (ps ++ p ∷ [])
   free_push [] p free slot = (slot, tt)
   free_push (q ∷ ps) p free slot = (free.0, free_push ps p free.1 slot)
 
--- what a loop moves over, one at a time
-pub moved : {A : Type 0} (f : A → ℕ) (new old all : List ℕ) (x : A) (rest whole : List A) → new ≡ old ++ f x ∷ [] → whole ≡ x ∷ rest → old ++ map f whole ≡ all → new ++ map f rest ≡ all
-moved f new old all x rest whole grown cut same =
-    ap (λ (ns : List ℕ). ns ++ map f rest) grown ∙ (append_assoc old (f x ∷ []) (map f rest) ∙ (ap (λ xs. old ++ map f xs) (sym cut) ∙ same))
+-- one more call of it
+pub more_faults : (start old new : ℕ) (before now : Bool) (all : Bool) → all ≡ (before || now) → TellsFaults start old before → TellsFaults old new now → TellsFaults start new all
+more_faults start old new true now all is first second = record {
+  later = omega (arith, first.later, second.later);
+  rose = λ rose. let r : Rose start old = first.rose refl in omega (arith, r, second.later);
+  kept = λ kept. cc (is, kept);
+}
+more_faults start old new false now all is first second = record {
+  later = omega (arith, first.later, second.later);
+  rose = λ rose. let r : Rose old new = second.rose (sym is ∙ rose) in let same = first.kept refl in omega (arith, r, same);
+  kept = λ kept. second.kept (sym is ∙ kept) ∙ first.kept refl;
+}
 
 -- a net that has not failed yet
 pub no_fault : (n : ℕ) → TellsFaults n n false

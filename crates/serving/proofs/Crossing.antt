@@ -1,7 +1,7 @@
 -- A router may be shared by threads, and its passes may go to other threads.
 use denote.RattleType.{RattleType}
 use denote.Param.Send.{IsSend, IsSync, sendable}
-use denote.Param.SendFields.{as_row_send, as_row_sync, declared_send, declared_sync, variants_send, variants_sync}
+use denote.Param.SendFields.{as_row_send, as_row_sync, declared_send, declared_sync, variants_send}
 use Rattle.std.proofs.Crossing.{crosses}
 use Rattle.std.proofs.sync.ledger.Book.TheSendSync as ledger_book
 use Rattle.std.proofs.sync.ledger.Share.TheSendSync as share

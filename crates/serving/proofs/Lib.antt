@@ -1,5 +1,10 @@
 mod Chains
 mod Crossing
-mod Moving
+mod Ending
+mod Posting
+mod Returning
 mod Sending
+mod Services
+mod Shifts
 mod Trees
+mod Zipping

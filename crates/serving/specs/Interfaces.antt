@@ -27,3 +27,11 @@ module _ {J : Type 0} {g : Ghosts J} where
     pub serves : IsServing which old new came gave stopped end
     pub causes : HasCauses line.ends line_after.ends line.read_faults line_after.read_faults line.write_faults line_after.write_faults (Some end)
     pub lacked : now.lacked_memory ≡ lacked_behind before.lacked_memory end
+
+  -- the pass, how often the stop was called, and whether memory was wanting
+  abbrev pub standing_of : Pass J g → ℕ → Bool → Pass J g × Standing
+  standing_of pass stops lacked_memory = (pass, record { stops = stops; lacked_memory = lacked_memory })
+
+  -- one connection, with the pass and the standing that the one before it left
+  abbrev pub AnswersNext : Which → Pass J g × Standing → Line → Line → Pass J g × Standing → Type 0
+  AnswersNext which old line line_after new = Answers which line line_after old.0 new.0 old.1 new.1

@@ -1,6 +1,11 @@
+pub mod Ending
 pub mod Faults
 pub mod Interfaces
 pub mod Jobs
 pub mod Passes
+pub mod Posts
+pub mod Returning
 pub mod Running
+pub mod Services
 pub mod Sessions
+pub mod Shifts

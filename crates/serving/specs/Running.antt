@@ -1,20 +1,59 @@
 -- A router that is ready to serve, and how it ends.
-use Rattle.std.specs.Prelude.{◌≡◌, ℕ, ◌+◌, ◌≤◌, List, length}
+use Rattle.std.specs.Prelude.{◌≡◌, ℕ, suc, ◌+◌, ◌≤◌, ◌<◌, ◌^◌, Bool, List, [], ◌∷◌, ◌++◌, length, map, Option, IfSome}
+use Rattle.std.specs.List.{AllZip, list_any}
 use Rattle.one_history.specs.Order.{Distinct}
+use Rattle.line_base.specs.Accepts.{Listening}
+use Rattle.line_base.specs.Nets.{IsNew, Networking, Returns}
+use Rattle.linker_config.specs.declared.config.Port.{Port}
 use Rattle.router.specs.declared.naming.Naming.{Ghosts}
 use Rattle.router.specs.declared.pass.Pass.{Pass}
-use Rattle.router.specs.Closing.{IsClosed, numbers_of}
+use Rattle.router.specs.Closing.{numbers_of}
+use Rattle.proxy_session.specs.Outside.{Line}
+use Rattle.serving.specs.declared.bound.Bound.{Bound}
 use Rattle.serving.specs.declared.running.Serving.{Serving}
+use Rattle.serving.specs.declared.site.Site.{Site}
 use Rattle.serving.specs.Passes.{AreFree}
+use Rattle.serving.specs.Posts.{endpoint_at, posts_of}
+use Rattle.serving.specs.Returning.{all_ended, with_stops}
+use Rattle.serving.specs.Shifts.{ServesPost, Shift}
+
+module _ {P L : Type 0} (state : L → Listening P) (told : Option (Returns P)) where
+  -- new listeners at an address, for this place and those behind it
+  abbrev pub AreNewFrom : Port → ℕ → List L → Type 0
+  AreNewFrom port place [] = Unit {0}
+  AreNewFrom port place (l ∷ ls) = IsNew told (endpoint_at port place) (state l) × AreNewFrom port (suc place) ls
+
+  -- there is a new listener for each post of a site, and the net can tell when they come back
+  pub record Listens (site : Site) (b : Bound L) : Type 0 where
+    pub server : AreNewFrom site.server 0 b.server.items
+    pub namerd : AreNewFrom site.namerd 0 b.namerd.items
+    pub admin : AreNewFrom site.admin 0 b.admin.items
+    pub count : (length b.server.items ≡ site.workers) × (length b.namerd.items ≡ 2) × (length b.admin.items ≡ 2)
+    pub few : site.workers < 2 ^ 32
+    pub room : IfSome told (λ r. site.workers + 4 ≤ r.room)
 
 module _ {J L : Type 0} {g : Ghosts J} where
-  -- all passes of its router are there, none of them in use, and there is one for each listener
+  -- the passes of its router, and its listeners
+  abbrev pub passes_of : Serving J L g → List (Pass J g)
+  passes_of s = s.passes.items
+
+  abbrev pub bound_of : Serving J L g → Bound L
+  bound_of s = s.bound
+
+  -- all passes of its router are there, none of them in use
   pub record IsReady (s : Serving J L g) : Type 0 where
     pub apart : Distinct (numbers_of s.passes.items)
     pub all : length s.passes.items ≡ g.seats
     pub free : AreFree s.passes.items
-    pub enough : length s.bound.server.items + length s.bound.namerd.items + length s.bound.admin.items ≤ length s.passes.items
 
-  -- it ended with so many changes: that many are in the one list of operations, and its passes made them
-  abbrev pub EndsWith : Serving J L g → ℕ → Type 0
-  EndsWith s place = (passes : List (Pass J g)) × (numbers_of passes ≡ numbers_of s.passes.items) × IsClosed place passes
+module _ {J P : Type 0} {g : Ghosts J} where
+  -- a job ran for each listener of a site, with a pass of its own, and one pass served nobody; then the listeners came back to the net, in their order, with the stops that it
+  -- had handed out
+  pub record HasRun (line_of : P → Line) (site : Site) (moments : Option (List ℕ)) (passes passes_after : List (Pass J g)) (net net_after : Networking P) (lacked_memory : Bool) : Type 0 where
+    pub shifts : List (Shift J P g)
+    pub rest : Pass J g
+    pub before : passes ≡ map (λ s. s.before) shifts ++ rest ∷ []
+    pub behind : passes_after ≡ map (λ s. s.behind) shifts ++ rest ∷ []
+    pub served : AllZip (ServesPost line_of site.rule moments net.told) (posts_of site) shifts
+    pub net_is : net_after ≡ all_ended (map (λ s. s.ended) shifts) (with_stops (site.workers + 4) net)
+    pub lacked : lacked_memory ≡ list_any (λ s. s.lacked_memory) shifts

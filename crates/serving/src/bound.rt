@@ -1,6 +1,8 @@
 //! The listeners of a router's addresses.
-ghost use Rattle.std.specs.Prelude.{◌≡◌, length, IfOk};
+ghost use Rattle.std.specs.Prelude.{◌≡◌, ◌+◌, ◌<◌, ◌^◌, length, IfOk};
 ghost use Rattle.line_base.specs.Nets.{HasNetCause};
+ghost use Rattle.serving.specs.Returning.{listened};
+ghost use Rattle.serving.specs.Running.{AreNewFrom, Listens};
 
 use crate::site::{API_JOBS, Site};
 use line_base::{Net, NetFault};
@@ -20,6 +22,9 @@ pub struct Bound<L> {
 /// The listeners of an address.
 fn listen<N: Net>(net: &mut N, port: Port, copies: u32) -> Result<Vec<N::L>, NetFault>
     ensures count { IfOk result (λ ls. length ls.items ≡ copies) }
+    ensures new { IfOk result (λ ls. AreNewFrom N.L.state (N.state net.old).told port 0 ls.items) }
+    ensures state { IfOk result (λ _. N.state net.new ≡ listened copies (N.state net.old)) }
+    ensures few { copies < 2 ^ 32 }
     ensures cause { HasNetCause (N.faults net.old) (N.faults net.new) result }
 {
     match net.listen(port.ip, port.port, copies) {
@@ -30,7 +35,8 @@ fn listen<N: Net>(net: &mut N, port: Port, copies: u32) -> Result<Vec<N::L>, Net
 
 /// Listens on the router's address, and on those of the two interfaces, in this order.
 pub(crate) fn bind<N: Net>(net: &mut N, site: &Site) -> Result<Bound<N::L>, NetFault>
-    ensures count { IfOk result (λ b. (length b.server.items ≡ site.now.workers) × (length b.namerd.items ≡ 2) × (length b.admin.items ≡ 2)) }
+    ensures listens { IfOk result (λ b. Listens N.L.state (N.state net.new).told site.now b) }
+    ensures state { IfOk result (λ _. N.state net.new ≡ listened (site.now.workers + 4) (N.state net.old)) }
     ensures cause { HasNetCause (N.faults net.old) (N.faults net.new) result }
 {
     let server = match listen(net, site.server, site.workers) {

@@ -1,6 +1,6 @@
 //! The jobs.
-ghost use Rattle.std.specs.Prelude.{◌≡◌};
-ghost use Rattle.router.specs.Passes.{number_in};
+ghost use Rattle.serving.specs.Jobs.{RunsApi, RunsProxy};
+ghost use Rattle.serving.specs.Sessions.{line_by, upstream_by};
 
 use crate::interface::ApiServer;
 use crate::proxy::ProxyServer;
@@ -37,11 +37,13 @@ pub enum ServingJob<'a, J: Naming, L, D, C, S> {
 
 impl<J: Naming, L: Listener, D: Dialer, C: Clock, S: Stop> ProxyJob<'_, J, L, D, C, S> {
     fn accept<R: Wait, G: Gate>(&mut self, rt: &R, gate: &G) -> Accepting
-        ensures number { number_in self.new.server.pass ≡ number_in self.old.server.pass }
+        ensures { RunsProxy (line_by L.P.left L.P.given L.P.read_faults L.P.write_faults L.P.ends) L.state
+            (upstream_by D.log D.is_open D.faults) C.to_come S.calls self.old self.new result }
     {
         let end = accept_all(rt, &mut self.listener, &mut self.server, gate, self.number);
-        if let Accepting::Failing = end {
-            self.stop.stop();
+        match end {
+            Accepting::Closed => {}
+            Accepting::Failing => self.stop.stop(),
         }
         end
     }
@@ -49,11 +51,13 @@ impl<J: Naming, L: Listener, D: Dialer, C: Clock, S: Stop> ProxyJob<'_, J, L, D,
 
 impl<J: Naming, L: Listener, S: Stop> ApiJob<'_, J, L, S> {
     fn accept<R: Wait, G: Gate>(&mut self, rt: &R, gate: &G) -> Accepting
-        ensures number { number_in self.new.server.pass ≡ number_in self.old.server.pass }
+        ensures { RunsApi (line_by L.P.left L.P.given L.P.read_faults L.P.write_faults L.P.ends) L.state
+            S.calls self.old self.new result }
     {
         let end = accept_all(rt, &mut self.listener, &mut self.server, gate, self.number);
-        if let Accepting::Failing = end {
-            self.server.stop.stop();
+        match end {
+            Accepting::Closed => {}
+            Accepting::Failing => self.server.stop.stop(),
         }
         end
     }
@@ -61,12 +65,13 @@ impl<J: Naming, L: Listener, S: Stop> ApiJob<'_, J, L, S> {
 
 impl<J: Naming, L: Listener + Drop, D: Dialer + Drop, C: Clock + Drop, S: Stop + Drop> Job
     for ServingJob<'_, J, L, D, C, S> {
-    ghost use Rattle.std.specs.Prelude.{◌≡◌};
-    ghost use Rattle.serving.specs.Jobs.{number_of};
+    ghost use Rattle.serving.specs.Jobs.{Runs};
+    ghost use Rattle.serving.specs.Sessions.{line_by, upstream_by};
 
     type End = Accepting;
 
-    ghost runs = { λ old new end. number_of new ≡ number_of old };
+    ghost runs = { Runs (line_by L.P.left L.P.given L.P.read_faults L.P.write_faults L.P.ends) L.state
+        (upstream_by D.log D.is_open D.faults) C.to_come S.calls };
 
     fn run<R: Wait, G: Gate>(&mut self, rt: &R, gate: &G) -> Accepting {
         match self {

@@ -1,9 +1,15 @@
 //! A job for each listener.
-ghost use Rattle.std.specs.Prelude.{◌≡◌, ◌+◌, ◌≤◌, ◌++◌, length, vec_len, vec_capacity};
+ghost use Rattle.std.specs.Prelude.{◌≡◌, ℕ, ◌+◌, ◌≤◌, ◌<◌, ◌^◌, ◌++◌, [], List, Option, length, vec_len, vec_capacity};
+ghost use Rattle.std.specs.List.{AllZip};
 ghost use Rattle.std.specs.Vec.Iter.{into_iter_items};
-ghost use Rattle.router.specs.Closing.{numbers_of};
-ghost use Rattle.serving.specs.Jobs.{numbers_of_jobs};
+ghost use Rattle.identifier.specs.declared.rule.Rule.{Rule};
+ghost use Rattle.linker_config.specs.declared.config.Port.{Port};
+ghost use Rattle.serving.specs.Jobs.{IsPosted, passes_of_jobs};
 ghost use Rattle.serving.specs.Passes.{AreFree};
+ghost use Rattle.serving.specs.Posts.{Post, client_post, interface_post, posts_at, posts_of};
+ghost use Rattle.serving.specs.Returning.{with_stops};
+ghost use Rattle.serving.specs.Running.{AreNewFrom, Listens};
+ghost use Rattle.serving.specs.Sessions.{upstream_by};
 
 use crate::bound::Bound;
 use crate::interface::ApiServer;
@@ -37,11 +43,18 @@ fn add_proxy_jobs<'a, J: Naming, N: Net, C: Clock>(
     requires enough { length listeners.items ≤ length (into_iter_items passes.old) }
     requires room { vec_len jobs.old + length listeners.items ≤ vec_capacity jobs.old }
     requires free { AreFree (into_iter_items passes.old) }
-    ensures numbers { numbers_of_jobs jobs.new.items ++ numbers_of (into_iter_items passes.new) ≡ numbers_of_jobs jobs.old.items ++ numbers_of (into_iter_items passes.old) }
+    requires new { AreNewFrom N.L.state (N.state net.old).told site.now.server 0 listeners.items }
+    requires few { length listeners.items < 2 ^ 32 }
+    ensures passes { passes_of_jobs jobs.new.items ++ into_iter_items passes.new ≡ passes_of_jobs jobs.old.items ++ into_iter_items passes.old }
     ensures count { vec_len jobs.new ≡ vec_len jobs.old + length listeners.items }
     ensures rest { length (into_iter_items passes.new) + length listeners.items ≡ length (into_iter_items passes.old) }
     ensures room { vec_capacity jobs.new ≡ vec_capacity jobs.old }
     ensures free { AreFree (into_iter_items passes.new) }
+    ensures posted { (posts : List Post)
+        → AllZip (IsPosted N.L.state (upstream_by N.D.log N.D.is_open N.D.faults) C.to_come N.S.calls site.now.rule (C.of_fork clock.now) (N.state net.old).told) posts jobs.old.items
+        → AllZip (IsPosted N.L.state (upstream_by N.D.log N.D.is_open N.D.faults) C.to_come N.S.calls site.now.rule (C.of_fork clock.now) (N.state net.old).told)
+        (posts ++ posts_at (client_post site.now) (length listeners.items)) jobs.new.items }
+    ensures stops { N.state net.new ≡ with_stops (length listeners.items) (N.state net.old) }
     ensures kept { N.faults net.new ≡ N.faults net.old }
 {
     let mut number = 0u32;
@@ -65,7 +78,7 @@ fn add_proxy_jobs<'a, J: Naming, N: Net, C: Clock>(
             server,
             stop: net.stopper(),
         }));
-        number = number.wrapping_add(1);
+        number += 1;
     }
 }
 
@@ -83,11 +96,16 @@ fn add_api_jobs<'a, J: Naming, N: Net, C: Clock>(
     requires enough { length listeners.items ≤ length (into_iter_items passes.old) }
     requires room { vec_len jobs.old + length listeners.items ≤ vec_capacity jobs.old }
     requires free { AreFree (into_iter_items passes.old) }
-    ensures numbers { numbers_of_jobs jobs.new.items ++ numbers_of (into_iter_items passes.new) ≡ numbers_of_jobs jobs.old.items ++ numbers_of (into_iter_items passes.old) }
+    ensures passes { passes_of_jobs jobs.new.items ++ into_iter_items passes.new ≡ passes_of_jobs jobs.old.items ++ into_iter_items passes.old }
     ensures count { vec_len jobs.new ≡ vec_len jobs.old + length listeners.items }
     ensures rest { length (into_iter_items passes.new) + length listeners.items ≡ length (into_iter_items passes.old) }
     ensures room { vec_capacity jobs.new ≡ vec_capacity jobs.old }
     ensures free { AreFree (into_iter_items passes.new) }
+    ensures posted { (port : Port) → AreNewFrom N.L.state (N.state net.old).told port 0 listeners.items → (rule : Rule) → (moments : Option (List ℕ))
+        → (posts : List Post) → AllZip (IsPosted N.L.state (upstream_by N.D.log N.D.is_open N.D.faults) C.to_come N.S.calls rule moments (N.state net.old).told) posts jobs.old.items
+        → AllZip (IsPosted N.L.state (upstream_by N.D.log N.D.is_open N.D.faults) C.to_come N.S.calls rule moments (N.state net.old).told)
+        (posts ++ posts_at (interface_post which port) (length listeners.items)) jobs.new.items }
+    ensures stops { N.state net.new ≡ with_stops (length listeners.items) (N.state net.old) }
     ensures kept { N.faults net.new ≡ N.faults net.old }
 {
     let mut number = first;
@@ -123,13 +141,18 @@ pub(crate) fn add_jobs<'a, J: Naming, N: Net, C: Clock>(
     passes: &mut IntoIter<Pass<J>>,
     jobs: &mut Jobs<'a, J, N, C>,
 )
-    requires enough { length bound.server.items + length bound.namerd.items + length bound.admin.items ≤ length (into_iter_items passes.old) }
-    requires room { vec_len jobs.old + length bound.server.items + length bound.namerd.items + length bound.admin.items ≤ vec_capacity jobs.old }
+    requires enough { site.now.workers + 4 ≤ length (into_iter_items passes.old) }
+    requires room { vec_len jobs.old + (site.now.workers + 4) ≤ vec_capacity jobs.old }
     requires free { AreFree (into_iter_items passes.old) }
-    ensures numbers { numbers_of_jobs jobs.new.items ++ numbers_of (into_iter_items passes.new) ≡ numbers_of_jobs jobs.old.items ++ numbers_of (into_iter_items passes.old) }
-    ensures count { vec_len jobs.new + length (into_iter_items passes.new) ≡ vec_len jobs.old + length (into_iter_items passes.old) }
+    requires none_yet { jobs.old.items ≡ [] }
+    requires listens { Listens N.L.state (N.state net.old).told site.now bound }
+    ensures passes { passes_of_jobs jobs.new.items ++ into_iter_items passes.new ≡ into_iter_items passes.old }
+    ensures rest { length (into_iter_items passes.new) + (site.now.workers + 4) ≡ length (into_iter_items passes.old) }
+    ensures count { vec_len jobs.new ≡ site.now.workers + 4 }
     ensures room { vec_capacity jobs.new ≡ vec_capacity jobs.old }
     ensures free { AreFree (into_iter_items passes.new) }
+    ensures posted { AllZip (IsPosted N.L.state (upstream_by N.D.log N.D.is_open N.D.faults) C.to_come N.S.calls site.now.rule (C.of_fork clock.now) (N.state net.old).told) (posts_of site.now) jobs.new.items }
+    ensures stops { N.state net.new ≡ with_stops (site.now.workers + 4) (N.state net.old) }
     ensures kept { N.faults net.new ≡ N.faults net.old }
 {
     let Bound {

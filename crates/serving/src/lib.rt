@@ -2,8 +2,16 @@
 //!
 //! [`start`] gives a router its services and listens on its three addresses; [`Serving::run`] then serves until it is stopped. A job has a listener, a pass of the router, and a
 //! stop of its own, and serves one connection after another: a proxy job by `serve_session`, with a dialer, a clock and a generator of words that go on from connection to
-//! connection; a job of an interface by `serve_admin`. A shutdown that is asked for on an interface, and a listener whose accepts fail a hundred times in a row, close all listeners;
-//! then each is taken back, and the router is ended.
+//! connection; a job of an interface by `serve_admin`. A shutdown that is asked for on an interface, and a listener whose accepts fail a hundred times in a row, close all
+//! listeners; then each is taken back, and the router is ended.
+//!
+//! # What is proved
+//! [`start`] leaves new listeners, one for each place of the three addresses, and passes that have all seen the services set. What [`Serving::run`] did is `HasServed` of
+//! `specs/Ending.antt`: each listener had a pass of its own, and its connections were served one after another, and each given back, until it answered that it is closed. Those
+//! of clients were sessions, each with the dialer, the clock, the generator and the pass that the one before left; the first had new ones, with the seed of the listener's place.
+//! Those of an interface were served by `serve_admin`, and its stop was called as often as that says. All listeners came back clean, in their order, and as many stops as were
+//! handed out. The passes ended with one history, of as many changes as is told, each loaded service among them; and it is told whether memory was wanting in a session. That the
+//! jobs run beside one another is not proved.
 //!
 //! # Example
 //! ```text

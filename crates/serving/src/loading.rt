@@ -1,9 +1,10 @@
 //! The services with which a router begins.
-ghost use Rattle.std.specs.Prelude.{◌≡◌, ◌+◌, ◌≤◌, ◌<◌, [], length, map, OnOk, vec_len, vec_capacity};
+ghost use Rattle.std.specs.Prelude.{◌≡◌, ◌≤◌, ◌<◌, length, map, OnOk, vec_len, vec_capacity};
+ghost use Rattle.std.specs.List.{AllByRecursion};
 ghost use mathlib.Core.List.{IsPrefix};
 ghost use Rattle.router.specs.Closing.{numbers_of};
 ghost use Rattle.router.specs.Passes.{number_in, seen_in, slot_in};
-ghost use Rattle.router_log.specs.Operation.{place_of};
+ghost use Rattle.serving.specs.Services.{HaveSeen, IsAdded, StandIn, setting};
 ghost use Rattle.serving.specs.Passes.{AreFree};
 
 use linker_config::LoadedItem;
@@ -32,7 +33,7 @@ fn set_service<J: Naming, R: Wait>(
     ensures number { number_in pass.new ≡ number_in pass.old }
     ensures slot { slot_in pass.new ≡ slot_in pass.old }
     ensures seen { IsPrefix (seen_in pass.old) (seen_in pass.new) }
-    ensures set { OnOk result (place_of (seen_in pass.old) + 1 ≤ place_of (seen_in pass.new)) }
+    ensures set { OnOk result (IsAdded (seen_in pass.old) (seen_in pass.new) (setting item)) }
 {
     let LoadedItem { service, list } = item;
     let change = Change::SetAddrs { service, list };
@@ -54,7 +55,7 @@ fn set_each<J: Naming, R: Wait>(
     ensures number { number_in pass.new ≡ number_in pass.old }
     ensures slot { slot_in pass.new ≡ slot_in pass.old }
     ensures seen { IsPrefix (seen_in pass.old) (seen_in pass.new) }
-    ensures set { OnOk result (length items.items ≤ place_of (seen_in pass.new)) }
+    ensures set { OnOk result (StandIn (seen_in pass.new) (map setting items.items)) }
 {
     for item in items {
         match set_service(rt, alloc, router, pass, item) {
@@ -81,6 +82,7 @@ fn meet_each<J: Naming, R: Wait>(
     ensures number { number_in pass.new ≡ number_in pass.old }
     ensures slot { slot_in pass.new ≡ slot_in pass.old }
     ensures seen { IsPrefix (seen_in pass.old) (seen_in pass.new) }
+    ensures met { AllByRecursion (λ p. IsPrefix (seen_in pass.old) (seen_in p)) met.new.items }
 {
     for other in others {
         let mut other = other;
@@ -103,6 +105,7 @@ pub(crate) fn set_services<J: Naming, R: Wait>(
     requires free { AreFree passes.items }
     ensures numbers { numbers_of met.new.items ≡ numbers_of passes.items }
     ensures free { AreFree met.new.items }
+    ensures seen { OnOk result (HaveSeen items.items met.new.items) }
 {
     let Some(mut last) = passes.pop() else {
         unreachable!()

@@ -1,14 +1,19 @@
 //! From a router that was opened to its end.
-ghost use Rattle.std.specs.Prelude.{◌≡◌, ◌+◌, ◌≤◌, ◌++◌, Some, Err, length, IfOk, vec_len, vec_capacity};
+ghost use Rattle.std.specs.Prelude.{◌≡◌, ◌+◌, ◌≤◌, ◌++◌, [], List, Some, Err, true, false, length, IfOk, vec_len, vec_capacity};
 ghost use Rattle.line_base.specs.Counts.{Rose};
+ghost use Rattle.linker_config.specs.declared.loaded.LoadedItem.{LoadedItem};
 ghost use Rattle.load_words.specs.Seats.{words_of};
 ghost use Rattle.one_history.specs.Order.{Distinct};
 ghost use Rattle.router.specs.Closing.{IsClosed, numbers_of};
 ghost use Rattle.router.specs.Values.{settings_in};
+ghost use Rattle.serving.specs.Ending.{HasServed};
 ghost use Rattle.serving.specs.Faults.{TellsFaults};
-ghost use Rattle.serving.specs.Jobs.{numbers_of_jobs};
+ghost use Rattle.serving.specs.Jobs.{ComeBack, Runs, passes_of_jobs};
+ghost use Rattle.serving.specs.Services.{HaveSeen};
+ghost use Rattle.serving.specs.Sessions.{line_by, upstream_by};
 ghost use Rattle.serving.specs.Passes.{AreFree};
-ghost use Rattle.serving.specs.Running.{EndsWith, IsReady};
+ghost use Rattle.serving.specs.Returning.{listened};
+ghost use Rattle.serving.specs.Running.{HasRun, IsReady, Listens, bound_of, passes_of};
 ghost use Rattle.std.specs.Vec.Iter.{into_iter_items};
 ghost use Rattle.snap_cell.specs.Writers.{cell_written, opening_written};
 
@@ -92,6 +97,11 @@ pub fn start<J: Naming, R: Wait, N: Net>(
     requires parts { (opened.blank.parts ≡ J.parts) × (J.parts ≡ J.seats) }
     requires seats { (opened.seats ≡ J.seats) × (opened.seats ≡ site.now.workers + 5) }
     ensures ready { IfOk result (λ s. IsReady s) }
+    ensures listens { IfOk result (λ s. Listens N.L.state (N.state net.new).told site.now (bound_of s)) }
+    ensures seats { IfOk result (λ s. length (passes_of s) ≡ site.now.workers + 5) }
+    ensures seen { IfOk result (λ s. HaveSeen loaded (passes_of s)) }
+    ensures net { IfOk result (λ _. N.state net.new ≡ listened (site.now.workers + 4) (N.state net.old)) }
+    ensures refused { result ≡ Err StartFault.Book → N.state net.new ≡ N.state net.old }
     ensures broken { result ≡ Err StartFault.Net → Rose (N.faults net.old) (N.faults net.new) }
     ensures kept { (result ≡ Err StartFault.Net → ⊥) → N.faults net.new ≡ N.faults net.old }
 {
@@ -135,7 +145,7 @@ pub fn start<J: Naming, R: Wait, N: Net>(
 /// Puts these passes behind others.
 fn add_rest<J: Naming>(rest: IntoIter<Pass<J>>, passes: &mut Vec<Pass<J>>)
     requires room { vec_len passes.old + length (into_iter_items rest) ≤ vec_capacity passes.old }
-    ensures { numbers_of passes.new.items ≡ numbers_of passes.old.items ++ numbers_of (into_iter_items rest) }
+    ensures { passes.new.items ≡ passes.old.items ++ into_iter_items rest }
 {
     for pass in rest {
         passes.push_reserved(pass);
@@ -161,9 +171,12 @@ fn run_all<
 where
     <N::L as Listener>::P: Send,
     requires room { vec_len back.old + length jobs.items ≤ vec_capacity back.old }
-    ensures numbers { numbers_of back.new.items ≡ numbers_of back.old.items ++ numbers_of_jobs jobs.entry.items }
+    ensures numbers { numbers_of back.new.items ≡ numbers_of back.old.items ++ numbers_of (passes_of_jobs jobs.entry.items) }
     ensures room { (vec_len back.new ≡ vec_len back.old + length jobs.entry.items) × (vec_capacity back.new ≡ vec_capacity back.old) }
     ensures faults { TellsFaults (N.faults net.old) (N.faults net.new) result.1.failed }
+    ensures came { result.0 ≡ true
+        → ComeBack (Runs (line_by N.L.P.left N.L.P.given N.L.P.read_faults N.L.P.write_faults N.L.P.ends) N.L.state (upstream_by N.D.log N.D.is_open N.D.faults) C.to_come N.S.calls) N.L.state N.D.log N.S.calls
+        jobs.entry.items back.old.items back.new.items (N.state net.old) (N.state net.new) result.1.failed result.1.lacked_memory }
 {
     match run_workers(rt, jobs, &NoGate) {
         Ok(ended) => (true, take_all_back(net, ended, back)),
@@ -189,10 +202,14 @@ fn run_jobs<
 ) -> Returned<J>
 where
     <N::L as Listener>::P: Send,
-    requires enough { length bound.server.items + length bound.namerd.items + length bound.admin.items ≤ length passes.items }
+    requires seats { length passes.items ≡ site.now.workers + 5 }
     requires free { AreFree passes.items }
+    requires listens { Listens N.L.state (N.state net.old).told site.now bound }
     ensures numbers { numbers_of result.passes.items ≡ numbers_of passes.items }
     ensures faults { TellsFaults (N.faults net.old) (N.faults net.new) result.tally.failed }
+    ensures served { result.ran ≡ true → result.tally.failed ≡ false
+        → HasRun (line_by N.L.P.left N.L.P.given N.L.P.read_faults N.L.P.write_faults N.L.P.ends) site.now (C.of_fork clock.now)
+        passes.items result.passes.items (N.state net.old) (N.state net.new) result.tally.lacked_memory }
 {
     let count = passes.len();
     let (Ok(mut jobs), Ok(mut back)) = (
@@ -201,10 +218,7 @@ where
     ) else {
         return Returned {
             ran: false,
-            tally: Tally {
-                failed: false,
-                lacked_memory: false,
-            },
+            tally: Tally::begin(),
             passes,
         };
     };
@@ -229,7 +243,7 @@ where
 }
 
 impl<J: Naming + Send + Sync, L: Listener> Serving<J, L> {
-    /// Serves until it is stopped, and ends the router.
+    /// Serves until it is stopped, and ends the router: how many changes there were in all, those that set the services among them, and whether memory was wanting in a session.
     pub fn run<R: Threads + Wait + Sync, N: Net<L = L> + Send, C: Clock + Drop + Send>(
         self,
         rt: &R,
@@ -241,10 +255,14 @@ impl<J: Naming + Send + Sync, L: Listener> Serving<J, L> {
     where
         L::P: Send,
         requires ready { IsReady self }
+        requires listens { Listens L.state (N.state net.old).told site.now (bound_of self) }
+        requires seats { length (passes_of self) ≡ site.now.workers + 5 }
         requires parts { J.parts ≡ J.seats }
         ensures broken { result ≡ Err RunFault.Net → Rose (N.faults net.old) (N.faults net.new) }
         ensures kept { (result ≡ Err RunFault.Net → ⊥) → N.faults net.new ≡ N.faults net.old }
-        ensures place { IfOk result (λ served. EndsWith self served.place) }
+        ensures served { IfOk result (λ served. (loaded : List LoadedItem) → HaveSeen loaded (passes_of self)
+            → HasServed (line_by L.P.left L.P.given L.P.read_faults L.P.write_faults L.P.ends) site.now (C.of_fork clock.now) loaded
+            (passes_of self) (N.state net.old) (N.state net.new) served) }
     {
         let Serving {
             router,

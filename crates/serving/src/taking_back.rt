@@ -1,8 +1,10 @@
 //! What comes back from the jobs.
-ghost use Rattle.std.specs.Prelude.{◌≡◌, ◌+◌, ◌≤◌, ◌<◌, ◌++◌, ◌∷◌, [], ℕ, map, length, vec_len, vec_capacity};
-ghost use Rattle.router.specs.Closing.{numbers_of};
+ghost use Rattle.std.specs.Prelude.{◌≡◌, ◌+◌, ◌≤◌, ◌<◌, ◌||◌, ◌++◌, ◌∷◌, [], ℕ, false, nat_le, map, length, vec_len, vec_capacity};
+ghost use Rattle.std.specs.List.{list_any};
+ghost use Rattle.line_base.specs.Nets.{after_end, log_of};
 ghost use Rattle.serving.specs.Faults.{TellsFaults};
-ghost use Rattle.serving.specs.Jobs.{number_of, numbers_of_jobs};
+ghost use Rattle.serving.specs.Jobs.{ended_of, lacked_of, pass_of, passes_of_jobs};
+ghost use Rattle.serving.specs.Returning.{all_ended, is_broken};
 
 use crate::interface::ApiServer;
 use crate::job::{ApiJob, ProxyJob, ServingJob};
@@ -20,6 +22,39 @@ pub(crate) struct Tally {
     pub(crate) lacked_memory: bool,
 }
 
+impl Tally {
+    /// Before the first comes back.
+    pub(crate) fn begin() -> Tally
+        ensures { (result.failed ≡ false) × (result.lacked_memory ≡ false) }
+    {
+        Tally {
+            failed: false,
+            lacked_memory: false,
+        }
+    }
+
+    /// One more is back: whether the net failed to take its listener back, and whether memory was wanting in one of its sessions.
+    fn add(&mut self, failed: bool, lacked_memory: bool)
+        ensures failed { self.new.failed ≡ (self.old.failed || failed) }
+        ensures lacked { self.new.lacked_memory ≡ (self.old.lacked_memory || lacked_memory) }
+    {
+        self.failed = self.failed || failed;
+        self.lacked_memory = self.lacked_memory || lacked_memory;
+    }
+}
+
+/// Gives a listener back to the net, with what came with it: whether the net fails to take it.
+fn end<N: Net>(net: &mut N, listener: N::L, dialer: Option<N::D>, stop: N::S) -> bool
+    ensures state { N.state net.new ≡ after_end (N.state net.old) (record { listener = N.L.state listener; log = log_of N.D.log dialer; stops = N.S.calls stop }) }
+    ensures broken { result ≡ nat_le 100 (N.L.state listener).run }
+    ensures faults { TellsFaults (N.faults net.old) (N.faults net.new) result }
+{
+    match net.end(listener, dialer, stop) {
+        Ok(()) => false,
+        Err(_) => true,
+    }
+}
+
 /// Gives a job's listener back to the net, with what came with it, and its pass to the others.
 fn take_back<J: Naming, N: Net, C: Drop>(
     net: &mut N,
@@ -28,9 +63,12 @@ fn take_back<J: Naming, N: Net, C: Drop>(
     tally: &mut Tally,
 )
     requires room { vec_len passes.old < vec_capacity passes.old }
-    ensures numbers { numbers_of passes.new.items ≡ numbers_of passes.old.items ++ number_of job.entry ∷ [] }
+    ensures passes { passes.new.items ≡ passes.old.items ++ pass_of job.entry ∷ [] }
     ensures room { (vec_len passes.new ≡ vec_len passes.old + 1) × (vec_capacity passes.new ≡ vec_capacity passes.old) }
     ensures faults { (start : ℕ) → TellsFaults start (N.faults net.old) tally.old.failed → TellsFaults start (N.faults net.new) tally.new.failed }
+    ensures state { N.state net.new ≡ after_end (N.state net.old) (ended_of N.L.state N.D.log N.S.calls job.entry) }
+    ensures failed { tally.new.failed ≡ (tally.old.failed || is_broken (ended_of N.L.state N.D.log N.S.calls job.entry)) }
+    ensures lacked { tally.new.lacked_memory ≡ (tally.old.lacked_memory || lacked_of job.entry) }
 {
     match job {
         ServingJob::Proxy(job) => {
@@ -51,12 +89,8 @@ fn take_back<J: Naming, N: Net, C: Drop>(
                 lacked_memory,
             } = server;
             passes.push_reserved(pass);
-            if net.end(listener, Some(dialer), stop).is_err() {
-                tally.failed = true;
-            }
-            if lacked_memory {
-                tally.lacked_memory = true;
-            }
+            let failed = end(net, listener, Some(dialer), stop);
+            tally.add(failed, lacked_memory);
         }
         ServingJob::Api(job) => {
             let ApiJob {
@@ -73,12 +107,8 @@ fn take_back<J: Naming, N: Net, C: Drop>(
                 lacked_memory,
             } = server;
             passes.push_reserved(pass);
-            if net.end(listener, None, stop).is_err() {
-                tally.failed = true;
-            }
-            if lacked_memory {
-                tally.lacked_memory = true;
-            }
+            let failed = end(net, listener, None, stop);
+            tally.add(failed, lacked_memory);
         }
     }
 }
@@ -90,14 +120,14 @@ pub(crate) fn take_all_back<J: Naming, N: Net, C: Drop>(
     passes: &mut Vec<Pass<J>>,
 ) -> Tally
     requires room { vec_len passes.old + length back.items ≤ vec_capacity passes.old }
-    ensures numbers { numbers_of passes.new.items ≡ numbers_of passes.old.items ++ map (λ b. number_of b.0) back.entry.items }
+    ensures passes { passes.new.items ≡ passes.old.items ++ map (λ b. pass_of b.0) back.entry.items }
     ensures room { (vec_len passes.new ≡ vec_len passes.old + length back.entry.items) × (vec_capacity passes.new ≡ vec_capacity passes.old) }
     ensures faults { TellsFaults (N.faults net.old) (N.faults net.new) result.failed }
+    ensures state { N.state net.new ≡ all_ended (map (λ b. ended_of N.L.state N.D.log N.S.calls b.0) back.entry.items) (N.state net.old) }
+    ensures failed { result.failed ≡ list_any (λ b. is_broken (ended_of N.L.state N.D.log N.S.calls b.0)) back.entry.items }
+    ensures lacked { result.lacked_memory ≡ list_any (λ b. lacked_of b.0) back.entry.items }
 {
-    let mut tally = Tally {
-        failed: false,
-        lacked_memory: false,
-    };
+    let mut tally = Tally::begin();
     for ended in back {
         let (job, _accepting) = ended;
         take_back(net, job, passes, &mut tally);
@@ -112,14 +142,11 @@ pub(crate) fn take_unrun_back<J: Naming, N: Net, C: Drop>(
     passes: &mut Vec<Pass<J>>,
 ) -> Tally
     requires room { vec_len passes.old + length jobs.items ≤ vec_capacity passes.old }
-    ensures numbers { numbers_of passes.new.items ≡ numbers_of passes.old.items ++ numbers_of_jobs jobs.entry.items }
+    ensures passes { passes.new.items ≡ passes.old.items ++ passes_of_jobs jobs.entry.items }
     ensures room { (vec_len passes.new ≡ vec_len passes.old + length jobs.entry.items) × (vec_capacity passes.new ≡ vec_capacity passes.old) }
     ensures faults { TellsFaults (N.faults net.old) (N.faults net.new) result.failed }
 {
-    let mut tally = Tally {
-        failed: false,
-        lacked_memory: false,
-    };
+    let mut tally = Tally::begin();
     for job in jobs {
         take_back(net, job, passes, &mut tally);
     }

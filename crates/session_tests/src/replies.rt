@@ -5,7 +5,7 @@ use crate::scene::Failing::{Dial, Nothing, Read, Write};
 use http_wire::Ended::{Closed, PeerEnded, ReadFault, UpstreamCut, WriteFault};
 use std::test::Fail;
 
-const ROWS: [Row; 20] = [
+const ROWS: [Row; 25] = [
     Row {
         about: "a reply to HEAD",
         table: FIXED,
@@ -77,7 +77,7 @@ const ROWS: [Row; 20] = [
         table: FIXED,
         gives: "GET / HTTP/1.1|Host: web||",
         replies: &[
-            "HTTP/1.1 100 Continue||HTTP/1.1 100 Continue||HTTP/1.1 100 Continue||HTTP/1.1 100 Continue||HTTP/1.1 103 Early Hints|Link: a||HTTP/1.1 103 Early Hints|Link: a||HTTP/1.1 103 Early Hints|Link: a||HTTP/1.1 103 Early Hints|Link: a||HTTP/1.1 200 OK|Content-Length: 0||",
+            "HTTP/1.1 100 Continue||HTTP/1.1 100 Continue||HTTP/1.1 100 Continue||HTTP/1.1 100 Continue||HTTP/1.1 103 Early Hints|Link: a|Content-Length: 3|Transfer-Encoding: chunked||HTTP/1.1 103 Early Hints|Link: a||HTTP/1.1 103 Early Hints|Link: a||HTTP/1.1 103 Early Hints|Link: a||HTTP/1.1 200 OK|Content-Length: 0||",
         ],
         failing: Nothing,
         written: "HTTP/1.1 200 OK|Content-Length: 0|Via: 1.1 linkerd||",
@@ -229,6 +229,64 @@ const ROWS: [Row; 20] = [
         sent: "<GET / HTTP/1.1|Host: web|Via: 1.1 linkerd|l5d-dst-service: /svc/web|l5d-dst-client: /$/inet/127.0.0.1/9001|Connection: close||>",
         ended: WriteFault,
         reported: FAILED,
+    },
+    Row {
+        about: "a reply of no content, told before the next receive",
+        table: FIXED,
+        gives: "GET / HTTP/1.1|Host: web||",
+        replies: &["HTTP/1.1 204 No Content||"],
+        failing: Dial(3),
+        written: "HTTP/1.1 204 No Content|Via: 1.1 linkerd||",
+        sent: "<GET / HTTP/1.1|Host: web|Via: 1.1 linkerd|l5d-dst-service: /svc/web|l5d-dst-client: /$/inet/127.0.0.1/9001|Connection: close||>",
+        ended: PeerEnded,
+        reported: GOOD,
+    },
+    Row {
+        about: "a length of 0, told before the next receive",
+        table: FIXED,
+        gives: "GET / HTTP/1.1|Host: web||",
+        replies: &["HTTP/1.1 200 OK|Content-Length: 0||"],
+        failing: Dial(3),
+        written: "HTTP/1.1 200 OK|Content-Length: 0|Via: 1.1 linkerd||",
+        sent: "<GET / HTTP/1.1|Host: web|Via: 1.1 linkerd|l5d-dst-service: /svc/web|l5d-dst-client: /$/inet/127.0.0.1/9001|Connection: close||>",
+        ended: PeerEnded,
+        reported: GOOD,
+    },
+    Row {
+        about: "a request of no content that is not sent, and one behind it",
+        table: FIXED,
+        gives: "POST / HTTP/1.1|Host: web|Content-Length: 0||GET / HTTP/1.1|Host: web||",
+        replies: &["", "HTTP/1.1 200 OK|Content-Length: 2||hi"],
+        failing: Dial(1),
+        written: "HTTP/1.1 502 Bad Gateway|Content-Type: text/plain|l5d-err: upstream|Content-Length: 9||upstream~HTTP/1.1 200 OK|Content-Length: 2|Via: 1.1 linkerd||hi",
+        sent: "<><GET / HTTP/1.1|Host: web|Via: 1.1 linkerd|l5d-dst-service: /svc/web|l5d-dst-client: /$/inet/127.0.0.1/9001|Connection: close||>",
+        ended: PeerEnded,
+        reported: (2, 0),
+    },
+    Row {
+        about: "a body that is not sent, and a request behind it",
+        table: FIXED,
+        gives: "POST / HTTP/1.1|Host: web|Content-Length: 5||helloGET / HTTP/1.1|Host: web||",
+        replies: &["", "HTTP/1.1 200 OK|Content-Length: 2||hi"],
+        failing: Dial(1),
+        written: "HTTP/1.1 502 Bad Gateway|Content-Type: text/plain|l5d-err: upstream|Content-Length: 9|Connection: close||upstream~",
+        sent: "<>",
+        ended: Closed,
+        reported: FAILED,
+    },
+    Row {
+        about: "a long head, and a shorter one behind it",
+        table: FIXED,
+        gives: "GET /long?a=b HTTP/1.1|Host: web|X-Long: 0123456789||GET / HTTP/1.1|Host: web||",
+        replies: &[
+            "HTTP/1.1 200 OK|Content-Length: 0|X-Long: 0123456789||",
+            "HTTP/1.1 200 OK|Content-Length: 0||",
+        ],
+        failing: Nothing,
+        written: "HTTP/1.1 200 OK|X-Long: 0123456789|Content-Length: 0|Via: 1.1 linkerd||HTTP/1.1 200 OK|Content-Length: 0|Via: 1.1 linkerd||",
+        sent: "<GET /long?a=b HTTP/1.1|Host: web|X-Long: 0123456789|Via: 1.1 linkerd|l5d-dst-service: /svc/web|l5d-dst-client: /$/inet/127.0.0.1/9001|Connection: close||><GET / HTTP/1.1|Host: web|Via: 1.1 linkerd|l5d-dst-service: /svc/web|l5d-dst-client: /$/inet/127.0.0.1/9001|Connection: close||>",
+        ended: PeerEnded,
+        reported: GOOD,
     },
 ];
 

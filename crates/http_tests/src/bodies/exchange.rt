@@ -1,7 +1,7 @@
 //! Bodies that are passed on over peers and dialers in memory.
 ghost use Rattle.std.specs.Prelude.{IfOk, IsTrue};
 
-use body_wire::{BodyEnd, Bytes, Mem, pass_back, pass_body, read_body};
+use body_wire::{BodyEnd, Bytes, Mem, pass_back, pass_body, read_body, write_all};
 use http_wire::{Framing, Rest};
 use line_base::{DialEvent, Dialer, MemDialer, MemPeer, MemSink, MemSource};
 use std::alloc::Global;
@@ -192,4 +192,26 @@ pub(super) fn whole(
     let mut rest = Rest::room(alloc)?;
     rest.add(kept)?;
     Ok(read_body(alloc, &mut peer, &mut rest, framing))
+}
+
+/// What comes of a request's body that is kept, with what lies behind it, where its first send fails; and what stays kept.
+pub(super) fn unsent(
+    alloc: Global,
+    framing: Framing,
+    kept: &[u8],
+) -> Result<(Result<u64, BodyEnd>, Bytes), Fail> {
+    let mut peer = peer_of(alloc, b"", Calls::whole(), Calls::whole())?;
+    let mut dialer = dialed(alloc, b"", Calls::until(0))?;
+    let mut rest = Rest::room(alloc)?;
+    rest.add(kept)?;
+    let mut out = Vec::from_slice(alloc, b"H")?;
+    let answer = pass_body(&mut peer, &mut rest, framing, &mut out, &mut dialer);
+    Ok((answer, Vec::from_slice(alloc, rest.kept())?))
+}
+
+/// Whether some bytes are written whole in such calls, and what is given of them.
+pub(super) fn written(alloc: Global, bytes: &[u8], takes: Calls) -> Mem<(bool, Bytes)> {
+    let mut peer = peer_of(alloc, b"", Calls::whole(), takes)?;
+    let is_whole = write_all(&mut peer, bytes).is_ok();
+    Ok((is_whole, Vec::from_slice(alloc, peer.sink().held())?))
 }

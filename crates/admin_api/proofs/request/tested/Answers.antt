@@ -40,6 +40,6 @@ returns-in-Err-NoHost c =
     let ok = c.in-Ok.ensures.ok in
     let form = form_of c.in-Ok.target in (
       no_host form c.in-Ok-framing.framing ok.0 ok.1 (sym c.in-Ok-framing.ensures)
-          (subst (λ (f : HostFault). Gives (host_of c.args.head.now.version c.args.head.now.fields form.0) (Err f)) c.in-Err-NoHost.field-0-is c.in-Err-NoHost.ensures.host),
+          (subst (λ (f : HostFault). Gives (host_of c.args.head.now.version c.args.head.now.fields form.authority) (Err f)) c.in-Err-NoHost.field-0-is c.in-Err-NoHost.ensures.host),
       c.has_body-with_body.ensures,
     )

@@ -1,7 +1,7 @@
 use Rattle.std.proofs.Common.{◌≤◌, refl, sym, ◌∙◌, arith}
 use Rattle.bind_core.specs.Delegation.{lookup, most_wide}
 use Rattle.bind_core.specs.Stack.{rules_at, names_at, behind, path_work}
-use Rattle.bind_core.proofs.Turns.{begins, tried, tried_fewer, turned, turned_fewer, few_told, few_tried, finished, finished_empty}
+use Rattle.bind_core.proofs.Turns.{begins, tried, tried_fewer, turned, turned_fewer, few_tried, finished}
 use Rattle.bind_core.proofs.delegate.evaluate.Goals as goal
 
 pub loop-task-init : goal.loop-task-init

@@ -1,5 +1,9 @@
-use Rattle.std.proofs.Common.{refl, ap, map}
+use Rattle.std.proofs.Common.{◌∷◌, drop, refl, sym, ap, ◌∙◌}
+use Rattle.name_tree.specs.Path.{Labels}
 use Rattle.name_tree.specs.Tree.{value_of}
+use Rattle.name_tree.specs.Value.{append_rest}
+use Rattle.bind_core.specs.Rewritten.{labels_of}
+use Rattle.bind_core.specs.Stack.{trees_left}
 use Rattle.bind_core.proofs.Turns.{passed, emptied, chosen}
 use Rattle.bind_core.proofs.delegate.next_tree.Goals as goal
 
@@ -11,11 +15,14 @@ returns-in_default c = record {
 
 pub returns-in_default-next-clause-step : goal.returns-in_default-next-clause-step
 returns-in_default-next-clause-step c =
-    λ rules names. emptied rules names _ c.args.choice _ _ c.requires.few c.args.told _ c.in-Neg.is c.in_default-next.ensures.cases.0 c.named_outcome-named.ensures refl refl
+    λ rules names. emptied rules names _ c.args.choice _ _ c.requires.few c.args.told _ c.in-Neg.is (c.in_default-next.ensures (labels_of c.args.choice.path)) c.named_outcome-named.ensures refl refl
     c.end-in_default-next.ensures.most c.end-in_default-next.ensures.items
 
 pub returns-clause-step : goal.returns-clause-step
 returns-clause-step c =
     λ rules names. chosen rules names _ c.args.choice _ _ c.requires.few
-    (record { trees = c.next.new.self; named = c.args.choice.named; visit = c.args.choice.visit; left = c.args.choice.left }) c.in-Some.tree c.args.told c.in-Neg.is
-    (ap (map value_of) c.in-Some.ensures.items) refl refl refl c.in_ok-push.ensures.items refl refl
+    (record { trees = c.next.new.self; path = c.args.choice.path; named = c.args.choice.named; visit = c.args.choice.visit; left = c.args.choice.left })
+    (record { tree = c.in-Some.tree; path = c.in_ok-path.path; from = c.in-Some.from }) c.args.told c.in-Neg.is
+    (c.in-Some.ensures (labels_of c.args.choice.path)
+    ∙ ap (λ (ls : Labels). append_rest (value_of c.in-Some.tree.now) (drop c.in-Some.from ls) ∷ trees_left c.next.new.self (labels_of c.args.choice.path)) (sym c.in_ok-path.ensures))
+    refl refl refl c.in_ok-push.ensures.items refl refl

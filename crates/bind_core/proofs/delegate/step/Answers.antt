@@ -1,33 +1,56 @@
-use Rattle.std.proofs.Common.{None, Vec, Global, refl, sym, ap, map, subst, ◌∙◌, arith}
+use Rattle.std.proofs.Common.{None, ◌++◌, refl, sym, ap, map, drop, ◌∙◌, arith}
 use Rattle.name_tree.specs.declared.tree.Tree.{Tree}
-use Rattle.name_tree.specs.Value.{TreeValue, leaf, neg, fail, empty}
+use Rattle.name_tree.specs.Value.{TreeValue, Branches, neg, fail, empty, alt, append_rest, append_rest_branches}
 use Rattle.name_tree.specs.Tree.{value_of, branches_of, listed}
 use Rattle.name_tree.proofs.Bridge.{value_of-Alt}
+use Rattle.bind_core.specs.declared.frame.TreesLeft.TheVariants.{Alternatives}
+use Rattle.bind_core.specs.Rewritten.{labels_of, tree_of}
 use Rattle.bind_core.specs.Stack.{rules_at, names_at}
-use Rattle.bind_core.proofs.Stepping.{alt_step, union_step, mark_step, leaf_step}
+use Rattle.bind_core.proofs.Trees.{append_rest-tree_values}
+use Rattle.bind_core.proofs.Stepping.{alt_step, union_step, mark_step, leaf_step, long_leaf_step}
 use Rattle.bind_core.proofs.delegate.step.Goals as goal
 
 pub returns-in-Neg-clause-step : goal.returns-in-Neg-clause-step
-returns-in-Neg-clause-step g c = mark_step (rules_at c.args.scene.now) (names_at c.args.scene.now) _ (value_of c.args.tree) neg c.args.left _ _ c.requires (ap value_of c.in-Neg.is) refl (omega arith)
+returns-in-Neg-clause-step g c =
+    let rest = drop c.args.tried.from (labels_of c.args.tried.path) in
+    mark_step (rules_at c.args.scene.now) (names_at c.args.scene.now) _ (tree_of c.args.tried) neg c.args.left _ _ c.requires (ap (λ (t : Tree). append_rest (value_of t) rest) c.in-Neg.is) refl (omega arith)
 
 pub returns-in-Fail-clause-step : goal.returns-in-Fail-clause-step
-returns-in-Fail-clause-step g c = mark_step (rules_at c.args.scene.now) (names_at c.args.scene.now) _ (value_of c.args.tree) fail c.args.left _ _ c.requires (ap value_of c.in-Fail.is) refl (omega arith)
+returns-in-Fail-clause-step g c =
+    let rest = drop c.args.tried.from (labels_of c.args.tried.path) in
+    mark_step (rules_at c.args.scene.now) (names_at c.args.scene.now) _ (tree_of c.args.tried) fail c.args.left _ _ c.requires (ap (λ (t : Tree). append_rest (value_of t) rest) c.in-Fail.is) refl (omega arith)
 
 pub returns-in-Empty-clause-step : goal.returns-in-Empty-clause-step
-returns-in-Empty-clause-step g c = mark_step (rules_at c.args.scene.now) (names_at c.args.scene.now) _ (value_of c.args.tree) empty c.args.left _ _ c.requires (ap value_of c.in-Empty.is) refl (omega arith)
+returns-in-Empty-clause-step g c =
+    let rest = drop c.args.tried.from (labels_of c.args.tried.path) in
+    mark_step (rules_at c.args.scene.now) (names_at c.args.scene.now) _ (tree_of c.args.tried) empty c.args.left _ _ c.requires (ap (λ (t : Tree). append_rest (value_of t) rest) c.in-Empty.is) refl (omega arith)
+
+pub returns-in-Some-clause-step : goal.returns-in-Some-clause-step
+returns-in-Some-clause-step g c =
+    let rest = drop c.args.tried.from (labels_of c.args.tried.path) in
+    leaf_step (rules_at c.args.scene.now) (names_at c.args.scene.now) _ (tree_of c.args.tried) (c.in-Leaf.leaf ++ rest) c.args.left _ _ c.look_up.result c.in_ok-joined-in-Leaf.joined c.in-Some.path
+    (ap (λ (t : Tree). append_rest (value_of t) rest) c.in-Leaf.is) c.in-Some.is c.in_ok-joined-in-Leaf.ensures c.look_up.ensures.step
 
 pub returns-in-Leaf-clause-step : goal.returns-in-Leaf-clause-step
 returns-in-Leaf-clause-step g c =
-    leaf_step (rules_at c.args.scene.now) (names_at c.args.scene.now) _ (value_of c.args.tree) c.in-Leaf.path c.args.left _ _ c.look_up.result (ap value_of c.in-Leaf.is) c.look_up.ensures.step
+    let rest = drop c.args.tried.from (labels_of c.args.tried.path) in
+    long_leaf_step (rules_at c.args.scene.now) (names_at c.args.scene.now) _ (tree_of c.args.tried) (c.in-Leaf.leaf ++ rest) c.args.left _ c.in_ok-joined-in-Leaf.joined c.requires
+    (ap (λ (t : Tree). append_rest (value_of t) rest) c.in-Leaf.is) c.in-None.is c.in_ok-joined-in-Leaf.ensures
 
-pub returns-in_ok-push-in-Alt-clause-step : goal.returns-in_ok-push-in-Alt-clause-step
-returns-in_ok-push-in-Alt-clause-step g c =
-    alt_step (rules_at c.args.scene.now) (names_at c.args.scene.now) _ (value_of c.args.tree) c.args.left _ _ c.requires refl refl (map value_of c.in-Alt.trees.items.items)
-    (record { trees = c.into_iter.result; named = None; visit = None; left = c.args.left }) (ap value_of c.in-Alt.is ∙ value_of-Alt c.in-Alt.trees)
-    c.in_ok-push-in-Alt.ensures.items refl (ap (map value_of) (c.into_iter.ensures.rest ∙ c.into_items.ensures)) refl refl
+pub returns-in-Alt-clause-step : goal.returns-in-Alt-clause-step
+returns-in-Alt-clause-step g c =
+    let rest = drop c.args.tried.from (labels_of c.args.tried.path) in
+    let given : Tree → TreeValue = λ t. append_rest (value_of t) rest in
+    alt_step (rules_at c.args.scene.now) (names_at c.args.scene.now) _ (tree_of c.args.tried) c.args.left _ _ c.requires refl refl (map given c.in-Alt.trees.items.items)
+    (record { trees = Alternatives (record { trees = c.iter.result; from = c.args.tried.from }); path = c.args.tried.path; named = None; visit = None; left = c.args.left })
+    (ap given c.in-Alt.is ∙ (ap (λ (v : TreeValue). append_rest v rest) (value_of-Alt c.in-Alt.trees) ∙ ap alt (append_rest-tree_values c.in-Alt.trees.items.items rest)))
+    c.in_ok-push-in-Alt.ensures.items refl (ap (map given) (c.iter.ensures.rest ∙ c.items.ensures)) refl refl
 
-pub returns-in_ok-push-in-Union-clause-step : goal.returns-in_ok-push-in-Union-clause-step
-returns-in_ok-push-in-Union-clause-step g c =
-    union_step (rules_at c.args.scene.now) (names_at c.args.scene.now) _ (value_of c.args.tree) c.args.left _ _ c.requires refl refl (branches_of c.in-Union.branches)
-    (record { branches = c.into_iter-in-Union.result; weight = 0; gathered = c.new.result; left = c.args.left }) (ap value_of c.in-Union.is)
-    c.in_ok-push-in-Union.ensures.items refl (ap listed c.into_iter-in-Union.ensures.rest ∙ c.into_items-in-Union.ensures) c.new.ensures
+pub returns-clause-step : goal.returns-clause-step
+returns-clause-step g c =
+    let rest = drop c.args.tried.from (labels_of c.args.tried.path) in
+    union_step (rules_at c.args.scene.now) (names_at c.args.scene.now) _ (tree_of c.args.tried) c.args.left _ _ c.requires refl refl (append_rest_branches (branches_of c.in-Union.branches) rest)
+    (record { branches = c.iter-in-Union.result; path = c.args.tried.path; from = c.args.tried.from; weight = 0; gathered = c.new.result; left = c.args.left })
+    (ap (λ (t : Tree). append_rest (value_of t) rest) c.in-Union.is)
+    c.in_ok-push-in-Union.ensures.items refl
+    (ap (λ (bs : Branches). append_rest_branches bs rest) (ap listed c.iter-in-Union.ensures.rest ∙ sym c.items-in-Union.ensures)) c.new.ensures

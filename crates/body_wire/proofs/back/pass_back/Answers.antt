@@ -1,4 +1,4 @@
-use Rattle.std.proofs.Common.{◌≡◌, ◌<◌, ℕ, List, [], ◌∷◌, ◌++◌, Err, refl, sym, ap, ◌∙◌, arith}
+use Rattle.std.proofs.Common.{[], ◌∷◌, ◌++◌, refl, sym, ap, ◌∙◌}
 use Rattle.std.proofs.KnownBytes.{Appends-nil, Appends-trans, Consumes-nil, Consumes-kept, Keeps-refl, Keeps-trans}
 use Rattle.body_wire.specs.declared.end.BodyEnd.{BodyEnd}
 use Rattle.body_wire.specs.Passing.{form_of, most_passed}
@@ -41,7 +41,7 @@ returns-in-Some-clause-body g c =
       Appends-trans (g.P.Peer.given c.args.peer.now) (g.P.Peer.given c.pieces.peer) (g.P.Peer.given c.write_turn-turn.new.peer) w.1 t.0 w.4 t.1,
       (λ at. absurd (let no : ⊥ = cc in no)),
       answered c.args.framing (form_of c.args.chunked) most_passed c.pieces.decoder c.write_turn-turn.new.decoder c.args.out.now.items c.args.rest.now w.0 w.1 c.pieces.out.items
-          c.pieces.rest c.write_turn-turn.new.rest t.0 w.5 BodyEnd.WriteFault c.write_turn-turn.result c.in-Some.end (λ all went front. front) (λ taken passed count rest. tt) t.2
+          c.pieces.rest c.write_turn-turn.new.rest t.0 w.5 BodyEnd.WriteFault c.write_turn-turn.result c.in-Some.end (λ all went front. front) (λ taken passed rest front. front) t.2
           (sym c.answer.ensures ∙ c.in-Some.is),
     )
 

@@ -1,9 +1,9 @@
-use Rattle.std.proofs.Common.{◌≡◌, ◌<◌, ℕ, List, [], ◌∷◌, ◌++◌, Err, refl, sym, ◌∙◌, arith}
+use Rattle.std.proofs.Common.{◌<◌, [], ◌∷◌, ◌++◌, refl, sym, ◌∙◌, arith}
 use Rattle.std.proofs.KnownBytes.{Consumes-nil, Consumes-kept, Keeps-refl, Keeps-trans}
 use Rattle.body_wire.specs.declared.end.BodyEnd.{BodyEnd}
 use Rattle.body_wire.specs.declared.form.Form.{Form}
 use Rattle.body_wire.specs.Passing.{most_passed}
-use Rattle.body_wire.proofs.Passes.{begins, answered, answer_not_at_end, no_answer, on_piece, on_end, on_fault, on_no_fault}
+use Rattle.body_wire.proofs.Passes.{begins, answered, answer_not_at_end, no_answer, on_piece, on_end, on_fault}
 use Rattle.body_wire.proofs.Sent.{Sends-nil, Sends-trans, came_piece}
 use Rattle.body_wire.proofs.onward.pass_body.Goals as goal
 
@@ -35,7 +35,7 @@ returns-in-Some-clause-body g c =
       w.2,
       Sends-trans (g.D.Dialer.log c.args.dialer.now) (g.D.Dialer.log c.pieces.dialer) (g.D.Dialer.log c.send_turn-turn.new.dialer) w.1 t.0 w.3 t.1,
       answered c.args.framing Form.Chunks most_passed c.pieces.decoder c.send_turn-turn.new.decoder c.args.out.now.items c.args.rest.now w.0 w.1 c.pieces.out.items
-          c.pieces.rest c.send_turn-turn.new.rest t.0 w.4 BodyEnd.SendFault c.send_turn-turn.result c.in-Some.end (λ all went front. front) (λ taken passed count rest. tt) t.2
+          c.pieces.rest c.send_turn-turn.new.rest t.0 w.4 BodyEnd.SendFault c.send_turn-turn.result c.in-Some.end (λ all went front. front) (λ taken passed rest front. front) t.2
           (sym c.answer.ensures ∙ c.in-Some.is),
     )
 

@@ -1,4 +1,4 @@
-use Rattle.std.proofs.Common.{◌≡◌, ◌<◌, ℕ, List, ◌++◌, refl, sym, subst, ◌∙◌, arith, Result}
+use Rattle.std.proofs.Common.{◌<◌, ℕ, ◌++◌, refl, sym, subst, ◌∙◌, arith, Result}
 use Rattle.std.proofs.KnownBytes.{Consumes-kept, Consumes-trans, Keeps-trans}
 use Rattle.std.specs.declared.vec.Vec.{Vec}
 use Rattle.std.specs.declared.alloc.Global.{Global}

@@ -1,5 +1,5 @@
 use Rattle.body_wire.proofs.Sent.{Sends-nil, sent_more, front_sent, all_sent}
-use Rattle.std.proofs.Common.{refl, sym, subst, ◌∙◌, ◌≡◌, Bool, true, IsTrue, arith}
+use Rattle.std.proofs.Common.{refl, ◌∙◌, arith}
 use Rattle.std.proofs.KnownBytes.{Keeps-refl, Keeps-trans}
 use Rattle.body_wire.proofs.sending.send_all.Goals as goal
 

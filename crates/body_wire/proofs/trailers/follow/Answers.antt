@@ -1,5 +1,5 @@
 use Rattle.std.proofs.Common.{sym, ◌∙◌}
-use Rattle.body_wire.proofs.Trails.{goes_on, ends_at, at_end}
+use Rattle.body_wire.proofs.Trails.{goes_on, ends_at}
 use Rattle.body_wire.proofs.trailers.follow.Goals as goal
 
 pub returns-in-None : goal.returns-in-None

@@ -1,5 +1,5 @@
 use Rattle.body_wire.proofs.Sent.{given_more, front_given, all_given}
-use Rattle.std.proofs.Common.{refl, sym, ◌∙◌, arith}
+use Rattle.std.proofs.Common.{refl, ◌∙◌, arith}
 use Rattle.std.proofs.KnownBytes.{Appends-nil, Keeps-refl, Keeps-trans}
 use Rattle.body_wire.proofs.writing.write_all.Goals as goal
 

@@ -1,19 +1,16 @@
-use Rattle.std.proofs.Common.{◌≡◌, ◌<◌, ◌^◌}
-use Rattle.std.specs.Prelude.{is_some}
+use Rattle.std.proofs.Common.{◌≡◌, is_some, IfSome}
+use Rattle.std.specs.Option.{option_and_then}
 use Rattle.addr_book.specs.Bound.{found_of}
-use Rattle.addr_book.specs.Found.{IsFilled, IsBounded}
-use Rattle.addr_book.proofs.Bounds.{found_size}
 use Rattle.choose_core.specs.Branch.{pruned, chosen}
+use Rattle.choose_core.specs.Way.{leaf_in, choice_left, IsGoodChoice}
 use Rattle.choose_core.proofs.pruning.branch.Given as goal
 
-abbrev pub invariant-loop-bound : goal.invariant-loop-bound
-invariant-loop-bound l = record {
-  fits : l.word < 2 ^ 64;
-  filled : IsFilled (found_of l.bound);
-  bounded : IsBounded (found_of l.bound);
-  leaf : chosen l.book.services (found_of l.bound) l.word ≡ chosen l.fn.book.services (found_of l.fn.bound) l.fn.word;
-  left : is_some (pruned l.book.services (found_of l.bound)) ≡ is_some (pruned l.fn.book.services (found_of l.fn.bound));
+abbrev pub invariant-loop-choice : goal.invariant-loop-choice
+invariant-loop-choice l = record {
+  good : IfSome l.choice (IsGoodChoice l.book.services);
+  leaf : option_and_then (leaf_in l.book.services) l.choice ≡ chosen l.fn.book.services (found_of l.fn.bound) l.fn.word;
+  left : is_some l.choice ≡ is_some (pruned l.fn.book.services (found_of l.fn.bound));
 }
 
-abbrev pub decreases-loop-bound : goal.decreases-loop-bound
-decreases-loop-bound l = found_size (found_of l.bound)
+abbrev pub decreases-loop-choice : goal.decreases-loop-choice
+decreases-loop-choice l = choice_left l.choice

@@ -1,6 +1,5 @@
 use Rattle.std.proofs.Common.{◌≡◌, ◌++◌, map, take}
-use Rattle.forward.specs.Lines.{ended}
-use Rattle.forward.specs.Forwarded.{field_line}
+use Rattle.http_wire.specs.Lines.{ended, field_line}
 use Rattle.forward.specs.Kept.{left_by}
 use Rattle.forward.proofs.dropped.push_kept.Given as goal
 

@@ -1,6 +1,6 @@
 use Rattle.std.proofs.Common.{◌≡◌, ℕ, List, [], ◌∷◌, ◌++◌, OnOk, subst, sym, ap, ◌∙◌}
 use Rattle.std.proofs.lemmas.List.{append-nil}
-use Rattle.forward.specs.Lines.{ended, line_of}
+use Rattle.http_wire.specs.Lines.{ended, line_of}
 use Rattle.forward.proofs.Joined.{left_line, no_line}
 use Rattle.forward.proofs.dropped.push_where_left.Goals as goal
 

@@ -1,13 +1,9 @@
-use Rattle.std.proofs.Common.{Ok, Option, List, ℕ, ◌<◌, length, subst, sym, ◌∙◌}
-use Rattle.http_wire.specs.declared.head.Head.{Head}
-use Rattle.http_wire.specs.Reading.{Looks}
+use Rattle.std.proofs.Common.{List, ℕ, ◌<◌, length, subst, sym, ◌∙◌}
 use Rattle.http_wire.proofs.Turning.{looked, unfinished_quiet}
 use Rattle.http_wire.proofs.reading.take_turn.Goals as goal
 
-pub returns-in-Ok-Some-clause-bytes : goal.returns-in-Ok-Some-clause-bytes
-returns-in-Ok-Some-clause-bytes g c =
-    looked _ c.args.rest.now c.answer.new.rest c.in-Ok-Some.head _ _
-    (subst (λ (found : Option Head). Looks c.args.rest.now c.answer.new.rest (Ok found)) c.in-Ok-Some.field-0-is c.in-Ok-Some.ensures)
+pub returns-in-Answered-clause-bytes : goal.returns-in-Answered-clause-bytes
+returns-in-Answered-clause-bytes g c = looked _ c.args.rest.now c.answer.new.rest c.in-Answered.answer _ _ c.in-Answered.ensures
 
 pub read_once-requires-clause-unfinished : goal.read_once-requires-clause-unfinished
 read_once-requires-clause-unfinished g c =

@@ -17,5 +17,5 @@ pub returns-in-Ok : goal.returns-in-Ok
 returns-in-Ok c form served =
     let same : form_of c.in-Ok.target ≡ form = one_form c.args.head.now.method c.args.head.now.target _ form c.in-Ok.ensures.ok.1 served in
     subst (λ (line : List ℕ). Answers (first_of c.args.count (pieces_of (path_in line))) c.first_pieces.result)
-    (c.as_slice.ensures.value ∙ ap (λ (f : Form). f.1) same)
+    (c.as_slice.ensures.value ∙ ap (λ (f : Form). f.line) same)
     (subst (λ (path : List ℕ). Answers (first_of c.args.count (pieces_of path)) c.first_pieces.result) c.path_of.ensures c.first_pieces.ensures)

@@ -1,7 +1,8 @@
 use Rattle.std.proofs.Common.{map, sym, subst, true, false}
 use Rattle.std.specs.Prelude.{string_bytes}
+use Rattle.proxy_session.specs.Outside.{Line}
 use Rattle.linker.specs.Run.{Input, Filed, Linked, Output, Ran}
-use Rattle.linker.proofs.Causes.{long_cause, known_status, net_cause, refused_cause, shown_cause, read_cause, folder_cause, write_cause, net_fault_cause}
+use Rattle.linker.proofs.Causes.{back_cause, long_cause, known_status, net_cause, refused_cause, shown_cause, read_cause, folder_cause, write_cause, net_fault_cause}
 use Rattle.linker.proofs.program.linker.Goals as goal
 
 pub returns-clause-longer : goal.returns-clause-longer
@@ -10,11 +11,12 @@ returns-clause-longer g c =
     let new_in : Input = record { left = g.S.Source.left c.run.new.input; faults = g.S.Source.faults c.run.new.input; ends = g.S.Source.ends c.run.new.input } in
     let old_files : Filed = record { files = g.F.Folder.files c.args.folder.now; faults = g.F.Folder.faults c.args.folder.now } in
     let new_files : Filed = record { files = g.F.Folder.files c.run.new.folder; faults = g.F.Folder.faults c.run.new.folder } in
-    let old_net : Linked = record { faults = g.N.Net.faults c.args.net.now } in
-    let new_net : Linked = record { faults = g.N.Net.faults c.run.new.net } in
+    let old_net : Linked g.row.N-L-P.Denot = record { state = g.N.Net.state c.args.net.now; faults = g.N.Net.faults c.args.net.now } in
+    let new_net : Linked g.row.N-L-P.Denot = record { state = g.N.Net.state c.run.new.net; faults = g.N.Net.faults c.run.new.net } in
+    let line_of = λ (p : g.row.N-L-P.Denot). let l : Line = record { left = g.N.L.P.Peer.left p; given = g.N.L.P.Peer.given p; read_faults = g.N.L.P.Peer.read_faults p; write_faults = g.N.L.P.Peer.write_faults p; ends = g.N.L.P.Peer.ends p } in l in
     let old_out : Output = record { held = g.K.Sink.held c.args.out.now; faults = g.K.Sink.faults c.args.out.now } in
     let new_out : Output = record { held = g.K.Sink.held c.run.new.out; faults = g.K.Sink.faults c.run.new.out } in
-    long_cause (map string_bytes c.args.words.now) old_in new_in old_files new_files old_net new_net old_out new_out c.code.result (rw (← c.code.ensures) at c.run.ensures)
+    long_cause line_of (g.C.Clock.of_fork c.args.clock.now) (map string_bytes c.args.words.now) old_in new_in old_files new_files old_net new_net old_out new_out c.code.result (rw (← c.code.ensures) at c.run.ensures)
 
 pub returns-clause-status : goal.returns-clause-status
 returns-clause-status g c =
@@ -22,11 +24,12 @@ returns-clause-status g c =
     let new_in : Input = record { left = g.S.Source.left c.run.new.input; faults = g.S.Source.faults c.run.new.input; ends = g.S.Source.ends c.run.new.input } in
     let old_files : Filed = record { files = g.F.Folder.files c.args.folder.now; faults = g.F.Folder.faults c.args.folder.now } in
     let new_files : Filed = record { files = g.F.Folder.files c.run.new.folder; faults = g.F.Folder.faults c.run.new.folder } in
-    let old_net : Linked = record { faults = g.N.Net.faults c.args.net.now } in
-    let new_net : Linked = record { faults = g.N.Net.faults c.run.new.net } in
+    let old_net : Linked g.row.N-L-P.Denot = record { state = g.N.Net.state c.args.net.now; faults = g.N.Net.faults c.args.net.now } in
+    let new_net : Linked g.row.N-L-P.Denot = record { state = g.N.Net.state c.run.new.net; faults = g.N.Net.faults c.run.new.net } in
+    let line_of = λ (p : g.row.N-L-P.Denot). let l : Line = record { left = g.N.L.P.Peer.left p; given = g.N.L.P.Peer.given p; read_faults = g.N.L.P.Peer.read_faults p; write_faults = g.N.L.P.Peer.write_faults p; ends = g.N.L.P.Peer.ends p } in l in
     let old_out : Output = record { held = g.K.Sink.held c.args.out.now; faults = g.K.Sink.faults c.args.out.now } in
     let new_out : Output = record { held = g.K.Sink.held c.run.new.out; faults = g.K.Sink.faults c.run.new.out } in
-    known_status (map string_bytes c.args.words.now) old_in new_in old_files new_files old_net new_net old_out new_out c.code.result (rw (← c.code.ensures) at c.run.ensures)
+    known_status line_of (g.C.Clock.of_fork c.args.clock.now) (map string_bytes c.args.words.now) old_in new_in old_files new_files old_net new_net old_out new_out c.code.result (rw (← c.code.ensures) at c.run.ensures)
 
 pub returns-clause-read_fault : goal.returns-clause-read_fault
 returns-clause-read_fault g c =
@@ -34,11 +37,12 @@ returns-clause-read_fault g c =
     let new_in : Input = record { left = g.S.Source.left c.run.new.input; faults = g.S.Source.faults c.run.new.input; ends = g.S.Source.ends c.run.new.input } in
     let old_files : Filed = record { files = g.F.Folder.files c.args.folder.now; faults = g.F.Folder.faults c.args.folder.now } in
     let new_files : Filed = record { files = g.F.Folder.files c.run.new.folder; faults = g.F.Folder.faults c.run.new.folder } in
-    let old_net : Linked = record { faults = g.N.Net.faults c.args.net.now } in
-    let new_net : Linked = record { faults = g.N.Net.faults c.run.new.net } in
+    let old_net : Linked g.row.N-L-P.Denot = record { state = g.N.Net.state c.args.net.now; faults = g.N.Net.faults c.args.net.now } in
+    let new_net : Linked g.row.N-L-P.Denot = record { state = g.N.Net.state c.run.new.net; faults = g.N.Net.faults c.run.new.net } in
+    let line_of = λ (p : g.row.N-L-P.Denot). let l : Line = record { left = g.N.L.P.Peer.left p; given = g.N.L.P.Peer.given p; read_faults = g.N.L.P.Peer.read_faults p; write_faults = g.N.L.P.Peer.write_faults p; ends = g.N.L.P.Peer.ends p } in l in
     let old_out : Output = record { held = g.K.Sink.held c.args.out.now; faults = g.K.Sink.faults c.args.out.now } in
     let new_out : Output = record { held = g.K.Sink.held c.run.new.out; faults = g.K.Sink.faults c.run.new.out } in
-    read_cause (map string_bytes c.args.words.now) old_in new_in old_files new_files old_net new_net old_out new_out c.code.result (rw (← c.code.ensures) at c.run.ensures)
+    read_cause line_of (g.C.Clock.of_fork c.args.clock.now) (map string_bytes c.args.words.now) old_in new_in old_files new_files old_net new_net old_out new_out c.code.result (rw (← c.code.ensures) at c.run.ensures)
 
 pub returns-clause-folder_fault : goal.returns-clause-folder_fault
 returns-clause-folder_fault g c =
@@ -46,11 +50,12 @@ returns-clause-folder_fault g c =
     let new_in : Input = record { left = g.S.Source.left c.run.new.input; faults = g.S.Source.faults c.run.new.input; ends = g.S.Source.ends c.run.new.input } in
     let old_files : Filed = record { files = g.F.Folder.files c.args.folder.now; faults = g.F.Folder.faults c.args.folder.now } in
     let new_files : Filed = record { files = g.F.Folder.files c.run.new.folder; faults = g.F.Folder.faults c.run.new.folder } in
-    let old_net : Linked = record { faults = g.N.Net.faults c.args.net.now } in
-    let new_net : Linked = record { faults = g.N.Net.faults c.run.new.net } in
+    let old_net : Linked g.row.N-L-P.Denot = record { state = g.N.Net.state c.args.net.now; faults = g.N.Net.faults c.args.net.now } in
+    let new_net : Linked g.row.N-L-P.Denot = record { state = g.N.Net.state c.run.new.net; faults = g.N.Net.faults c.run.new.net } in
+    let line_of = λ (p : g.row.N-L-P.Denot). let l : Line = record { left = g.N.L.P.Peer.left p; given = g.N.L.P.Peer.given p; read_faults = g.N.L.P.Peer.read_faults p; write_faults = g.N.L.P.Peer.write_faults p; ends = g.N.L.P.Peer.ends p } in l in
     let old_out : Output = record { held = g.K.Sink.held c.args.out.now; faults = g.K.Sink.faults c.args.out.now } in
     let new_out : Output = record { held = g.K.Sink.held c.run.new.out; faults = g.K.Sink.faults c.run.new.out } in
-    folder_cause (map string_bytes c.args.words.now) old_in new_in old_files new_files old_net new_net old_out new_out c.code.result (rw (← c.code.ensures) at c.run.ensures)
+    folder_cause line_of (g.C.Clock.of_fork c.args.clock.now) (map string_bytes c.args.words.now) old_in new_in old_files new_files old_net new_net old_out new_out c.code.result (rw (← c.code.ensures) at c.run.ensures)
 
 pub returns-clause-write_fault : goal.returns-clause-write_fault
 returns-clause-write_fault g c =
@@ -58,11 +63,12 @@ returns-clause-write_fault g c =
     let new_in : Input = record { left = g.S.Source.left c.run.new.input; faults = g.S.Source.faults c.run.new.input; ends = g.S.Source.ends c.run.new.input } in
     let old_files : Filed = record { files = g.F.Folder.files c.args.folder.now; faults = g.F.Folder.faults c.args.folder.now } in
     let new_files : Filed = record { files = g.F.Folder.files c.run.new.folder; faults = g.F.Folder.faults c.run.new.folder } in
-    let old_net : Linked = record { faults = g.N.Net.faults c.args.net.now } in
-    let new_net : Linked = record { faults = g.N.Net.faults c.run.new.net } in
+    let old_net : Linked g.row.N-L-P.Denot = record { state = g.N.Net.state c.args.net.now; faults = g.N.Net.faults c.args.net.now } in
+    let new_net : Linked g.row.N-L-P.Denot = record { state = g.N.Net.state c.run.new.net; faults = g.N.Net.faults c.run.new.net } in
+    let line_of = λ (p : g.row.N-L-P.Denot). let l : Line = record { left = g.N.L.P.Peer.left p; given = g.N.L.P.Peer.given p; read_faults = g.N.L.P.Peer.read_faults p; write_faults = g.N.L.P.Peer.write_faults p; ends = g.N.L.P.Peer.ends p } in l in
     let old_out : Output = record { held = g.K.Sink.held c.args.out.now; faults = g.K.Sink.faults c.args.out.now } in
     let new_out : Output = record { held = g.K.Sink.held c.run.new.out; faults = g.K.Sink.faults c.run.new.out } in
-    write_cause (map string_bytes c.args.words.now) old_in new_in old_files new_files old_net new_net old_out new_out c.code.result (rw (← c.code.ensures) at c.run.ensures)
+    write_cause line_of (g.C.Clock.of_fork c.args.clock.now) (map string_bytes c.args.words.now) old_in new_in old_files new_files old_net new_net old_out new_out c.code.result (rw (← c.code.ensures) at c.run.ensures)
 
 pub returns-clause-net_fault : goal.returns-clause-net_fault
 returns-clause-net_fault g c =
@@ -70,11 +76,12 @@ returns-clause-net_fault g c =
     let new_in : Input = record { left = g.S.Source.left c.run.new.input; faults = g.S.Source.faults c.run.new.input; ends = g.S.Source.ends c.run.new.input } in
     let old_files : Filed = record { files = g.F.Folder.files c.args.folder.now; faults = g.F.Folder.faults c.args.folder.now } in
     let new_files : Filed = record { files = g.F.Folder.files c.run.new.folder; faults = g.F.Folder.faults c.run.new.folder } in
-    let old_net : Linked = record { faults = g.N.Net.faults c.args.net.now } in
-    let new_net : Linked = record { faults = g.N.Net.faults c.run.new.net } in
+    let old_net : Linked g.row.N-L-P.Denot = record { state = g.N.Net.state c.args.net.now; faults = g.N.Net.faults c.args.net.now } in
+    let new_net : Linked g.row.N-L-P.Denot = record { state = g.N.Net.state c.run.new.net; faults = g.N.Net.faults c.run.new.net } in
+    let line_of = λ (p : g.row.N-L-P.Denot). let l : Line = record { left = g.N.L.P.Peer.left p; given = g.N.L.P.Peer.given p; read_faults = g.N.L.P.Peer.read_faults p; write_faults = g.N.L.P.Peer.write_faults p; ends = g.N.L.P.Peer.ends p } in l in
     let old_out : Output = record { held = g.K.Sink.held c.args.out.now; faults = g.K.Sink.faults c.args.out.now } in
     let new_out : Output = record { held = g.K.Sink.held c.run.new.out; faults = g.K.Sink.faults c.run.new.out } in
-    net_fault_cause (map string_bytes c.args.words.now) old_in new_in old_files new_files old_net new_net old_out new_out c.code.result (rw (← c.code.ensures) at c.run.ensures)
+    net_fault_cause line_of (g.C.Clock.of_fork c.args.clock.now) (map string_bytes c.args.words.now) old_in new_in old_files new_files old_net new_net old_out new_out c.code.result (rw (← c.code.ensures) at c.run.ensures)
 
 pub returns-clause-ran : goal.returns-clause-ran
 returns-clause-ran g c =
@@ -82,11 +89,12 @@ returns-clause-ran g c =
     let new_in : Input = record { left = g.S.Source.left c.run.new.input; faults = g.S.Source.faults c.run.new.input; ends = g.S.Source.ends c.run.new.input } in
     let old_files : Filed = record { files = g.F.Folder.files c.args.folder.now; faults = g.F.Folder.faults c.args.folder.now } in
     let new_files : Filed = record { files = g.F.Folder.files c.run.new.folder; faults = g.F.Folder.faults c.run.new.folder } in
-    let old_net : Linked = record { faults = g.N.Net.faults c.args.net.now } in
-    let new_net : Linked = record { faults = g.N.Net.faults c.run.new.net } in
+    let old_net : Linked g.row.N-L-P.Denot = record { state = g.N.Net.state c.args.net.now; faults = g.N.Net.faults c.args.net.now } in
+    let new_net : Linked g.row.N-L-P.Denot = record { state = g.N.Net.state c.run.new.net; faults = g.N.Net.faults c.run.new.net } in
+    let line_of = λ (p : g.row.N-L-P.Denot). let l : Line = record { left = g.N.L.P.Peer.left p; given = g.N.L.P.Peer.given p; read_faults = g.N.L.P.Peer.read_faults p; write_faults = g.N.L.P.Peer.write_faults p; ends = g.N.L.P.Peer.ends p } in l in
     let old_out : Output = record { held = g.K.Sink.held c.args.out.now; faults = g.K.Sink.faults c.args.out.now } in
     let new_out : Output = record { held = g.K.Sink.held c.run.new.out; faults = g.K.Sink.faults c.run.new.out } in
-    subst (Ran (map string_bytes c.args.words.now) old_in new_in old_files new_files old_net new_net old_out new_out) (sym c.code.ensures) c.run.ensures
+    subst (Ran line_of (g.C.Clock.of_fork c.args.clock.now) (map string_bytes c.args.words.now) old_in new_in old_files new_files old_net new_net old_out new_out) (sym c.code.ensures) c.run.ensures
 
 pub returns-clause-refused : goal.returns-clause-refused
 returns-clause-refused g c =
@@ -94,11 +102,12 @@ returns-clause-refused g c =
     let new_in : Input = record { left = g.S.Source.left c.run.new.input; faults = g.S.Source.faults c.run.new.input; ends = g.S.Source.ends c.run.new.input } in
     let old_files : Filed = record { files = g.F.Folder.files c.args.folder.now; faults = g.F.Folder.faults c.args.folder.now } in
     let new_files : Filed = record { files = g.F.Folder.files c.run.new.folder; faults = g.F.Folder.faults c.run.new.folder } in
-    let old_net : Linked = record { faults = g.N.Net.faults c.args.net.now } in
-    let new_net : Linked = record { faults = g.N.Net.faults c.run.new.net } in
+    let old_net : Linked g.row.N-L-P.Denot = record { state = g.N.Net.state c.args.net.now; faults = g.N.Net.faults c.args.net.now } in
+    let new_net : Linked g.row.N-L-P.Denot = record { state = g.N.Net.state c.run.new.net; faults = g.N.Net.faults c.run.new.net } in
+    let line_of = λ (p : g.row.N-L-P.Denot). let l : Line = record { left = g.N.L.P.Peer.left p; given = g.N.L.P.Peer.given p; read_faults = g.N.L.P.Peer.read_faults p; write_faults = g.N.L.P.Peer.write_faults p; ends = g.N.L.P.Peer.ends p } in l in
     let old_out : Output = record { held = g.K.Sink.held c.args.out.now; faults = g.K.Sink.faults c.args.out.now } in
     let new_out : Output = record { held = g.K.Sink.held c.run.new.out; faults = g.K.Sink.faults c.run.new.out } in
-    refused_cause (map string_bytes c.args.words.now) old_in new_in old_files new_files old_net new_net old_out new_out c.code.result (rw (← c.code.ensures) at c.run.ensures)
+    refused_cause line_of (g.C.Clock.of_fork c.args.clock.now) (map string_bytes c.args.words.now) old_in new_in old_files new_files old_net new_net old_out new_out c.code.result (rw (← c.code.ensures) at c.run.ensures)
 
 pub returns-clause-done : goal.returns-clause-done
 returns-clause-done g c =
@@ -106,11 +115,12 @@ returns-clause-done g c =
     let new_in : Input = record { left = g.S.Source.left c.run.new.input; faults = g.S.Source.faults c.run.new.input; ends = g.S.Source.ends c.run.new.input } in
     let old_files : Filed = record { files = g.F.Folder.files c.args.folder.now; faults = g.F.Folder.faults c.args.folder.now } in
     let new_files : Filed = record { files = g.F.Folder.files c.run.new.folder; faults = g.F.Folder.faults c.run.new.folder } in
-    let old_net : Linked = record { faults = g.N.Net.faults c.args.net.now } in
-    let new_net : Linked = record { faults = g.N.Net.faults c.run.new.net } in
+    let old_net : Linked g.row.N-L-P.Denot = record { state = g.N.Net.state c.args.net.now; faults = g.N.Net.faults c.args.net.now } in
+    let new_net : Linked g.row.N-L-P.Denot = record { state = g.N.Net.state c.run.new.net; faults = g.N.Net.faults c.run.new.net } in
+    let line_of = λ (p : g.row.N-L-P.Denot). let l : Line = record { left = g.N.L.P.Peer.left p; given = g.N.L.P.Peer.given p; read_faults = g.N.L.P.Peer.read_faults p; write_faults = g.N.L.P.Peer.write_faults p; ends = g.N.L.P.Peer.ends p } in l in
     let old_out : Output = record { held = g.K.Sink.held c.args.out.now; faults = g.K.Sink.faults c.args.out.now } in
     let new_out : Output = record { held = g.K.Sink.held c.run.new.out; faults = g.K.Sink.faults c.run.new.out } in
-    shown_cause (map string_bytes c.args.words.now) old_in new_in old_files new_files old_net new_net old_out new_out c.code.result (rw (← c.code.ensures) at c.run.ensures) true
+    shown_cause line_of (g.C.Clock.of_fork c.args.clock.now) (map string_bytes c.args.words.now) old_in new_in old_files new_files old_net new_net old_out new_out c.code.result (rw (← c.code.ensures) at c.run.ensures) true
 
 pub returns-clause-wrong : goal.returns-clause-wrong
 returns-clause-wrong g c =
@@ -118,11 +128,12 @@ returns-clause-wrong g c =
     let new_in : Input = record { left = g.S.Source.left c.run.new.input; faults = g.S.Source.faults c.run.new.input; ends = g.S.Source.ends c.run.new.input } in
     let old_files : Filed = record { files = g.F.Folder.files c.args.folder.now; faults = g.F.Folder.faults c.args.folder.now } in
     let new_files : Filed = record { files = g.F.Folder.files c.run.new.folder; faults = g.F.Folder.faults c.run.new.folder } in
-    let old_net : Linked = record { faults = g.N.Net.faults c.args.net.now } in
-    let new_net : Linked = record { faults = g.N.Net.faults c.run.new.net } in
+    let old_net : Linked g.row.N-L-P.Denot = record { state = g.N.Net.state c.args.net.now; faults = g.N.Net.faults c.args.net.now } in
+    let new_net : Linked g.row.N-L-P.Denot = record { state = g.N.Net.state c.run.new.net; faults = g.N.Net.faults c.run.new.net } in
+    let line_of = λ (p : g.row.N-L-P.Denot). let l : Line = record { left = g.N.L.P.Peer.left p; given = g.N.L.P.Peer.given p; read_faults = g.N.L.P.Peer.read_faults p; write_faults = g.N.L.P.Peer.write_faults p; ends = g.N.L.P.Peer.ends p } in l in
     let old_out : Output = record { held = g.K.Sink.held c.args.out.now; faults = g.K.Sink.faults c.args.out.now } in
     let new_out : Output = record { held = g.K.Sink.held c.run.new.out; faults = g.K.Sink.faults c.run.new.out } in
-    shown_cause (map string_bytes c.args.words.now) old_in new_in old_files new_files old_net new_net old_out new_out c.code.result (rw (← c.code.ensures) at c.run.ensures) false
+    shown_cause line_of (g.C.Clock.of_fork c.args.clock.now) (map string_bytes c.args.words.now) old_in new_in old_files new_files old_net new_net old_out new_out c.code.result (rw (← c.code.ensures) at c.run.ensures) false
 
 pub returns-clause-net : goal.returns-clause-net
 returns-clause-net g c =
@@ -130,8 +141,22 @@ returns-clause-net g c =
     let new_in : Input = record { left = g.S.Source.left c.run.new.input; faults = g.S.Source.faults c.run.new.input; ends = g.S.Source.ends c.run.new.input } in
     let old_files : Filed = record { files = g.F.Folder.files c.args.folder.now; faults = g.F.Folder.faults c.args.folder.now } in
     let new_files : Filed = record { files = g.F.Folder.files c.run.new.folder; faults = g.F.Folder.faults c.run.new.folder } in
-    let old_net : Linked = record { faults = g.N.Net.faults c.args.net.now } in
-    let new_net : Linked = record { faults = g.N.Net.faults c.run.new.net } in
+    let old_net : Linked g.row.N-L-P.Denot = record { state = g.N.Net.state c.args.net.now; faults = g.N.Net.faults c.args.net.now } in
+    let new_net : Linked g.row.N-L-P.Denot = record { state = g.N.Net.state c.run.new.net; faults = g.N.Net.faults c.run.new.net } in
+    let line_of = λ (p : g.row.N-L-P.Denot). let l : Line = record { left = g.N.L.P.Peer.left p; given = g.N.L.P.Peer.given p; read_faults = g.N.L.P.Peer.read_faults p; write_faults = g.N.L.P.Peer.write_faults p; ends = g.N.L.P.Peer.ends p } in l in
     let old_out : Output = record { held = g.K.Sink.held c.args.out.now; faults = g.K.Sink.faults c.args.out.now } in
     let new_out : Output = record { held = g.K.Sink.held c.run.new.out; faults = g.K.Sink.faults c.run.new.out } in
-    net_cause (map string_bytes c.args.words.now) old_in new_in old_files new_files old_net new_net old_out new_out c.code.result (rw (← c.code.ensures) at c.run.ensures)
+    net_cause line_of (g.C.Clock.of_fork c.args.clock.now) (map string_bytes c.args.words.now) old_in new_in old_files new_files old_net new_net old_out new_out c.code.result (rw (← c.code.ensures) at c.run.ensures)
+
+pub returns-clause-all_back : goal.returns-clause-all_back
+returns-clause-all_back g c =
+    let old_in : Input = record { left = g.S.Source.left c.args.input.now; faults = g.S.Source.faults c.args.input.now; ends = g.S.Source.ends c.args.input.now } in
+    let new_in : Input = record { left = g.S.Source.left c.run.new.input; faults = g.S.Source.faults c.run.new.input; ends = g.S.Source.ends c.run.new.input } in
+    let old_files : Filed = record { files = g.F.Folder.files c.args.folder.now; faults = g.F.Folder.faults c.args.folder.now } in
+    let new_files : Filed = record { files = g.F.Folder.files c.run.new.folder; faults = g.F.Folder.faults c.run.new.folder } in
+    let old_net : Linked g.row.N-L-P.Denot = record { state = g.N.Net.state c.args.net.now; faults = g.N.Net.faults c.args.net.now } in
+    let new_net : Linked g.row.N-L-P.Denot = record { state = g.N.Net.state c.run.new.net; faults = g.N.Net.faults c.run.new.net } in
+    let line_of = λ (p : g.row.N-L-P.Denot). let l : Line = record { left = g.N.L.P.Peer.left p; given = g.N.L.P.Peer.given p; read_faults = g.N.L.P.Peer.read_faults p; write_faults = g.N.L.P.Peer.write_faults p; ends = g.N.L.P.Peer.ends p } in l in
+    let old_out : Output = record { held = g.K.Sink.held c.args.out.now; faults = g.K.Sink.faults c.args.out.now } in
+    let new_out : Output = record { held = g.K.Sink.held c.run.new.out; faults = g.K.Sink.faults c.run.new.out } in
+    back_cause line_of (g.C.Clock.of_fork c.args.clock.now) (map string_bytes c.args.words.now) old_in new_in old_files new_files old_net new_net old_out new_out c.code.result (rw (← c.code.ensures) at c.run.ensures)

@@ -1,4 +1,5 @@
 use Rattle.std.proofs.Common.{refl, ap, inl, false, Err, List, ℕ}
+use Rattle.proxy_session.specs.Outside.{Line}
 use Rattle.linker.specs.Check.{TellsPath}
 use Rattle.linker.specs.Run.{Filed, Linked, Output, line_told, read_failed, no_memory}
 use Rattle.linker.specs.Told.{code_of}
@@ -12,12 +13,13 @@ returns-in-Ok-clause-served g c =
     let old_files : Filed = record { files = g.F.Folder.files c.args.folder.now; faults = g.F.Folder.faults c.args.folder.now } in
     let mid_files : Filed = record { files = g.F.Folder.files c.configured.new.folder; faults = g.F.Folder.faults c.configured.new.folder } in
     let new_files : Filed = record { files = g.F.Folder.files c.serve_by.new.folder; faults = g.F.Folder.faults c.serve_by.new.folder } in
-    let old_net : Linked = record { faults = g.N.Net.faults c.args.net.now } in
-    let new_net : Linked = record { faults = g.N.Net.faults c.serve_by.new.net } in
+    let old_net : Linked g.row.N-L-P.Denot = record { state = g.N.Net.state c.args.net.now; faults = g.N.Net.faults c.args.net.now } in
+    let new_net : Linked g.row.N-L-P.Denot = record { state = g.N.Net.state c.serve_by.new.net; faults = g.N.Net.faults c.serve_by.new.net } in
+    let line_of = λ (p : g.row.N-L-P.Denot). let l : Line = record { left = g.N.L.P.Peer.left p; given = g.N.L.P.Peer.given p; read_faults = g.N.L.P.Peer.read_faults p; write_faults = g.N.L.P.Peer.write_faults p; ends = g.N.L.P.Peer.ends p } in l in
     let old : Output = record { held = g.K.Sink.held c.args.out.now; faults = g.K.Sink.faults c.args.out.now } in
     let new : Output = record { held = g.K.Sink.held c.serve_by.new.out; faults = g.K.Sink.faults c.serve_by.new.out } in
     let e = c.in-Ok.ensures in
-    serves_from c.args.path.now c.in-Ok.config old_files mid_files new_files old_net new_net old new (code_of c.serve_by.result) e.files (e.kept (λ is. cc is)) e.config c.serve_by.ensures.served
+    serves_from line_of (g.C.Clock.of_fork c.args.clock.now) c.args.path.now c.in-Ok.config old_files mid_files new_files old_net new_net old new (code_of c.serve_by.result) e.files (e.kept (λ is. cc is)) e.config c.serve_by.ensures.served
 
 pub returns-in-Err-Wrong-clause-served : goal.returns-in-Err-Wrong-clause-served
 returns-in-Err-Wrong-clause-served g c =

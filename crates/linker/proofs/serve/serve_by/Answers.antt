@@ -1,4 +1,5 @@
 use Rattle.std.proofs.Common.{refl, inr, false}
+use Rattle.proxy_session.specs.Outside.{Line}
 use Rattle.linker.specs.Run.{Filed, Linked, Output, line_told, read_failed, no_memory}
 use Rattle.linker.specs.Served.{file_line}
 use Rattle.linker.specs.Told.{code_of}
@@ -50,9 +51,10 @@ pub returns-clause-served : goal.returns-clause-served
 returns-clause-served g c = λ path right.
     let old_files : Filed = record { files = g.F.Folder.files c.args.folder.now; faults = g.F.Folder.faults c.args.folder.now } in
     let new_files : Filed = record { files = g.F.Folder.files c.load.new.folder; faults = g.F.Folder.faults c.load.new.folder } in
-    let old_net : Linked = record { faults = g.N.Net.faults c.args.net.now } in
-    let new_net : Linked = record { faults = g.N.Net.faults c.serve_opened.new.net } in
+    let old_net : Linked g.row.N-L-P.Denot = record { state = g.N.Net.state c.args.net.now; faults = g.N.Net.faults c.args.net.now } in
+    let new_net : Linked g.row.N-L-P.Denot = record { state = g.N.Net.state c.serve_opened.new.net; faults = g.N.Net.faults c.serve_opened.new.net } in
+    let line_of = λ (p : g.row.N-L-P.Denot). let l : Line = record { left = g.N.L.P.Peer.left p; given = g.N.L.P.Peer.given p; read_faults = g.N.L.P.Peer.read_faults p; write_faults = g.N.L.P.Peer.write_faults p; ends = g.N.L.P.Peer.ends p } in l in
     let old : Output = record { held = g.K.Sink.held c.args.out.now; faults = g.K.Sink.faults c.args.out.now } in
     let new : Output = record { held = g.K.Sink.held c.serve_opened.new.out; faults = g.K.Sink.faults c.serve_opened.new.out } in
-    course_of_end path c.args.config old_files new_files old_net new_net old new (code_of c.serve_opened.result) right c.in-Ok.ensures.cause.count
-    (c.serve_opened.ensures c.args.config (record { server = refl; namerd = refl; admin = refl }))
+    course_of_end line_of (g.C.Clock.of_fork c.args.clock.now) path c.args.config old_files new_files old_net new_net old new (code_of c.serve_opened.result) right c.in-Ok.ensures.cause.count
+    (c.serve_opened.ensures (g.F.Folder.files c.args.folder.now) c.args.config (record { site_is = refl; settings_are = c.in-Ok-open.ensures.settings; loads = c.in-Ok.ensures.loads }))

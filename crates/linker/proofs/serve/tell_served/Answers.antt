@@ -15,8 +15,7 @@ returns-then-served g c =
       closed_line place ++ memory_line,
       short,
       status.Memory,
-      inr (place, refl),
-      λ is. cc is,
+      inr (c.if-served.true, refl),
       refl,
       subst (λ (line : List ℕ). Tells line status.Memory old new c.tell-then-served.result) (c.as_bytes.ensures.value ∙ (c.in-Ok.ensures ∙ ap last c.if-served.true)) c.tell-then-served.ensures,
     )

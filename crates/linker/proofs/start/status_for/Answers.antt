@@ -1,5 +1,6 @@
 use Rattle.std.proofs.Common.{ℕ, List, map, ap, sym, subst, ◌∙◌}
 use Rattle.std.specs.Prelude.{string_bytes}
+use Rattle.proxy_session.specs.Outside.{Line}
 use Rattle.linker.specs.Run.{Input, Filed, Linked, Output, Ran, words_of}
 use Rattle.linker.proofs.Runs.{no_words}
 use Rattle.linker.proofs.start.status_for.Goals as goal
@@ -10,29 +11,32 @@ returns-in-Ok-words_behind_name g c =
     let new_in : Input = record { left = g.S.Source.left c.linker.new.input; faults = g.S.Source.faults c.linker.new.input; ends = g.S.Source.ends c.linker.new.input } in
     let old_files : Filed = record { files = g.F.Folder.files c.args.folder.now; faults = g.F.Folder.faults c.args.folder.now } in
     let new_files : Filed = record { files = g.F.Folder.files c.linker.new.folder; faults = g.F.Folder.faults c.linker.new.folder } in
-    let old_net : Linked = record { faults = g.N.Net.faults c.args.net.now } in
-    let new_net : Linked = record { faults = g.N.Net.faults c.linker.new.net } in
+    let old_net : Linked g.row.N-L-P.Denot = record { state = g.N.Net.state c.args.net.now; faults = g.N.Net.faults c.args.net.now } in
+    let line_of = λ (p : g.row.N-L-P.Denot). let l : Line = record { left = g.N.L.P.Peer.left p; given = g.N.L.P.Peer.given p; read_faults = g.N.L.P.Peer.read_faults p; write_faults = g.N.L.P.Peer.write_faults p; ends = g.N.L.P.Peer.ends p } in l in
+    let new_net : Linked g.row.N-L-P.Denot = record { state = g.N.Net.state c.linker.new.net; faults = g.N.Net.faults c.linker.new.net } in
     let old_out : Output = record { held = g.K.Sink.held c.args.out.now; faults = g.K.Sink.faults c.args.out.now } in
     let new_out : Output = record { held = g.K.Sink.held c.linker.new.out; faults = g.K.Sink.faults c.linker.new.out } in
-    subst (λ (words : List (List ℕ)). Ran words old_in new_in old_files new_files old_net new_net old_out new_out c.linker.result)
+    subst (λ (words : List (List ℕ)). Ran line_of (g.C.Clock.of_fork c.args.clock.now) words old_in new_in old_files new_files old_net new_net old_out new_out c.linker.result)
     (ap (map string_bytes) (c.as_slice.ensures.value ∙ c.in-Ok-words_behind_name.ensures) ∙ sym (ap words_of c.in-Ok.is)) c.linker.ensures.ran
 
 pub returns-in-Err-words_behind_name : goal.returns-in-Err-words_behind_name
 returns-in-Err-words_behind_name g c =
     let old_in : Input = record { left = g.S.Source.left c.args.input.now; faults = g.S.Source.faults c.args.input.now; ends = g.S.Source.ends c.args.input.now } in
     let old_files : Filed = record { files = g.F.Folder.files c.args.folder.now; faults = g.F.Folder.faults c.args.folder.now } in
-    let old_net : Linked = record { faults = g.N.Net.faults c.args.net.now } in
+    let old_net : Linked g.row.N-L-P.Denot = record { state = g.N.Net.state c.args.net.now; faults = g.N.Net.faults c.args.net.now } in
+    let line_of = λ (p : g.row.N-L-P.Denot). let l : Line = record { left = g.N.L.P.Peer.left p; given = g.N.L.P.Peer.given p; read_faults = g.N.L.P.Peer.read_faults p; write_faults = g.N.L.P.Peer.write_faults p; ends = g.N.L.P.Peer.ends p } in l in
     let old_out : Output = record { held = g.K.Sink.held c.args.out.now; faults = g.K.Sink.faults c.args.out.now } in
     let new_out : Output = record { held = g.K.Sink.held c.tell.new.out; faults = g.K.Sink.faults c.tell.new.out } in
     let words = words_of c.args.arguments in
-    subst (Ran words old_in old_in old_files old_files old_net old_net old_out new_out) (sym c.code.ensures) (no_words words old_in old_files old_net old_out new_out c.tell.result c.tell.ensures)
+    subst (Ran line_of (g.C.Clock.of_fork c.args.clock.now) words old_in old_in old_files old_files old_net old_net old_out new_out) (sym c.code.ensures) (no_words line_of (g.C.Clock.of_fork c.args.clock.now) words old_in old_files old_net old_out new_out c.tell.result c.tell.ensures)
 
 pub returns-in-Err : goal.returns-in-Err
 returns-in-Err g c =
     let old_in : Input = record { left = g.S.Source.left c.args.input.now; faults = g.S.Source.faults c.args.input.now; ends = g.S.Source.ends c.args.input.now } in
     let old_files : Filed = record { files = g.F.Folder.files c.args.folder.now; faults = g.F.Folder.faults c.args.folder.now } in
-    let old_net : Linked = record { faults = g.N.Net.faults c.args.net.now } in
+    let old_net : Linked g.row.N-L-P.Denot = record { state = g.N.Net.state c.args.net.now; faults = g.N.Net.faults c.args.net.now } in
+    let line_of = λ (p : g.row.N-L-P.Denot). let l : Line = record { left = g.N.L.P.Peer.left p; given = g.N.L.P.Peer.given p; read_faults = g.N.L.P.Peer.read_faults p; write_faults = g.N.L.P.Peer.write_faults p; ends = g.N.L.P.Peer.ends p } in l in
     let old_out : Output = record { held = g.K.Sink.held c.args.out.now; faults = g.K.Sink.faults c.args.out.now } in
     let new_out : Output = record { held = g.K.Sink.held c.tell-in-Err.new.out; faults = g.K.Sink.faults c.tell-in-Err.new.out } in
     let words = words_of c.args.arguments in
-    subst (Ran words old_in old_in old_files old_files old_net old_net old_out new_out) (sym c.code-in-Err.ensures) (no_words words old_in old_files old_net old_out new_out c.tell-in-Err.result c.tell-in-Err.ensures)
+    subst (Ran line_of (g.C.Clock.of_fork c.args.clock.now) words old_in old_in old_files old_files old_net old_net old_out new_out) (sym c.code-in-Err.ensures) (no_words line_of (g.C.Clock.of_fork c.args.clock.now) words old_in old_files old_net old_out new_out c.tell-in-Err.result c.tell-in-Err.ensures)

@@ -32,4 +32,4 @@ returns-in-Ok-clause-want g c =
     (λ k. ns_demand c.args.head.now (line k) (body k)) c.answer_at.ensures.want)
 
 pub returns-in-Err-OutOfMemory-clause-want : goal.returns-in-Err-OutOfMemory-clause-want
-returns-in-Err-OutOfMemory-clause-want g c = λ form served. leaves_all (ns_demand c.args.head.now form.1 c.args.body.now.items) c.args.pass.now
+returns-in-Err-OutOfMemory-clause-want g c = λ form served. leaves_all (ns_demand c.args.head.now form.line c.args.body.now.items) c.args.pass.now

@@ -4,13 +4,10 @@ use Rattle.proxy_session.specs.Asking.{drawn}
 use Rattle.proxy_session.specs.Callers.{caller_of}
 use Rattle.proxy_session.specs.Sought.{sought_of}
 use Rattle.dtab_table.specs.Dtab.{rules_of}
-use Rattle.proxy_session.proofs.Exchanging.{clear_found, routes_sent, routes_stopped, stopped_for, word_found}
+use Rattle.proxy_session.proofs.Exchanging.{routes_sent, routes_stopped, stopped_for, word_found}
 use Rattle.proxy_session.proofs.Resting.{idle_same, rests_same}
 use Rattle.proxy_session.proofs.Slots.{finding_slot, finding_word, stopping_slot}
 use Rattle.proxy_session.proofs.exchange.route.Goals as goal
-
-pub send_found-requires-clause-clear : goal.send_found-requires-clause-clear
-send_found-requires-clause-clear g c = let f = c.in-Ok.ensures.ok in clear_found f.0 c.find.new.names c.in-Ok.found f.2
 
 pub send_found-requires-clause-word : goal.send_found-requires-clause-word
 send_found-requires-clause-word g c =

@@ -10,7 +10,7 @@ returns-in_default-clause-sends g c = inl (rests_same (record { left = g.P.Peer.
 pub returns-clause-sends : goal.returns-clause-sends
 returns-clause-sends g c =
     inr (record {
-      onward = c.in-Ok.out.items;
+      onward = c.named_head-written.new.out.items;
       is_head = c.in-Ok.ensures;
       how = c.try_held-tried.result;
       between = (record { left = g.P.Peer.left c.try_held-tried.new.peer; given = g.P.Peer.given c.try_held-tried.new.peer; read_faults = g.P.Peer.read_faults c.try_held-tried.new.peer; write_faults = g.P.Peer.write_faults c.try_held-tried.new.peer; ends = g.P.Peer.ends c.try_held-tried.new.peer });

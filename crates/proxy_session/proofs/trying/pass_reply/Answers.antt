@@ -15,7 +15,7 @@ returns-clause-backs g c =
       grows_by_pieces (g.D.Dialer.log c.args.dialer.now) (g.D.Dialer.log c.pass_back-passed.new.dialer) b.0 b.3,
       backs_by c.args.head.now c.args.last c.args.reply.now c.args.framing (record { left = g.P.Peer.left c.args.peer.now; given = g.P.Peer.given c.args.peer.now; read_faults = g.P.Peer.read_faults c.args.peer.now; write_faults = g.P.Peer.write_faults c.args.peer.now; ends = g.P.Peer.ends c.args.peer.now }) (record { left = g.P.Peer.left c.pass_back-passed.new.peer; given = g.P.Peer.given c.pass_back-passed.new.peer; read_faults = g.P.Peer.read_faults c.pass_back-passed.new.peer; write_faults = g.P.Peer.write_faults c.pass_back-passed.new.peer; ends = g.P.Peer.ends c.pass_back-passed.new.peer }) c.args.back.now c.pass_back-passed.new.rest
           (g.D.Dialer.faults c.args.dialer.now) (g.D.Dialer.faults c.pass_back-passed.new.dialer) b.0 c.knows_chunks-chunked.result c.closes_behind-closes.result c.is_closing.result
-          c.in-Ok.out.items c.knows_chunks-chunked.ensures c.closes_behind-closes.ensures c.is_closing.ensures c.in-Ok.ensures c.pass_back-passed.result
+          c.back_head_into-written.new.out.items c.knows_chunks-chunked.ensures c.closes_behind-closes.ensures c.is_closing.ensures c.in-Ok.ensures.ok c.pass_back-passed.result
           (record {
             written = b.1;
             given = b.4;

@@ -1,4 +1,5 @@
 use Rattle.std.proofs.Common.{◌≡◌, ◌+◌, ◌≤◌, ◌++◌, length, vec_capacity}
+use Rattle.std.specs.List.{AllByRecursion}
 use Rattle.std.specs.Vec.Iter.{into_iter_items}
 use mathlib.Core.List.{IsPrefix}
 use Rattle.router.specs.Closing.{numbers_of}
@@ -16,4 +17,5 @@ invariant-loop-other g l = record {
   number : number_in l.pass ≡ number_in l.fn.pass;
   slot : slot_in l.pass ≡ slot_in l.fn.pass;
   seen : IsPrefix (seen_in l.fn.pass) (seen_in l.pass);
+  all : AllByRecursion (λ p. IsPrefix (seen_in l.fn.pass) (seen_in p)) l.met.items;
 }

@@ -1,9 +1,13 @@
 use Rattle.std.proofs.Common.{sym, subst, ◌∙◌}
 use Rattle.serving.specs.Passes.{AreFree}
 use Rattle.serving.proofs.Chains.{free_end, free_push}
+use Rattle.serving.proofs.Services.{seen_where}
 use Rattle.serving.proofs.loading.set_services.Goals as goal
 
 pub returns-clause-free : goal.returns-clause-free
 returns-clause-free g c =
     let last = free_end c.args.passes.items c.pop.new.self.items c.in-Some.last c.in-Some.ensures.items c.requires.free in
     subst AreFree (sym c.push_reserved.ensures.items) (free_push c.meet_each.new.met.items c.meet_each.new.pass c.meet_each.ensures.free (c.meet_each.ensures.slot ∙ (c.set_each-set.ensures.slot ∙ last)))
+
+pub returns-clause-seen : goal.returns-clause-seen
+returns-clause-seen g c = seen_where c.set_each-set.result c.args.items.items _ _ _ _ c.set_each-set.ensures.set c.push_reserved.ensures.items c.meet_each.ensures.met c.meet_each.ensures.seen

@@ -1,11 +1,13 @@
 use denote.Exit.{no}
 use denote.Param.Send.{arg_send, param_send}
-use Rattle.std.proofs.Common.{◌++◌, List, ℕ, arith, ap, ◌∙◌}
+use Rattle.std.proofs.Common.{Vec, Global, arith, ap}
 use Rattle.router.specs.Closing.{numbers_of}
-use Rattle.serving.specs.Jobs.{number_of}
+use Rattle.proxy_session.specs.Outside.{Line, Upstream}
+use Rattle.serving.specs.Jobs.{passes_of_jobs}
 use Rattle.serving.specs.declared.job.ServingJob.{ServingJob}
-use Rattle.serving.proofs.Chains.{zip_length, zip_same}
+use Rattle.serving.proofs.Chains.{numbers_back, zip_length}
 use Rattle.serving.proofs.Sending.{job_send}
+use Rattle.serving.proofs.Shifts.{same_numbers}
 use Rattle.serving.proofs.running.run_all.Goals as goal
 
 pub run_workers-requires-send-J : goal.run_workers-requires-send-J
@@ -19,9 +21,24 @@ take_all_back-requires-clause-room g c κs within =
 
 pub returns-in-Ok-clause-numbers : goal.returns-in-Ok-clause-numbers
 returns-in-Ok-clause-numbers g c =
-    let same = zip_same _ (λ (j : ServingJob g.row.J.Denot g.row.N-L.Denot g.row.N-D.Denot g.row.C.Denot g.row.N-S.Denot g.J.Naming). number_of j) (λ a b e runs. runs) c.args.jobs.items c.in-Ok.ended.items c.in-Ok.ensures in
-    c.take_all_back.ensures.numbers ∙ ap (λ (ns : List ℕ). numbers_of c.args.back.now.items ++ ns) same
+    let line_of = λ (p : g.row.N-L-P.Denot). let l : Line = record { left = g.N.L.P.Peer.left p; given = g.N.L.P.Peer.given p; read_faults = g.N.L.P.Peer.read_faults p; write_faults = g.N.L.P.Peer.write_faults p; ends = g.N.L.P.Peer.ends p } in l in
+    let upstream = λ (d : g.row.N-D.Denot). let u : Upstream = record { log = g.N.D.Dialer.log d; is_open = g.N.D.Dialer.is_open d; faults = g.N.D.Dialer.faults d } in u in
+    let same = same_numbers line_of g.N.L.Listener.state upstream g.C.Clock.to_come g.N.S.Stop.calls c.args.jobs.items c.in-Ok.ended.items c.in-Ok.ensures in
+    numbers_back _ c.args.back.now.items _ _ c.take_all_back.ensures.passes same
 
 pub returns-in-Ok-clause-room : goal.returns-in-Ok-clause-room
 returns-in-Ok-clause-room g c =
     let same = zip_length _ c.args.jobs.items c.in-Ok.ended.items c.in-Ok.ensures in (omega (arith, same, c.take_all_back.ensures.room.0), c.take_all_back.ensures.room.1)
+
+pub returns-in-Ok-clause-came : goal.returns-in-Ok-clause-came
+returns-in-Ok-clause-came g c = λ ran.
+    let all = c.take_all_back.ensures in
+    record { back = c.in-Ok.ended.items; ran = c.in-Ok.ensures; passes_are = all.passes; net_is = all.state; failed_is = all.failed; lacked_is = all.lacked }
+
+pub returns-in-Err-clause-numbers : goal.returns-in-Err-clause-numbers
+returns-in-Err-clause-numbers g c =
+    let same = ap (λ (js : Vec (ServingJob g.row.J.Denot g.row.N-L.Denot g.row.N-D.Denot g.row.C.Denot g.row.N-S.Denot g.J.Naming) Global). numbers_of (passes_of_jobs js.items)) c.in-Err.ensures in
+    numbers_back _ c.args.back.now.items (passes_of_jobs c.in-Err.field-0.jobs.items) (passes_of_jobs c.args.jobs.items) c.take_unrun_back.ensures.passes same
+
+pub returns-in-Err-clause-came : goal.returns-in-Err-clause-came
+returns-in-Err-clause-came g c = λ ran. cc ran

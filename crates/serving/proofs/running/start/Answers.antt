@@ -1,4 +1,6 @@
-use Rattle.std.proofs.Common.{arith}
+use Rattle.std.proofs.Common.{List, arith, subst}
+use Rattle.linker_config.specs.declared.loaded.LoadedItem.{LoadedItem}
+use Rattle.serving.specs.Services.{HaveSeen}
 use Rattle.serving.proofs.Chains.{met_apart, new_apart, new_free, same_length}
 use Rattle.serving.proofs.running.start.Goals as goal
 
@@ -39,9 +41,16 @@ close-requires-in-Err-OutOfMemory-bind-clause-all g c =
 pub returns-in-Ok-bind-clause-ready : goal.returns-in-Ok-bind-clause-ready
 returns-in-Ok-bind-clause-ready g c =
     let same = same_length c.set_services-set.new.met.items c.in-Ok.passes.items c.set_services-set.ensures.numbers in
-    let bound = c.in-Ok-bind.ensures.count in record {
+    record {
       apart = met_apart c.in-Ok.passes.items c.set_services-set.new.met.items c.in-Ok.ensures.passes c.set_services-set.ensures.numbers;
       all = omega (arith, same, c.in-Ok.ensures.count);
       free = c.set_services-set.ensures.free;
-      enough = omega (arith, same, c.in-Ok.ensures.count, bound.0, bound.1, bound.2, c.requires.seats.0, c.requires.seats.1);
     }
+
+pub returns-in-Ok-bind-clause-seats : goal.returns-in-Ok-bind-clause-seats
+returns-in-Ok-bind-clause-seats g c =
+    let same = same_length c.set_services-set.new.met.items c.in-Ok.passes.items c.set_services-set.ensures.numbers in
+    omega (arith, same, c.in-Ok.ensures.count, c.requires.seats.0, c.requires.seats.1)
+
+pub returns-in-Ok-bind-clause-seen : goal.returns-in-Ok-bind-clause-seen
+returns-in-Ok-bind-clause-seen g c = subst (λ (items : List LoadedItem). HaveSeen items c.set_services-set.new.met.items) c.into_items.ensures c.in-Ok-set.ensures.seen

@@ -1,13 +1,12 @@
-use Rattle.std.proofs.Common.{◌≡◌, ◌+◌, ◌≤◌, ◌++◌, length, map, vec_len, vec_capacity}
+use Rattle.std.proofs.Common.{◌≡◌, ◌+◌, ◌≤◌, ◌++◌, length, vec_len, vec_capacity}
 use Rattle.std.specs.Vec.Iter.{into_iter_items}
-use Rattle.router.specs.Closing.{numbers_of}
 use Rattle.serving.specs.Faults.{TellsFaults}
-use Rattle.serving.specs.Jobs.{number_of, numbers_of_jobs}
+use Rattle.serving.specs.Jobs.{passes_of_jobs}
 use Rattle.serving.proofs.taking_back.take_unrun_back.Given as goal
 
 abbrev pub invariant-loop-job : goal.invariant-loop-job
 invariant-loop-job g l = record {
-  numbers : numbers_of l.passes.items ++ numbers_of_jobs (into_iter_items l.job-iterator) ≡ numbers_of l.fn.passes.items ++ numbers_of_jobs l.fn.jobs.items;
+  passes : l.passes.items ++ passes_of_jobs (into_iter_items l.job-iterator) ≡ l.fn.passes.items ++ passes_of_jobs l.fn.jobs.items;
   count : vec_len l.passes + length (into_iter_items l.job-iterator) ≡ vec_len l.fn.passes + length l.fn.jobs.items;
   room : vec_len l.passes + length (into_iter_items l.job-iterator) ≤ vec_capacity l.passes;
   faults : TellsFaults (g.N.Net.faults l.fn.net) (g.N.Net.faults l.net) l.tally.failed;

@@ -1,8 +1,7 @@
-use Rattle.std.proofs.Common.{◌≡◌, ◌++◌, map, drop}
+use Rattle.std.proofs.Common.{◌≡◌, map, take}
 use Rattle.name_tree.specs.Tree.{value_of}
-use Rattle.dtab_table.specs.Dtab.{rules_of, rewrites}
-use Rattle.dtab_table.proofs.Rewriting.{trees_at}
+use Rattle.dtab_table.specs.Dtab.{rewritten_by_each}
 use Rattle.dtab_table.proofs.dtab.Dtab.lookup.Given as goal
 
-abbrev pub invariant-loop-at : goal.invariant-loop-at
-invariant-loop-at g l = map value_of l.trees.items ++ trees_at l.self.entries.items l.path (drop l.at-index l.at-items) ≡ rewrites (rules_of l.self) l.path
+abbrev pub invariant-loop-entry : goal.invariant-loop-entry
+invariant-loop-entry g l = map value_of l.trees.items ≡ rewritten_by_each l.path (take l.entry-index l.entry-items)

@@ -1,0 +1,90 @@
+-- From a run of all jobs to the whole claim.
+use Rattle.std.proofs.Common.{◌≡◌, ℕ, ◌+◌, ◌≤◌, ◌&&◌, ◌==◌, Bool, true, false, List, [], ◌∷◌, ◌++◌, length, map, sym, ap, subst, ◌∙◌, arith}
+use Rattle.std.proofs.lemmas.Bool.Decides.{nat_tests}
+use Rattle.std.proofs.lemmas.List.Elements.{All-head, All-tail}
+use Rattle.std.specs.Prelude.{All, IfSome, Option, nat_lt, option_map}
+use Rattle.std.specs.List.{AllByRecursion, AllZip}
+use Rattle.line_base.specs.declared.listener.Endpoint.{Endpoint}
+use Rattle.line_base.specs.Nets.{Ended, Networking, Returns, is_clean}
+use Rattle.one_history.specs.Order.{Distinct}
+use Rattle.workers.specs.Served.{raised_by}
+use Rattle.identifier.specs.declared.rule.Rule.{Rule}
+use Rattle.linker_config.specs.declared.loaded.LoadedItem.{LoadedItem}
+use Rattle.router.specs.declared.naming.Naming.{Ghosts}
+use Rattle.router.specs.declared.pass.Pass.{Pass}
+use Rattle.router.specs.Closing.{IsClosed, IsOf, numbers_of}
+use Rattle.router.proofs.Closing.{map_length}
+use Rattle.proxy_session.specs.Outside.{Line}
+use Rattle.serving.specs.declared.running.Served.{Served}
+use Rattle.serving.specs.declared.site.Site.{Site}
+use Rattle.serving.specs.Ending.{HasServed}
+use Rattle.serving.specs.Services.{HaveSeen}
+use Rattle.serving.specs.Posts.{Post, clients, interface, posts_of}
+use Rattle.serving.specs.Returning.{with_all, with_stops}
+use Rattle.serving.specs.Running.{HasRun}
+use Rattle.serving.specs.Shifts.{IsTended, ServesPost, Shift}
+use Rattle.serving.proofs.Services.{last_seen, loaded_few}
+use Rattle.serving.proofs.Returning.{ended_clean, ended_given, ended_returned, ended_told, given_clean, given_returned, given_stops, given_told}
+use Rattle.serving.proofs.Shifts.{all_posts}
+use Rattle.serving.proofs.Zipping.{zip_count}
+
+both_true : (a b : Bool) → a ≡ true → b ≡ true → (a && b) ≡ true
+both_true true b p q = q
+both_true false b p q = cc p
+
+all_last : {A : Type 0} (Q : A → Type 0) (xs : List A) (x : A) → All Q (xs ++ x ∷ []) → Q x
+all_last Q [] x all = All-head Q x [] all
+all_last Q (y ∷ xs) x all = all_last Q xs x (All-tail Q y (xs ++ x ∷ []) all)
+
+room_left : {P : Type 0} (t u : Option (Returns P)) (m n : ℕ) → u ≡ t → m ≡ n → IfSome t (λ r. n ≤ r.room) → IfSome u (λ r. m ≤ r.room)
+room_left t u m n is same room = subst (λ (v : Option (Returns _)). IfSome v (λ r. m ≤ r.room)) (sym is) (subst (λ (k : ℕ). IfSome t (λ r. k ≤ r.room)) (sym same) room)
+
+module _ {J P : Type 0} {g : Ghosts J} where
+  -- a listener that was tended came back clean
+  tended_clean : (told : Option (Returns P)) (endpoint : Endpoint) (s : Shift J P g) → IsTended told endpoint s → is_clean s.ended.listener ≡ true
+  tended_clean told endpoint s t =
+      let l = s.ended.listener in
+      let some : nat_lt 0 l.closes ≡ true = grind (arith, nat_tests, t.closes) in
+      let same : l.finished ≡ l.accepted = t.lends.finished ∙ (ap (raised_by (length s.served)) (t.new.finished ∙ sym t.new.accepted) ∙ sym t.lends.accepted) in
+      let even : (l.finished == l.accepted) ≡ true = grind (arith, nat_tests, same) in
+      both_true (nat_lt 0 l.closes) (l.finished == l.accepted) some even
+
+  kept_clean : (line_of : P → Line) (rule : Rule) (moments : Option (List ℕ)) (told : Option (Returns P)) (post : Post) (s : Shift J P g) → ServesPost line_of rule moments told post s
+      → is_clean s.ended.listener ≡ true
+  kept_clean line_of rule moments told (clients endpoint seed) s k = tended_clean told endpoint s k.tended
+  kept_clean line_of rule moments told (interface which endpoint) s k = tended_clean told endpoint s k.tended
+
+  all_clean : (line_of : P → Line) (rule : Rule) (moments : Option (List ℕ)) (told : Option (Returns P)) (posts : List Post) (shifts : List (Shift J P g))
+      → AllZip (ServesPost line_of rule moments told) posts shifts → AllByRecursion (λ (e : Ended P). is_clean e.listener ≡ true) (map (λ (s : Shift J P g). s.ended) shifts)
+  all_clean line_of rule moments told [] [] all = tt
+  all_clean line_of rule moments told [] (s ∷ ss) all = absurd all
+  all_clean line_of rule moments told (p ∷ ps) [] all = absurd all
+  all_clean line_of rule moments told (p ∷ ps) (s ∷ ss) all = (kept_clean line_of rule moments told p s all.0, all_clean line_of rule moments told ps ss all.1)
+
+  pub has_served : (line_of : P → Line) (site : Site) (moments : Option (List ℕ)) (loaded : List LoadedItem) (passes last : List (Pass J g)) (net net_after : Networking P) (served : Served)
+      → Distinct (numbers_of passes) → HaveSeen loaded passes → IfSome net.told (λ r. site.workers + 4 ≤ r.room)
+      → HasRun line_of site moments passes last net net_after served.lacked_memory → IsClosed served.place last
+      → HasServed line_of site moments loaded passes net net_after served
+  has_served line_of site moments loaded passes last net net_after served apart seen room ran closed =
+      let n = site.workers + 4 in
+      let ends = map (λ (s : Shift J P g). s.ended) ran.shifts in
+      let mid = with_stops n net in
+      let clean = all_clean line_of site.rule moments net.told (posts_of site) ran.shifts ran.served in
+      let count : length ends ≡ n = map_length (λ (s : Shift J P g). s.ended) ran.shifts ∙ (zip_count (ServesPost line_of site.rule moments net.told) (posts_of site) ran.shifts ran.served ∙ all_posts site) in
+      let behind = map (λ (s : Shift J P g). s.behind) ran.shifts in
+      let first = map (λ (s : Shift J P g). s.before) ran.shifts in
+      let all = subst (All (IsOf closed.ops)) ran.behind closed.passes_are in
+      let front = all_last (IsOf closed.ops) behind ran.rest all in
+      let few = loaded_few loaded ran.rest closed.ops (last_seen loaded first ran.rest (subst (HaveSeen loaded) ran.before seen)) front.seen in
+      record {
+        apart = apart;
+        seen = seen;
+        last = last;
+        ran = ran;
+        closed = closed;
+        clean = ap (λ (m : Networking P). m.clean) ran.net_is ∙ (ended_clean ends mid clean ∙ (ap (λ (k : ℕ). raised_by k mid.clean) count ∙ ap (raised_by n) (given_clean n net)));
+        stops_given = ap (λ (m : Networking P). m.stops_given) ran.net_is ∙ (ended_given ends mid ∙ given_stops n net);
+        stops_returned = ap (λ (m : Networking P). m.stops_returned) ran.net_is ∙ (ended_returned ends mid ∙ (ap (λ (k : ℕ). raised_by k mid.stops_returned) count ∙ ap (raised_by n) (given_returned n net)));
+        told = ap (λ (m : Networking P). m.told) ran.net_is ∙ (ended_told ends mid (room_left net.told mid.told (length ends) n (given_told n net) count room) ∙ ap (option_map (with_all ends)) (given_told n net));
+        place = subst (λ (k : ℕ). length loaded ≤ k) closed.place_is few;
+      }

@@ -1,0 +1,80 @@
+use Rattle.std.proofs.Common.{◌≡◌, ◌+◌, ◌++◌, ℕ, refl, sym, subst, ap, ◌∙◌, arith, length, List, rules}
+use Rattle.std.proofs.lemmas.Grind.{common_steps}
+use Rattle.std.specs.List.{AllZip}
+use Rattle.std.specs.Prelude.{Option}
+use Rattle.std.specs.Vec.Iter.{into_iter_items}
+use Rattle.identifier.specs.declared.rule.Rule.{Rule}
+use Rattle.linker_config.specs.declared.config.Port.{Port}
+use Rattle.proxy_session.specs.Outside.{Upstream}
+use Rattle.serving.specs.Jobs.{IsPosted, pass_of}
+use Rattle.serving.specs.Posts.{interface_post, posts_at}
+use Rattle.serving.specs.Returning.{with_stops}
+use Rattle.serving.specs.Running.{AreNewFrom}
+use Rattle.serving.specs.declared.job.ServingJob.{ServingJob}
+use Rattle.serving.proofs.Chains.{free_rest}
+use Rattle.serving.proofs.Posting.{next_new, stops_moved}
+use Rattle.serving.proofs.Zipping.{handed, none_posted, one_posted}
+use Rattle.serving.proofs.jobs.add_api_jobs.Goals as goal
+
+pub loop-listener-init : goal.loop-listener-init
+loop-listener-init g c =
+    let upstream = λ (d : g.row.N-D.Denot). let u : Upstream = record { log = g.N.D.Dialer.log d; is_open = g.N.D.Dialer.is_open d; faults = g.N.D.Dialer.faults d } in u in
+    let R = λ (rule : Rule) (moments : Option (List ℕ)). IsPosted {J = g.row.J.Denot} {D = g.row.N-D.Denot} {g = g.J.Naming} g.N.L.Listener.state upstream g.C.Clock.to_come g.N.S.Stop.calls rule moments (g.N.Net.state c.args.net.now).told in
+    let whole = c.into_iter-listener-iterator.ensures.into_iter_gives.0 in
+    let many = ap length whole in
+    let new = λ (port : Port) (n : AreNewFrom g.N.L.Listener.state (g.N.Net.state c.args.net.now).told port 0 c.args.listeners.items).
+    subst (AreNewFrom g.N.L.Listener.state (g.N.Net.state c.args.net.now).told port 0) (sym whole) n in
+    record {
+      passes = refl;
+      count = omega (arith, many);
+      rest = omega (arith, many);
+      enough = omega (arith, many, c.requires.enough);
+      room = omega (arith, many, c.requires.room);
+      capacity = refl;
+      free = c.requires.free;
+      posted = (0, omega (arith, many), new, λ port n rule moments ps all. none_posted (R rule moments) (interface_post c.args.which port) ps c.args.jobs.now.items all);
+      stops = ap (λ (n : ℕ). with_stops n (g.N.Net.state c.args.net.now)) many;
+      kept = refl;
+    }
+
+pub loop-listener-preserved : goal.loop-listener-preserved
+loop-listener-preserved g c =
+    let upstream = λ (d : g.row.N-D.Denot). let u : Upstream = record { log = g.N.D.Dialer.log d; is_open = g.N.D.Dialer.is_open d; faults = g.N.D.Dialer.faults d } in u in
+    let R = λ (rule : Rule) (moments : Option (List ℕ)). IsPosted {J = g.row.J.Denot} {D = g.row.N-D.Denot} {g = g.J.Naming} g.N.L.Listener.state upstream g.C.Clock.to_come g.N.S.Stop.calls rule moments (g.N.Net.state c.args.net.now).told in
+    let inv = c.loop-listener.invariant in
+    let cut = c.in-Some.ensures.steps.0 in
+    let shorter = ap length cut in
+    let taken = c.in-Some-next.ensures.items in
+    let fewer = ap length taken in
+    let pushed = c.push_reserved.ensures in
+    let told = (g.N.Net.state c.args.net.now).told in
+    let before = inv.posted in
+    record {
+      passes = handed (λ (j : ServingJob g.row.J.Denot g.row.N-L.Denot g.row.N-D.Denot g.row.C.Denot g.row.N-S.Denot g.J.Naming). pass_of j) _ _ _ _ _ _ pushed.items taken inv.passes;
+      count = omega (arith, pushed.len, inv.count, shorter);
+      rest = omega (arith, inv.rest, shorter, fewer);
+      enough = omega (arith, inv.enough, shorter, fewer);
+      room = omega (arith, pushed.len, pushed.capacity, inv.room, shorter);
+      capacity = pushed.capacity ∙ inv.capacity;
+      free = free_rest _ _ c.in-Some-next.pass taken inv.free;
+      posted = (
+        before.0 + 1,
+        omega (arith, before.1, shorter),
+        λ port n. let next = next_new g.N.L.Listener.state told port before.0 (before.0 + 1) _ _ c.in-Some.listener refl cut (before.2 port n) in next.1,
+        λ port n rule moments ps all.
+            let next = next_new g.N.L.Listener.state told port before.0 (before.0 + 1) _ _ c.in-Some.listener refl cut (before.2 port n) in
+            one_posted (R rule moments) (interface_post c.args.which port) before.0 (before.0 + 1) ps _ _ _ refl pushed.items (before.3 port n rule moments ps all)
+            (record { listener = next.0; which_is = refl; lacked = refl; stops = c.stopper.ensures.calls }),
+      );
+      stops = stops_moved _ _ c.in-Some.listener (g.N.Net.state c.loop-listener.net) _ _ cut c.stopper.ensures.state inv.stops;
+      kept = c.stopper.ensures.kept ∙ inv.kept;
+    }
+
+pub returns-clause-posted : goal.returns-clause-posted
+returns-clause-posted g c = λ port n rule moments ps all.
+    let upstream = λ (d : g.row.N-D.Denot). let u : Upstream = record { log = g.N.D.Dialer.log d; is_open = g.N.D.Dialer.is_open d; faults = g.N.D.Dialer.faults d } in u in
+    let R = λ (rule : Rule) (moments : Option (List ℕ)). IsPosted {J = g.row.J.Denot} {D = g.row.N-D.Denot} {g = g.J.Naming} g.N.L.Listener.state upstream g.C.Clock.to_come g.N.S.Stop.calls rule moments (g.N.Net.state c.args.net.now).told in
+    let before = c.loop-listener.invariant.posted in
+    let none : length (into_iter_items c.loop-listener.listener-iterator) ≡ 0 = first_of (search rules, grind (arith, common_steps)) in
+    let same : before.0 ≡ length c.args.listeners.items = omega (arith, before.1, none) in
+    subst (λ (k : ℕ). AllZip (R rule moments) (ps ++ posts_at (interface_post c.args.which port) k) c.loop-listener.jobs.items) same (before.3 port n rule moments ps all)

@@ -1,0 +1,37 @@
+use Rattle.std.proofs.Common.{◌≡◌, ◌+◌, sym, subst, ◌∙◌, arith, length}
+use Rattle.std.specs.Prelude.{Option}
+use Rattle.line_base.specs.Nets.{Returns}
+use Rattle.proxy_session.specs.Outside.{Upstream}
+use Rattle.serving.specs.Jobs.{IsPosted}
+use Rattle.serving.specs.Running.{AreNewFrom}
+use Rattle.serving.proofs.Posting.{all_posted, all_stops, told_kept}
+use Rattle.serving.proofs.jobs.add_jobs.Goals as goal
+
+pub returns-clause-posted : goal.returns-clause-posted
+returns-clause-posted g c =
+    let upstream = λ (d : g.row.N-D.Denot). let u : Upstream = record { log = g.N.D.Dialer.log d; is_open = g.N.D.Dialer.is_open d; faults = g.N.D.Dialer.faults d } in u in
+    let site = c.args.site.now in
+    let bound = c.args.bound in
+    let count = c.requires.listens.count in
+    let moments = g.C.Clock.of_fork c.args.clock.now in
+    let first = c.add_proxy_jobs.ensures in
+    let second = c.add_api_jobs.ensures in
+    let third = c.add_api_jobs-2.ensures in
+    let told = (g.N.Net.state c.args.net.now).told in
+    let same_1 = told_kept (length bound.server.items) (g.N.Net.state c.args.net.now) (g.N.Net.state c.add_proxy_jobs.new.net) first.stops in
+    let same_2 = told_kept (length bound.namerd.items) (g.N.Net.state c.add_proxy_jobs.new.net) (g.N.Net.state c.add_api_jobs.new.net) second.stops ∙ same_1 in
+    let namerd = subst (λ (t : Option (Returns g.row.N-L-P.Denot)). AreNewFrom g.N.L.Listener.state t site.namerd 0 bound.namerd.items) (sym same_1) c.requires.listens.namerd in
+    let admin = subst (λ (t : Option (Returns g.row.N-L-P.Denot)). AreNewFrom g.N.L.Listener.state t site.admin 0 bound.admin.items) (sym same_2) c.requires.listens.admin in
+    all_posted (λ t. IsPosted {J = g.row.J.Denot} {D = g.row.N-D.Denot} {g = g.J.Naming} g.N.L.Listener.state upstream g.C.Clock.to_come g.N.S.Stop.calls site.rule moments t) site told
+    (g.N.Net.state c.add_proxy_jobs.new.net).told (g.N.Net.state c.add_api_jobs.new.net).told _ _ _ c.args.jobs.now.items c.add_proxy_jobs.new.jobs.items c.add_api_jobs.new.jobs.items
+    c.add_api_jobs-2.new.jobs.items same_1 same_2 count.0 count.1 count.2 c.requires.none_yet first.posted (second.posted site.namerd namerd site.rule moments)
+    (third.posted site.admin admin site.rule moments)
+
+pub returns-clause-stops : goal.returns-clause-stops
+returns-clause-stops g c =
+    let bound = c.args.bound in
+    let count = c.requires.listens.count in
+    let sum : length bound.server.items + length bound.namerd.items + length bound.admin.items ≡ c.args.site.now.workers + 4 = omega (arith, count.0, count.1, count.2) in
+    all_stops (g.N.Net.state c.args.net.now) (g.N.Net.state c.add_proxy_jobs.new.net) (g.N.Net.state c.add_api_jobs.new.net) (g.N.Net.state c.add_api_jobs-2.new.net)
+    (length bound.server.items) (length bound.namerd.items) (length bound.admin.items) (c.args.site.now.workers + 4) c.add_proxy_jobs.ensures.stops c.add_api_jobs.ensures.stops
+    c.add_api_jobs-2.ensures.stops sum

@@ -1,0 +1,31 @@
+-- Where the listeners of a router are, and what serves at each.
+use Rattle.std.specs.Prelude.{ℕ, zero, suc, ◌+◌, ◌%◌, ◌^◌, List, [], ◌∷◌, ◌++◌}
+use Rattle.line_base.specs.declared.listener.Endpoint.{Endpoint}
+use Rattle.linker_config.specs.declared.config.Port.{Port}
+use Rattle.admin_api.specs.declared.serving.Which.{Which}
+use Rattle.admin_api.specs.declared.serving.Which.TheVariants.{Namerd, Admin}
+use Rattle.serving.specs.declared.site.Site.{Site}
+
+-- what is served at a listener: connections of clients, with a generator of words that begins with this seed, or those of an interface
+pub data Post : Type 0 where
+  clients : Endpoint → ℕ → Post
+  interface : Which → Endpoint → Post
+
+abbrev pub endpoint_at : Port → ℕ → Endpoint
+endpoint_at port place = record { ip = port.ip; port = port.port; place = place }
+
+-- the router's listeners have generators of their own: the first one's begins with the site's seed, the next one's with one more
+abbrev pub client_post : Site → ℕ → Post
+client_post site place = clients (endpoint_at site.server place) ((site.seed + place) % 2 ^ 64)
+
+abbrev pub interface_post : Which → Port → ℕ → Post
+interface_post which port place = interface which (endpoint_at port place)
+
+-- so many posts at an address, by their places
+abbrev pub posts_at : (ℕ → Post) → ℕ → List Post
+posts_at post zero = []
+posts_at post (suc n) = posts_at post n ++ post n ∷ []
+
+-- the posts of all listeners: the router's, then two of the interface to the namespaces, then two of the administrator's
+abbrev pub posts_of : Site → List Post
+posts_of site = posts_at (client_post site) site.workers ++ posts_at (interface_post Namerd site.namerd) 2 ++ posts_at (interface_post Admin site.admin) 2
