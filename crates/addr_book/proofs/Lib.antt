@@ -4,10 +4,9 @@ pub mod Bits
 pub mod Bounds
 pub mod Counts
 pub mod Files
+pub mod Fronts
 pub mod Hosts
 pub mod Lines
-pub mod Lookups
-pub mod Maps
 pub mod Places
 pub mod Results
 pub mod Seating
@@ -16,4 +15,5 @@ pub mod Shards
 pub mod SlotLaws
 pub mod SlotMaps
 pub mod SlotSteps
+pub mod Sorted
 pub mod Sound

@@ -1,5 +1,5 @@
 -- A list in the strict order of its keys, searched by halves, and what an edit at the place that was found does to the map that it stands for.
-use Rattle.std.proofs.Common.{◌≡◌, ℕ, zero, suc, ◌+◌, ◌<◌, ◌≤◌, Bool, true, false, cond, List, [], ◌∷◌, ◌++◌, length, get_or, set, take, drop, map, Option, Some, None, refl, sym, ap, subst, ◌∙◌, arith}
+use Rattle.std.proofs.Common.{◌≡◌, ℕ, zero, suc, ◌+◌, ◌<◌, ◌≤◌, Bool, true, false, cond, List, [], ◌∷◌, length, get_or, set, map, Option, Some, None, refl, sym, ap, subst, ◌∙◌, arith}
 use Rattle.std.specs.Prelude.{T, not, ◌&&◌}
 use Rattle.std.specs.declared.cmp.Ordering.{Ordering}
 use Rattle.std.specs.declared.cmp.Ordering.TheVariants.{Less, Equal, Greater}
@@ -7,7 +7,7 @@ use Rattle.std.specs.Ordering.{is_lt, is_eq, eq_by_cmp, ordering_reverse, orderi
 use Rattle.std.specs.Cmp.{IsTotalOrder, alike_right}
 use Rattle.std.specs.List.{insert, remove}
 use Rattle.std.specs.List.Sorted.{IsNonDecreasingBy}
-use Rattle.std.specs.FinMap.{FinMap, IsAntisymmetric, find, put, is_sorted, get, entries, from_sorted, entries-from_sorted, entries-insert, get-from_sorted, get-remove, get_tied, get-entries, same_map, entries_sorted}
+use Rattle.std.specs.FinMap.{FinMap, IsAntisymmetric, find, put, is_sorted, get, from_sorted, entries-from_sorted, entries-insert, get-from_sorted, get-remove, get_tied, get-entries, same_map}
 use Rattle.std.specs.FinMap as fin
 use Rattle.std.specs.FinMap.Entries.{by_order, below_all, where_key, is_sorted-put, is_sorted-where_key, find-where_key}
 use Rattle.std.proofs.lemmas.List.Sorted.{searchable_from_sorted}

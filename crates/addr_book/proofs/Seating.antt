@@ -1,16 +1,15 @@
 -- Slots of addresses: those that stay, and those that are given to new addresses.
-use Rattle.std.proofs.Common.{◌≡◌, ◌≢◌, ℕ, zero, suc, ◌+◌, ◌-◌, ◌<◌, ◌≤◌, Bool, true, false, List, [], ◌∷◌, ◌++◌, length, refl, sym, ap, ◌∙◌, arith, map, Option, Some, None, cond, subst}
-use Rattle.std.specs.Prelude.{T, not, ◌&&◌, ◌||◌, ◌==◌, filter, is_some, IfSome, take}
-use Rattle.std.specs.Ordering.{eq_by_cmp, is_eq}
+use Rattle.std.proofs.Common.{◌≡◌, ℕ, zero, suc, ◌+◌, ◌<◌, ◌≤◌, Bool, true, false, List, [], ◌∷◌, length, refl, sym, ap, ◌∙◌, arith, map, Option, Some, None, cond, subst}
+use Rattle.std.specs.Prelude.{◌||◌, ◌==◌, is_some}
+use Rattle.std.specs.Ordering.{eq_by_cmp}
 use Rattle.std.specs.List.{list_any}
-use Rattle.std.specs.FinMap.{FinMap, entries, find, get, get-entries, insert, remove, retain_keys, contains_key, values, len, len-entries, len-insert, get-insert, get-retain_keys, same_map}
+use Rattle.std.specs.FinMap.{entries, find, get, get-entries, insert, contains_key, values, len, len-insert, get-insert, get-retain_keys}
 use Rattle.std.proofs.lemmas.Bool.Decides.{nat_tests}
 use Rattle.addr_book.specs.declared.addr.Addr.{Addr}
 use Rattle.addr_book.specs.declared.addr.Weighted.{Weighted}
-use Rattle.addr_book.specs.AddrList.{addr_cmp, same_addr, has_addr, AreDistinct}
-use Rattle.addr_book.specs.Book.{Services, Slots, is_used, staying, newcomers, free_slots, assigned, with_newcomers}
-use Rattle.addr_book.specs.Uses.{count_at, having, IsSound}
-use Rattle.addr_book.proofs.AddrLists.{addr_total, same_flip}
+use Rattle.addr_book.specs.AddrList.{addr_cmp, same_addr, has_addr}
+use Rattle.addr_book.specs.Book.{Services, Slots, is_used, staying, free_slots, assigned}
+use Rattle.addr_book.proofs.AddrLists.{addr_total}
 use Rattle.addr_book.proofs.AddrMaps.{addr_only}
 use Rattle.addr_book.proofs.SlotSteps.{same_is}
 

@@ -1,14 +1,13 @@
 -- What a map in shards answers, and how it changes with one shard.
-use Rattle.std.proofs.Common.{◌≡◌, ◌≢◌, ℕ, zero, suc, ◌+◌, ◌-◌, ◌<◌, ◌≤◌, Bool, true, false, List, [], ◌∷◌, ◌++◌, length, get_or, set, take, refl, sym, ap, ◌∙◌, subst, arith, Option, Some, None, cond, get_or-set_same, get_or-set_other, length-set, map, ⊎_elim}
-use Rattle.std.proofs.lemmas.List.{length-map, get_or-map, get_or_default, map-set, map_more, set-set, take_all}
+use Rattle.std.proofs.Common.{◌≡◌, ◌≢◌, ℕ, zero, suc, ◌+◌, ◌<◌, ◌≤◌, Bool, true, false, List, [], ◌∷◌, ◌++◌, length, get_or, set, take, refl, sym, ap, ◌∙◌, subst, arith, Option, Some, None, cond, get_or-set_same, get_or-set_other, length-set, map, ⊎_elim}
+use Rattle.std.proofs.lemmas.List.{length-map, get_or-map, get_or_default, map-set, map_more, take_all}
 use Rattle.std.proofs.lemmas.Bool.{cases_eq}
 use Rattle.std.specs.Prelude.{is_some}
 use Rattle.std.specs.declared.cmp.Ordering.{Ordering}
-use Rattle.std.specs.declared.cmp.Ordering.TheVariants.{Equal}
-use Rattle.std.specs.Ordering.{eq_by_cmp, is_eq}
+use Rattle.std.specs.Ordering.{eq_by_cmp}
 use Rattle.std.specs.Cmp.{IsTotalOrder, Equal-is}
 use Rattle.std.specs.FinMap.{FinMap, IsAntisymmetric, empty, entries, find, get, insert, remove, contains_key, get-empty, get-entries, get-from_entries, get-insert, get-remove, same_map, len-entries, len-empty}
-use Rattle.addr_book.specs.Shards.{joined, whole, AreHome, IsSharded}
+use Rattle.addr_book.specs.Shards.{IsChanged, joined, whole, AreHome, IsSharded}
 
 no_length : {A : Type 0} (xs : List A) → length xs ≡ 0 → xs ≡ []
 no_length [] e = refl
@@ -185,38 +184,34 @@ module _ {K V T : Type 0} {R : K → K → Ordering} (o : IsTotalOrder R) (only 
   pub shard_gets : get (shard (get_or ss place None)) k ≡ get (whole (map shard ss)) k
   shard_gets = ap (λ m. get m k) own_at ∙ own-whole o only home (map shard ss) h.placed k within
 
-  module _ (rest : List (Option T)) (left : rest ≡ set ss place None) (own : FinMap R V) (own_is : own ≡ shard (get_or ss place None)) (x : Option T) where
-    replaced : map shard (set rest place x) ≡ set (map shard ss) (home k) (shard x)
-    replaced =
-        map-set shard rest place x
-        ∙ (ap (λ xs. set (map shard xs) place (shard x)) left
-        ∙ (ap (λ ms. set ms place (shard x)) (map-set shard ss place None)
-        ∙ (set-set (map shard ss) place (shard None) (shard x) ∙ ap (λ n. set (map shard ss) n (shard x)) is)))
+  module _ (now : FinMap R V) (after : List (Option T)) (change : IsChanged shard ss after place now) where
+    replaced : map shard after ≡ set (map shard ss) (home k) now
+    replaced = ap (map shard) change.changed ∙ (map-set shard ss place change.new ∙ (λ i. set (map shard ss) (is i) (change.has i)))
 
-    length_kept : length (map shard (set rest place x)) ≡ count
-    length_kept = ap length replaced ∙ (length-set (map shard ss) (home k) (shard x) ∙ h.long)
+    length_kept : length (map shard after) ≡ count
+    length_kept = ap length replaced ∙ (length-set (map shard ss) (home k) now ∙ h.long)
 
-    -- a key more in its shard
-    module _ (v : V) (new : shard x ≡ insert own k v) where
-      inserted : map shard (set rest place x) ≡ set (map shard ss) (home k) (insert (get_or (map shard ss) (home k) empty) k v)
-      inserted = replaced ∙ ap (set (map shard ss) (home k)) (new ∙ ap (λ m. insert m k v) (own_is ∙ own_at))
+  -- a key more in its shard
+  module _ (v : V) (after : List (Option T)) (change : IsChanged shard ss after place (insert (shard (get_or ss place None)) k v)) where
+    inserted : map shard after ≡ set (map shard ss) (home k) (insert (get_or (map shard ss) (home k) empty) k v)
+    inserted = replaced _ after change ∙ ap (λ m. set (map shard ss) (home k) (insert m k v)) own_at
 
-      pub shards_insert : whole (map shard (set rest place x)) ≡ insert (whole (map shard ss)) k v
-      shards_insert = ap whole inserted ∙ whole-insert o only home (map shard ss) h.placed k within v
+    pub shards_insert : whole (map shard after) ≡ insert (whole (map shard ss)) k v
+    shards_insert = ap whole inserted ∙ whole-insert o only home (map shard ss) h.placed k within v
 
-      pub sharded_insert : IsSharded home count (map shard (set rest place x))
-      sharded_insert = record { long = length_kept; placed = subst (AreHome home 0) (sym inserted) (home-insert o only home (map shard ss) h.placed k within v) }
+    pub sharded_insert : IsSharded home count (map shard after)
+    sharded_insert = record { long = length_kept _ after change; placed = subst (AreHome home 0) (sym inserted) (home-insert o only home (map shard ss) h.placed k within v) }
 
-    -- a key fewer
-    module _ (new : shard x ≡ remove own k) where
-      removed : map shard (set rest place x) ≡ set (map shard ss) (home k) (remove (get_or (map shard ss) (home k) empty) k)
-      removed = replaced ∙ ap (set (map shard ss) (home k)) (new ∙ ap (λ m. remove m k) (own_is ∙ own_at))
+  -- a key fewer
+  module _ (after : List (Option T)) (change : IsChanged shard ss after place (remove (shard (get_or ss place None)) k)) where
+    removed : map shard after ≡ set (map shard ss) (home k) (remove (get_or (map shard ss) (home k) empty) k)
+    removed = replaced _ after change ∙ ap (λ m. set (map shard ss) (home k) (remove m k)) own_at
 
-      pub shards_remove : whole (map shard (set rest place x)) ≡ remove (whole (map shard ss)) k
-      shards_remove = ap whole removed ∙ whole-remove o only home (map shard ss) h.placed k within
+    pub shards_remove : whole (map shard after) ≡ remove (whole (map shard ss)) k
+    shards_remove = ap whole removed ∙ whole-remove o only home (map shard ss) h.placed k within
 
-      pub sharded_remove : IsSharded home count (map shard (set rest place x))
-      sharded_remove = record { long = length_kept; placed = subst (AreHome home 0) (sym removed) (home-remove o only home (map shard ss) h.placed k within) }
+    pub sharded_remove : IsSharded home count (map shard after)
+    sharded_remove = record { long = length_kept _ after change; placed = subst (AreHome home 0) (sym removed) (home-remove o only home (map shard ss) h.placed k within) }
 
   -- what is read at the place
   pub read_gets : (x : Option T) → x ≡ get_or ss place x → get (shard x) k ≡ get (whole (map shard ss)) k
@@ -233,3 +228,26 @@ copied_more {X} {Y} f xs ys zs i d y lt same is new =
 
 pub copied_all : {X Y : Type 0} (f : X → Y) (xs ys : List X) (i : ℕ) → length xs ≤ i → map f ys ≡ map f (take i xs) → map f ys ≡ map f xs
 copied_all f xs ys i past same = same ∙ ap (map f) (take_all i xs past)
+
+-- nothing goes where no shard is
+pub none_removed : {K V T : Type 0} {R : K → K → Ordering} → IsTotalOrder R → IsAntisymmetric R → (shard : Option T → FinMap R V) → shard None ≡ empty → (ss : List (Option T)) (place : ℕ) (x : Option T) (k : K)
+    → place < length ss → x ≡ get_or ss place x → x ≡ None → IsChanged shard ss (set ss place x) place (remove (shard (get_or ss place None)) k)
+none_removed {V = V} {R = R} o only shard none ss place x k lt at is =
+    let read : get_or ss place None ≡ None = sym (get_or_default ss place x None lt) ∙ (sym at ∙ is) in
+    let same : remove (empty {X = V} {R = R}) k ≡ empty = same_map o only _ _ (λ q.
+    get-remove o empty k q ∙ (ap (cond (eq_by_cmp R q k) None) (get-empty R q) ∙ (same_twice (eq_by_cmp R q k) None ∙ sym (get-empty R q)))) in
+    record {
+      new = x;
+      changed = refl;
+      has = ap shard is ∙ (none ∙ (sym same ∙ ap (λ m. remove m k) (sym (ap shard read ∙ none))));
+    }
+  where
+    same_twice : {X : Type 0} (b : Bool) (x : Option X) → cond b x x ≡ x
+    same_twice true x = refl
+    same_twice false x = refl
+
+pub none_there : {K V T : Type 0} {R : K → K → Ordering} → (shard : Option T → FinMap R V) → shard None ≡ empty → (ss : List (Option T)) (place : ℕ) (x : Option T) (k : K)
+    → place < length ss → x ≡ get_or ss place x → x ≡ None → false ≡ contains_key (shard (get_or ss place None)) k
+none_there {R = R} shard none ss place x k lt at is =
+    let read : get_or ss place None ≡ None = sym (get_or_default ss place x None lt) ∙ (sym at ∙ is) in
+    sym (ap (λ m. contains_key m k) (ap shard read ∙ none) ∙ ap is_some (get-empty R k))

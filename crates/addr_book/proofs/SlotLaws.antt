@@ -1,11 +1,11 @@
 -- An address that stays keeps its slot.
-use Rattle.std.proofs.Common.{◌≡◌, ℕ, Bool, true, false, List, [], ◌∷◌, refl, sym, ap, ◌∙◌, Option, Some, None, cond}
+use Rattle.std.proofs.Common.{◌≡◌, ℕ, Bool, true, false, List, [], ◌∷◌, refl, sym, ap, ◌∙◌, Some, None, cond}
 use Rattle.std.specs.Prelude.{not, ◌||◌, is_some}
 use Rattle.std.specs.FinMap.{get, insert, contains_key, get-insert}
 use Rattle.addr_book.specs.declared.addr.Addr.{Addr}
 use Rattle.addr_book.specs.declared.addr.Weighted.{Weighted}
 use Rattle.addr_book.specs.AddrList.{same_addr, has_addr}
-use Rattle.addr_book.specs.Book.{Contents, Services, Slots, is_used, staying, newcomers, assigned, free_slots, after_set, after_drop}
+use Rattle.addr_book.specs.Book.{Contents, Services, Slots, is_used, staying, newcomers, assigned, after_set, after_drop}
 use Rattle.addr_book.specs.Laws.{KeepsSlots, SlotsStay}
 use Rattle.addr_book.proofs.AddrLists.{addr_total}
 use Rattle.addr_book.proofs.SlotSteps.{same_is}

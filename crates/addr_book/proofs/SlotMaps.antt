@@ -1,12 +1,12 @@
 -- How slots change with one address, and with the lowest free slots for new ones.
 use Rattle.std.proofs.Common.{◌≡◌, ◌≢◌, ℕ, zero, suc, ◌+◌, ◌-◌, ◌<◌, ◌≤◌, ◌==◌, Bool, true, false, List, [], ◌∷◌, ◌++◌, length, drop, get_or, refl, sym, ap, ◌∙◌, arith, map, Option, Some, None, cond, subst, ◌⊎◌, inl, inr, ⊎_elim}
 use Rattle.std.specs.Prelude.{T, not, ◌&&◌, ◌||◌, is_some}
-use Rattle.std.specs.Ordering.{eq_by_cmp, is_eq, is_lt}
+use Rattle.std.specs.Ordering.{is_eq, is_lt}
 use Rattle.std.specs.declared.cmp.Ordering.{Ordering}
 use Rattle.std.specs.declared.cmp.Ordering.TheVariants.{Less, Equal, Greater}
 use Rattle.std.specs.Cmp.{eq_by_cmp_equiv}
 use Rattle.std.specs.List.{list_any}
-use Rattle.std.specs.FinMap.{FinMap, entries, entries_sorted, find, get, get-entries, insert, remove, contains_key, values, len, len-entries, len-insert, len-remove, get-insert, get-remove, is_sorted}
+use Rattle.std.specs.FinMap.{entries, entries_sorted, find, get, get-entries, insert, remove, contains_key, values, len, len-entries, len-insert, len-remove, get-insert, get-remove, is_sorted}
 use Rattle.std.specs.FinMap.Entries.{below_all}
 use Rattle.std.proofs.lemmas.Bool.Decides.{nat_tests}
 use Rattle.std.proofs.lemmas.List.{drop_more}
@@ -17,8 +17,7 @@ use Rattle.addr_book.specs.AddrList.{addr_cmp, same_addr, has_addr, AreDistinct}
 use Rattle.addr_book.specs.Book.{Slots, newcomers, free_slots, assigned, with_newcomers}
 use Rattle.addr_book.specs.SlotSet.{has_slot, open_slots, AreLowest}
 use Rattle.addr_book.specs.SlotMap.{IsSlotMap}
-use Rattle.addr_book.proofs.AddrLists.{addr_total, same_flip}
-use Rattle.addr_book.proofs.AddrMaps.{addr_only}
+use Rattle.addr_book.proofs.AddrLists.{addr_total}
 use Rattle.addr_book.proofs.Bits.{open-add, open-same}
 use Rattle.addr_book.proofs.Counts.{length_numbers}
 use Rattle.addr_book.proofs.SlotSteps.{same_is, nothing_left}

@@ -1,23 +1,21 @@
 -- What is always true of a book stays true where a service is set or dropped.
-use Rattle.std.proofs.Common.{◌≡◌, ◌≢◌, ℕ, ◌+◌, ◌-◌, ◌<◌, ◌≤◌, Bool, true, false, List, [], ◌∷◌, length, refl, sym, ap, ◌∙◌, arith, map, Option, Some, None, cond, subst, suc, nat_cmp}
-use Rattle.std.specs.Prelude.{T, not, ◌&&◌, ◌||◌, ◌==◌, is_some, nat_le, unwrap_or}
-use Rattle.std.specs.Ordering.{is_eq}
-use Rattle.std.specs.List.{list_any}
+use Rattle.std.proofs.Common.{◌≡◌, ℕ, ◌+◌, ◌-◌, ◌<◌, ◌≤◌, Bool, true, false, List, [], ◌∷◌, length, refl, sym, ap, ◌∙◌, arith, map, Option, Some, None, cond, subst, suc, nat_cmp}
+use Rattle.std.specs.Prelude.{not, ◌&&◌, ◌||◌, ◌==◌, is_some, nat_le, unwrap_or}
 use Rattle.std.specs.Cmp.Lexicographic.{slice_cmp, nat_list_cmp_total}
-use Rattle.std.specs.FinMap.{FinMap, entries, entries_sorted, get, get-entries, get-empty, get-from_sorted, from_sorted, entries-from_sorted, empty, empty_of_len, insert, remove, contains_key, values, len, len-empty, len-entries, len-insert, len-remove, same_map}
+use Rattle.std.specs.FinMap.{FinMap, entries, entries_sorted, get, get-entries, get-empty, get-from_sorted, from_sorted, entries-from_sorted, empty, insert, remove, contains_key, values, len, len-empty, len-entries, len-insert, len-remove, same_map}
 use Rattle.std.specs.FinMap.Entries.{where_key, find-where_key, is_sorted-where_key}
 use Rattle.std.proofs.lemmas.Bool.Decides.{nat_tests}
 use Rattle.addr_book.specs.declared.addr.Addr.{Addr}
 use Rattle.addr_book.specs.declared.addr.Weighted.{Weighted}
 use Rattle.addr_book.specs.AddrList.{addr_cmp, same_addr, has_addr}
-use Rattle.addr_book.specs.Book.{Services, Slots, is_used, staying, newcomers, free_slots, assigned, with_newcomers}
+use Rattle.addr_book.specs.Book.{Services, Slots, is_used, staying, newcomers, free_slots, with_newcomers}
 use Rattle.addr_book.specs.BookFault.{has_no_room}
 use Rattle.addr_book.specs.Uses.{count_at, having, list_of, IsSound}
 use Rattle.addr_book.proofs.AddrLists.{addr_total}
 use Rattle.addr_book.proofs.AddrMaps.{addr_only}
 use Rattle.addr_book.proofs.Counts.{one, having-insert, having-remove, used_count, count_few}
 use Rattle.addr_book.proofs.SlotSteps.{same_is}
-use Rattle.addr_book.proofs.Seating.{AreUnused, AreRising, AllUnder, AreBelow, IsApart, get-staying, contains-assigned, apart-assigned, below-assigned, len-assigned, free_rising, free_under, free_unused, free_enough}
+use Rattle.addr_book.proofs.Seating.{AllUnder, AreBelow, IsApart, get-staying, contains-assigned, apart-assigned, below-assigned, len-assigned, free_rising, free_under, free_unused, free_enough}
 
 is_none : (x : Option ℕ) → is_some x ≡ false → x ≡ None
 is_none None e = refl
@@ -258,6 +256,13 @@ module _ (services : Services) (slots : Slots) (uses : FinMap addr_cmp ℕ) (sou
 
 pub few_counts : (services : Services) (slots : Slots) (uses : FinMap addr_cmp ℕ) → IsSound services slots uses → (a : Addr) → count_at uses a < 65536
 few_counts services slots uses sound a = omega (arith, sound.counted a, count_few services a, sound.few)
+
+-- an address of a service is counted
+pub used_once : (services : Services) (slots : Slots) (uses : FinMap addr_cmp ℕ) → IsSound services slots uses → (name : List ℕ) (before : List Weighted) → before ≡ list_of (get services name)
+    → (a : Addr) → has_addr before a ≡ true → 1 ≤ count_at uses a
+used_once services slots uses sound name before same a there =
+    let counted : one (list_of (get services name)) a ≡ 1 = ap (λ b. cond b 1 0) (ap (λ (list : List Weighted). has_addr list a) (sym same) ∙ there) in
+    omega (arith, sound.counted a, having-remove services name a, counted)
 
 nothing_at : (a : Addr) → get (empty {X = ℕ} {R = addr_cmp}) a ≡ None
 nothing_at a = get-empty addr_cmp a

@@ -3,7 +3,6 @@ use Rattle.std.specs.Prelude.{ℕ, Bool, true, false, ◌||◌, ◌&&◌, ◌==�
 use Rattle.std.specs.Option.{option_and_then}
 use Rattle.name_tree.specs.Weight.{weight_of}
 use Rattle.addr_book.specs.declared.addr.Addr.{Addr}
-use Rattle.addr_book.specs.declared.addr.Weighted.{Weighted}
 use Rattle.addr_book.specs.declared.file_line.FileLine.{FileLine}
 use Rattle.addr_book.specs.declared.file_line.FileLine.TheVariants.{Blank, Item, Bad}
 use Rattle.addr_book.specs.Addr.{host_value, port_value, addr_of}

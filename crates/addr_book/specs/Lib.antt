@@ -2,6 +2,7 @@ pub mod Addr
 pub mod AddrFile
 pub mod AddrList
 pub mod AddrMap
+pub mod AddrShard
 pub mod Book
 pub mod BookFault
 pub mod Bound
@@ -12,8 +13,10 @@ pub mod Name
 pub mod Namer
 pub mod Parts
 pub mod Seated
+pub mod ServiceShard
 pub mod Services
 pub mod Shards
 pub mod SlotMap
 pub mod SlotSet
+pub mod Sorted
 pub mod Uses

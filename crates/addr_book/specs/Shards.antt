@@ -1,5 +1,5 @@
 -- A finite map in shards: maps of which each has the keys of its own place.
-use Rattle.std.specs.Prelude.{◌≡◌, ℕ, ◌+◌, true, List, [], ◌∷◌, ◌++◌, length}
+use Rattle.std.specs.Prelude.{◌≡◌, ℕ, ◌+◌, true, List, [], ◌∷◌, ◌++◌, length, slice_set, Option}
 use Rattle.std.specs.declared.cmp.Ordering.{Ordering}
 use Rattle.std.specs.FinMap.{FinMap, entries, from_entries, contains_key}
 
@@ -21,3 +21,9 @@ AreHome {K} home at (shard ∷ shards) = ((key : K) → contains_key shard key �
 pub record IsSharded {K V : Type 0} {R : K → K → Ordering} (home : K → ℕ) (count : ℕ) (shards : List (FinMap R V)) : Type 0 where
   pub long : length shards ≡ count
   pub placed : AreHome home 0 shards
+
+-- the shards are as before, but for the one at a place, which has this
+pub record IsChanged {K V T : Type 0} {R : K → K → Ordering} (shard : Option T → FinMap R V) (before after : List (Option T)) (place : ℕ) (now : FinMap R V) : Type 0 where
+  pub new : Option T
+  pub changed : after ≡ slice_set before place new
+  pub has : shard new ≡ now

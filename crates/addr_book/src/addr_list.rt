@@ -49,7 +49,7 @@ impl AddrList {
         ensures { IfOk result (λ list. list ≡ first_places given.now) }
     {
         let mut seen = BTreeSet::new(alloc);
-        let mut items = Vec::new(alloc);
+        let mut items = Vec::with_capacity(alloc, given.len())?;
         for item in given {
             if seen.insert(item.addr)? {
                 items.push(*item)?;

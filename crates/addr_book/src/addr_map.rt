@@ -2,6 +2,7 @@
 ghost use Rattle.std.specs.Prelude.{◌≡◌, ◌<◌, length, map as each, OnOk, IfOk, None, slice_index_or, slice_set};
 ghost use Rattle.std.specs.FinMap as map;
 ghost use Rattle.addr_book.specs.AddrMap.{addr_place, addr_shard};
+ghost use Rattle.addr_book.specs.Shards.{IsChanged};
 
 use crate::Mem;
 use crate::addr::Addr;
@@ -69,11 +70,7 @@ impl AddrMap {
         ensures { IfOk result (λ numbers. numbers ≡ map.insert self addr number) }
     {
         let mut shards = self.shards;
-        let alloc = *shards.allocator();
-        let place = place_of(addr);
-        let mut shard = taken_shard(alloc, &mut shards, place)?;
-        shard.insert(addr, number)?;
-        shards[place] = Some(Arc::new(alloc, shard)?);
+        insert_at(&mut shards, place_of(addr), addr, number)?;
         Ok(AddrMap { shards })
     }
 
@@ -82,11 +79,7 @@ impl AddrMap {
         ensures { IfOk result (λ numbers. numbers ≡ map.remove self addr) }
     {
         let mut shards = self.shards;
-        let alloc = *shards.allocator();
-        let place = place_of(addr);
-        let mut shard = taken_shard(alloc, &mut shards, place)?;
-        shard.remove(addr);
-        shards[place] = Some(Arc::new(alloc, shard)?);
+        remove_at(&mut shards, place_of(addr), addr)?;
         Ok(AddrMap { shards })
     }
 
@@ -109,19 +102,32 @@ fn place_of(addr: Addr) -> usize
     ((u64::from(addr.ip) * 0x1_0000 + u64::from(addr.port)) % SHARDS as u64) as usize
 }
 
-/// The shard at a place, to be changed: itself where no other map shares it, and else a copy. It leaves none at the place.
-fn taken_shard(alloc: Global, shards: &mut Shards, place: usize) -> Mem<AddrShard>
+/// Puts a number at an address, in the shard at a place. The shard is copied first where another map shares it.
+fn insert_at(shards: &mut Shards, place: usize, addr: Addr, number: u32) -> Mem<()>
     requires { place < length shards.old.items }
-    ensures shard { IfOk result (λ shard. shard ≡ addr_shard (slice_index_or shards.old.items place None)) }
-    ensures rest { OnOk result (shards.new.items ≡ slice_set shards.old.items place None) }
+    ensures { OnOk result (IsChanged addr_shard shards.old.items shards.new.items place (map.insert (addr_shard (slice_index_or shards.old.items place None)) addr number)) }
 {
-    match shards[place].take() {
-        None => Ok(AddrShard::new(alloc)),
-        Some(shared) => match Arc::try_unwrap(shared) {
-            Ok(shard) => Ok(shard),
-            Err(shared) => shared.copied(),
-        },
+    let alloc = *shards.allocator();
+    match &mut shards[place] {
+        Some(shard) => Arc::make_mut(shard)?.insert(addr, number),
+        None => {
+            let mut shard = AddrShard::new(alloc);
+            shard.insert(addr, number)?;
+            shards[place] = Some(Arc::new(alloc, shard)?);
+            Ok(())
+        }
     }
+}
+
+/// Takes an address out of the shard at a place. The shard is copied first where another map shares it.
+fn remove_at(shards: &mut Shards, place: usize, addr: Addr) -> Mem<()>
+    requires { place < length shards.old.items }
+    ensures { OnOk result (IsChanged addr_shard shards.old.items shards.new.items place (map.remove (addr_shard (slice_index_or shards.old.items place None)) addr)) }
+{
+    if let Some(shard) = &mut shards[place] {
+        Arc::make_mut(shard)?.remove(addr);
+    }
+    Ok(())
 }
 
 /// The same shards once more.

@@ -104,7 +104,7 @@ impl Book {
 
     /// The slot of an address. `None` where no service has it.
     ///
-    /// It takes one look-up by a hash, and about `log n` comparisons for the `n` addresses that share a part, 65 at most where the hash
+    /// It takes one look-up by a hash, and about `log n` comparisons for the `n` addresses that share a part, 265 at most where the hash
     /// spreads them evenly.
     pub fn slot(&self, addr: Addr) -> Option<u32>
         ensures slot { result ≡ map.get self.now.slots addr }
@@ -132,9 +132,10 @@ impl Book {
     /// Prepares the book with these addresses for the service, in the place of those that it has, if it is there. What is prepared does not change this book.
     /// [`BookFault::TooManyServices`] comes before [`BookFault::BookFull`], and [`BookFault::Missing`] never.
     ///
-    /// It does work in the addresses of the old and of the new list, and not in the whole book. The book is kept in 763 parts: it shares
-    /// them, copies those that the service and these addresses stand in, each once, and takes about `log n` comparisons in a part of `n`
-    /// for each address. New slots are found by 64 at a time.
+    /// It does work in the addresses of the old and of the new list, and not in the whole book. The book is kept in 189 parts: it shares
+    /// them, copies those that the service and these addresses stand in, each once and in one piece, and takes about `log n` comparisons in
+    /// a part of `n` for each address. An address of the front that the two lists have in common is only looked up. New slots are found by
+    /// 64 at a time.
     pub fn prepare_set(
         &self,
         alloc: Global,

@@ -40,6 +40,7 @@ mod book;
 mod bound;
 mod fault;
 mod file_line;
+mod front;
 mod host;
 mod laws;
 mod leaf;

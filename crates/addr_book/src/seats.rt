@@ -1,5 +1,5 @@
 //! The slots of the book's addresses, and how many services have each.
-ghost use Rattle.std.specs.Prelude.{◌≡◌, ℕ, ◌+◌, ◌-◌, ◌^◌, ◌<◌, ◌&&◌, ◌==◌, IfOk, None, if◌then◌else◌};
+ghost use Rattle.std.specs.Prelude.{◌≡◌, ℕ, ◌+◌, ◌-◌, ◌^◌, ◌<◌, ◌≤◌, ◌&&◌, ◌==◌, IfOk, None, true, if◌then◌else◌};
 ghost use Rattle.std.specs.FinMap as map;
 ghost use Rattle.addr_book.specs.declared.addr.Addr.{Addr};
 ghost use Rattle.addr_book.specs.AddrList.{AreDistinct, has_addr};
@@ -8,6 +8,7 @@ ghost use Rattle.addr_book.specs.Uses.{count_at};
 use crate::Mem;
 use crate::addr::Weighted;
 use crate::addr_map::AddrMap;
+use crate::front::common_front;
 use crate::slot_map::SlotMap;
 use crate::slots::{count_in, count_out, release};
 use std::alloc::Global;
@@ -31,19 +32,23 @@ impl Seats {
         })
     }
 
-    /// The seats where one service has other addresses than before, without slots for those that are new. Those that no service has any more give their slots up.
+    /// The seats where one service has other addresses than before, without slots for those that are new. Those that no service has any more
+    /// give their slots up. It looks at no address of the front that the two lists have in common.
     pub(crate) fn moved(&self, before: &[Weighted], after: &[Weighted]) -> Mem<Seats>
         requires before { AreDistinct before.now }
         requires after { AreDistinct after.now }
+        requires used { (addr : Addr) → has_addr before.now addr ≡ true → 1 ≤ count_at self.now.uses addr }
         requires few { (addr : Addr) → count_at self.now.uses addr < 2 ^ 16 }
         ensures uses { IfOk result (λ seats. (addr : Addr) → count_at seats.uses addr
             ≡ count_at self.now.uses addr + (if has_addr after.now addr then 1 else 0) - (if has_addr before.now addr then 1 else 0)) }
         ensures slots { IfOk result (λ seats. (addr : Addr) → map.get seats.slots addr
             ≡ (if has_addr before.now addr && (count_at seats.uses addr == 0) then None else map.get self.now.slots addr)) }
     {
-        let more = count_in(self.uses.copied()?, after)?;
-        let uses = count_out(more, before)?;
-        let slots = release(self.slots.copied()?, &uses, before)?;
+        let front = common_front(before, after);
+        let gone = &before[front..];
+        let more = count_in(self.uses.copied()?, &after[front..])?;
+        let uses = count_out(more, gone)?;
+        let slots = release(self.slots.copied()?, &uses, gone)?;
         Ok(Seats { slots, uses })
     }
 }

@@ -1,36 +1,52 @@
 //! A part of the services, by their names.
-ghost use Rattle.std.specs.Prelude.{◌≡◌, ℕ, OnOk, OnErr, IfOk, MatchOption, option_map, true, false};
+ghost use Rattle.std.specs.Prelude.{◌≡◌, ℕ, OnOk, OnErr, IfOk, IfErr, MatchOption, option_map, map as each, true, false};
+ghost use Rattle.std.specs.Ordering.{nat_cmp};
 ghost use Rattle.std.specs.FinMap as map;
+ghost use Rattle.std.specs.Cmp.Lexicographic.{slice_cmp};
+ghost use Rattle.addr_book.specs.ServiceShard.{served};
+ghost use Rattle.addr_book.specs.Sorted.{map_of, IsInOrder, IsPlace, IsGap};
 
 use crate::Mem;
 use crate::addr_list::AddrList;
 use crate::name::Name;
 use std::alloc::Global;
-use std::collections::BTreeMap;
 use std::marker::Model;
 use std::sync::Arc;
 
+/// For how many services more a copy has room.
+const SPARE: usize = 2;
+
+/// A service and its addresses.
+#[derive(Debug, Drop)]
+struct Service {
+    name: Name,
+    list: Arc<AddrList>,
+}
+
 /// Some services, each with its addresses: one shard of [`Services`](crate::services::Services). Contracts see a finite map. Copies
-/// share the lists.
+/// share the names and the lists.
 ///
-/// A look-up takes about `log n` comparisons of names.
+/// They lie in the order of the names. A look-up takes about `log n` comparisons of names; a new service, and one that goes, moves those
+/// behind it.
 #[derive(Debug, Drop)]
 pub(crate) struct ServiceShard {
-    lists: BTreeMap<Name, Arc<AddrList>>,
+    items: Vec<Service>,
 }
 
 impl Model for ServiceShard {
-    ghost use Rattle.std.specs.Prelude.{List, map};
-    ghost use Rattle.std.specs.Arc.{arc_value};
+    ghost use Rattle.std.specs.Ordering.{nat_cmp};
+    ghost use Rattle.std.specs.Cmp.Lexicographic.{slice_cmp};
     ghost use Rattle.addr_book.specs.Book.{Services, services_code};
+    ghost use Rattle.addr_book.specs.ServiceShard.{served};
+    ghost use Rattle.addr_book.specs.Sorted.{map_of, IsInOrder};
 
     ghost Value = { Services };
 
     ghost coded = { services_code };
 
-    ghost use Rattle.std.specs.FinMap.{from_entries};
+    ghost view = { λ s. map_of served s.items.items };
 
-    ghost view = { λ s. from_entries (map (λ e. (e.0, arc_value e.1)) s.lists.entries) };
+    ghost invariant = { λ s. IsInOrder (slice_cmp nat_cmp) served s.items.items };
 }
 
 impl ServiceShard {
@@ -39,7 +55,7 @@ impl ServiceShard {
         ensures { result ≡ map.empty }
     {
         ServiceShard {
-            lists: BTreeMap::new(alloc),
+            items: Vec::new(alloc),
         }
     }
 
@@ -47,47 +63,100 @@ impl ServiceShard {
     pub(crate) fn get(&self, service: &Name) -> Option<&AddrList>
         ensures { option_map (λ list. list.now) result ≡ map.get self.now service.now }
     {
-        match self.lists.get(service) {
-            Some(list) => Some(&**list),
-            None => None,
+        match search(self.items.as_slice(), service.text()) {
+            Ok(at) => Some(&*self.items[at].list),
+            Err(_) => None,
         }
     }
 
-    /// The service with this name's text, if it is there. It looks at one service after another.
+    /// The service with this name's text, if it is there.
     pub(crate) fn find(&self, text: &[u8]) -> Option<&Name>
         ensures { MatchOption result (map.contains_key self.now text.now ≡ false) (λ name. (name.now ≡ text.now) × (map.contains_key self.now text.now ≡ true)) }
     {
-        for (name, _list) in self.lists.iter() {
-            if name.text() == text {
-                return Some(name);
-            }
+        match search(self.items.as_slice(), text) {
+            Ok(at) => Some(&self.items[at].name),
+            Err(_) => None,
         }
-        None
     }
 
-    /// Puts a service with its addresses, in the place of its like. An `Err` changes nothing.
-    pub(crate) fn insert(&mut self, alloc: Global, service: &Name, list: &AddrList) -> Mem<()>
+    /// Puts a service with its addresses, in the place of its like, and says whether it was there. An `Err` changes nothing.
+    pub(crate) fn insert(&mut self, alloc: Global, service: &Name, list: &AddrList) -> Mem<bool>
         ensures ok { OnOk result (self.new ≡ map.insert self.old service.now list.now) }
+        ensures there { IfOk result (λ there. there ≡ map.contains_key self.old service.now) }
         ensures err { OnErr result (self.new ≡ self.old) }
     {
-        let list = Arc::new(alloc, list.clone()?)?;
-        self.lists.insert(service.clone()?, list)?;
-        Ok(())
+        let item = Service {
+            name: service.clone()?,
+            list: Arc::new(alloc, list.clone()?)?,
+        };
+        put(&mut self.items, item)
     }
 
-    /// Takes a service away.
-    pub(crate) fn remove(&mut self, service: &Name)
-        ensures { self.new ≡ map.remove self.old service.now }
+    /// Takes a service away, and says whether it was there.
+    pub(crate) fn remove(&mut self, service: &Name) -> bool
+        ensures services { self.new ≡ map.remove self.old service.now }
+        ensures there { result ≡ map.contains_key self.old service.now }
     {
-        self.lists.remove(service);
+        match search(self.items.as_slice(), service.text()) {
+            Ok(at) => {
+                self.items.remove(at);
+                true
+            }
+            Err(_) => false,
+        }
     }
+}
 
-    /// Another shard of these services, which shares their lists.
-    pub(crate) fn copied(&self) -> Mem<ServiceShard>
-        ensures { IfOk result (λ copy. copy ≡ self.now) }
-    {
+impl Clone for ServiceShard {
+    ghost is_clone = { λ shard clone. clone ≡ shard };
+
+    /// Shares the names and the lists.
+    fn clone(&self) -> Mem<ServiceShard> {
         Ok(ServiceShard {
-            lists: self.lists.clone()?,
+            items: shared(*self.items.allocator(), self.items.as_slice())?,
         })
     }
+}
+
+/// The place of the service with this name's text, or the place where it would go.
+fn search(items: &[Service], text: &[u8]) -> Result<usize, usize>
+    requires { IsInOrder (slice_cmp nat_cmp) served items.now }
+    ensures found { IfOk result (IsPlace (slice_cmp nat_cmp) served items.now text.now) }
+    ensures absent { IfErr result (IsGap (slice_cmp nat_cmp) served items.now text.now) }
+{
+    items.binary_search_by(|item| item.name.text().cmp(text))
+}
+
+/// Puts a service with its addresses, in the place of its like, and says whether it was there. An `Err` changes nothing.
+fn put(items: &mut Vec<Service>, item: Service) -> Mem<bool>
+    requires { IsInOrder (slice_cmp nat_cmp) served items.old.items }
+    ensures sorted { IsInOrder (slice_cmp nat_cmp) served items.new.items }
+    ensures ok { OnOk result (map_of served items.new.items ≡ map.insert (map_of {R = slice_cmp nat_cmp} served items.old.items) (served item).0 (served item).1) }
+    ensures there { IfOk result (λ there. there ≡ map.contains_key (map_of {R = slice_cmp nat_cmp} served items.old.items) (served item).0) }
+    ensures err { OnErr result (items.new.items ≡ items.old.items) }
+{
+    match search(items.as_slice(), item.name.text()) {
+        Ok(at) => {
+            items[at] = item;
+            Ok(true)
+        }
+        Err(at) => {
+            items.insert(at, item)?;
+            Ok(false)
+        }
+    }
+}
+
+/// The same services once more, with room for some more.
+fn shared(alloc: Global, items: &[Service]) -> Mem<Vec<Service>>
+    ensures { IfOk result (λ copy. each served copy.items ≡ each served items.now) }
+{
+    let mut copy = Vec::with_capacity(alloc, items.len().saturating_add(SPARE))?;
+    for item in items {
+        copy.push(Service {
+            name: item.name.clone()?,
+            list: Arc::try_clone(&item.list)?,
+        })?;
+    }
+    Ok(copy)
 }

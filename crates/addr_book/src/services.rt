@@ -2,6 +2,7 @@
 ghost use Rattle.std.specs.Prelude.{◌≡◌, ◌+◌, ◌-◌, ◌<◌, ◌^◌, if◌then◌else◌, length, map as each, OnOk, IfOk, None, MatchOption, option_map, slice_index_or, slice_set, true, false};
 ghost use Rattle.std.specs.FinMap as map;
 ghost use Rattle.addr_book.specs.Services.{hash_behind, mixed, name_place, service_shard};
+ghost use Rattle.addr_book.specs.Shards.{IsChanged};
 
 use crate::Mem;
 use crate::addr_list::AddrList;
@@ -88,12 +89,7 @@ impl Services {
         ensures { IfOk result (λ services. services ≡ map.insert self service.now list.now) }
     {
         let Services { mut shards, len } = self;
-        let alloc = *shards.allocator();
-        let place = place_of(service.text());
-        let mut shard = taken_shard(alloc, &mut shards, place)?;
-        let was_there = shard.get(service).is_some();
-        shard.insert(alloc, service, list)?;
-        shards[place] = Some(Arc::new(alloc, shard)?);
+        let was_there = insert_at(&mut shards, place_of(service.text()), service, list)?;
         Ok(Services {
             shards,
             len: len_with(len, was_there),
@@ -105,12 +101,7 @@ impl Services {
         ensures { IfOk result (λ services. services ≡ map.remove self service.now) }
     {
         let Services { mut shards, len } = self;
-        let alloc = *shards.allocator();
-        let place = place_of(service.text());
-        let mut shard = taken_shard(alloc, &mut shards, place)?;
-        let was_there = shard.get(service).is_some();
-        shard.remove(service);
-        shards[place] = Some(Arc::new(alloc, shard)?);
+        let was_there = remove_at(&mut shards, place_of(service.text()), service)?;
         Ok(Services {
             shards,
             len: len_without(len, was_there),
@@ -155,18 +146,34 @@ fn mix(hash: u64, byte: u8) -> u64
     (hash ^ u64::from(byte)).wrapping_mul(PRIME)
 }
 
-/// The shard at a place, to be changed: itself where no other services share it, and else a copy. It leaves none at the place.
-fn taken_shard(alloc: Global, shards: &mut Shards, place: usize) -> Mem<ServiceShard>
+/// Puts a service with its addresses, in the place of its like, into the shard at a place, and says whether it was there. The shard is
+/// copied first where other services share it.
+fn insert_at(shards: &mut Shards, place: usize, service: &Name, list: &AddrList) -> Mem<bool>
     requires { place < length shards.old.items }
-    ensures shard { IfOk result (λ shard. shard ≡ service_shard (slice_index_or shards.old.items place None)) }
-    ensures rest { OnOk result (shards.new.items ≡ slice_set shards.old.items place None) }
+    ensures changed { OnOk result (IsChanged service_shard shards.old.items shards.new.items place (map.insert (service_shard (slice_index_or shards.old.items place None)) service.now list.now)) }
+    ensures there { IfOk result (λ there. there ≡ map.contains_key (service_shard (slice_index_or shards.old.items place None)) service.now) }
 {
-    match shards[place].take() {
-        None => Ok(ServiceShard::new(alloc)),
-        Some(shared) => match Arc::try_unwrap(shared) {
-            Ok(shard) => Ok(shard),
-            Err(shared) => shared.copied(),
-        },
+    let alloc = *shards.allocator();
+    match &mut shards[place] {
+        Some(shard) => Arc::make_mut(shard)?.insert(alloc, service, list),
+        None => {
+            let mut shard = ServiceShard::new(alloc);
+            let was_there = shard.insert(alloc, service, list)?;
+            shards[place] = Some(Arc::new(alloc, shard)?);
+            Ok(was_there)
+        }
+    }
+}
+
+/// Takes a service out of the shard at a place, and says whether it was there. The shard is copied first where other services share it.
+fn remove_at(shards: &mut Shards, place: usize, service: &Name) -> Mem<bool>
+    requires { place < length shards.old.items }
+    ensures changed { OnOk result (IsChanged service_shard shards.old.items shards.new.items place (map.remove (service_shard (slice_index_or shards.old.items place None)) service.now)) }
+    ensures there { IfOk result (λ there. there ≡ map.contains_key (service_shard (slice_index_or shards.old.items place None)) service.now) }
+{
+    match &mut shards[place] {
+        Some(shard) => Ok(Arc::make_mut(shard)?.remove(service)),
+        None => Ok(false),
     }
 }
 

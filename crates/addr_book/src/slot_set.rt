@@ -68,7 +68,8 @@ impl SlotSet {
         self.words[at] = word & !(1 << (slot % 64));
     }
 
-    /// The lowest slots that are not in the set, in order: at least so many, or all. It passes over full words at once.
+    /// The lowest slots that are not in the set, in order: at least so many, or all. It passes over full words at once, and takes no memory
+    /// where none is asked for.
     pub(crate) fn lowest_open(&self, count: usize) -> Mem<Vec<u32>>
         ensures { IfOk result (λ slots. AreLowest (has_slot self.now) count slots.items) }
     {
@@ -81,7 +82,10 @@ fn lowest_in(alloc: Global, words: &[u64], count: usize) -> Mem<Vec<u32>>
     requires { length words.now ≡ 128 }
     ensures { IfOk result (λ slots. AreLowest (has_slot words.now) count slots.items) }
 {
-    let mut slots = Vec::new(alloc);
+    if count == 0 {
+        return Ok(Vec::new(alloc));
+    }
+    let mut slots = Vec::with_capacity(alloc, count.saturating_add(WORD_SLOTS))?;
     for (at, word) in words.iter().enumerate() {
         if slots.len() >= count {
             return Ok(slots);

@@ -44,7 +44,8 @@ pub fn serve_admin<J: Naming, R: Wait, P: Peer, S: Stop>(
     ensures number { number_in pass.new ≡ number_in pass.old }
     ensures serves { (came : List ℕ) × (gave : List ℕ) × (stopped : Bool) × Consumes (P.left peer.old) (P.left peer.new) came × Appends (P.given peer.old) (P.given peer.new) gave
         × (S.calls stop.new ≡ calls_after (S.calls stop.old) stopped) × IsServing which pass.old pass.new came gave stopped result }
-    ensures causes { HasCauses (P.ends peer.old) (P.ends peer.new) (P.read_faults peer.old) (P.read_faults peer.new) (P.write_faults peer.old) (P.write_faults peer.new) (Some result) }
+    ensures causes { HasCauses (P.ends peer.old) (P.ends peer.new) (P.read_faults peer.old) (P.read_faults peer.new) (P.write_faults peer.old)
+        (P.write_faults peer.new) (Some result) }
 {
     let Ok(mut rest) = Rest::room(alloc) else {
         return Ended::OutOfMemory;

@@ -28,9 +28,10 @@ type Row = (
     &'static str,
 );
 
-const ROWS: [Row; 11] = [
+const ROWS: [Row; 12] = [
     (Namerd, "", "(", 1_048_576, "", NO_TABLE),
     (Namerd, "", "(", 1_048_577, "", TOO_LONG),
+    (Admin, "", "10.0.0.1 1\n", 95_326, "", TOO_LONG),
     (Namerd, "/a=>/b", " ", 65_530, "", MADE),
     (Namerd, "/a=>/b", " ", 65_531, "", NO_TABLE),
     (

@@ -56,10 +56,18 @@ const MOST_ASKED: u32 = 256;
 /// lookup, where the outcome isn't too wide.
 ///
 /// # Cost
-/// Each lookup ticks `steps` at least once. It takes memory for the trees of the entries that match, and none for other
-/// entries. One chain is followed at a time: what is held is a frame for each of its lookups, alternations and unions that
-/// have something left to try, and the bound branches of those unions. Only where a list is wanted is the path of each
-/// lookup copied.
+/// Each lookup ticks `steps` at least once. What a delegation takes is bounded by its lookups, the trees that are tried for them and the
+/// bytes of the paths that are looked up:
+///
+/// - A lookup costs one pass over the text of its path, [`Dtab::matching`](dtab_table::Dtab::matching) in each of the three tables, and a
+///   look-up in the book. It takes memory for a reference to each entry that matches, and for a copy of the path where the leaf that it was
+///   reached by had a rest behind it, or where a list is wanted and kept.
+/// - A tree that is tried, a mark too, costs a turn of a loop, whatever stands in it or behind it. A branch of weight 0 costs a test. The
+///   trees are lent by the tables: nothing is copied of alternatives and branches that aren't reached.
+/// - A leaf whose own text is longer than 2,048 bytes is not joined with a rest.
+///
+/// One chain is followed at a time: what is held is a frame for each of its lookups, alternations and unions that have something left to
+/// try, the paths of these, each once, and the bound branches of those unions.
 pub fn bind<L: Ledger>(
     alloc: Global,
     tables: &Tables<'_>,

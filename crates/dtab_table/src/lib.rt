@@ -2,8 +2,8 @@
 //!
 //! A [`Dtab`] is a list of entries `prefix => tree` with `;` between them. [`read_dtab`] reads its text, [`write_dtab`] writes the canonical
 //! one, and [`Dtab::lookup`] gives what it rewrites a path to: the trees of all entries whose prefix matches the path, the last entry
-//! first, each with the rest of the path behind every leaf. A [`Prefix`] matches a path that has at least as many labels, where each label of
-//! the prefix is the same as the path's or is `*`, which stands for any one label.
+//! first, each with the rest of the path behind every leaf. [`Dtab::matching`] lends these entries, and copies nothing. A [`Prefix`] matches a
+//! path that has at least as many labels, where each label of the prefix is the same as the path's or is `*`, which stands for any one label.
 //!
 //! # What is proved
 //! `specs/TableGrammar.antt` is the grammar as a table, on that of trees. A table's text is read exactly where it is of the grammar and

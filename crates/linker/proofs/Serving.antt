@@ -15,6 +15,7 @@ use Rattle.serving.specs.declared.running.Served.{Served}
 use Rattle.serving.specs.declared.site.Site.{Site}
 use Rattle.serving.specs.Ending.{HasServed}
 use Rattle.serving.specs.Returning.{listened}
+use Rattle.serving.specs.Services.{BookRefuses}
 use Rattle.proxy_session.specs.Outside.{Line}
 use Rattle.std.specs.declared.marker.Brand.{Brand}
 use Rattle.linker_config.specs.declared.config.Config.{Config}
@@ -28,7 +29,7 @@ use Rattle.linker.specs.Found.{IfWrong}
 use Rattle.linker.specs.declared.run.Status.{Status}
 use Rattle.linker.specs.declared.run.Status.TheVariants as status
 use Rattle.linker.specs.Run.{AppendsFront, Course, line_told, no_memory, served, EndsServing, Ended, Filed, Linked, Output, Serves}
-use Rattle.linker.specs.Served.{Finish, broken, short, finish_code, IsConfig, IsLast, IsMadeBy, LoadsRoot, RefusesService, ServedBy, TellsEnd, TellsNet, TellsServing, router_of, file_line, memory_line, serving_line, shut_down, site_of}
+use Rattle.linker.specs.Served.{Finish, broken, short, finish_code, IsConfig, IsLast, IsMadeBy, LoadsRoot, RefusesBook, RefusesService, ServedBy, TellsEnd, TellsNet, TellsServing, router_of, file_line, memory_line, serving_line, shut_down, site_of}
 use Rattle.linker.specs.Told.{Tells, code_of}
 use Rattle.linker.proofs.Runs.{tells_end, tells_behind, tells_memory_first, fails_before}
 
@@ -38,10 +39,12 @@ linked_same a b state faults = λ i. record { state = state i; faults = faults i
 
 module _ (J : Type 0) {P : Type 0} (line_of : P → Line) (moments : Option (List ℕ)) (files : Option (List File)) (c : Config) where
   -- the book has no room for a service
-  pub no_room : (net net_after : Linked P) (old new : Output) (result : Status) → net_after.state ≡ net.state → net_after.faults ≡ net.faults → Tells (codes "error book\n") status.Wrong old new result
+  pub no_room : (settings : SettingsValue) (loaded : List LoadedItem) (site : Site) (net net_after : Linked P) (old new : Output) (result : Status) → IsMadeBy files c site settings loaded
+      → BookRefuses settings loaded × (net_after.state ≡ net.state) → net_after.faults ≡ net.faults → Tells (codes "error book\n") status.Wrong old new result
       → EndsServing J line_of moments files c net net_after old new (code_of result)
-  no_room net net_after old new result same kept told =
-      inr (inl (linked_same net net_after same kept, tells_end (line_told false (codes "error book\n")) (codes "error book\n") status.Wrong result old new refl refl told))
+  no_room settings loaded site net net_after old new result made refused kept told =
+      let book : RefusesBook files c = (loaded, made.loads, subst (λ (s : SettingsValue). BookRefuses s loaded) made.settings_are refused.0) in
+      inr (inl (book, linked_same net net_after refused.1 kept, tells_end (line_told false (codes "error book\n")) (codes "error book\n") status.Wrong result old new refl refl told))
 
   -- memory was wanting before anything was written
   pub no_memory_yet : (net net_after : Linked P) (old new : Output) (result : Status) → net_after.faults ≡ net.faults → Tells memory_line status.Memory old new result
@@ -151,7 +154,7 @@ pub course_of_end : {P : Type 0} (line_of : P → Line) (moments : Option (List 
     → (course : Course) × Serves line_of moments path files files_after net net_after course × Ended course old new code
 course_of_end line_of moments path c files files_after net net_after old new code right kept (inl end) = (served end.0 end.1, (c, right, end.2, end.3, kept), end.4)
 course_of_end line_of moments path c files files_after net net_after old new code right kept (inr (inl book)) =
-    (line_told false (codes "error book\n"), (inr (c, right, inr refl), kept, book.0), book.1)
+    (line_told false (codes "error book\n"), (inr (c, right, inr (book.0, refl)), kept, book.1), book.2)
 course_of_end line_of moments path c files files_after net net_after old new code right kept (inr (inr wanting)) =
     (no_memory, (kept, wanting.0), wanting.1)
 

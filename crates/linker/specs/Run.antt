@@ -17,7 +17,7 @@ use Rattle.linker_config.specs.declared.config.Config.{Config}
 use Rattle.linker.specs.Check.{TellsPath}
 use Rattle.linker.specs.Generated.{storm_line, weave_line}
 use Rattle.linker.specs.Replay.{played, replay_of}
-use Rattle.linker.specs.Served.{Finish, shut_down, broken, short, finish_code, IsConfig, IsRefused, TellsNet, TellsServing, memory_line}
+use Rattle.linker.specs.Served.{Finish, shut_down, broken, short, finish_code, IsConfig, IsRefused, RefusesBook, TellsNet, TellsServing, memory_line}
 use Rattle.linker.specs.Words.{Asked, replay, check, serve, storm, weave, command_of}
 
 -- the most bytes of a script
@@ -179,7 +179,7 @@ module _ (J : Type 0) {P : Type 0} (line_of : P → Line) (moments : Option (Lis
   EndsServing files config net net_after old new status =
       ((lines : List ℕ) × (finish : Finish) × TellsServing J line_of moments files config net.state net_after.state lines finish × TellsNet net.faults net_after.faults finish
       × Ended (served lines finish) old new status)
-      ⊎ (((net_after ≡ net) × Ended (line_told false (codes "error book\n")) old new status)
+      ⊎ ((RefusesBook files config × (net_after ≡ net) × Ended (line_told false (codes "error book\n")) old new status)
       ⊎ ((net_after.faults ≡ net.faults) × Ended no_memory old new status))
 
 module _ {P : Type 0} (line_of : P → Line) (moments : Option (List ℕ)) where

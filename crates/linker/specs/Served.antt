@@ -14,6 +14,7 @@ use Rattle.router.specs.declared.update.Update.{Update}
 use Rattle.serving.specs.declared.running.Served.{Served}
 use Rattle.serving.specs.Ending.{HasServed}
 use Rattle.serving.specs.Returning.{listened}
+use Rattle.serving.specs.Services.{BookRefuses}
 use Rattle.serving.specs.declared.site.Site.{Site}
 use Rattle.linker_config.specs.declared.loaded.LoadedItem.{LoadedItem}
 use Rattle.std.specs.Fmt.{decimal}
@@ -56,10 +57,20 @@ file_line name = codes "error file " ++ name ++ 10 ∷ []
 abbrev pub RefusesFile : Option (List File) → List ℕ → List ℕ → Type 0
 RefusesFile files root name = Loads files root (Err (LongFile name)) ⊎ ((line : ℕ) × Loads files root (Err (BadFile name line)))
 
+-- what the code's answer on services says of the folder that a configuration names: where it names none there are no services
+abbrev pub LoadsRoot : Option (List File) → Option (List ℕ) → Services → Type 0
+LoadsRoot files None told = told ≡ Ok []
+LoadsRoot files (Some root) told = Loads files root told
+
+-- the book has no room for one of the services of the configured folder, behind those before it
+abbrev pub RefusesBook : Option (List File) → Config → Type 0
+RefusesBook files config = (loaded : List LoadedItem) × LoadsRoot files config.root (Ok loaded) × BookRefuses (settings_of config.settings) loaded
+
 -- a service of the configured folder is refused: its file is, or the book has no room for it
 abbrev pub RefusesService : Option (List File) → Config → List ℕ → Type 0
 RefusesService files config line =
-    ((root : List ℕ) × (name : List ℕ) × (config.root ≡ Some root) × RefusesFile files root name × (line ≡ file_line name)) ⊎ (line ≡ codes "error book\n")
+    ((root : List ℕ) × (name : List ℕ) × (config.root ≡ Some root) × RefusesFile files root name × (line ≡ file_line name))
+    ⊎ (RefusesBook files config × (line ≡ codes "error book\n"))
 
 -- this line tells why nothing is served
 abbrev pub IsRefused : Option (List File) → List ℕ → List ℕ → Type 0
@@ -83,11 +94,6 @@ closed_line place = codes "closed " ++ decimal place ++ 10 ∷ []
 -- the line that tells that memory is wanting
 abbrev pub memory_line : List ℕ
 memory_line = codes "error memory\n"
-
--- what the code's answer on services says of the folder that a configuration names: where it names none there are no services
-abbrev pub LoadsRoot : Option (List File) → Option (List ℕ) → Services → Type 0
-LoadsRoot files None told = told ≡ Ok []
-LoadsRoot files (Some root) told = Loads files root told
 
 -- which router it is, by the type that names it, and by its cell, its settings, its load words, and the number of its passes
 abbrev pub router_of : (J : Type 0) → Option (Origin Current Update) → SettingsValue → Option Words → ℕ → Ghosts J

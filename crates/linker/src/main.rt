@@ -29,6 +29,7 @@
 
 use announcing::{reason, served_path};
 use net_edge::{FileSystem, ReaderSource, SocketNet, SystemClock, WriterSink};
+use run::{Status, tell};
 use start::run_arguments;
 use std::alloc::AllocError;
 use std::process::ExitCode;
@@ -67,13 +68,13 @@ usage: linker weave N SEED
 ";
 
 fn main(rt: HostRuntime) -> ExitCode {
+    let mut out = WriterSink::of(io::writer(&rt));
     let Ok(mut net) = SocketNet::of(&rt) else {
-        return ExitCode::from(7);
+        return ExitCode::from(tell(&mut out, b"error memory\n", Status::Memory).code());
     };
     let mut folder = FileSystem::of(&rt);
     let mut clock = SystemClock::of(&rt);
     let mut input = ReaderSource::of(rt.reader());
-    let mut out = WriterSink::of(io::writer(&rt));
     let path = served_path(env::args(&rt));
     if let Some(path) = &path {
         let _ = eprintln!(rt; "linker: serving by {path}");

@@ -61,18 +61,27 @@ where
     // configuration that was found, or of the generated run, or by those that tell where a router served and how many changes there were. That router served by
     // the configuration and the services of its folder: all its connections were served, and all its listeners and stops came back.
     ensures ran { Ran (line_by N.L.P.left N.L.P.given N.L.P.read_faults N.L.P.write_faults N.L.P.ends) (C.of_fork clock.old) (map string_bytes words.now)
-        (record { left = S.left input.old; faults = S.faults input.old; ends = S.ends input.old }) (record { left = S.left input.new; faults = S.faults input.new; ends = S.ends input.new })
-        (record { files = F.files folder.old; faults = F.faults folder.old }) (record { files = F.files folder.new; faults = F.faults folder.new }) (record { state = N.state net.old; faults = N.faults net.old }) (record { state = N.state net.new; faults = N.faults net.new })
+        (record { left = S.left input.old; faults = S.faults input.old; ends = S.ends input.old })
+        (record { left = S.left input.new; faults = S.faults input.new; ends = S.ends input.new })
+        (record { files = F.files folder.old; faults = F.faults folder.old }) (record { files = F.files folder.new; faults = F.faults folder.new })
+        (record { state = N.state net.old; faults = N.faults net.old }) (record { state = N.state net.new; faults = N.faults net.new })
         (record { held = K.held out.old; faults = K.faults out.old }) (record { held = K.held out.new; faults = K.faults out.new }) result }
 
     // 2 exactly where the words fit no command.
     ensures words { result ≡ 2 → IsErr (command_of (map string_bytes words.now)) }
-    ensures refused { IsErr (command_of (map string_bytes words.now)) → (result ≡ 2) ⊎ Yields result (record { held = K.held out.old; faults = K.faults out.old }) (record { held = K.held out.new; faults = K.faults out.new }) }
+    ensures refused { IsErr (command_of (map string_bytes words.now)) → (result ≡ 2) ⊎ Yields result
+        (record { held = K.held out.old; faults = K.faults out.old }) (record { held = K.held out.new; faults = K.faults out.new }) }
 
     // 0 and 3 only where the input was read to its end and each line of it is good, or one is bad; and where the configuration is right, or is not, or its
     // services are refused. A generated run is never wrong.
-    ensures done { result ≡ 0 → Shows (command_of (map string_bytes words.now)) (record { left = S.left input.old; faults = S.faults input.old; ends = S.ends input.old }) (record { left = S.left input.new; faults = S.faults input.new; ends = S.ends input.new }) (record { files = F.files folder.old; faults = F.faults folder.old }) true }
-    ensures wrong { result ≡ 3 → Shows (command_of (map string_bytes words.now)) (record { left = S.left input.old; faults = S.faults input.old; ends = S.ends input.old }) (record { left = S.left input.new; faults = S.faults input.new; ends = S.ends input.new }) (record { files = F.files folder.old; faults = F.faults folder.old }) false }
+    ensures done { result ≡ 0 → Shows (command_of (map string_bytes words.now))
+        (record { left = S.left input.old; faults = S.faults input.old; ends = S.ends input.old })
+        (record { left = S.left input.new; faults = S.faults input.new; ends = S.ends input.new })
+        (record { files = F.files folder.old; faults = F.faults folder.old }) true }
+    ensures wrong { result ≡ 3 → Shows (command_of (map string_bytes words.now))
+        (record { left = S.left input.old; faults = S.faults input.old; ends = S.ends input.old })
+        (record { left = S.left input.new; faults = S.faults input.new; ends = S.ends input.new })
+        (record { files = F.files folder.old; faults = F.faults folder.old }) false }
 
     // 0 of `serve` only where every listener came back clean, and as many stops came back as were handed out.
     ensures all_back { result ≡ 0 → EndsWhole (command_of (map string_bytes words.now)) (record { files = F.files folder.old; faults = F.faults folder.old })
@@ -83,19 +92,25 @@ where
     ensures read { result ≡ 4 → Rose (S.faults input.old) (S.faults input.new) ⊎ Rose (F.faults folder.old) (F.faults folder.new) }
     ensures write { result ≡ 5 → Rose (K.faults out.old) (K.faults out.new) }
     ensures net { result ≡ 6 → Rose (N.faults net.old) (N.faults net.new) }
-    ensures read_fault { S.faults input.old < S.faults input.new → (result ≡ 4) ⊎ Yields result (record { held = K.held out.old; faults = K.faults out.old }) (record { held = K.held out.new; faults = K.faults out.new }) }
-    ensures folder_fault { F.faults folder.old < F.faults folder.new → (result ≡ 4) ⊎ Yields result (record { held = K.held out.old; faults = K.faults out.old }) (record { held = K.held out.new; faults = K.faults out.new }) }
+    ensures read_fault { S.faults input.old < S.faults input.new → (result ≡ 4) ⊎ Yields result
+        (record { held = K.held out.old; faults = K.faults out.old }) (record { held = K.held out.new; faults = K.faults out.new }) }
+    ensures folder_fault { F.faults folder.old < F.faults folder.new → (result ≡ 4) ⊎ Yields result
+        (record { held = K.held out.old; faults = K.faults out.old }) (record { held = K.held out.new; faults = K.faults out.new }) }
     ensures write_fault { K.faults out.old < K.faults out.new → result ≡ 5 }
-    ensures net_fault { N.faults net.old < N.faults net.new → (result ≡ 6) ⊎ Yields result (record { held = K.held out.old; faults = K.faults out.old }) (record { held = K.held out.new; faults = K.faults out.new }) }
+    ensures net_fault { N.faults net.old < N.faults net.new → (result ≡ 6) ⊎ Yields result
+        (record { held = K.held out.old; faults = K.faults out.old }) (record { held = K.held out.new; faults = K.faults out.new }) }
 
     // 8 exactly where more was read than a script may have.
-    ensures long { result ≡ 8 → ReadsLong (record { left = S.left input.old; faults = S.faults input.old; ends = S.ends input.old }) (record { left = S.left input.new; faults = S.faults input.new; ends = S.ends input.new }) }
-    ensures longer { IsSome (S.left input.old) → ReadsLong (record { left = S.left input.old; faults = S.faults input.old; ends = S.ends input.old }) (record { left = S.left input.new; faults = S.faults input.new; ends = S.ends input.new })
+    ensures long { result ≡ 8 → ReadsLong (record { left = S.left input.old; faults = S.faults input.old; ends = S.ends input.old })
+        (record { left = S.left input.new; faults = S.faults input.new; ends = S.ends input.new }) }
+    ensures longer { IsSome (S.left input.old) → ReadsLong (record { left = S.left input.old; faults = S.faults input.old; ends = S.ends input.old })
+        (record { left = S.left input.new; faults = S.faults input.new; ends = S.ends input.new })
         → (result ≡ 8) ⊎ Yields result (record { held = K.held out.old; faults = K.faults out.old }) (record { held = K.held out.new; faults = K.faults out.new }) }
 
     // Where nothing fails, an input that tells its bytes is carried out in full, and a configuration and a generated run are told of.
     ensures replays { ReplaysAll (map string_bytes words.now)
-        (record { left = S.left input.old; faults = S.faults input.old; ends = S.ends input.old }) (record { left = S.left input.new; faults = S.faults input.new; ends = S.ends input.new })
+        (record { left = S.left input.old; faults = S.faults input.old; ends = S.ends input.old })
+        (record { left = S.left input.new; faults = S.faults input.new; ends = S.ends input.new })
         (record { held = K.held out.old; faults = K.faults out.old }) (record { held = K.held out.new; faults = K.faults out.new }) result }
     ensures checks { ChecksAll (map string_bytes words.now)
         (record { files = F.files folder.old; faults = F.faults folder.old }) (record { files = F.files folder.new; faults = F.faults folder.new })

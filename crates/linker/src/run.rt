@@ -80,7 +80,8 @@ fn words_line(alloc: Global, place: usize) -> Mem<String>
 
 /// Tells of the first word that fits no command.
 fn refuse_words<K: Sink>(alloc: Global, out: &mut K, place: usize) -> Status
-    ensures { Ended (words_refused place) (record { held = K.held out.old; faults = K.faults out.old }) (record { held = K.held out.new; faults = K.faults out.new }) (code_of result) }
+    ensures { Ended (words_refused place) (record { held = K.held out.old; faults = K.faults out.old })
+        (record { held = K.held out.new; faults = K.faults out.new }) (code_of result) }
 {
     match words_line(alloc, place) {
         Ok(line) => tell(out, line.as_bytes(), Status::Words),
@@ -96,7 +97,8 @@ fn carry_out<K: Sink, L: Ledger>(
     steps: &mut Steps<L>,
 ) -> Status
     requires { length script.now ≤ 67108864 }
-    ensures { Ended (script_read script.now) (record { held = K.held out.old; faults = K.faults out.old }) (record { held = K.held out.new; faults = K.faults out.new }) (code_of result) }
+    ensures { Ended (script_read script.now) (record { held = K.held out.old; faults = K.faults out.old })
+        (record { held = K.held out.new; faults = K.faults out.new }) (code_of result) }
 {
     match play(alloc, script, out, steps) {
         PlayEnd::Done => Status::Done,
@@ -114,7 +116,8 @@ fn replay<S: Source, K: Sink, L: Ledger>(
     steps: &mut Steps<L>,
 ) -> Status
     ensures { (course : Course)
-        × Reads (record { left = S.left input.old; faults = S.faults input.old; ends = S.ends input.old }) (record { left = S.left input.new; faults = S.faults input.new; ends = S.ends input.new }) course
+        × Reads (record { left = S.left input.old; faults = S.faults input.old; ends = S.ends input.old })
+        (record { left = S.left input.new; faults = S.faults input.new; ends = S.ends input.new }) course
         × Ended course (record { held = K.held out.old; faults = K.faults out.old }) (record { held = K.held out.new; faults = K.faults out.new }) (code_of result) }
 {
     match read_all(alloc, input, MOST_SCRIPT) {
@@ -186,8 +189,10 @@ where
     requires parts { blank.parts ≡ L.parts }
     requires some { 0 < blank.parts }
     ensures { Ran (line_by N.L.P.left N.L.P.given N.L.P.read_faults N.L.P.write_faults N.L.P.ends) (C.of_fork clock.old) (map string_bytes words.now)
-        (record { left = S.left input.old; faults = S.faults input.old; ends = S.ends input.old }) (record { left = S.left input.new; faults = S.faults input.new; ends = S.ends input.new })
-        (record { files = F.files folder.old; faults = F.faults folder.old }) (record { files = F.files folder.new; faults = F.faults folder.new }) (record { state = N.state net.old; faults = N.faults net.old }) (record { state = N.state net.new; faults = N.faults net.new })
+        (record { left = S.left input.old; faults = S.faults input.old; ends = S.ends input.old })
+        (record { left = S.left input.new; faults = S.faults input.new; ends = S.ends input.new })
+        (record { files = F.files folder.old; faults = F.faults folder.old }) (record { files = F.files folder.new; faults = F.faults folder.new })
+        (record { state = N.state net.old; faults = N.faults net.old }) (record { state = N.state net.new; faults = N.faults net.new })
         (record { held = K.held out.old; faults = K.faults out.old }) (record { held = K.held out.new; faults = K.faults out.new }) (code_of result) }
 {
     let mut steps = Steps::<L>::start(blank);

@@ -79,7 +79,8 @@ fn last_line(alloc: Global, served: Served) -> Mem<String>
 
 /// Tells of a file that is refused.
 fn tell_file<K: Sink>(alloc: Global, out: &mut K, name: &Name) -> Status
-    ensures { Ended (line_told false (file_line name.now)) (record { held = K.held out.old; faults = K.faults out.old }) (record { held = K.held out.new; faults = K.faults out.new }) (code_of result) }
+    ensures { Ended (line_told false (file_line name.now)) (record { held = K.held out.old; faults = K.faults out.old })
+        (record { held = K.held out.new; faults = K.faults out.new }) (code_of result) }
 {
     match refused_line(alloc, name) {
         Ok(line) => tell(out, line.as_slice(), Status::Wrong),
@@ -89,7 +90,8 @@ fn tell_file<K: Sink>(alloc: Global, out: &mut K, name: &Name) -> Status
 
 /// Tells how it was to serve.
 fn tell_served<K: Sink>(alloc: Global, out: &mut K, served: Served) -> Status
-    ensures { (last : List ℕ) × (finish : Finish) × (end : Status) × TellsEnd served last finish × (code_of end ≡ finish_code finish) × Tells last end (record { held = K.held out.old; faults = K.faults out.old }) (record { held = K.held out.new; faults = K.faults out.new }) result }
+    ensures { (last : List ℕ) × (finish : Finish) × (end : Status) × TellsEnd served last finish × (code_of end ≡ finish_code finish) × Tells last end
+        (record { held = K.held out.old; faults = K.faults out.old }) (record { held = K.held out.new; faults = K.faults out.new }) result }
 {
     let Ok(line) = last_line(alloc, served) else {
         return tell(out, b"error memory\n", Status::Memory);
@@ -123,9 +125,14 @@ where
     requires listens { Listens N.L.state (N.state net.old).told site.now (bound_of serving) }
     requires seats { length (passes_of serving) ≡ site.now.workers + 5 }
     requires parts { J.parts ≡ J.seats }
-    ensures { (files : Option (List File)) → (c : Config) → (before : Networking N.L.P) → (loaded : List LoadedItem) → IsMadeBy files c site.now J.settings loaded → HaveSeen loaded (passes_of serving)
+    ensures { (files : Option (List File)) → (c : Config) → (before : Networking N.L.P) → (loaded : List LoadedItem)
+        → IsMadeBy files c site.now J.settings loaded → HaveSeen loaded (passes_of serving)
         → N.state net.old ≡ listened (c.workers + 4) before
-        → (last : List ℕ) × (finish : Finish) × (end : Status) × IsLast J (line_by N.L.P.left N.L.P.given N.L.P.read_faults N.L.P.write_faults N.L.P.ends) (C.of_fork clock.now) files c before (N.state net.new) last finish × TellsNet (N.faults net.old) (N.faults net.new) finish × (code_of end ≡ finish_code finish) × Tells last end (record { held = K.held out.old; faults = K.faults out.old }) (record { held = K.held out.new; faults = K.faults out.new }) result }
+        → (last : List ℕ) × (finish : Finish) × (end : Status) × IsLast J
+        (line_by N.L.P.left N.L.P.given N.L.P.read_faults N.L.P.write_faults N.L.P.ends) (C.of_fork clock.now) files c before
+        (N.state net.new) last finish × TellsNet (N.faults net.old) (N.faults net.new) finish × (code_of end ≡ finish_code finish)
+        × Tells last end (record { held = K.held out.old; faults = K.faults out.old })
+        (record { held = K.held out.new; faults = K.faults out.new }) result }
 {
     match serving.run(rt, alloc, site, net, clock) {
         Ok(served) => tell_served(alloc, out, served),
@@ -159,7 +166,10 @@ where
     requires name { opened.blank.name ≡ J.name }
     requires parts { (opened.blank.parts ≡ J.parts) × (J.parts ≡ J.seats) }
     requires seats { (opened.seats ≡ J.seats) × (opened.seats ≡ site.now.workers + 5) }
-    ensures { (files : Option (List File)) → (c : Config) → IsMadeBy files c site.now J.settings loaded → EndsServing J (line_by N.L.P.left N.L.P.given N.L.P.read_faults N.L.P.write_faults N.L.P.ends) (C.of_fork clock.now) files c (record { state = N.state net.old; faults = N.faults net.old }) (record { state = N.state net.new; faults = N.faults net.new }) (record { held = K.held out.old; faults = K.faults out.old }) (record { held = K.held out.new; faults = K.faults out.new }) (code_of result) }
+    ensures { (files : Option (List File)) → (c : Config) → IsMadeBy files c site.now J.settings loaded → EndsServing J
+        (line_by N.L.P.left N.L.P.given N.L.P.read_faults N.L.P.write_faults N.L.P.ends) (C.of_fork clock.now) files c
+        (record { state = N.state net.old; faults = N.faults net.old }) (record { state = N.state net.new; faults = N.faults net.new })
+        (record { held = K.held out.old; faults = K.faults out.old }) (record { held = K.held out.new; faults = K.faults out.new }) (code_of result) }
 {
     let serving = match start::<J, R, N>(rt, alloc, opened, loaded, site, net) {
         Ok(serving) => serving,
@@ -194,7 +204,10 @@ where
     <N::L as Listener>::P: Send,
     requires workers { config.workers ≤ 256 }
     ensures served { (path : List ℕ) → IsConfig (F.files folder.old) path config → (course : Course)
-        × Serves (line_by N.L.P.left N.L.P.given N.L.P.read_faults N.L.P.write_faults N.L.P.ends) (C.of_fork clock.now) path (record { files = F.files folder.old; faults = F.faults folder.old }) (record { files = F.files folder.new; faults = F.faults folder.new }) (record { state = N.state net.old; faults = N.faults net.old }) (record { state = N.state net.new; faults = N.faults net.new }) course
+        × Serves (line_by N.L.P.left N.L.P.given N.L.P.read_faults N.L.P.write_faults N.L.P.ends) (C.of_fork clock.now) path
+        (record { files = F.files folder.old; faults = F.faults folder.old })
+        (record { files = F.files folder.new; faults = F.faults folder.new }) (record { state = N.state net.old; faults = N.faults net.old })
+        (record { state = N.state net.new; faults = N.faults net.new }) course
         × Ended course (record { held = K.held out.old; faults = K.faults out.old }) (record { held = K.held out.new; faults = K.faults out.new }) (code_of result) }
     ensures files { F.files folder.new ≡ F.files folder.old }
 {
@@ -242,7 +255,10 @@ pub fn serve<R: Threads + Wait + Sync, F: Folder, N: Net + Send, C: Clock + Drop
 where
     <N::L as Listener>::P: Send,
     ensures served { (course : Course)
-        × Serves (line_by N.L.P.left N.L.P.given N.L.P.read_faults N.L.P.write_faults N.L.P.ends) (C.of_fork clock.now) path.now (record { files = F.files folder.old; faults = F.faults folder.old }) (record { files = F.files folder.new; faults = F.faults folder.new }) (record { state = N.state net.old; faults = N.faults net.old }) (record { state = N.state net.new; faults = N.faults net.new }) course
+        × Serves (line_by N.L.P.left N.L.P.given N.L.P.read_faults N.L.P.write_faults N.L.P.ends) (C.of_fork clock.now) path.now
+        (record { files = F.files folder.old; faults = F.faults folder.old })
+        (record { files = F.files folder.new; faults = F.faults folder.new }) (record { state = N.state net.old; faults = N.faults net.old })
+        (record { state = N.state net.new; faults = N.faults net.new }) course
         × Ended course (record { held = K.held out.old; faults = K.faults out.old }) (record { held = K.held out.new; faults = K.faults out.new }) (code_of result) }
     ensures files { F.files folder.new ≡ F.files folder.old }
 {

@@ -60,8 +60,10 @@ fn status_for<
 where
     <N::L as Listener>::P: Send,
     ensures { Ran (line_by N.L.P.left N.L.P.given N.L.P.read_faults N.L.P.write_faults N.L.P.ends) (C.of_fork clock.old) (words_of arguments)
-        (record { left = S.left input.old; faults = S.faults input.old; ends = S.ends input.old }) (record { left = S.left input.new; faults = S.faults input.new; ends = S.ends input.new })
-        (record { files = F.files folder.old; faults = F.faults folder.old }) (record { files = F.files folder.new; faults = F.faults folder.new }) (record { state = N.state net.old; faults = N.faults net.old }) (record { state = N.state net.new; faults = N.faults net.new })
+        (record { left = S.left input.old; faults = S.faults input.old; ends = S.ends input.old })
+        (record { left = S.left input.new; faults = S.faults input.new; ends = S.ends input.new })
+        (record { files = F.files folder.old; faults = F.faults folder.old }) (record { files = F.files folder.new; faults = F.faults folder.new })
+        (record { state = N.state net.old; faults = N.faults net.old }) (record { state = N.state net.new; faults = N.faults net.new })
         (record { held = K.held out.old; faults = K.faults out.old }) (record { held = K.held out.new; faults = K.faults out.new }) result }
 {
     let alloc = rt.alloc();
@@ -97,9 +99,12 @@ pub fn run_arguments<
 where
     <N::L as Listener>::P: Send,
     ensures ran { Ran (line_by N.L.P.left N.L.P.given N.L.P.read_faults N.L.P.write_faults N.L.P.ends) (C.of_fork clock.old) (words_of arguments)
-        (record { left = S.left input.old; faults = S.faults input.old; ends = S.ends input.old }) (record { left = S.left input.new; faults = S.faults input.new; ends = S.ends input.new })
-        (record { files = F.files folder.old; faults = F.faults folder.old }) (record { files = F.files folder.new; faults = F.faults folder.new }) (record { state = N.state net.old; faults = N.faults net.old }) (record { state = N.state net.new; faults = N.faults net.new })
+        (record { left = S.left input.old; faults = S.faults input.old; ends = S.ends input.old })
+        (record { left = S.left input.new; faults = S.faults input.new; ends = S.ends input.new })
+        (record { files = F.files folder.old; faults = F.faults folder.old }) (record { files = F.files folder.new; faults = F.faults folder.new })
+        (record { state = N.state net.old; faults = N.faults net.old }) (record { state = N.state net.new; faults = N.faults net.new })
         (record { held = K.held out.old; faults = K.faults out.old }) (record { held = K.held out.new; faults = K.faults out.new }) (exit_status result.code) }
+    ensures status { exit_status result.code ≡ result.status }
     ensures usage { IsTrue result.tells_usage ↔ (exit_status result.code ≡ 2) }
 {
     let status = status_for(rt, arguments, folder, net, clock, input, out);

@@ -49,7 +49,8 @@ pub fn read_words(words: &[String]) -> Result<Command<'_>, usize>
 
 /// `replay` with the words behind it, which are none.
 fn read_replay(others: &[String]) -> Result<Command<'_>, usize>
-    ensures { MatchResult result (λ command. alone 2 replay (map string_bytes others.now) ≡ Ok (asked_by command)) (λ place. alone 2 replay (map string_bytes others.now) ≡ Err place) }
+    ensures { MatchResult result (λ command. alone 2 replay (map string_bytes others.now) ≡ Ok (asked_by command))
+        (λ place. alone 2 replay (map string_bytes others.now) ≡ Err place) }
 {
     match others {
         [] => Ok(Command::Replay),
@@ -59,7 +60,8 @@ fn read_replay(others: &[String]) -> Result<Command<'_>, usize>
 
 /// `check` with the words behind it.
 fn read_check(others: &[String]) -> Result<Command<'_>, usize>
-    ensures { MatchResult result (λ command. path_words check (map string_bytes others.now) ≡ Ok (asked_by command)) (λ place. path_words check (map string_bytes others.now) ≡ Err place) }
+    ensures { MatchResult result (λ command. path_words check (map string_bytes others.now) ≡ Ok (asked_by command))
+        (λ place. path_words check (map string_bytes others.now) ≡ Err place) }
 {
     match read_path_word(others) {
         Ok(path) => Ok(Command::Check(path)),
@@ -81,7 +83,8 @@ fn read_path_word(others: &[String]) -> Result<&str, usize>
 
 /// `serve` with the words behind it.
 fn read_serve(others: &[String]) -> Result<Command<'_>, usize>
-    ensures { MatchResult result (λ command. path_words serve (map string_bytes others.now) ≡ Ok (asked_by command)) (λ place. path_words serve (map string_bytes others.now) ≡ Err place) }
+    ensures { MatchResult result (λ command. path_words serve (map string_bytes others.now) ≡ Ok (asked_by command))
+        (λ place. path_words serve (map string_bytes others.now) ≡ Err place) }
 {
     match read_path_word(others) {
         Ok(path) => Ok(Command::Serve(path)),
@@ -91,7 +94,8 @@ fn read_serve(others: &[String]) -> Result<Command<'_>, usize>
 
 /// `storm` with the words behind it.
 fn read_storm(others: &[String]) -> Result<Command<'_>, usize>
-    ensures { MatchResult result (λ command. of_run storm (turns_words (map string_bytes others.now)) ≡ Ok (asked_by command)) (λ place. of_run storm (turns_words (map string_bytes others.now)) ≡ Err place) }
+    ensures { MatchResult result (λ command. of_run storm (turns_words (map string_bytes others.now)) ≡ Ok (asked_by command))
+        (λ place. of_run storm (turns_words (map string_bytes others.now)) ≡ Err place) }
 {
     match read_generated(others) {
         Ok(run) => Ok(Command::Storm(run)),
@@ -101,7 +105,8 @@ fn read_storm(others: &[String]) -> Result<Command<'_>, usize>
 
 /// `weave` with the words behind it.
 fn read_weave(others: &[String]) -> Result<Command<'_>, usize>
-    ensures { MatchResult result (λ command. of_run weave (turns_words (map string_bytes others.now)) ≡ Ok (asked_by command)) (λ place. of_run weave (turns_words (map string_bytes others.now)) ≡ Err place) }
+    ensures { MatchResult result (λ command. of_run weave (turns_words (map string_bytes others.now)) ≡ Ok (asked_by command))
+        (λ place. of_run weave (turns_words (map string_bytes others.now)) ≡ Err place) }
 {
     match read_generated(others) {
         Ok(run) => Ok(Command::Weave(run)),
@@ -134,7 +139,8 @@ fn read_turns(word: &[u8]) -> Option<u32>
 
 /// The seed behind the turns.
 fn read_seed(turns: u32, others: &[String]) -> Result<Generated, usize>
-    ensures { MatchResult result (λ run. seed_words turns (map string_bytes others.now) ≡ Ok (run.turns, run.seed)) (λ place. seed_words turns (map string_bytes others.now) ≡ Err place) }
+    ensures { MatchResult result (λ run. seed_words turns (map string_bytes others.now) ≡ Ok (run.turns, run.seed))
+        (λ place. seed_words turns (map string_bytes others.now) ≡ Err place) }
 {
     match others {
         [seed, others @ ..] => match read_number(seed.as_bytes()) {

@@ -1,5 +1,5 @@
 -- What was done for a demand.
-use Rattle.std.proofs.Common.{◌≡◌, List, [], ℕ, Result, Ok, Err, refl, sym, ◌∙◌, inl, inr, subst}
+use Rattle.std.proofs.Common.{◌≡◌, List, [], ℕ, Result, Ok, Err, refl, sym, ◌∙◌, inl, inr, subst, arith}
 use Rattle.std.specs.Prelude.{IfOk, OnErr, Bool, false, true}
 use Rattle.std.specs.declared.alloc.AllocError.{AllocError}
 use Rattle.std.proofs.lemmas.List.{append-nil}
@@ -12,7 +12,7 @@ use Rattle.machine.specs.Values.{ChangeValue, LookValue}
 use Rattle.router.specs.Changing.{IsChanged}
 use Rattle.router.specs.declared.naming.Naming.{Ghosts}
 use Rattle.router.specs.declared.pass.Pass.{Pass}
-use Rattle.router.specs.Passes.{number_in, seen_in, SawMore}
+use Rattle.router.specs.Passes.{number_in, seen_in}
 use Rattle.ns_api.specs.declared.delivery.Delivery.{Delivery}
 use Rattle.ns_api.specs.declared.reply.ApiReply.{ApiReply}
 use Rattle.ns_api.specs.Answering.{delivery_of, AnswersBy, IsAltered, IsAsked, IsCarriedOut, IsSaid, IsWritten, Leaves, LeavesBy, MayHaveChanged, MayHaveLooked, Waited, at_once, again}
@@ -61,7 +61,7 @@ module _ {J : Type 0} {g : Ghosts J} where
   pub leaves_all : (d : DemandValue) (p : Pass J g) → Leaves d p p
   leaves_all (answer said) p = refl
   leaves_all (stop said) p = refl
-  leaves_all (alter change) p = inl (record { seen = ([], append-nil (seen_in p)); items = refl; refusals = refl; seat = record { reads = refl; taken = refl; slot = refl } })
+  leaves_all (alter change) p = inl (record { seen = ([], append-nil (seen_in p)); items = refl; refusals = omega arith; seat = record { reads = refl; taken = refl; slot = refl } })
   leaves_all (ask look) p = record { mid = p; waited = at_once; made = inl refl }
 
   -- what is known of a demand of the code is known of what it says

@@ -10,7 +10,7 @@ use Rattle.router.specs.Asking.{IsLooked}
 use Rattle.router.specs.Changing.{IsChanged}
 use Rattle.router.specs.declared.naming.Naming.{Ghosts}
 use Rattle.router.specs.declared.pass.Pass.{Pass}
-use Rattle.router.specs.Passes.{number_in, reads_in, Entered, NotLetIn, SawMore}
+use Rattle.router.specs.Passes.{number_in, reads_in, Entered, NotLetIn, Unanswered}
 use Rattle.ns_api.specs.declared.delivery.Delivery.{Delivery}
 use Rattle.ns_api.specs.declared.reply.ApiReply.{ApiReply}
 use Rattle.ns_api.specs.Demand.{DemandValue, answer, stop, alter, ask}
@@ -73,7 +73,7 @@ module _ {J : Type 0} {g : Ghosts J} where
 
   -- a change that was made, or not
   abbrev pub MayHaveChanged : ChangeValue → Pass J g → Pass J g → Type 0
-  MayHaveChanged change old new = SawMore old new ⊎ ((said : Reply) × IsChanged old new change said)
+  MayHaveChanged change old new = Unanswered old new ⊎ ((said : Reply) × IsChanged old new change said)
 
   -- what stands after want of memory: what was asked for was done, or nothing
   abbrev pub Leaves : DemandValue → Pass J g → Pass J g → Type 0

@@ -69,7 +69,8 @@ pub fn read_body_table(alloc: Global, fields: &FieldList, body: &[u8]) -> Result
 
 /// The table of a JSON text.
 fn read_json(alloc: Global, text: &[u8]) -> Result<Dtab, TableFault>
-    ensures { MatchResult result (λ dtab. option_and_then json_rules (json_of text.now) ≡ Some (rules_of dtab)) (λ fault. fault ≡ TableFault.NoTable → option_and_then json_rules (json_of text.now) ≡ None) }
+    ensures { MatchResult result (λ dtab. option_and_then json_rules (json_of text.now) ≡ Some (rules_of dtab))
+        (λ fault. fault ≡ TableFault.NoTable → option_and_then json_rules (json_of text.now) ≡ None) }
 {
     let tree = parse(alloc, text)?;
     table_of_tree(alloc, &tree)
@@ -162,7 +163,8 @@ fn text_at<'v>(row: &'v Value, key: &str) -> Option<&'v str>
 
 /// The entries of some rows.
 fn read_rows(alloc: Global, rows: &[Value]) -> Result<Vec<Entry>, TableFault>
-    ensures rules { MatchResult result (λ entries. row_rules (map view rows.now) ≡ Some (map rule_of entries.items)) (λ fault. fault ≡ TableFault.NoTable → row_rules (map view rows.now) ≡ None) }
+    ensures rules { MatchResult result (λ entries. row_rules (map view rows.now) ≡ Some (map rule_of entries.items))
+        (λ fault. fault ≡ TableFault.NoTable → row_rules (map view rows.now) ≡ None) }
     ensures count { IfOk result (λ entries. length entries.items ≡ length rows.now) }
 {
     let mut entries = Vec::with_capacity(alloc, rows.len())?;
@@ -197,7 +199,8 @@ fn is_pair(row: &Value) -> bool
 
 /// The entry of the texts of a tree and a prefix.
 fn read_entry(alloc: Global, dst: &str, prefix: &str) -> Result<Entry, TableFault>
-    ensures { MatchResult result (λ entry. rule_in (Some dst.now) (Some prefix.now) ≡ Some (rule_of entry)) (λ fault. fault ≡ TableFault.NoTable → rule_in (Some dst.now) (Some prefix.now) ≡ None) }
+    ensures { MatchResult result (λ entry. rule_in (Some dst.now) (Some prefix.now) ≡ Some (rule_of entry))
+        (λ fault. fault ≡ TableFault.NoTable → rule_in (Some dst.now) (Some prefix.now) ≡ None) }
 {
     let tree = tree_in(alloc, dst.as_bytes())?;
     let prefix = prefix_in(alloc, prefix.as_bytes())?;

@@ -48,8 +48,8 @@ impl Store {
         Store::with_next(alloc, 1)
     }
 
-    /// The store without namespaces, whose next version is this one.
-    pub(crate) fn with_next(alloc: Global, next: u64) -> Mem<Store>
+    /// The store without namespaces, whose next version is this one: where versions go on from those of an earlier store.
+    pub fn with_next(alloc: Global, next: u64) -> Mem<Store>
         ensures { IfOk result (λ store. contents_of store ≡ record no_contents { next = next }) }
     {
         Ok(Store {

@@ -1,12 +1,11 @@
 -- What the router's calls do to a pass, over plain lists.
 use Rattle.std.proofs.Common.{◌≡◌, ◌≢◌, ℕ, Bool, true, false, List, refl, sym, subst, ap, ◌∙◌, inl, inr, Option, Some, None, length}
 use Rattle.std.specs.Prelude.{IfSome, ◌<◌}
-use mathlib.Core.List.{IsPrefix}
 use Rattle.bind_cache.specs.Stored.{kept_of}
 use Rattle.bind_cache.specs.Kept.{Kept}
 use Rattle.bind_cache.specs.declared.binding.Binding.{Binding}
 use Rattle.addr_book.specs.declared.addr.Addr.{Addr}
-use Rattle.machine.specs.Choosing.{pick_of}
+use Rattle.machine.specs.Choosing.{offer_of, pick_of}
 use Rattle.machine.specs.Values.{SettingsValue, AskValue, ChangeValue, PickValue, Replica, replica, none, report}
 use Rattle.machine.specs.declared.chosen.Why.{Why}
 use Rattle.machine.specs.declared.reply.Reply.{Reply}
@@ -25,7 +24,8 @@ use Rattle.router.specs.Chosen.{HasWord}
 use Rattle.router.specs.Asking.{IsPeeked, IsPicked, Picks as PicksOf}
 use Rattle.router.specs.Changing.{IsChanged, IsRemembered}
 use Rattle.router.specs.Names.{client_text, residual_text}
-use Rattle.router.specs.Passes.{Entered, NotLetIn, SawMore, number_in, seen_in, reads_in}
+use Rattle.router.specs.Loads.{MayHaveRead}
+use Rattle.router.specs.Passes.{Entered, NotLetIn, SawMore, Unanswered, number_in, seen_in, reads_in}
 use Rattle.router.specs.Peeked.{IsHit, IsSaid}
 use Rattle.router.specs.Picked.{IsAnswer, IsFresh, is_kept_for, loads_by, said_by, fresh_by}
 use Rattle.proxy_session.specs.declared.asking.Picked.{Picked}
@@ -122,12 +122,22 @@ module _ {J : Type 0} {g : Ghosts J} where
         same_caller (caller_of new) (caller_of old) same refused.seen refused.items refused.seat.reads refused.seat.taken refused.seat.slot
 
     -- there was no memory for the answer
-    pub stops_pick : Entered old new (asked ask) → IsPrefix (reads_in old) (reads_in new) → StopsPick g.settings (caller_of old) (caller_of new) ask
+    pub stops_pick : Entered old new (asked ask) → MayHaveRead (offer_of g.settings (value_of g.settings (seen_in new)).state ask) (reads_in old) (reads_in new)
+        → StopsPick g.settings (caller_of old) (caller_of new) ask
     stops_pick entered reads = (asks_by old new ask same entered, reads)
 
   module _ (old new : Pass J g) (same : number_in new ≡ number_in old) where
     pub saw_more : SawMore old new → SeesMore (caller_of old) (caller_of new)
     saw_more more = record {
+      number = same;
+      seen = more.seen;
+      items = more.items;
+      reads = more.seat.reads;
+      slots = record { taken = more.seat.taken; slot = more.seat.slot };
+    }
+
+    pub saw_unanswered : Unanswered old new → SeesMore (caller_of old) (caller_of new)
+    saw_unanswered more = record {
       number = same;
       seen = more.seen;
       items = more.items;

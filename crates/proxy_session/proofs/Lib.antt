@@ -17,3 +17,13 @@ pub mod Rising
 pub mod Lasting
 pub mod Fitting
 pub mod Ending
+pub mod FieldTexts
+pub mod Received
+pub mod Asked
+pub mod Framed
+pub mod Named
+pub mod Addresses
+pub mod Bodies
+pub mod ReadingBack
+pub mod Supplying
+pub mod Visiting

@@ -1,11 +1,12 @@
 -- How an exchange asks for a replica.
 use Rattle.std.specs.Prelude.{◌≡◌, ℕ, ◌⊎◌, Bool, true, false, List}
-use mathlib.Core.List.{IsPrefix}
 use Rattle.rand_pcg.specs.Lcg.{Lcg}
 use Rattle.rand_pcg.specs.Pcg.{pcg64}
 use Rattle.name_tree.specs.Path.{Labels}
 use Rattle.dtab_table.specs.Rules.{Rule}
+use Rattle.machine.specs.Choosing.{offer_of}
 use Rattle.machine.specs.Values.{SettingsValue, AskValue, PickValue}
+use Rattle.router.specs.Loads.{MayHaveRead}
 use Rattle.router_log.specs.Value.{value_of}
 use Rattle.proxy_session.specs.Callers.{Caller, Asks, Misses, Finds, Remembers, SeesMore}
 
@@ -36,7 +37,7 @@ Finding settings old new ask said =
 -- memory was wanting for the second ask, or for what follows it. What was done is a front of what would have been
 abbrev pub StopsAnew : SettingsValue → Caller → Caller → AskValue → Type 0
 StopsAnew settings old new ask =
-    (Asks settings old new ask × IsPrefix old.reads new.reads)
+    (Asks settings old new ask × MayHaveRead (offer_of settings (value_of settings new.seen).state ask) old.reads new.reads)
     ⊎ ((late : Caller) × (kept : Bool) × (said : PickValue) × Finds settings old late ask kept said × SeesMore late new)
 
 abbrev pub StopsAsking : SettingsValue → Caller → Caller → AskValue → Type 0

@@ -4,13 +4,14 @@ use Rattle.name_tree.specs.Path.{canon_path}
 use Rattle.bind_cache.specs.Stored.{kept_of}
 use Rattle.bind_cache.specs.declared.binding.Binding.{Binding}
 use Rattle.machine.specs.Values.{SettingsValue, AskValue, PickValue, Replica, replica, none}
-use mathlib.Core.List.{IsPrefix}
+use Rattle.machine.specs.Choosing.{offer_of}
 use Rattle.router.specs.declared.answer.Answer.{Answer}
 use Rattle.router.specs.declared.answer.Answer.TheVariants as answer
 use Rattle.router.specs.declared.answer.Choice.{Choice}
 use Rattle.router.specs.declared.names.Names.{Names}
 use Rattle.router.specs.Names.{client_text, residual_text}
 use Rattle.router.specs.Chosen.{IsPermitted}
+use Rattle.router.specs.Loads.{MayHaveRead}
 use Rattle.router.specs.Picked.{IsFresh}
 use Rattle.router_log.specs.Value.{value_of}
 use Rattle.proxy_session.specs.declared.asking.Found.{Found}
@@ -76,9 +77,10 @@ abbrev pub PicksOnce : SettingsValue → Caller → Caller → AskValue → Opti
 PicksOnce settings old new ask None = new ≡ old
 PicksOnce settings old new ask (Some p) = Picks settings old new ask p
 
--- there was no memory for the answer
+-- there was no memory for the answer: no load was read, or just those that the ask reads at its point
 abbrev pub StopsPick : SettingsValue → Caller → Caller → AskValue → Type 0
-StopsPick settings old new ask = Asks settings old new ask × IsPrefix old.reads new.reads
+StopsPick settings old new ask =
+    Asks settings old new ask × MayHaveRead (offer_of settings (value_of settings new.seen).state ask) old.reads new.reads
 
 -- a delegation was given back, if there is one
 abbrev pub ReturnsSome : SettingsValue → Caller → Caller → Option Binding → Type 0

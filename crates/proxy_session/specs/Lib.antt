@@ -12,3 +12,4 @@ pub mod Exchange
 pub mod Sending
 pub mod Session
 pub mod Causes
+pub mod Laws

@@ -29,7 +29,21 @@ pub(crate) fn settle<J: Naming, P: Peer, C: Clock, R: Wait>(
     peer: &mut P,
     clock: &mut C,
 ) -> Option<Ended>
-    ensures { Settles J.settings head.now last addr tried (caller_of pass.old) (caller_of pass.new) (C.to_come clock.old) (C.to_come clock.new) (record { left = P.left peer.old; given = P.given peer.old; read_faults = P.read_faults peer.old; write_faults = P.write_faults peer.old; ends = P.ends peer.old }) (record { left = P.left peer.new; given = P.given peer.new; read_faults = P.read_faults peer.new; write_faults = P.write_faults peer.new; ends = P.ends peer.new }) result }
+    ensures { Settles J.settings head.now last addr tried (caller_of pass.old) (caller_of pass.new) (C.to_come clock.old) (C.to_come clock.new)
+        (record {
+          left = P.left peer.old;
+          given = P.given peer.old;
+          read_faults = P.read_faults peer.old;
+          write_faults = P.write_faults peer.old;
+          ends = P.ends peer.old;
+        })
+        (record {
+          left = P.left peer.new;
+          given = P.given peer.new;
+          read_faults = P.read_faults peer.new;
+          write_faults = P.write_faults peer.new;
+          ends = P.ends peer.new;
+        }) result }
 {
     match tried.report() {
         None => answer(alloc, head, last, tried, peer),
@@ -48,7 +62,21 @@ fn answer<P: Peer>(
     tried: Tried,
     peer: &mut P,
 ) -> Option<Ended>
-    ensures { Ends tried head.now last (record { left = P.left peer.old; given = P.given peer.old; read_faults = P.read_faults peer.old; write_faults = P.write_faults peer.old; ends = P.ends peer.old }) (record { left = P.left peer.new; given = P.given peer.new; read_faults = P.read_faults peer.new; write_faults = P.write_faults peer.new; ends = P.ends peer.new }) result }
+    ensures { Ends tried head.now last
+        (record {
+          left = P.left peer.old;
+          given = P.given peer.old;
+          read_faults = P.read_faults peer.old;
+          write_faults = P.write_faults peer.old;
+          ends = P.ends peer.old;
+        })
+        (record {
+          left = P.left peer.new;
+          given = P.given peer.new;
+          read_faults = P.read_faults peer.new;
+          write_faults = P.write_faults peer.new;
+          ends = P.ends peer.new;
+        }) result }
 {
     match tried {
         Tried::NotDialed => refuse(alloc, head, last, OwnError::Dial, peer),

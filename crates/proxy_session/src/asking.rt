@@ -185,7 +185,9 @@ fn find_anew<J: Naming, R: Wait>(
     pass: &mut Pass<J>,
     ask: &Ask,
 ) -> Mem<Found>
-    ensures ok { IfOk result (λ f. (said : PickValue) × FindingAnew J.settings (caller_of pass.old) (caller_of pass.new) (ask_of ask.now) said × ((names : NamesOf) → Says said names f)) }
+    ensures ok { IfOk result
+        (λ f. (said : PickValue) × FindingAnew J.settings (caller_of pass.old) (caller_of pass.new) (ask_of ask.now) said ×
+        ((names : NamesOf) → Says said names f)) }
     ensures err { OnErr result (StopsAnew J.settings (caller_of pass.old) (caller_of pass.new) (ask_of ask.now)) }
 {
     match pick(rt, alloc, router, pass, ask) {

@@ -52,9 +52,51 @@ pub fn proxy_once<J: Naming, P: Peer, D: Dialer, C: Clock, R: Wait>(
     words: &mut Pcg64,
 ) -> Option<Ended>
     requires { slot_in pass.old ≡ None }
-    ensures exchange { Exchanges J.settings rule.now head.now last (record { line = record { left = P.left peer.old; given = P.given peer.old; read_faults = P.read_faults peer.old; write_faults = P.write_faults peer.old; ends = P.ends peer.old }; kept = rest.old; upstream = record { log = D.log dialer.old; is_open = D.is_open dialer.old; faults = D.faults dialer.old }; caller = caller_of pass.old; moments = C.to_come clock.old; words = words.old }) (record { line = record { left = P.left peer.new; given = P.given peer.new; read_faults = P.read_faults peer.new; write_faults = P.write_faults peer.new; ends = P.ends peer.new }; kept = rest.new; upstream = record { log = D.log dialer.new; is_open = D.is_open dialer.new; faults = D.faults dialer.new }; caller = caller_of pass.new; moments = C.to_come clock.new; words = words.new }) result }
+    ensures exchange { Exchanges J.settings rule.now head.now last
+        (record {
+          line = record {
+            left = P.left peer.old;
+            given = P.given peer.old;
+            read_faults = P.read_faults peer.old;
+            write_faults = P.write_faults peer.old;
+            ends = P.ends peer.old;
+          };
+          kept = rest.old;
+          upstream = record { log = D.log dialer.old; is_open = D.is_open dialer.old; faults = D.faults dialer.old };
+          caller = caller_of pass.old;
+          moments = C.to_come clock.old;
+          words = words.old;
+        })
+        (record {
+          line = record {
+            left = P.left peer.new;
+            given = P.given peer.new;
+            read_faults = P.read_faults peer.new;
+            write_faults = P.write_faults peer.new;
+            ends = P.ends peer.new;
+          };
+          kept = rest.new;
+          upstream = record { log = D.log dialer.new; is_open = D.is_open dialer.new; faults = D.faults dialer.new };
+          caller = caller_of pass.new;
+          moments = C.to_come clock.new;
+          words = words.new;
+        }) result }
     ensures slot { slot_in pass.new ≡ None }
-    ensures cause { HasCauseOf result (record { left = P.left peer.old; given = P.given peer.old; read_faults = P.read_faults peer.old; write_faults = P.write_faults peer.old; ends = P.ends peer.old }) (record { left = P.left peer.new; given = P.given peer.new; read_faults = P.read_faults peer.new; write_faults = P.write_faults peer.new; ends = P.ends peer.new }) }
+    ensures cause { HasCauseOf result
+        (record {
+          left = P.left peer.old;
+          given = P.given peer.old;
+          read_faults = P.read_faults peer.old;
+          write_faults = P.write_faults peer.old;
+          ends = P.ends peer.old;
+        })
+        (record {
+          left = P.left peer.new;
+          given = P.given peer.new;
+          read_faults = P.read_faults peer.new;
+          write_faults = P.write_faults peer.new;
+          ends = P.ends peer.new;
+        }) }
     ensures last { FitsLast last result }
     ensures closed { D.is_open dialer.old ≡ false → D.is_open dialer.new ≡ false }
     ensures number { number_in pass.new ≡ number_in pass.old }
@@ -96,7 +138,35 @@ pub(crate) fn exchange<J: Naming, P: Peer, D: Dialer, C: Clock, R: Wait>(
     buffers: &mut Buffers,
 ) -> Option<Ended>
     requires { slot_in pass.old ≡ None }
-    ensures exchange { Exchanges J.settings rule.now head.now last (record { line = record { left = P.left peer.old; given = P.given peer.old; read_faults = P.read_faults peer.old; write_faults = P.write_faults peer.old; ends = P.ends peer.old }; kept = rest.old; upstream = record { log = D.log dialer.old; is_open = D.is_open dialer.old; faults = D.faults dialer.old }; caller = caller_of pass.old; moments = C.to_come clock.old; words = words.old }) (record { line = record { left = P.left peer.new; given = P.given peer.new; read_faults = P.read_faults peer.new; write_faults = P.write_faults peer.new; ends = P.ends peer.new }; kept = rest.new; upstream = record { log = D.log dialer.new; is_open = D.is_open dialer.new; faults = D.faults dialer.new }; caller = caller_of pass.new; moments = C.to_come clock.new; words = words.new }) result }
+    ensures exchange { Exchanges J.settings rule.now head.now last
+        (record {
+          line = record {
+            left = P.left peer.old;
+            given = P.given peer.old;
+            read_faults = P.read_faults peer.old;
+            write_faults = P.write_faults peer.old;
+            ends = P.ends peer.old;
+          };
+          kept = rest.old;
+          upstream = record { log = D.log dialer.old; is_open = D.is_open dialer.old; faults = D.faults dialer.old };
+          caller = caller_of pass.old;
+          moments = C.to_come clock.old;
+          words = words.old;
+        })
+        (record {
+          line = record {
+            left = P.left peer.new;
+            given = P.given peer.new;
+            read_faults = P.read_faults peer.new;
+            write_faults = P.write_faults peer.new;
+            ends = P.ends peer.new;
+          };
+          kept = rest.new;
+          upstream = record { log = D.log dialer.new; is_open = D.is_open dialer.new; faults = D.faults dialer.new };
+          caller = caller_of pass.new;
+          moments = C.to_come clock.new;
+          words = words.new;
+        }) result }
     ensures slot { slot_in pass.new ≡ None }
 {
     match seek(alloc, rule, head) {
@@ -115,7 +185,21 @@ fn refuse_request<P: Peer>(
     refusal: Refusal,
     peer: &mut P,
 ) -> Option<Ended>
-    ensures { RefusesAs refusal head.now last (record { left = P.left peer.old; given = P.given peer.old; read_faults = P.read_faults peer.old; write_faults = P.write_faults peer.old; ends = P.ends peer.old }) (record { left = P.left peer.new; given = P.given peer.new; read_faults = P.read_faults peer.new; write_faults = P.write_faults peer.new; ends = P.ends peer.new }) result }
+    ensures { RefusesAs refusal head.now last
+        (record {
+          left = P.left peer.old;
+          given = P.given peer.old;
+          read_faults = P.read_faults peer.old;
+          write_faults = P.write_faults peer.old;
+          ends = P.ends peer.old;
+        })
+        (record {
+          left = P.left peer.new;
+          given = P.given peer.new;
+          read_faults = P.read_faults peer.new;
+          write_faults = P.write_faults peer.new;
+          ends = P.ends peer.new;
+        }) result }
 {
     match refusal {
         Refusal::Own(err) => refuse(alloc, head, last, err, peer),
@@ -141,7 +225,35 @@ fn route<J: Naming, P: Peer, D: Dialer, C: Clock, R: Wait>(
 ) -> Option<Ended>
     requires rules { AreSoundRules (rules_of request.local) }
     requires free { slot_in pass.old ≡ None }
-    ensures routes { Routes J.settings head.now last (sought_of request) (record { line = record { left = P.left peer.old; given = P.given peer.old; read_faults = P.read_faults peer.old; write_faults = P.write_faults peer.old; ends = P.ends peer.old }; kept = rest.old; upstream = record { log = D.log dialer.old; is_open = D.is_open dialer.old; faults = D.faults dialer.old }; caller = caller_of pass.old; moments = C.to_come clock.old; words = words.old }) (record { line = record { left = P.left peer.new; given = P.given peer.new; read_faults = P.read_faults peer.new; write_faults = P.write_faults peer.new; ends = P.ends peer.new }; kept = rest.new; upstream = record { log = D.log dialer.new; is_open = D.is_open dialer.new; faults = D.faults dialer.new }; caller = caller_of pass.new; moments = C.to_come clock.new; words = words.new }) result }
+    ensures routes { Routes J.settings head.now last (sought_of request)
+        (record {
+          line = record {
+            left = P.left peer.old;
+            given = P.given peer.old;
+            read_faults = P.read_faults peer.old;
+            write_faults = P.write_faults peer.old;
+            ends = P.ends peer.old;
+          };
+          kept = rest.old;
+          upstream = record { log = D.log dialer.old; is_open = D.is_open dialer.old; faults = D.faults dialer.old };
+          caller = caller_of pass.old;
+          moments = C.to_come clock.old;
+          words = words.old;
+        })
+        (record {
+          line = record {
+            left = P.left peer.new;
+            given = P.given peer.new;
+            read_faults = P.read_faults peer.new;
+            write_faults = P.write_faults peer.new;
+            ends = P.ends peer.new;
+          };
+          kept = rest.new;
+          upstream = record { log = D.log dialer.new; is_open = D.is_open dialer.new; faults = D.faults dialer.new };
+          caller = caller_of pass.new;
+          moments = C.to_come clock.new;
+          words = words.new;
+        }) result }
     ensures slot { slot_in pass.new ≡ None }
 {
     let Request {
@@ -210,7 +322,23 @@ fn send_found<J: Naming, P: Peer, D: Dialer, C: Clock, R: Wait>(
     requires word { HasWord found.now }
     requires free { slot_in pass.old ≡ None }
     ensures sends { SendsFound J.settings head.now last framing host.now target.now (rules_of ask.now.local) ask.now.path buffers.old.names found.now
-        (record { left = P.left peer.old; given = P.given peer.old; read_faults = P.read_faults peer.old; write_faults = P.write_faults peer.old; ends = P.ends peer.old }) (record { left = P.left peer.new; given = P.given peer.new; read_faults = P.read_faults peer.new; write_faults = P.write_faults peer.new; ends = P.ends peer.new }) rest.old rest.new (record { log = D.log dialer.old; is_open = D.is_open dialer.old; faults = D.faults dialer.old }) (record { log = D.log dialer.new; is_open = D.is_open dialer.new; faults = D.faults dialer.new }) (caller_of pass.old) (caller_of pass.new) (C.to_come clock.old) (C.to_come clock.new) result }
+        (record {
+          left = P.left peer.old;
+          given = P.given peer.old;
+          read_faults = P.read_faults peer.old;
+          write_faults = P.write_faults peer.old;
+          ends = P.ends peer.old;
+        })
+        (record {
+          left = P.left peer.new;
+          given = P.given peer.new;
+          read_faults = P.read_faults peer.new;
+          write_faults = P.write_faults peer.new;
+          ends = P.ends peer.new;
+        }) rest.old rest.new
+        (record { log = D.log dialer.old; is_open = D.is_open dialer.old; faults = D.faults dialer.old })
+        (record { log = D.log dialer.new; is_open = D.is_open dialer.new; faults = D.faults dialer.new }) (caller_of pass.old)
+        (caller_of pass.new) (C.to_come clock.old) (C.to_come clock.new) result }
     ensures slot { slot_in pass.new ≡ None }
 {
     match found {
@@ -246,7 +374,23 @@ fn send_to<J: Naming, P: Peer, D: Dialer, C: Clock, R: Wait>(
     requires free { slot_in pass.old ≡ None }
     ensures sends { Sends J.settings head.now last framing choice.addr choice.slot
         (IsHeadTo head.now (host_for host.now choice.addr) target.now framing (rules_of ask.now.local) ask.now.path (client_in buffers.old.names texts.now) (residual_in buffers.old.names texts.now))
-        (record { left = P.left peer.old; given = P.given peer.old; read_faults = P.read_faults peer.old; write_faults = P.write_faults peer.old; ends = P.ends peer.old }) (record { left = P.left peer.new; given = P.given peer.new; read_faults = P.read_faults peer.new; write_faults = P.write_faults peer.new; ends = P.ends peer.new }) rest.old rest.new (record { log = D.log dialer.old; is_open = D.is_open dialer.old; faults = D.faults dialer.old }) (record { log = D.log dialer.new; is_open = D.is_open dialer.new; faults = D.faults dialer.new }) (caller_of pass.old) (caller_of pass.new) (C.to_come clock.old) (C.to_come clock.new) result }
+        (record {
+          left = P.left peer.old;
+          given = P.given peer.old;
+          read_faults = P.read_faults peer.old;
+          write_faults = P.write_faults peer.old;
+          ends = P.ends peer.old;
+        })
+        (record {
+          left = P.left peer.new;
+          given = P.given peer.new;
+          read_faults = P.read_faults peer.new;
+          write_faults = P.write_faults peer.new;
+          ends = P.ends peer.new;
+        }) rest.old rest.new
+        (record { log = D.log dialer.old; is_open = D.is_open dialer.old; faults = D.faults dialer.old })
+        (record { log = D.log dialer.new; is_open = D.is_open dialer.new; faults = D.faults dialer.new }) (caller_of pass.old)
+        (caller_of pass.new) (C.to_come clock.old) (C.to_come clock.new) result }
     ensures slot { slot_in pass.new ≡ None }
 {
     let Buffers { names, back, out } = buffers;
@@ -307,7 +451,9 @@ fn named_head(
     names: &Names,
     out: &mut Bytes,
 ) -> Mem<()>
-    ensures { OnOk result (IsHeadTo head.now (host_for host.now addr) target.now framing (rules_of ask.now.local) ask.now.path (client_in names.now texts.now) (residual_in names.now texts.now) out.new.items) }
+    ensures { OnOk result
+        (IsHeadTo head.now (host_for host.now addr) target.now framing (rules_of ask.now.local) ask.now.path (client_in names.now texts.now)
+        (residual_in names.now texts.now) out.new.items) }
 {
     match texts {
         Texts::Kept => onward_head(
@@ -356,7 +502,22 @@ fn try_held<J: Naming, P: Peer, D: Dialer>(
     requires free { slot_in pass.old ≡ None }
     requires word { IfSome slot (λ word. word < 8192) }
     ensures holds { Holds (caller_of pass.old) (caller_of pass.new) slot }
-    ensures tries { Tries head.now out.old.items framing last addr (record { left = P.left peer.old; given = P.given peer.old; read_faults = P.read_faults peer.old; write_faults = P.write_faults peer.old; ends = P.ends peer.old }) (record { left = P.left peer.new; given = P.given peer.new; read_faults = P.read_faults peer.new; write_faults = P.write_faults peer.new; ends = P.ends peer.new }) rest.old rest.new (record { log = D.log dialer.old; is_open = D.is_open dialer.old; faults = D.faults dialer.old }) (record { log = D.log dialer.new; is_open = D.is_open dialer.new; faults = D.faults dialer.new }) result }
+    ensures tries { Tries head.now out.old.items framing last addr
+        (record {
+          left = P.left peer.old;
+          given = P.given peer.old;
+          read_faults = P.read_faults peer.old;
+          write_faults = P.write_faults peer.old;
+          ends = P.ends peer.old;
+        })
+        (record {
+          left = P.left peer.new;
+          given = P.given peer.new;
+          read_faults = P.read_faults peer.new;
+          write_faults = P.write_faults peer.new;
+          ends = P.ends peer.new;
+        }) rest.old rest.new (record { log = D.log dialer.old; is_open = D.is_open dialer.old; faults = D.faults dialer.old })
+        (record { log = D.log dialer.new; is_open = D.is_open dialer.new; faults = D.faults dialer.new }) result }
 {
     let Some(word) = slot else {
         return try_replica(

@@ -11,6 +11,8 @@
 //! memory is wanting, or a call of the client's connection fails, what was moved until then is a front of what would have been. Behind each no slot is held, and behind each try
 //! the connection to the replica is ended.
 //!
+//! [`heads_that_go_on_are_read_back`] is the law that what these send of a head that was read is itself read as it was meant.
+//!
 //! # Example
 //! ```text
 //! let rule = Rule { kind: Kind::Token(FieldName::of(..)), prefix: read_path(alloc, b"/svc")? };
@@ -27,6 +29,7 @@ mod buffers;
 mod closing;
 mod exchange;
 mod final_head;
+mod laws;
 mod onward;
 mod refusing;
 mod reporting;
@@ -36,6 +39,7 @@ mod tried;
 mod trying;
 
 pub use exchange::proxy_once;
+pub use laws::heads_that_go_on_are_read_back;
 pub use session::serve_session;
 use std::alloc::AllocError;
 

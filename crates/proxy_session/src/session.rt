@@ -39,11 +39,83 @@ pub fn serve_session<J: Naming, P: Peer, D: Dialer, C: Clock, G: Gate, R: Wait>(
     worker: u32,
 ) -> Ended
     requires { slot_in pass.old ≡ None }
-    ensures session { SessionsTo J.settings rule.now (record { line = record { left = P.left peer.old; given = P.given peer.old; read_faults = P.read_faults peer.old; write_faults = P.write_faults peer.old; ends = P.ends peer.old }; kept = []; upstream = record { log = D.log dialer.old; is_open = D.is_open dialer.old; faults = D.faults dialer.old }; caller = caller_of pass.old; moments = C.to_come clock.old; words = words.old }) (record { left = P.left peer.new; given = P.given peer.new; read_faults = P.read_faults peer.new; write_faults = P.write_faults peer.new; ends = P.ends peer.new }) (record { log = D.log dialer.new; is_open = D.is_open dialer.new; faults = D.faults dialer.new }) (caller_of pass.new) (C.to_come clock.new) words.new result }
+    ensures session { SessionsTo J.settings rule.now
+        (record {
+          line = record {
+            left = P.left peer.old;
+            given = P.given peer.old;
+            read_faults = P.read_faults peer.old;
+            write_faults = P.write_faults peer.old;
+            ends = P.ends peer.old;
+          };
+          kept = [];
+          upstream = record { log = D.log dialer.old; is_open = D.is_open dialer.old; faults = D.faults dialer.old };
+          caller = caller_of pass.old;
+          moments = C.to_come clock.old;
+          words = words.old;
+        })
+        (record {
+          left = P.left peer.new;
+          given = P.given peer.new;
+          read_faults = P.read_faults peer.new;
+          write_faults = P.write_faults peer.new;
+          ends = P.ends peer.new;
+        }) (record { log = D.log dialer.new; is_open = D.is_open dialer.new; faults = D.faults dialer.new })
+        (caller_of pass.new) (C.to_come clock.new) words.new result }
     ensures slot { slot_in pass.new ≡ None }
-    ensures cause { CauseOf result (record { left = P.left peer.old; given = P.given peer.old; read_faults = P.read_faults peer.old; write_faults = P.write_faults peer.old; ends = P.ends peer.old }) (record { left = P.left peer.new; given = P.given peer.new; read_faults = P.read_faults peer.new; write_faults = P.write_faults peer.new; ends = P.ends peer.new }) }
-    ensures complete { NoneFailed (record { left = P.left peer.old; given = P.given peer.old; read_faults = P.read_faults peer.old; write_faults = P.write_faults peer.old; ends = P.ends peer.old }) (record { left = P.left peer.new; given = P.given peer.new; read_faults = P.read_faults peer.new; write_faults = P.write_faults peer.new; ends = P.ends peer.new }) → IsNoFault result }
-    ensures spent { result ≡ Ended.Spent → Spends J.settings rule.now (record { line = record { left = P.left peer.old; given = P.given peer.old; read_faults = P.read_faults peer.old; write_faults = P.write_faults peer.old; ends = P.ends peer.old }; kept = []; upstream = record { log = D.log dialer.old; is_open = D.is_open dialer.old; faults = D.faults dialer.old }; caller = caller_of pass.old; moments = C.to_come clock.old; words = words.old }) (record { left = P.left peer.new; given = P.given peer.new; read_faults = P.read_faults peer.new; write_faults = P.write_faults peer.new; ends = P.ends peer.new }) (record { log = D.log dialer.new; is_open = D.is_open dialer.new; faults = D.faults dialer.new }) (caller_of pass.new) (C.to_come clock.new) words.new }
+    ensures cause { CauseOf result
+        (record {
+          left = P.left peer.old;
+          given = P.given peer.old;
+          read_faults = P.read_faults peer.old;
+          write_faults = P.write_faults peer.old;
+          ends = P.ends peer.old;
+        })
+        (record {
+          left = P.left peer.new;
+          given = P.given peer.new;
+          read_faults = P.read_faults peer.new;
+          write_faults = P.write_faults peer.new;
+          ends = P.ends peer.new;
+        }) }
+    ensures complete { NoneFailed
+        (record {
+          left = P.left peer.old;
+          given = P.given peer.old;
+          read_faults = P.read_faults peer.old;
+          write_faults = P.write_faults peer.old;
+          ends = P.ends peer.old;
+        })
+        (record {
+          left = P.left peer.new;
+          given = P.given peer.new;
+          read_faults = P.read_faults peer.new;
+          write_faults = P.write_faults peer.new;
+          ends = P.ends peer.new;
+        }) → IsNoFault result }
+    ensures spent { result ≡ Ended.Spent → Spends J.settings rule.now
+        (record {
+          line = record {
+            left = P.left peer.old;
+            given = P.given peer.old;
+            read_faults = P.read_faults peer.old;
+            write_faults = P.write_faults peer.old;
+            ends = P.ends peer.old;
+          };
+          kept = [];
+          upstream = record { log = D.log dialer.old; is_open = D.is_open dialer.old; faults = D.faults dialer.old };
+          caller = caller_of pass.old;
+          moments = C.to_come clock.old;
+          words = words.old;
+        })
+        (record {
+          left = P.left peer.new;
+          given = P.given peer.new;
+          read_faults = P.read_faults peer.new;
+          write_faults = P.write_faults peer.new;
+          ends = P.ends peer.new;
+        }) (record { log = D.log dialer.new; is_open = D.is_open dialer.new; faults = D.faults dialer.new })
+        (caller_of pass.new) (C.to_come clock.new) words.new }
     ensures closed { D.is_open dialer.old ≡ false → D.is_open dialer.new ≡ false }
     ensures number { number_in pass.new ≡ number_in pass.old }
 {
@@ -95,7 +167,35 @@ fn serve_next<J: Naming, P: Peer, D: Dialer, C: Clock, G: Gate, R: Wait>(
     worker: u32,
 ) -> Option<Ended>
     requires { slot_in pass.old ≡ None }
-    ensures serves { ServesNext J.settings rule.now last (record { line = record { left = P.left peer.old; given = P.given peer.old; read_faults = P.read_faults peer.old; write_faults = P.write_faults peer.old; ends = P.ends peer.old }; kept = rest.old; upstream = record { log = D.log dialer.old; is_open = D.is_open dialer.old; faults = D.faults dialer.old }; caller = caller_of pass.old; moments = C.to_come clock.old; words = words.old }) (record { line = record { left = P.left peer.new; given = P.given peer.new; read_faults = P.read_faults peer.new; write_faults = P.write_faults peer.new; ends = P.ends peer.new }; kept = rest.new; upstream = record { log = D.log dialer.new; is_open = D.is_open dialer.new; faults = D.faults dialer.new }; caller = caller_of pass.new; moments = C.to_come clock.new; words = words.new }) result }
+    ensures serves { ServesNext J.settings rule.now last
+        (record {
+          line = record {
+            left = P.left peer.old;
+            given = P.given peer.old;
+            read_faults = P.read_faults peer.old;
+            write_faults = P.write_faults peer.old;
+            ends = P.ends peer.old;
+          };
+          kept = rest.old;
+          upstream = record { log = D.log dialer.old; is_open = D.is_open dialer.old; faults = D.faults dialer.old };
+          caller = caller_of pass.old;
+          moments = C.to_come clock.old;
+          words = words.old;
+        })
+        (record {
+          line = record {
+            left = P.left peer.new;
+            given = P.given peer.new;
+            read_faults = P.read_faults peer.new;
+            write_faults = P.write_faults peer.new;
+            ends = P.ends peer.new;
+          };
+          kept = rest.new;
+          upstream = record { log = D.log dialer.new; is_open = D.is_open dialer.new; faults = D.faults dialer.new };
+          caller = caller_of pass.new;
+          moments = C.to_come clock.new;
+          words = words.new;
+        }) result }
     ensures slot { slot_in pass.new ≡ None }
 {
     match read_request_head(alloc, peer, rest) {
@@ -114,7 +214,21 @@ fn serve_next<J: Naming, P: Peer, D: Dialer, C: Clock, G: Gate, R: Wait>(
 
 /// How a session ends that has no further request. Bytes that are no head are refused.
 fn end_without_head<P: Peer>(alloc: Global, end: HeadEnd, peer: &mut P) -> Ended
-    ensures { AnswersEnd (own_of_end end) (record { left = P.left peer.old; given = P.given peer.old; read_faults = P.read_faults peer.old; write_faults = P.write_faults peer.old; ends = P.ends peer.old }) (record { left = P.left peer.new; given = P.given peer.new; read_faults = P.read_faults peer.new; write_faults = P.write_faults peer.new; ends = P.ends peer.new }) (ended_of_end end) result }
+    ensures { AnswersEnd (own_of_end end)
+        (record {
+          left = P.left peer.old;
+          given = P.given peer.old;
+          read_faults = P.read_faults peer.old;
+          write_faults = P.write_faults peer.old;
+          ends = P.ends peer.old;
+        })
+        (record {
+          left = P.left peer.new;
+          given = P.given peer.new;
+          read_faults = P.read_faults peer.new;
+          write_faults = P.write_faults peer.new;
+          ends = P.ends peer.new;
+        }) (ended_of_end end) result }
 {
     match end {
         HeadEnd::Ended => Ended::PeerEnded,
@@ -129,7 +243,21 @@ fn end_without_head<P: Peer>(alloc: Global, end: HeadEnd, peer: &mut P) -> Ended
 
 /// Refuses bytes that are no head, and closes the connection.
 fn refuse_head<P: Peer>(alloc: Global, err: OwnError, peer: &mut P) -> Ended
-    ensures { AnswersEnd (Some err) (record { left = P.left peer.old; given = P.given peer.old; read_faults = P.read_faults peer.old; write_faults = P.write_faults peer.old; ends = P.ends peer.old }) (record { left = P.left peer.new; given = P.given peer.new; read_faults = P.read_faults peer.new; write_faults = P.write_faults peer.new; ends = P.ends peer.new }) Ended.Closed result }
+    ensures { AnswersEnd (Some err)
+        (record {
+          left = P.left peer.old;
+          given = P.given peer.old;
+          read_faults = P.read_faults peer.old;
+          write_faults = P.write_faults peer.old;
+          ends = P.ends peer.old;
+        })
+        (record {
+          left = P.left peer.new;
+          given = P.given peer.new;
+          read_faults = P.read_faults peer.new;
+          write_faults = P.write_faults peer.new;
+          ends = P.ends peer.new;
+        }) Ended.Closed result }
 {
     match write_own(alloc, peer, err, true, true) {
         Ok(()) => Ended::Closed,

@@ -32,7 +32,22 @@ pub(crate) fn try_replica<P: Peer, D: Dialer>(
     dialer: &mut D,
     back: &mut Rest,
 ) -> Tried
-    ensures { Tries head.now out.old.items framing last addr (record { left = P.left peer.old; given = P.given peer.old; read_faults = P.read_faults peer.old; write_faults = P.write_faults peer.old; ends = P.ends peer.old }) (record { left = P.left peer.new; given = P.given peer.new; read_faults = P.read_faults peer.new; write_faults = P.write_faults peer.new; ends = P.ends peer.new }) rest.old rest.new (record { log = D.log dialer.old; is_open = D.is_open dialer.old; faults = D.faults dialer.old }) (record { log = D.log dialer.new; is_open = D.is_open dialer.new; faults = D.faults dialer.new }) result }
+    ensures { Tries head.now out.old.items framing last addr
+        (record {
+          left = P.left peer.old;
+          given = P.given peer.old;
+          read_faults = P.read_faults peer.old;
+          write_faults = P.write_faults peer.old;
+          ends = P.ends peer.old;
+        })
+        (record {
+          left = P.left peer.new;
+          given = P.given peer.new;
+          read_faults = P.read_faults peer.new;
+          write_faults = P.write_faults peer.new;
+          ends = P.ends peer.new;
+        }) rest.old rest.new (record { log = D.log dialer.old; is_open = D.is_open dialer.old; faults = D.faults dialer.old })
+        (record { log = D.log dialer.new; is_open = D.is_open dialer.new; faults = D.faults dialer.new }) result }
 {
     match dialer.dial(addr.ip, addr.port) {
         Ok(()) => {
@@ -58,7 +73,21 @@ fn converse<P: Peer, D: Dialer>(
 ) -> Tried
     requires { IsTrue (D.is_open dialer.old) }
     ensures spoke { (sent : List (List ℕ)) × (got : List (List ℕ)) × Grows (D.log dialer.old) (D.log dialer.new) (map Sent sent ++ map Got got)
-        × Converses head.now out.old.items framing last (record { left = P.left peer.old; given = P.given peer.old; read_faults = P.read_faults peer.old; write_faults = P.write_faults peer.old; ends = P.ends peer.old }) (record { left = P.left peer.new; given = P.given peer.new; read_faults = P.read_faults peer.new; write_faults = P.write_faults peer.new; ends = P.ends peer.new }) rest.old rest.new (D.faults dialer.old) (D.faults dialer.new) (concat sent) got result }
+        × Converses head.now out.old.items framing last
+        (record {
+          left = P.left peer.old;
+          given = P.given peer.old;
+          read_faults = P.read_faults peer.old;
+          write_faults = P.write_faults peer.old;
+          ends = P.ends peer.old;
+        })
+        (record {
+          left = P.left peer.new;
+          given = P.given peer.new;
+          read_faults = P.read_faults peer.new;
+          write_faults = P.write_faults peer.new;
+          ends = P.ends peer.new;
+        }) rest.old rest.new (D.faults dialer.old) (D.faults dialer.new) (concat sent) got result }
     ensures stays { D.is_open dialer.new ≡ D.is_open dialer.old }
 {
     match pass_body(peer, rest, framing, out, dialer) {
@@ -79,7 +108,21 @@ fn receive_reply<P: Peer, D: Dialer>(
 ) -> Tried
     requires { IsTrue (D.is_open dialer.old) }
     ensures replies { (got : List (List ℕ)) × Grows (D.log dialer.old) (D.log dialer.new) (map Got got)
-        × Replies head.now last (record { left = P.left peer.old; given = P.given peer.old; read_faults = P.read_faults peer.old; write_faults = P.write_faults peer.old; ends = P.ends peer.old }) (record { left = P.left peer.new; given = P.given peer.new; read_faults = P.read_faults peer.new; write_faults = P.write_faults peer.new; ends = P.ends peer.new }) (D.faults dialer.old) (D.faults dialer.new) got result }
+        × Replies head.now last
+        (record {
+          left = P.left peer.old;
+          given = P.given peer.old;
+          read_faults = P.read_faults peer.old;
+          write_faults = P.write_faults peer.old;
+          ends = P.ends peer.old;
+        })
+        (record {
+          left = P.left peer.new;
+          given = P.given peer.new;
+          read_faults = P.read_faults peer.new;
+          write_faults = P.write_faults peer.new;
+          ends = P.ends peer.new;
+        }) (D.faults dialer.old) (D.faults dialer.new) got result }
     ensures stays { D.is_open dialer.new ≡ D.is_open dialer.old }
 {
     back.clear();
@@ -105,7 +148,21 @@ fn pass_reply<P: Peer, D: Dialer>(
 ) -> Tried
     requires { IsTrue (D.is_open dialer.old) }
     ensures backs { (got : List (List ℕ)) × Grows (D.log dialer.old) (D.log dialer.new) (map Got got)
-        × Backs head.now last reply.now framing (record { left = P.left peer.old; given = P.given peer.old; read_faults = P.read_faults peer.old; write_faults = P.write_faults peer.old; ends = P.ends peer.old }) (record { left = P.left peer.new; given = P.given peer.new; read_faults = P.read_faults peer.new; write_faults = P.write_faults peer.new; ends = P.ends peer.new }) back.old (D.faults dialer.old) (D.faults dialer.new) got result }
+        × Backs head.now last reply.now framing
+        (record {
+          left = P.left peer.old;
+          given = P.given peer.old;
+          read_faults = P.read_faults peer.old;
+          write_faults = P.write_faults peer.old;
+          ends = P.ends peer.old;
+        })
+        (record {
+          left = P.left peer.new;
+          given = P.given peer.new;
+          read_faults = P.read_faults peer.new;
+          write_faults = P.write_faults peer.new;
+          ends = P.ends peer.new;
+        }) back.old (D.faults dialer.old) (D.faults dialer.new) got result }
     ensures stays { D.is_open dialer.new ≡ D.is_open dialer.old }
 {
     let chunked = knows_chunks(head);

@@ -10,7 +10,7 @@ use Rattle.router.specs.declared.call.Call.{Call as Shown}
 use Rattle.router.specs.declared.current.Current.{Current}
 use Rattle.router.specs.declared.update.Update.{Update}
 use Rattle.router.specs.Update.{operation_of, operations_of}
-use Rattle.router.specs.Views.{call_of, calls_of, seen_by, Entered}
+use Rattle.router.specs.Views.{call_of, calls_of, seen_by, Entered, Saw}
 
 pub map_append : {A B : Type 0} (f : A → B) (xs ys : List A) → map f (xs ++ ys) ≡ map f xs ++ map f ys
 map_append f [] ys = refl
@@ -40,6 +40,16 @@ module _ {S : Type 0} where
         before = subst (λ (us : List Update). IsPrefix (operations_of (seen_of old)) (operations_of us)) (sym seen) (prefix_values (seen_of old) (seen_of mid) before);
         item = ap calls_of (back.items ∙ items) ∙ (items_added (items_of old) item call (length (seen_of mid)) is ∙ ap (λ (k : ℕ). calls_of (items_of old) ++ (call_of call, k) ∷ []) (sym n));
       }
+
+  -- the reader entered for no call, and came back
+  pub saw_is : (old mid new : Reader Current Update Shown S) → SameReader old mid → refusals_of mid ≡ refusals_of old → IsPrefix (seen_of old) (seen_of mid) → items_of mid ≡ items_of old
+      → Returned mid new → Saw old new
+  saw_is old mid new same refused before items back = record {
+    same = record { number = back.same.number ∙ same.number; cell = back.same.cell ∙ same.cell };
+    refused = back.refusals ∙ refused;
+    before = subst (λ (us : List Update). IsPrefix (seen_of old) us) (sym back.seen) before;
+    items = back.items ∙ items;
+  }
 
 -- what holds of a value that is there
 pub weaker_ok : {A E : Type 0} (r : Result A E) (P Q : A → Type 0) → ((x : A) → P x → Q x) → IfOk r P → IfOk r Q

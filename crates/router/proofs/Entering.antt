@@ -1,6 +1,6 @@
 -- What a reader enters is what the operations come to that it has seen.
 use Rattle.std.proofs.Common.{◌≡◌, ℕ, List, [], ◌∷◌, ◌++◌, length, refl, arith, ap, sym, ◌∙◌, subst, append_assoc}
-use Rattle.std.specs.Prelude.{fold, true, IfOk, Result, Option, Some, None, is_some, option_map}
+use Rattle.std.specs.Prelude.{fold, true, IfOk, OnErr, Result, Option, Some, None, is_some, option_map}
 use Rattle.std.specs.Arc.{arc_value}
 use Rattle.std.proofs.lemmas.List.{append-nil}
 use Rattle.std.proofs.lemmas.List.Sums.{fold-append}
@@ -12,6 +12,9 @@ use Rattle.machine.specs.declared.settings.Settings.{Settings}
 use Rattle.machine.specs.declared.reply.Reply.{Reply}
 use Rattle.machine.specs.Code.{reply_value}
 use Rattle.machine.specs.Looking.{look_of}
+use Rattle.machine.specs.Choosing.{offer_of}
+use Rattle.machine.specs.State.{report_refusal}
+use Rattle.addr_book.specs.declared.addr.Addr.{Addr}
 use Rattle.name_tree.specs.Path.{Labels}
 use Rattle.dtab_table.specs.Rules.{Rule}
 use Rattle.bind_core.specs.Delegation.{Ending}
@@ -29,6 +32,7 @@ use Rattle.router.specs.declared.answer.Peek.{Peek}
 use Rattle.router.specs.declared.names.Names.{Names}
 use Rattle.router.specs.Peeked.{IsPeek}
 use Rattle.router.specs.declared.current.Current.{Current}
+use Rattle.router.specs.Loads.{MayHaveRead}
 use Rattle.router.specs.Picked.{IsAnswer, is_kept_for}
 use Rattle.router.specs.Update.{operation_of, operations_of, taking, taken_in, UpdateFits, AllUpdatesFit}
 use Rattle.router.specs.Values.{settings_in, value_in, IsEmpty}
@@ -153,6 +157,14 @@ module _ (v o : Current) (seen : List Update) (empty : IsEmpty o) (is : shown_by
     told_answer r place ask before after at told =
         told_of (λ s w. IfOk r (IsAnswer s w place ask before after))
         (subst (λ (n : ℕ). IfOk r (IsAnswer (settings_in c) (value_in c) n ask before after)) (sym at) told)
+
+    pub told_read : {E : Type 0} (r : Result Answer E) (ask : AskValue) (before after : List (ℕ × ℕ)) → OnErr r (MayHaveRead (offer_of (settings_in c) (value_in c).state ask) before after)
+        → OnErr r (MayHaveRead (offer_of (settings_in o) (value_of (settings_in o) (operations_of seen')).state ask) before after)
+    told_read r ask before after told = told_of (λ s w. OnErr r (MayHaveRead (offer_of s w.state ask) before after)) told
+
+    pub told_success : (r : Option Reply) (addr : Addr) → option_map reply_value r ≡ report_refusal (value_in c).state addr true
+        → option_map reply_value r ≡ report_refusal (value_of (settings_in o) (operations_of seen')).state addr true
+    told_success r addr told = told_of (λ s w. option_map reply_value r ≡ report_refusal w.state addr true) told
 
     pub told_steps : (ask : AskValue) (old new : ℕ) → (is_kept_for (value_in c) ask ≡ true → new ≡ old) → is_kept_for (value_of (settings_in o) (operations_of seen')) ask ≡ true → new ≡ old
     told_steps ask old new told = told_of (λ s w. is_kept_for w ask ≡ true → new ≡ old) told

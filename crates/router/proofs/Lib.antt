@@ -3,8 +3,10 @@ pub mod Answering
 pub mod BytesRoom
 pub mod Calling
 pub mod Closing
+pub mod Crossing
 pub mod Entering
 pub mod Finding
+pub mod LoadsRead
 pub mod Numbers
 pub mod Passing
 pub mod Peeks
@@ -12,3 +14,4 @@ pub mod Readers
 pub mod Remembering
 pub mod Short
 pub mod Starting
+pub mod Trees

@@ -1,12 +1,13 @@
 -- What changes and delegations that are given back are answered, and what they do to their pass.
-use Rattle.std.specs.Prelude.{◌≡◌, ◌+◌, ◌++◌, if◌then◌else◌, List, length}
+use Rattle.std.specs.Prelude.{◌≡◌, ◌+◌, ◌≤◌, ◌++◌, if◌then◌else◌, List, length, Option, Some, None}
 use Rattle.std.specs.Option.{option_to_list}
 use mathlib.Core.List.{IsPrefix}
+use Rattle.addr_book.specs.declared.addr.Addr.{Addr}
 use Rattle.bind_cache.specs.Kept.{Kept}
 use Rattle.machine.specs.Code.{reply_value}
 use Rattle.machine.specs.declared.reply.Reply.{Reply}
 use Rattle.machine.specs.State.{is_accepted, reply_of}
-use Rattle.machine.specs.Values.{SettingsValue, ChangeValue}
+use Rattle.machine.specs.Values.{SettingsValue, ChangeValue, report}
 use Rattle.router_log.specs.Call.{changing, keeping, publishes, is_large, is_late, is_had, are_spent, is_kept}
 use Rattle.router_log.specs.Operation.{Operation, place_of}
 use Rattle.router_log.specs.Value.{value_of}
@@ -16,6 +17,11 @@ use Rattle.router.specs.declared.naming.Naming.{Ghosts}
 use Rattle.router.specs.declared.pass.Pass.{Pass}
 use Rattle.router.specs.Passes.{number_in, seen_in, made_in, kept_in, refusals_in, Called, SameSeat, SawMore}
 use Rattle.router.specs.Picked.{IsWorkedOut}
+
+-- the address of a report of a success
+abbrev pub success_of : ChangeValue → Option Addr
+success_of (report addr good moment) = if good then Some addr else None
+success_of _ = None
 
 -- whether a delegation is kept, where these operations were published before
 abbrev pub remembered_as : SettingsValue → List Operation → Kept → Remembered
@@ -31,8 +37,8 @@ module _ {J : Type 0} {g : Ghosts J} where
   abbrev pub WasWorkedOut : Pass J g → Kept → Type 0
   WasWorkedOut p k = (ops : List Operation) × IsPrefix ops (seen_in p) × IsWorkedOut g.settings (value_of g.settings ops).state k
 
-  -- A change was asked for behind all that had been published, which begins with what the pass had seen. Where the state there accepts it, it was published
-  -- next, and else nothing was; and so it was answered
+  -- A change was asked for behind a beginning of the list that begins with what the pass had seen. Where the state there accepts it, it was published next, and
+  -- else nothing was; and so it was answered. The pass may not have been let in before, which its count of refusals shows
   pub record IsChanged (old new : Pass J g) (change : ChangeValue) (reply : Reply) : Type 0 where
     pub before : List Operation
     pub called : Called old new (changing change) (length before)
@@ -40,7 +46,7 @@ module _ {J : Type 0} {g : Ghosts J} where
     pub answered : reply_value reply ≡ reply_of g.settings (value_of g.settings before).state change
     pub made : made_in new ≡ (if is_accepted (value_of g.settings before).state change then made_in old + 1 else made_in old)
     pub kept : kept_in new ≡ kept_in old
-    pub refusals : refusals_in new ≡ refusals_in old
+    pub refusals : refusals_in old ≤ refusals_in new
     pub seat : SameSeat old new
 
   -- a delegation was given back, to be kept

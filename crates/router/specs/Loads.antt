@@ -1,5 +1,5 @@
 -- What a pick reads of the loads.
-use Rattle.std.specs.Prelude.{◌≡◌, ℕ, List, [], ◌∷◌, Option, Some, None}
+use Rattle.std.specs.Prelude.{◌≡◌, ℕ, List, [], ◌∷◌, ◌++◌, ◌⊎◌, Option, Some, None}
 use Rattle.machine.specs.Choosing.{Offer, either, neither}
 
 -- the slots that are read, in order, with the loads that are found
@@ -20,3 +20,7 @@ reads_at (neither why) found = []
 abbrev pub AreLoadsAt : Offer → ℕ × ℕ → Type 0
 AreLoadsAt (either pair) found = AreLoads pair.slots found
 AreLoadsAt (neither why) found = AreLoads None found
+
+-- a pick that was not answered read nothing, or all that it reads
+abbrev pub MayHaveRead : Offer → List (ℕ × ℕ) → List (ℕ × ℕ) → Type 0
+MayHaveRead offer before after = (after ≡ before) ⊎ ((loads : ℕ × ℕ) × (after ≡ before ++ reads_at offer loads) × AreLoadsAt offer loads)

@@ -1,5 +1,5 @@
 -- What contracts see of a pass, and how calls move it.
-use Rattle.std.specs.Prelude.{◌≡◌, ℕ, ◌+◌, ◌-◌, ◌^◌, min, List, Option, length}
+use Rattle.std.specs.Prelude.{◌≡◌, ℕ, ◌+◌, ◌-◌, ◌^◌, ◌≤◌, min, List, Option, length}
 use mathlib.Core.List.{IsPrefix}
 use Rattle.snap_cell.specs.Views.{number_of, refusals_of}
 use Rattle.load_words.specs.Seats.{reads_of, taken_of, slot_of}
@@ -75,6 +75,13 @@ module _ {J : Type 0} {g : Ghosts J} where
     pub seen : IsPrefix (seen_in old) (seen_in new)
     pub items : items_in new ≡ items_in old
     pub refusals : refusals_in new ≡ refusals_in old
+    pub seat : SameSeat old new
+
+  -- a change was not answered: the pass may have seen more, and may not have been let in, which its count of refusals shows; nothing was called
+  pub record Unanswered (old new : Pass J g) : Type 0 where
+    pub seen : IsPrefix (seen_in old) (seen_in new)
+    pub items : items_in new ≡ items_in old
+    pub refusals : refusals_in old ≤ refusals_in new
     pub seat : SameSeat old new
 
   -- it entered for a call that publishes nothing, which stands at the end of what it has seen then

@@ -48,3 +48,10 @@ module _ {S : Type 0} where
     pub refused : refusals_of new ≡ refusals_of old
     pub before : IsPrefix (seen_by old) (seen_by new)
     pub item : items_by new ≡ items_by old ++ (asked, length (seen_by new)) ∷ []
+
+  -- the reader entered for no call: it has seen no less than it had
+  pub record Saw (old new : Reader Current Update Shown S) : Type 0 where
+    pub same : SameReader old new
+    pub refused : refusals_of new ≡ refusals_of old
+    pub before : IsPrefix (seen_of old) (seen_of new)
+    pub items : items_of new ≡ items_of old

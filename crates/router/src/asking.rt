@@ -1,13 +1,14 @@
 //! What is asked of the value that a reader enters.
 ghost use Rattle.std.specs.Prelude.{◌≡◌, true, IfSome, IfNone, IfOk, OnErr};
-ghost use mathlib.Core.List.{IsPrefix};
 ghost use Rattle.snap_cell.specs.Views.{IsThere, Refused};
 ghost use Rattle.load_words.specs.Seats.{IsOf, slot_of, reads_of, taken_of};
 ghost use Rattle.machine.specs.Code.{look_value, reply_value, ask_of};
+ghost use Rattle.machine.specs.Choosing.{offer_of};
 ghost use Rattle.machine.specs.Looking.{look_of};
 ghost use Rattle.router_log.specs.Call.{looked, asked};
 ghost use Rattle.router_log.specs.Operation.{place_of};
 ghost use Rattle.router_log.specs.Value.{value_of};
+ghost use Rattle.router.specs.Loads.{MayHaveRead};
 ghost use Rattle.router.specs.Peeked.{IsPeek};
 ghost use Rattle.router.specs.Picked.{IsAnswer, is_kept_for};
 ghost use Rattle.router.specs.Views.{BeganEmpty, settings_by, seen_by, Entered};
@@ -60,7 +61,7 @@ pub(crate) fn pick_through<L: Ledger>(
     ensures place { IfSome result (λ r. r.0 ≡ place_of (seen_by reader.new)) }
     ensures answer { IfSome result (λ r. IfOk r.1 (IsAnswer (settings_by reader.old) (value_of (settings_by reader.old) (seen_by reader.new)) r.0 (ask_of ask.now) (reads_of seat.old) (reads_of seat.new))) }
     ensures steps { is_kept_for (value_of (settings_by reader.old) (seen_by reader.new)) (ask_of ask.now) ≡ true → steps.new ≡ steps.old }
-    ensures err { IfSome result (λ r. OnErr r.1 (IsPrefix (reads_of seat.old) (reads_of seat.new))) }
+    ensures err { IfSome result (λ r. OnErr r.1 (MayHaveRead (offer_of (settings_by reader.old) (value_of (settings_by reader.old) (seen_by reader.new)).state (ask_of ask.now)) (reads_of seat.old) (reads_of seat.new))) }
     ensures there { IfSome result (λ r. IsThere reader.new) }
     ensures none { IfNone result (Refused reader.old reader.new) }
     ensures unread { IfNone result (seat.new ≡ seat.old) }

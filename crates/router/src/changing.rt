@@ -4,7 +4,7 @@ ghost use Rattle.bind_cache.specs.Stored.{kept_of};
 ghost use Rattle.machine.specs.Code.{change_of};
 ghost use Rattle.machine.specs.State.{IsSoundChange};
 ghost use Rattle.router.specs.Changing.{IsChanged, IsRemembered, Met, WasWorkedOut};
-ghost use Rattle.router.specs.Passes.{number_in, SawMore};
+ghost use Rattle.router.specs.Passes.{number_in, SawMore, Unanswered};
 
 use crate::Mem;
 use crate::answer::Remembered;
@@ -20,6 +20,9 @@ impl<J: Naming> Router<J> {
     /// Makes a change, if the state accepts it, at a point behind all that was published. The pass has seen it then. It waits for the router's lock, and for
     /// callers that read the older copy of the value.
     ///
+    /// A report of a success that changes nothing in the published value, since no service has its address or the address has no failures, is answered from that value: it takes
+    /// no lock and no memory, and waits for nobody.
+    ///
     /// # Errors
     /// Want of memory publishes nothing. It may then come at every later change that would be accepted: where a copy of the value lacked the memory to take
     /// it in.
@@ -33,8 +36,11 @@ impl<J: Naming> Router<J> {
         requires sound { IsSoundChange (change_of change) }
         ensures number { number_in pass.new ≡ number_in pass.old }
         ensures changed { IfOk result (IsChanged pass.old pass.new (change_of change)) }
-        ensures want { OnErr result (SawMore pass.old pass.new) }
+        ensures want { OnErr result (Unanswered pass.old pass.new) }
     {
+        if let Some(reply) = pass.report(&change) {
+            return Ok(reply);
+        }
         let mut desk = self.desk.lock(rt);
         let reply = desk.change(rt, alloc, pass, change);
         MutexGuard::unlock(desk);

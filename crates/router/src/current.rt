@@ -13,28 +13,26 @@ ghost use Rattle.ns_store.specs.Store.{contents_of};
 ghost use Rattle.machine.specs.Looking.{space_rules, look_of};
 ghost use Rattle.std.specs.FinMap.{get, contains_key};
 ghost use Rattle.router_log.specs.Codes.{coded_value};
-ghost use Rattle.router_log.specs.Taking.{untouched_by, may_stand, retold};
+ghost use Rattle.router_log.specs.Value.{untouched_by, retold};
+ghost use Rattle.router_log.specs.Taking.{may_stand};
 ghost use Rattle.router.specs.Update.{updates_in, taken_in, UpdateFits};
 
 use crate::Mem;
 use crate::update::{Past, Update};
-use bind_cache::{Binding, Cache};
+use bind_cache::Cache;
 use bind_core::Outcome;
 use dtab_table::Dtab;
 use left_right::Absorb;
 use line_base::Steps;
 use machine::{Look, Reply, Settings, State};
 use name_tree::Path;
-use router_log::take_change;
+use router_log::{take_change, take_kept};
 use snap_cell::Published;
 use std::alloc::{AllocError, Global};
 use std::mem;
 use std::snapshot::Snapshot;
 use std::sync::Arc;
 use std::sync::ledger::Ledger;
-
-/// The most lookups of a delegation that is kept.
-const MOST_COST: u32 = 256;
 
 /// One copy of the value. It is what the updates that it took in come to, from nothing.
 #[derive(Drop)]
@@ -102,19 +100,6 @@ impl Current {
     }
 }
 
-/// Takes in a delegation that is kept, where it may stand. An `Err` changes nothing.
-fn take_binding(cache: &mut Cache, binding: &Arc<Binding>) -> Mem<()>
-    ensures ok { OnOk result (bindings_of cache.new ≡ (if may_stand (bindings_of cache.old) (kept_of (arc_value binding.now))
-        then kept_in (bindings_of cache.old) (kept_of (arc_value binding.now)) else bindings_of cache.old)) }
-    ensures err { OnErr result (bindings_of cache.new ≡ bindings_of cache.old) }
-{
-    let shared = Arc::try_clone(binding)?;
-    if shared.cost() <= MOST_COST && cache.find(shared.path(), shared.local()).is_none() {
-        cache.keep(shared);
-    }
-    Ok(())
-}
-
 impl Absorb<Update> for Current {
     type State = (Settings, [Update; 0]);
 
@@ -132,7 +117,7 @@ impl Absorb<Update> for Current {
                 change,
                 ready,
             )?,
-            Update::Kept { binding, .. } => take_binding(&mut self.cache, binding)?,
+            Update::Kept { binding, .. } => take_kept(&mut self.cache, binding)?,
         }
         let past = mem::replace(&mut self.past, Snapshot::of(&Past::Nothing));
         let next = Past::Then(past, Snapshot::of(update));

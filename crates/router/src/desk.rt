@@ -27,14 +27,12 @@ use crate::pass::Pass;
 use crate::update::Update;
 use bind_cache::{Binding, MOST_COST};
 use machine::{Change, Ready, Reply};
+use router_log::MOST_BYTES;
 use snap_cell::{Reader, Writer};
 use std::alloc::Global;
 use std::snapshot::Snapshot;
 use std::sync::ledger::{Book, Share};
 use std::sync::{Arc, Wait};
-
-/// The most bytes that the texts of a delegation have together that is kept.
-const MOST_BYTES: usize = 8_192;
 
 /// The writer, with the count of all changes, which the ledger's book has too, and of all delegations that were kept.
 pub(crate) struct Desk<J: Naming> {

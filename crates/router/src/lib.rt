@@ -44,6 +44,7 @@ mod opening;
 mod pass;
 mod peeking;
 mod picking;
+mod reporting;
 mod router;
 mod update;
 

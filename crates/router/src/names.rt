@@ -4,8 +4,11 @@ ghost use Rattle.name_tree.specs.Path.{canon_byte, canon_label, canon_path, hex_
 
 use crate::Mem;
 use addr_book::Leaf;
-use name_tree::{Bytes, Path, is_plain_byte};
+use name_tree::{Path, is_plain_byte};
 use std::alloc::Global;
+
+/// The bytes of a name's text.
+type Bytes = Vec<u8>;
 
 /// How many bytes are set aside for each name.
 const ROOM: usize = 2_048;

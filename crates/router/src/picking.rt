@@ -1,12 +1,12 @@
 //! How a pick is answered in one value.
 ghost use Rattle.std.specs.Prelude.{◌≡◌, true, false, Some, None, IfOk, OnErr};
-ghost use mathlib.Core.List.{IsPrefix};
 ghost use Rattle.bind_core.specs.Outcome.{ending_of};
 ghost use Rattle.load_words.specs.Seats.{IsOf, slot_of, reads_of, taken_of};
 ghost use Rattle.machine.specs.Code.{settings_of, state_of, ask_of};
-ghost use Rattle.machine.specs.Choosing.{ending_in};
+ghost use Rattle.machine.specs.Choosing.{ending_in, offer_of};
 ghost use Rattle.router_log.specs.Value.{IsRightValue};
 ghost use Rattle.router.specs.Chosen.{IsPermitted, decision_value, decision_loads};
+ghost use Rattle.router.specs.Loads.{MayHaveRead};
 ghost use Rattle.router.specs.Picked.{IsAnswer, IsFresh, is_kept_for, is_let_in, said_by, loads_by, place_by, fresh_by};
 ghost use Rattle.router.specs.Values.{settings_in, value_in};
 
@@ -105,7 +105,7 @@ impl Current {
         ensures place { result.0 ≡ (value_in self.now).state.place }
         ensures answer { IfOk result.1 (IsAnswer (settings_in self.now) (value_in self.now) (value_in self.now).state.place (ask_of ask.now) (reads_of seat.old) (reads_of seat.new)) }
         ensures steps { is_kept_for (value_in self.now) (ask_of ask.now) ≡ true → steps.new ≡ steps.old }
-        ensures err { OnErr result.1 (IsPrefix (reads_of seat.old) (reads_of seat.new)) }
+        ensures err { OnErr result.1 (MayHaveRead (offer_of (settings_in self.now) (value_in self.now).state (ask_of ask.now)) (reads_of seat.old) (reads_of seat.new)) }
     {
         let answer = match self.find(&ask.path, &ask.local) {
             Some(outcome) => self.pick_kept(alloc, outcome, ask, loads, seat),
@@ -130,7 +130,7 @@ impl Current {
         ensures taken { taken_of seat.new ≡ taken_of seat.old }
         ensures slot { slot_of seat.new ≡ slot_of seat.old }
         ensures answer { IfOk result (IsAnswer (settings_in self.now) (value_in self.now) (value_in self.now).state.place (ask_of ask.now) (reads_of seat.old) (reads_of seat.new)) }
-        ensures err { OnErr result (IsPrefix (reads_of seat.old) (reads_of seat.new)) }
+        ensures err { OnErr result (MayHaveRead (offer_of (settings_in self.now) (value_in self.now).state (ask_of ask.now)) (reads_of seat.old) (reads_of seat.new)) }
     {
         let decision = decide(self.state(), self.settings(), outcome, ask, loads, seat);
         answer_of(alloc, &decision, self.state().place())
@@ -151,7 +151,7 @@ impl Current {
         ensures taken { taken_of seat.new ≡ taken_of seat.old }
         ensures slot { slot_of seat.new ≡ slot_of seat.old }
         ensures answer { IfOk result (IsAnswer (settings_in self.now) (value_in self.now) (value_in self.now).state.place (ask_of ask.now) (reads_of seat.old) (reads_of seat.new)) }
-        ensures err { OnErr result (IsPrefix (reads_of seat.old) (reads_of seat.new)) }
+        ensures err { OnErr result (MayHaveRead (offer_of (settings_in self.now) (value_in self.now).state (ask_of ask.now)) (reads_of seat.old) (reads_of seat.new)) }
     {
         let place = self.state().place();
         let delegated = self.state().delegate(

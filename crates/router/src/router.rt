@@ -27,11 +27,12 @@ pub struct Router<J: Naming> {
 
 impl<J: Naming> Router<J> {
     ghost use Rattle.std.specs.Prelude.{◌<◌, ◌++◌, [], ◌∷◌, None, IsSome, IfSome, IfOk, OnErr};
-    ghost use mathlib.Core.List.{IsPrefix};
+    ghost use Rattle.machine.specs.Choosing.{offer_of};
     ghost use Rattle.machine.specs.Code.{look_value, ask_of};
     ghost use Rattle.router_log.specs.Call.{looked, asked};
     ghost use Rattle.router_log.specs.Value.{value_of};
     ghost use Rattle.router.specs.Asking.{Looks, Picks, Peeks};
+    ghost use Rattle.router.specs.Loads.{MayHaveRead};
     ghost use Rattle.router.specs.Passes.{SameReading, number_in, seen_in, reads_in, taken_in, slot_in, Entered};
     ghost use Rattle.bind_cache.specs.Stored.{kept_of};
     ghost use Rattle.router.specs.Changing.{WasWorkedOut};
@@ -73,7 +74,7 @@ impl<J: Naming> Router<J> {
         ensures said { IfOk result (Picks pass.old pass.new (ask_of ask.now)) }
         ensures steps { is_kept_for (value_of J.settings (seen_in pass.new)) (ask_of ask.now) ≡ true → steps.new ≡ steps.old }
         ensures fresh { IfOk result (λ a. IfSome (fresh_by a) (λ b. WasWorkedOut pass.new (kept_of b))) }
-        ensures want { OnErr result (Entered pass.old pass.new (asked (ask_of ask.now)) × IsPrefix (reads_in pass.old) (reads_in pass.new)) }
+        ensures want { OnErr result (Entered pass.old pass.new (asked (ask_of ask.now)) × MayHaveRead (offer_of J.settings (value_of J.settings (seen_in pass.new)).state (ask_of ask.now)) (reads_in pass.old) (reads_in pass.new)) }
     {
         match pick_through(
             &mut pass.reader,

@@ -1,5 +1,5 @@
 -- What a router's callers ask, and what that publishes.
-use Rattle.std.specs.Prelude.{ℕ, ◌-◌, ◌^◌, ◌==◌, ◌||◌, nat_lt, Bool, not, if◌then◌else◌, List, Option, Some, None, is_some}
+use Rattle.std.specs.Prelude.{ℕ, ◌-◌, ◌^◌, ◌==◌, ◌||◌, nat_lt, nat_le, Bool, not, if◌then◌else◌, List, Option, Some, None, is_some}
 use Rattle.machine.specs.Values.{SettingsValue, ChangeValue, LookValue, AskValue}
 use Rattle.machine.specs.State.{is_accepted}
 use Rattle.bind_cache.specs.Kept.{Kept}
@@ -29,9 +29,9 @@ is_late ops k = not (place_of ops == k.place)
 abbrev pub is_had : SettingsValue → List Operation → Kept → Bool
 is_had settings ops k = is_some (found_in (value_of settings ops).cache k.path k.local)
 
--- as many were kept as may be
+-- as many were kept as may be, or more
 abbrev pub are_spent : List Operation → Bool
-are_spent ops = kept_count ops == 2 ^ 64 - 1
+are_spent ops = nat_le (2 ^ 64 - 1) (kept_count ops)
 
 -- whether a delegation is kept, where these operations were published before
 abbrev pub is_kept : SettingsValue → List Operation → Kept → Bool

@@ -4,8 +4,7 @@ use Rattle.machine.specs.Values.{SettingsValue, ChangeValue}
 use Rattle.machine.specs.Ready.{ReadyValue, absorbed}
 use Rattle.bind_cache.specs.Kept.{Kept}
 use Rattle.bind_cache.specs.Cache.{found_in, kept_in, most_cost}
-use Rattle.router_log.specs.Value.{Value}
-pub use Rattle.router_log.specs.Value.{retold, untouched_by}
+use Rattle.router_log.specs.Value.{Value, untouched_by}
 
 -- a prepared change: the state absorbs it, and what it touches goes
 abbrev pub with_change : SettingsValue → Value → ChangeValue → ReadyValue → Value

@@ -34,7 +34,9 @@ pub fn take_change(
     ready: &Ready,
 ) -> Mem<()>
     ensures state { OnOk result (state_of state.new ≡ absorbed (state_of state.old) (ready_of ready.now)) }
-    ensures cache { OnOk result (bindings_of cache.new ≡ untouched_by (settings_of settings.now) (state_of state.old) (absorbed (state_of state.old) (ready_of ready.now)) (change_of change.now) (bindings_of cache.old)) }
+    ensures cache { OnOk result
+        (bindings_of cache.new ≡ untouched_by (settings_of settings.now) (state_of state.old) (absorbed (state_of state.old) (ready_of ready.now))
+        (change_of change.now) (bindings_of cache.old)) }
     ensures err { OnErr result ((state_of state.new ≡ state_of state.old) × (bindings_of cache.new ≡ bindings_of cache.old)) }
 {
     match change {
@@ -68,7 +70,9 @@ fn take_table(
     ready: &Ready,
 ) -> Mem<()>
     ensures state { OnOk result (state_of state.new ≡ absorbed (state_of state.old) (ready_of ready.now)) }
-    ensures cache { OnOk result (bindings_of cache.new ≡ retold (settings_of settings.now) (state_of state.old) (absorbed (state_of state.old) (ready_of ready.now)) name.now (bindings_of cache.old)) }
+    ensures cache { OnOk result
+        (bindings_of cache.new ≡ retold (settings_of settings.now) (state_of state.old) (absorbed (state_of state.old) (ready_of ready.now)) name.now
+        (bindings_of cache.old)) }
     ensures err { OnErr result ((state_of state.new ≡ state_of state.old) × (bindings_of cache.new ≡ bindings_of cache.old)) }
 {
     if name.text() != settings.space.text() {
@@ -87,7 +91,9 @@ fn take_table(
 /// Takes in the addresses of a service. An `Err` changes nothing.
 fn take_addrs(state: &mut State, cache: &mut Cache, service: &Name, ready: &Ready) -> Mem<()>
     ensures state { OnOk result (state_of state.new ≡ absorbed (state_of state.old) (ready_of ready.now)) }
-    ensures cache { OnOk result (bindings_of cache.new ≡ (if contains_key (state_of state.old).book.services service.now then bindings_of cache.old else after_service service.now (bindings_of cache.old))) }
+    ensures cache { OnOk result
+        (bindings_of cache.new ≡
+        (if contains_key (state_of state.old).book.services service.now then bindings_of cache.old else after_service service.now (bindings_of cache.old))) }
     ensures err { OnErr result ((state_of state.new ≡ state_of state.old) × (bindings_of cache.new ≡ bindings_of cache.old)) }
 {
     let is_there = state.book().cluster(service).is_some();

@@ -9,6 +9,9 @@ use bind_cache::{Binding, Cache, MOST_COST};
 use std::alloc::AllocError;
 use std::sync::Arc;
 
+/// The most bytes that the texts of a delegation have together that is kept.
+pub const MOST_BYTES: usize = 8_192;
+
 /// Keeps a delegation where it may stand: where it took at most [`MOST_COST`] lookups, and none is kept for its path and table. Else it is
 /// left out. An `Err` changes nothing; it comes where the delegation has as many owners as an [`Arc`] counts.
 ///

@@ -29,5 +29,5 @@ mod keeping;
 mod laws;
 
 pub use changing::take_change;
-pub use keeping::take_kept;
+pub use keeping::{MOST_BYTES, take_kept};
 pub use laws::{published_operations_fit, published_values_are_right, taking_is_applying};

@@ -1,6 +1,6 @@
 //! The calls of a scene.
 
-use crate::asked::{created, give, hold, looked, peeked, picked, put, set};
+use crate::asked::{created, give, hold, looked, peeked, picked, put, reported, set};
 use crate::kept::{remember, remember_after_change, remember_twice};
 use line_base::Steps;
 use router::{Naming, Pass, Router};
@@ -17,6 +17,8 @@ pub enum Act {
     Put(&'static str, &'static str),
     /// A service gets these addresses.
     Set(&'static str, &'static str),
+    /// A report on 127.0.0.1 with this port, of a success or a failure.
+    Report(u16, bool),
     /// A look for the namespace `default`.
     Look,
     /// A pick for `/svc/web`.
@@ -73,6 +75,7 @@ pub fn answer<J: Naming, L: Ledger, R: Wait>(
         Act::Create(space, table) => created(rt, alloc, router, pass, space, table),
         Act::Put(space, table) => put(rt, alloc, router, pass, space, table),
         Act::Set(service, addrs) => set(rt, alloc, router, pass, service, addrs),
+        Act::Report(port, good) => reported(rt, alloc, router, pass, port, good),
         Act::Look => looked(alloc, router, pass, steps),
         Act::Pick => picked(alloc, router, pass, steps),
         Act::Peek => peeked(alloc, router, pass),

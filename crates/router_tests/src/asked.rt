@@ -3,7 +3,7 @@ ghost use Rattle.std.specs.Prelude.{IfSome};
 ghost use Rattle.machine.specs.Code.{change_of};
 ghost use Rattle.machine.specs.State.{IsSoundChange};
 
-use addr_book::{Name, read_addrs};
+use addr_book::{Addr, Name, read_addrs};
 use choose_core::Limits;
 use dtab_table::{Dtab, read_dtab};
 use line_base::Steps;
@@ -79,6 +79,11 @@ fn reply_text(alloc: Global, reply: &Reply) -> Option<String> {
         Reply::Version(version) => format!(in alloc; "version {version}").ok(),
         Reply::Exists(version) => format!(in alloc; "exists {version}").ok(),
         Reply::Set(count) => format!(in alloc; "set {count}").ok(),
+        Reply::Marked(mark) => {
+            let count = mark.count;
+            format!(in alloc; "failures {count}").ok()
+        }
+        Reply::NotKept => String::from_str(alloc, "of no service").ok(),
         Reply::Missing => String::from_str(alloc, "missing").ok(),
         Reply::Table { version, .. } => format!(in alloc; "table {version}").ok(),
         _ => None,
@@ -120,6 +125,27 @@ pub fn set<J: Naming, R: Wait>(
     addrs: &str,
 ) -> Option<String> {
     let change = assignment(alloc, service, addrs)?;
+    let reply = router.change(rt, alloc, pass, change).ok()?;
+    reply_text(alloc, &reply)
+}
+
+/// The answer to a report on 127.0.0.1 with this port.
+pub fn reported<J: Naming, R: Wait>(
+    rt: &R,
+    alloc: Global,
+    router: &Router<J>,
+    pass: &mut Pass<J>,
+    port: u16,
+    good: bool,
+) -> Option<String> {
+    let change = Change::Report {
+        addr: Addr {
+            ip: 0x7f00_0001,
+            port,
+        },
+        good,
+        moment: 0,
+    };
     let reply = router.change(rt, alloc, pass, change).ok()?;
     reply_text(alloc, &reply)
 }

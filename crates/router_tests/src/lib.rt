@@ -1,7 +1,7 @@
-//! Runs of three callers on one router: what each sees of the others' changes, loads and kept delegations.
+//! Runs of three callers on one router: what each sees of the others' changes, loads, reports and kept delegations.
 //!
 //! A scene is a list of calls, each of one caller, with what each is answered as a text. It is played on a new router of three passes, which is ended then: first
-//! with a pass missing, which has to be refused, and then with all.
+//! with a pass missing, which has to be refused, and then with all. A race is two readers in threads of their own beside a writer in a third.
 #![tactic(auto)]
 
 #[cfg(test)]
@@ -10,6 +10,8 @@ mod acts;
 mod asked;
 #[cfg(test)]
 mod kept;
+#[cfg(test)]
+mod race;
 #[cfg(test)]
 mod scenes;
 #[cfg(test)]

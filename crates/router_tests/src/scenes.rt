@@ -49,6 +49,20 @@ const LOADS: [Row; 13] = [
     (A, Act::Count, "pass 0 place 1 made 1 kept 0 refused 0"),
 ];
 
+/// A report of a success changes nothing where the address has no failures, and is answered so in what its caller sees then. A caller sees the changes that
+/// others made.
+const REPORTS: [Row; 9] = [
+    (A, Act::Set("web", "127.0.0.1 1"), "set 1"),
+    (B, Act::Report(1, true), "failures 0"),
+    (B, Act::Count, "pass 1 place 1 made 0 kept 0 refused 0"),
+    (C, Act::Report(9, true), "of no service"),
+    (A, Act::Report(1, false), "failures 1"),
+    (B, Act::Report(1, true), "failures 0"),
+    (B, Act::Count, "pass 1 place 3 made 1 kept 0 refused 0"),
+    (A, Act::Report(1, true), "failures 0"),
+    (A, Act::Count, "pass 0 place 3 made 2 kept 0 refused 0"),
+];
+
 /// A delegation is kept where no change was made since it was worked out, and found until a change touches it.
 const REMEMBERED: [Row; 16] = [
     (B, Act::Create("one", "/x => /y"), "version 1"),
@@ -104,4 +118,9 @@ fn a_kept_delegation_is_found_until_a_change_touches_it(rt: HostRuntime) {
         run(&rt, rt.alloc(), "/svc => /#/io.l5d.fs", &REMEMBERED),
         Some(8)
     );
+}
+
+#[test]
+fn a_success_changes_nothing_where_there_are_no_failures(rt: HostRuntime) {
+    assert_eq!(rt; run(&rt, rt.alloc(), "", &REPORTS), Some(3));
 }

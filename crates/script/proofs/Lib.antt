@@ -1,4 +1,3 @@
-pub mod Counting
 pub mod Naming
 pub mod Tables
 pub mod Turning

@@ -42,7 +42,6 @@ mod line;
 mod reply;
 mod run;
 mod turn;
-mod turn_parts;
 mod words;
 
 pub use carried::{carry_out, script_settings};

@@ -9,7 +9,6 @@ ghost use Rattle.script.specs.Ran.{run_of};
 use crate::carried::default_name;
 use crate::reply::{append_number, numbered};
 use crate::turn::{Turn, next_turn};
-use crate::turn_parts::first_table;
 use crate::{Bytes, Mem};
 use line_base::Steps;
 use machine::{Ask, Change, Chosen, Settings, State};
@@ -18,6 +17,7 @@ use rand_pcg::Pcg64;
 use std::alloc::Global;
 use std::marker::Brand;
 use std::sync::ledger::{Blank, Ledger};
+use turn_parts::first_table;
 
 /// How a run stands.
 #[derive(Debug, Drop)]

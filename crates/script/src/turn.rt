@@ -7,12 +7,12 @@ ghost use Rattle.script.specs.Ran.{turn_value, IsSoundTurn};
 
 use crate::Mem;
 use crate::carried::default_name;
-use crate::turn_parts::{addrs_from, local_addr, service_name, service_path, table_by};
 use dtab_table::Dtab;
 use machine::{Ask, Change};
 use rand_core::utils::NextWord;
 use rand_pcg::Pcg64;
 use std::alloc::Global;
+use turn_parts::{addrs_from, local_addr, service_name, service_path, table_by};
 
 /// What a turn asks of a state.
 #[derive(Debug, Drop)]

@@ -1,5 +1,5 @@
 -- What stays over many connections, and over the jobs that ran.
-use Rattle.std.proofs.Common.{◌≡◌, ℕ, false, true, ◌||◌, Bool, ◌++◌, List, [], ◌∷◌, length, ap, refl, ◌∙◌, ◌≢◌, ◌+◌, suc, Some, None, slice_get, arith, sym, subst}
+use Rattle.std.proofs.Common.{◌≡◌, append_assoc, ℕ, false, true, ◌||◌, Bool, ◌++◌, List, [], ◌∷◌, length, ap, refl, ◌∙◌, ◌≢◌, ◌+◌, suc, Some, None, slice_get, arith, sym, subst}
 use Rattle.line_base.specs.Counts.{Rose}
 use Rattle.std.specs.List.{AllZip}
 use Rattle.one_history.specs.Order.{Distinct}
@@ -51,6 +51,14 @@ module _ {J : Type 0} {g : Ghosts J} where
   numbers_append [] qs = refl
   numbers_append (p ∷ ps) qs = ap (λ (ns : List ℕ). number_in p ∷ ns) (numbers_append ps qs)
 
+  -- one pass went from those that wait behind those that are done
+  pub numbers_moved : (done whole rest more : List (Pass J g)) (p q : Pass J g) (all : List ℕ) → whole ≡ p ∷ rest → more ≡ done ++ q ∷ [] → number_in q ≡ number_in p
+      → numbers_of done ++ numbers_of whole ≡ all → numbers_of more ++ numbers_of rest ≡ all
+  numbers_moved done whole rest more p q all cut grown same is =
+      ap (λ (ns : List ℕ). ns ++ numbers_of rest) (ap numbers_of grown ∙ numbers_append done (q ∷ []))
+      ∙ (append_assoc (numbers_of done) (number_in q ∷ []) (numbers_of rest)
+      ∙ (ap (λ (n : ℕ). numbers_of done ++ n ∷ numbers_of rest) same ∙ (ap (λ (ps : List (Pass J g)). numbers_of done ++ numbers_of ps) (sym cut) ∙ is)))
+
   -- passes that came back behind others
   pub numbers_back : (all old back ran : List (Pass J g)) → all ≡ old ++ back → numbers_of back ≡ numbers_of ran → numbers_of all ≡ numbers_of old ++ numbers_of ran
   numbers_back all old back ran is same = ap numbers_of is ∙ (numbers_append old back ∙ ap (λ (ns : List ℕ). numbers_of old ++ ns) same)
@@ -91,6 +99,10 @@ module _ {J : Type 0} {g : Ghosts J} where
   -- the others are, too
   pub free_rest : (whole rest : List (Pass J g)) (p : Pass J g) → whole ≡ p ∷ rest → AreFree whole → AreFree rest
   free_rest whole rest p cut free = let all = subst AreFree cut free in all.1
+
+  -- the first one is free where all are
+  pub free_first : (whole rest : List (Pass J g)) (p : Pass J g) → whole ≡ p ∷ rest → AreFree whole → slot_in p ≡ None
+  free_first whole rest p cut free = let all = subst AreFree cut free in all.0
 
   -- one more that is free
   pub free_push : (ps : List (Pass J g)) (p : Pass J g) → AreFree ps → slot_in p ≡ None → AreFree (ps ++ p ∷ [])

@@ -1,10 +1,9 @@
 mod Chains
-mod Crossing
 mod Ending
 mod Posting
+mod Refusing
 mod Returning
 mod Sending
 mod Services
 mod Shifts
-mod Trees
 mod Zipping

@@ -18,7 +18,7 @@ use Rattle.serving.specs.contracts.job.ApiJob as ApiJob
 use Rattle.serving.specs.contracts.job.ProxyJob as ProxyJob
 use Rattle.serving.specs.contracts.job.ServingJob as ServingJob
 use Rattle.serving.specs.contracts.proxy.ProxyServer as ProxyServer
-use Rattle.serving.proofs.Crossing.{pass_send, router_sync}
+use Rattle.router.proofs.Crossing.{pass_send, router_sync}
 
 own_send : (T : RattleType) → IsSend T → IsSend (as_row (row_field T))
 own_send T s = as_row_send (row_field T) s

@@ -53,18 +53,33 @@ published : (b : Bool) (before after : List Operation) (op : Operation) → b �
 published true before after op sure is = is
 published false before after op sure is = cc sure
 
+pub made_where : (b t : Bool) (now next last : ℕ) → b ≡ t → now ≡ (if b then next else last) → now ≡ (if t then next else last)
+made_where b t now next last same is = is ∙ ap (λ (c : Bool). if c then next else last) same
+
 module _ {J : Type 0} {g : Ghosts J} where
-  -- a service that is set is one change more
+  -- a service that is set was accepted there
+  accepted_there : (old new : Pass J g) (service : List ℕ) (list : List Weighted) (reply : Reply) (n : ℕ) → (c : IsChanged old new (set_addrs service list) reply) → reply ≡ replies.Set n
+      → is_accepted (value_of g.settings c.before).state (set_addrs service list) ≡ true
+  accepted_there old new service list reply n c is =
+      let state = (value_of g.settings c.before).state in
+      let said : set_to n ≡ reply_of g.settings state (set_addrs service list) = sym (ap reply_value is) ∙ c.answered in
+      set_accepted state (set_refusal state.book service list) n (length list) said
+
+  -- and is one change more
   pub set_adds : (old new : Pass J g) (service : List ℕ) (list : List Weighted) (reply : Reply) (n : ℕ) → IsChanged old new (set_addrs service list) reply → reply ≡ replies.Set n
       → IsAdded (seen_in old) (seen_in new) (set_addrs service list)
   set_adds old new service list reply n c is =
       let state = (value_of g.settings c.before).state in
-      let said : set_to n ≡ reply_of g.settings state (set_addrs service list) = sym (ap reply_value is) ∙ c.answered in
-      let accepted : is_accepted state (set_addrs service list) ≡ true = set_accepted state (set_refusal state.book service list) n (length list) said in
       let op = changed (number_in old) (made_in old) (set_addrs service list) in
-      let seen : seen_in new ≡ c.before ++ op ∷ [] = published (is_accepted state (set_addrs service list)) c.before (seen_in new) op accepted c.seen in
+      let seen : seen_in new ≡ c.before ++ op ∷ [] = published (is_accepted state (set_addrs service list)) c.before (seen_in new) op (accepted_there old new service list reply n c is) c.seen in
       let front : IsPrefix (seen_in old) c.before = before_last (seen_in old) c.before op (subst (IsPrefix (seen_in old)) seen c.called.before) c.called.late in
       (c.before, number_in old, made_in old, front, seen)
+
+  pub set_makes : (old new : Pass J g) (service : List ℕ) (list : List Weighted) (reply : Reply) (n : ℕ) → IsChanged old new (set_addrs service list) reply → reply ≡ replies.Set n
+      → made_in new ≡ made_in old + 1
+  set_makes old new service list reply n c is =
+      let state = (value_of g.settings c.before).state in
+      made_where (is_accepted state (set_addrs service list)) true (made_in new) (made_in old + 1) (made_in old) (accepted_there old new service list reply n c is) c.made
 
 -- what stands in a list stands in each that it begins
 pub stands_longer : (ops more : List Operation) (cs : List ChangeValue) → StandIn ops cs → StandIn (ops ++ more) cs
@@ -98,33 +113,36 @@ map_push : {A B : Type 0} (f : A → B) (xs : List A) (x : A) → map f (xs ++ x
 map_push f [] x = refl
 map_push f (y ∷ xs) x = ap (λ (zs : List _). f y ∷ zs) (map_push f xs x)
 
--- so many of the services are set
-pub record AreSet (all rest : List LoadedItem) (ops : List Operation) : Type 0 where
+-- so many of the services are set, each by a change more
+pub record AreSet (all rest : List LoadedItem) (ops : List Operation) (made made_then : ℕ) : Type 0 where
   pub done : List LoadedItem
   pub items : done ++ rest ≡ all
   pub stand : StandIn ops (map setting done)
+  pub count : made_then ≡ made + length done
 
-pub none_set : (all : List LoadedItem) (ops : List Operation) → AreSet all all ops
-none_set all ops = record { done = []; items = refl; stand = tt }
+pub none_set : (all : List LoadedItem) (ops : List Operation) (made : ℕ) → AreSet all all ops made made
+none_set all ops made = record { done = []; items = refl; stand = tt; count = omega arith }
 
-pub one_set : (all whole rest : List LoadedItem) (item : LoadedItem) (old new : List Operation) → whole ≡ item ∷ rest → AreSet all whole old → IsAdded old new (setting item) → AreSet all rest new
-one_set all whole rest item old new cut set added = record {
+pub one_set : (all whole rest : List LoadedItem) (item : LoadedItem) (old new : List Operation) (made now next : ℕ) → whole ≡ item ∷ rest → AreSet all whole old made now
+    → IsAdded old new (setting item) → next ≡ now + 1 → AreSet all rest new made next
+one_set all whole rest item old new made now next cut set added more = record {
   done = set.done ++ item ∷ [];
   items = append_assoc set.done (item ∷ []) rest ∙ (ap (λ (zs : List LoadedItem). set.done ++ zs) (sym cut) ∙ set.items);
   stand = subst (StandIn new) (sym (map_push setting set.done item)) (stands_added old new (setting item) (map setting set.done) added set.stand);
+  count = omega (arith, more, set.count, length-append set.done (item ∷ []));
 }
 
 nil_behind : {A : Type 0} (xs : List A) → xs ++ [] ≡ xs
 nil_behind [] = refl
 nil_behind (x ∷ xs) = ap (λ (zs : List _). x ∷ zs) (nil_behind xs)
 
-pub all_set : (all rest : List LoadedItem) (ops : List Operation) → rest ≡ [] → AreSet all rest ops → StandIn ops (map setting all)
-all_set all rest ops none set =
+pub all_set : (all rest : List LoadedItem) (ops : List Operation) (made now : ℕ) → rest ≡ [] → AreSet all rest ops made now → StandIn ops (map setting all)
+all_set all rest ops made now none set =
     let same : set.done ≡ all = sym (nil_behind set.done) ∙ (ap (λ (zs : List LoadedItem). set.done ++ zs) (sym none) ∙ set.items) in
     subst (λ (items : List LoadedItem). StandIn ops (map setting items)) same set.stand
 
 -- as many changes as stand there
-stand_count : (ops : List Operation) (cs : List ChangeValue) → StandIn ops cs → length cs ≤ place_of ops
+pub stand_count : (ops : List Operation) (cs : List ChangeValue) → StandIn ops cs → length cs ≤ place_of ops
 stand_count ops [] s = omega arith
 stand_count ops (c ∷ cs) s =
     let op = changed s.1 s.2 c in

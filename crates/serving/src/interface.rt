@@ -26,7 +26,13 @@ impl<P: Peer, J: Naming, S: Stop> Serve<P> for ApiServer<'_, J, S> {
     ghost serves = { λ old peer peer_after new.
         Answers old.which
         (record { left = P.left peer; given = P.given peer; read_faults = P.read_faults peer; write_faults = P.write_faults peer; ends = P.ends peer })
-        (record { left = P.left peer_after; given = P.given peer_after; read_faults = P.read_faults peer_after; write_faults = P.write_faults peer_after; ends = P.ends peer_after })
+        (record {
+          left = P.left peer_after;
+          given = P.given peer_after;
+          read_faults = P.read_faults peer_after;
+          write_faults = P.write_faults peer_after;
+          ends = P.ends peer_after;
+        })
         old.pass new.pass
         (record { stops = S.calls old.stop; lacked_memory = old.lacked_memory })
         (record { stops = S.calls new.stop; lacked_memory = new.lacked_memory })

@@ -51,7 +51,8 @@ fn add_proxy_jobs<'a, J: Naming, N: Net, C: Clock>(
     ensures room { vec_capacity jobs.new ≡ vec_capacity jobs.old }
     ensures free { AreFree (into_iter_items passes.new) }
     ensures posted { (posts : List Post)
-        → AllZip (IsPosted N.L.state (upstream_by N.D.log N.D.is_open N.D.faults) C.to_come N.S.calls site.now.rule (C.of_fork clock.now) (N.state net.old).told) posts jobs.old.items
+        → AllZip (IsPosted N.L.state (upstream_by N.D.log N.D.is_open N.D.faults) C.to_come N.S.calls site.now.rule (C.of_fork clock.now)
+        (N.state net.old).told) posts jobs.old.items
         → AllZip (IsPosted N.L.state (upstream_by N.D.log N.D.is_open N.D.faults) C.to_come N.S.calls site.now.rule (C.of_fork clock.now) (N.state net.old).told)
         (posts ++ posts_at (client_post site.now) (length listeners.items)) jobs.new.items }
     ensures stops { N.state net.new ≡ with_stops (length listeners.items) (N.state net.old) }
@@ -102,7 +103,8 @@ fn add_api_jobs<'a, J: Naming, N: Net, C: Clock>(
     ensures room { vec_capacity jobs.new ≡ vec_capacity jobs.old }
     ensures free { AreFree (into_iter_items passes.new) }
     ensures posted { (port : Port) → AreNewFrom N.L.state (N.state net.old).told port 0 listeners.items → (rule : Rule) → (moments : Option (List ℕ))
-        → (posts : List Post) → AllZip (IsPosted N.L.state (upstream_by N.D.log N.D.is_open N.D.faults) C.to_come N.S.calls rule moments (N.state net.old).told) posts jobs.old.items
+        → (posts : List Post) → AllZip
+        (IsPosted N.L.state (upstream_by N.D.log N.D.is_open N.D.faults) C.to_come N.S.calls rule moments (N.state net.old).told) posts jobs.old.items
         → AllZip (IsPosted N.L.state (upstream_by N.D.log N.D.is_open N.D.faults) C.to_come N.S.calls rule moments (N.state net.old).told)
         (posts ++ posts_at (interface_post which port) (length listeners.items)) jobs.new.items }
     ensures stops { N.state net.new ≡ with_stops (length listeners.items) (N.state net.old) }
@@ -151,7 +153,9 @@ pub(crate) fn add_jobs<'a, J: Naming, N: Net, C: Clock>(
     ensures count { vec_len jobs.new ≡ site.now.workers + 4 }
     ensures room { vec_capacity jobs.new ≡ vec_capacity jobs.old }
     ensures free { AreFree (into_iter_items passes.new) }
-    ensures posted { AllZip (IsPosted N.L.state (upstream_by N.D.log N.D.is_open N.D.faults) C.to_come N.S.calls site.now.rule (C.of_fork clock.now) (N.state net.old).told) (posts_of site.now) jobs.new.items }
+    ensures posted { AllZip
+        (IsPosted N.L.state (upstream_by N.D.log N.D.is_open N.D.faults) C.to_come N.S.calls site.now.rule (C.of_fork clock.now)
+        (N.state net.old).told) (posts_of site.now) jobs.new.items }
     ensures stops { N.state net.new ≡ with_stops (site.now.workers + 4) (N.state net.old) }
     ensures kept { N.faults net.new ≡ N.faults net.old }
 {

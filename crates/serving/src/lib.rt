@@ -6,7 +6,8 @@
 //! listeners; then each is taken back, and the router is ended.
 //!
 //! # What is proved
-//! [`start`] leaves new listeners, one for each place of the three addresses, and passes that have all seen the services set. What [`Serving::run`] did is `HasServed` of
+//! [`start`] leaves new listeners, one for each place of the three addresses, and passes that have all seen the services set. It answers that the book has no room only where
+//! `BookRefuses` of `specs/Services.antt` holds: the services before one are accepted, and the book that they leave has no room for it. What [`Serving::run`] did is `HasServed` of
 //! `specs/Ending.antt`: each listener had a pass of its own, and its connections were served one after another, and each given back, until it answered that it is closed. Those
 //! of clients were sessions, each with the dialer, the clock, the generator and the pass that the one before left; the first had new ones, with the seed of the listener's place.
 //! Those of an interface were served by `serve_admin`, and its stop was called as often as that says. All listeners came back clean, in their order, and as many stops as were

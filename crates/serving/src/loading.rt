@@ -1,10 +1,11 @@
 //! The services with which a router begins.
-ghost use Rattle.std.specs.Prelude.{◌≡◌, ◌≤◌, ◌<◌, length, map, OnOk, vec_len, vec_capacity};
+ghost use Rattle.std.specs.Prelude.{◌≡◌, ℕ, ◌+◌, ◌≤◌, ◌<◌, Err, true, false, length, map, sum_by, OnOk, vec_len, vec_capacity};
 ghost use Rattle.std.specs.List.{AllByRecursion};
 ghost use mathlib.Core.List.{IsPrefix};
 ghost use Rattle.router.specs.Closing.{numbers_of};
-ghost use Rattle.router.specs.Passes.{number_in, seen_in, slot_in};
-ghost use Rattle.serving.specs.Services.{HaveSeen, IsAdded, StandIn, setting};
+ghost use Rattle.router.specs.Passes.{made_in, number_in, seen_in, slot_in};
+ghost use Rattle.router_log.specs.Value.{value_of};
+ghost use Rattle.serving.specs.Services.{HaveSeen, IsAdded, IsTurnedAway, StandIn, StopsAmong, StopsAt, setting};
 ghost use Rattle.serving.specs.Passes.{AreFree};
 
 use linker_config::LoadedItem;
@@ -22,6 +23,17 @@ pub(crate) enum SetFault {
     OutOfMemory,
 }
 
+/// Whether a service was set, by the reply.
+fn was_set(reply: Reply) -> bool
+    ensures set { result ≡ true → (count : ℕ) × (reply ≡ Reply.Set count) }
+    ensures refused { result ≡ false → (count : ℕ) → reply ≡ Reply.Set count → ⊥ }
+{
+    match reply {
+        Reply::Set(_count) => true,
+        _refused => false,
+    }
+}
+
 /// Sets a service.
 fn set_service<J: Naming, R: Wait>(
     rt: &R,
@@ -34,12 +46,19 @@ fn set_service<J: Naming, R: Wait>(
     ensures slot { slot_in pass.new ≡ slot_in pass.old }
     ensures seen { IsPrefix (seen_in pass.old) (seen_in pass.new) }
     ensures set { OnOk result (IsAdded (seen_in pass.old) (seen_in pass.new) (setting item)) }
+    ensures made { OnOk result (made_in pass.new ≡ made_in pass.old + 1) }
+    ensures refused { result ≡ Err SetFault.Book → (made_in pass.new ≡ made_in pass.old) × IsTurnedAway (value_of J.settings (seen_in pass.new)).state item }
 {
     let LoadedItem { service, list } = item;
     let change = Change::SetAddrs { service, list };
     match router.change(rt, alloc, pass, change) {
-        Ok(Reply::Set(_count)) => Ok(()),
-        Ok(_refused) => Err(SetFault::Book),
+        Ok(reply) => {
+            if was_set(reply) {
+                Ok(())
+            } else {
+                Err(SetFault::Book)
+            }
+        }
         Err(_) => Err(SetFault::OutOfMemory),
     }
 }
@@ -56,6 +75,7 @@ fn set_each<J: Naming, R: Wait>(
     ensures slot { slot_in pass.new ≡ slot_in pass.old }
     ensures seen { IsPrefix (seen_in pass.old) (seen_in pass.new) }
     ensures set { OnOk result (StandIn (seen_in pass.new) (map setting items.items)) }
+    ensures refused { result ≡ Err SetFault.Book → StopsAt J.settings items.items (seen_in pass.new) (made_in pass.old) (made_in pass.new) }
 {
     for item in items {
         match set_service(rt, alloc, router, pass, item) {
@@ -82,6 +102,7 @@ fn meet_each<J: Naming, R: Wait>(
     ensures number { number_in pass.new ≡ number_in pass.old }
     ensures slot { slot_in pass.new ≡ slot_in pass.old }
     ensures seen { IsPrefix (seen_in pass.old) (seen_in pass.new) }
+    ensures made { (made_in pass.new ≡ made_in pass.old) × (sum_by made_in met.new.items ≡ sum_by made_in others.items) }
     ensures met { AllByRecursion (λ p. IsPrefix (seen_in pass.old) (seen_in p)) met.new.items }
 {
     for other in others {
@@ -106,6 +127,7 @@ pub(crate) fn set_services<J: Naming, R: Wait>(
     ensures numbers { numbers_of met.new.items ≡ numbers_of passes.items }
     ensures free { AreFree met.new.items }
     ensures seen { OnOk result (HaveSeen items.items met.new.items) }
+    ensures refused { result ≡ Err SetFault.Book → StopsAmong items.items passes.items met.new.items }
 {
     let Some(mut last) = passes.pop() else {
         unreachable!()

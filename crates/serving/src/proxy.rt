@@ -51,10 +51,28 @@ impl<P: Peer, J: Naming, D: Dialer, C: Clock> Serve<P> for ProxyServer<'_, J, D,
 
     ghost serves = { λ old peer peer_after new.
         Attends J.settings old.rule.now
-        (record { upstream = record { log = D.log old.dialer; is_open = D.is_open old.dialer; faults = D.faults old.dialer }; caller = caller_of old.pass; moments = C.to_come old.clock; words = old.words; lacked_memory = old.lacked_memory })
+        (record {
+          upstream = record { log = D.log old.dialer; is_open = D.is_open old.dialer; faults = D.faults old.dialer };
+          caller = caller_of old.pass;
+          moments = C.to_come old.clock;
+          words = old.words;
+          lacked_memory = old.lacked_memory;
+        })
         (record { left = P.left peer; given = P.given peer; read_faults = P.read_faults peer; write_faults = P.write_faults peer; ends = P.ends peer })
-        (record { left = P.left peer_after; given = P.given peer_after; read_faults = P.read_faults peer_after; write_faults = P.write_faults peer_after; ends = P.ends peer_after })
-        (record { upstream = record { log = D.log new.dialer; is_open = D.is_open new.dialer; faults = D.faults new.dialer }; caller = caller_of new.pass; moments = C.to_come new.clock; words = new.words; lacked_memory = new.lacked_memory })
+        (record {
+          left = P.left peer_after;
+          given = P.given peer_after;
+          read_faults = P.read_faults peer_after;
+          write_faults = P.write_faults peer_after;
+          ends = P.ends peer_after;
+        })
+        (record {
+          upstream = record { log = D.log new.dialer; is_open = D.is_open new.dialer; faults = D.faults new.dialer };
+          caller = caller_of new.pass;
+          moments = C.to_come new.clock;
+          words = new.words;
+          lacked_memory = new.lacked_memory;
+        })
         × (new.rule ≡ old.rule) × (number_in new.pass ≡ number_in old.pass) };
 
     fn serve<R: Wait, G: Gate>(&mut self, rt: &R, peer: &mut P, gate: &G, worker: u32) {

@@ -9,7 +9,7 @@ ghost use Rattle.router.specs.Values.{settings_in};
 ghost use Rattle.serving.specs.Ending.{HasServed};
 ghost use Rattle.serving.specs.Faults.{TellsFaults};
 ghost use Rattle.serving.specs.Jobs.{ComeBack, Runs, passes_of_jobs};
-ghost use Rattle.serving.specs.Services.{HaveSeen};
+ghost use Rattle.serving.specs.Services.{BookRefuses, HaveSeen};
 ghost use Rattle.serving.specs.Sessions.{line_by, upstream_by};
 ghost use Rattle.serving.specs.Passes.{AreFree};
 ghost use Rattle.serving.specs.Returning.{listened};
@@ -35,7 +35,7 @@ use workers::{JobsBack, run_workers};
 /// Why a router does not serve.
 #[derive(Clone, Copy, Debug, PartialEq, Eq)]
 pub enum StartFault {
-    /// The book has no room for one of its services.
+    /// The book has no room for one of its services, behind those before it.
     Book,
     /// One of its addresses can't be listened on. The net's count of faults rose.
     Net,
@@ -101,7 +101,7 @@ pub fn start<J: Naming, R: Wait, N: Net>(
     ensures seats { IfOk result (λ s. length (passes_of s) ≡ site.now.workers + 5) }
     ensures seen { IfOk result (λ s. HaveSeen loaded (passes_of s)) }
     ensures net { IfOk result (λ _. N.state net.new ≡ listened (site.now.workers + 4) (N.state net.old)) }
-    ensures refused { result ≡ Err StartFault.Book → N.state net.new ≡ N.state net.old }
+    ensures refused { result ≡ Err StartFault.Book → BookRefuses J.settings loaded × (N.state net.new ≡ N.state net.old) }
     ensures broken { result ≡ Err StartFault.Net → Rose (N.faults net.old) (N.faults net.new) }
     ensures kept { (result ≡ Err StartFault.Net → ⊥) → N.faults net.new ≡ N.faults net.old }
 {
@@ -175,7 +175,8 @@ where
     ensures room { (vec_len back.new ≡ vec_len back.old + length jobs.entry.items) × (vec_capacity back.new ≡ vec_capacity back.old) }
     ensures faults { TellsFaults (N.faults net.old) (N.faults net.new) result.1.failed }
     ensures came { result.0 ≡ true
-        → ComeBack (Runs (line_by N.L.P.left N.L.P.given N.L.P.read_faults N.L.P.write_faults N.L.P.ends) N.L.state (upstream_by N.D.log N.D.is_open N.D.faults) C.to_come N.S.calls) N.L.state N.D.log N.S.calls
+        → ComeBack (Runs (line_by N.L.P.left N.L.P.given N.L.P.read_faults N.L.P.write_faults N.L.P.ends) N.L.state
+        (upstream_by N.D.log N.D.is_open N.D.faults) C.to_come N.S.calls) N.L.state N.D.log N.S.calls
         jobs.entry.items back.old.items back.new.items (N.state net.old) (N.state net.new) result.1.failed result.1.lacked_memory }
 {
     match run_workers(rt, jobs, &NoGate) {

@@ -165,5 +165,6 @@ fn files_streams_and_clock(rt: HostRuntime) -> Result<(), Fail> {
     assert_eq!(rt; write(&mut sink, b"ab"), Ok(2));
     let (first, then) = moments(&mut SystemClock::of(&rt));
     assert!(rt; 0 < first && first <= then);
+    fs::remove_file(&rt, "three")?;
     Ok(())
 }

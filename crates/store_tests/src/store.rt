@@ -111,6 +111,32 @@ fn holds_256_namespaces_in_byte_order(rt: HostRuntime) -> Result<(), Fail> {
 }
 
 #[test]
+fn stops_at_the_last_version(rt: HostRuntime) -> Result<(), Fail> {
+    let web = Name::of(rt.alloc(), b"web")?;
+    let mail = Name::of(rt.alloc(), b"mail")?;
+    let last = u64::MAX - 1;
+    let mut store = Store::with_next(rt.alloc(), last)?;
+    let rows: [(&Name, Step, Result<Option<u64>, StoreFault>); 8] = [
+        (&web, Step::Create(b"/a => /b"), Ok(Some(last))),
+        (&mail, Step::Create(b""), Err(StoreFault::VersionsSpent)),
+        (&web, Step::Create(b""), Err(StoreFault::Exists(last))),
+        (
+            &web,
+            Step::Put(Some(last), b""),
+            Err(StoreFault::VersionsSpent),
+        ),
+        (&web, Step::Put(Some(1), b""), Err(StoreFault::Stale(last))),
+        (&mail, Step::Put(None, b""), Err(StoreFault::Missing)),
+        (&web, Step::Delete(Some(last)), Ok(None)),
+        (&web, Step::Create(b""), Err(StoreFault::VersionsSpent)),
+    ];
+    for (name, step, want) in rows {
+        assert_eq!(rt; carry_out(rt.alloc(), &mut store, name, step), want);
+    }
+    Ok(())
+}
+
+#[test]
 fn absorbs_what_another_store_prepared(rt: HostRuntime) -> Result<(), Fail> {
     let web = Name::of(rt.alloc(), b"web")?;
     let mail = Name::of(rt.alloc(), b"mail")?;

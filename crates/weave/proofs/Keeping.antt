@@ -1,7 +1,8 @@
 -- Delegations that are kept in the code's world.
 use Rattle.std.proofs.Common.{◌≡◌, get_or, ℕ, ◌+◌, ◌<◌, ◌≤◌, take, Bool, List, [], ◌∷◌, ◌++◌, length, map, set, true, false, Some, None, Option, refl, arith, ap, sym, ◌∙◌, subst, length-append}
-use Rattle.std.specs.Prelude.{not, ◌||◌, filter, slice_get, option_map, if◌then◌else◌, is_some}
+use Rattle.std.specs.Prelude.{not, ◌||◌, nat_lt, nat_le, filter, slice_get, option_map, if◌then◌else◌, is_some}
 use Rattle.std.proofs.lemmas.List.{length-map}
+use Rattle.std.proofs.lemmas.Bool.Decides.{nat_tests}
 use Rattle.std.proofs.lemmas.List.Elements.{filter-append}
 use Rattle.machine.specs.Values.{SettingsValue, StateValue}
 use Rattle.machine.specs.Code.{settings_of, state_of}
@@ -91,6 +92,15 @@ module _ (settings : SettingsValue) (ops : List Operation) (k : Kept) where
   unless_spent a b c =
       ap (λ (b : Bool). not (b || (is_late ops k || (is_had settings ops k || are_spent ops)))) a
       ∙ (ap (λ (b : Bool). not (b || (is_had settings ops k || are_spent ops))) b ∙ ap (λ (b : Bool). not (b || are_spent ops)) c)
+
+-- what is below a bound is not at it, or above
+pub below_is : (n m : ℕ) → nat_lt n m ≡ not (nat_le m n)
+below_is n m = below_case (nat_lt n m) (nat_le m n) refl refl where
+  below_case : (s t : Bool) → nat_lt n m ≡ s → nat_le m n ≡ t → s ≡ not t
+  below_case true true is at = absurd (let a : n < m = grind (arith, nat_tests) in let b : m ≤ n = grind (arith, nat_tests) in omega (arith, a, b))
+  below_case true false is at = refl
+  below_case false true is at = refl
+  below_case false false is at = absurd (let a : m ≤ n = grind (arith, nat_tests) in let b : n < m = grind (arith, nat_tests) in omega (arith, a, b))
 
 some_map : {X Y : Type 0} (f : X → Y) (o : Option X) → is_some (option_map f o) ≡ is_some o
 some_map f None = refl

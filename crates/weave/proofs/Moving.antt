@@ -17,8 +17,8 @@ use Rattle.bind_cache.specs.Bindings.{bindings_of}
 use Rattle.one_history.specs.Entries.{changes_with, others_with, changes_after, others_after, changes_made, others_made}
 use Rattle.one_history.proofs.Growing.{take_grown, get_grown, changes_grown, others_grown}
 use Rattle.router_log.specs.Operation.{Operation, changed, kept, is_change, kept_count}
-use Rattle.router_log.specs.Value.{Value, opening_value, value_of, applied, Fits}
-use Rattle.router_log.specs.Taking.{with_change, untouched_by}
+use Rattle.router_log.specs.Value.{Value, opening_value, value_of, applied, Fits, untouched_by}
+use Rattle.router_log.specs.Taking.{with_change}
 use Rattle.router_log.proofs.Places.{value_push}
 use Rattle.router_log.proofs.Taking.{change_taken}
 use Rattle.router_log.specs.Call.{Call, changing, publishes}

@@ -1,46 +1,13 @@
 -- Generated schedules: the steps that the words of a seed give, and the line that sums up what they leave.
-use Rattle.std.specs.Prelude.{ℕ, zero, suc, ◌+◌, ◌/◌, ◌%◌, ◌==◌, nat_lt, if◌then◌else◌, List, [], ◌∷◌, ◌++◌, codes, Some, None}
+use Rattle.std.specs.Prelude.{ℕ, zero, suc, ◌+◌, ◌/◌, ◌%◌, ◌==◌, nat_lt, if◌then◌else◌, List, [], ◌∷◌, ◌++◌, codes, None}
 use Rattle.std.specs.Fmt.{decimal}
 use Rattle.rand_core.specs.Pcg32Seed.{pcg32_seed}
 use Rattle.rand_pcg.specs.Lcg.{Lcg}
 use Rattle.rand_pcg.specs.Pcg.{pcg64, pcg64_of_seed}
-use Rattle.name_tree.specs.Path.{Labels}
-use Rattle.name_tree.specs.Value.{leaf}
-use Rattle.dtab_table.specs.Rules.{Rule}
-use Rattle.addr_book.specs.declared.addr.Addr.{Addr}
-use Rattle.addr_book.specs.declared.addr.Weighted.{Weighted}
 use Rattle.machine.specs.Values.{SettingsValue, ChangeValue, create, put, set_addrs, AskValue}
 use Rattle.router_log.specs.Operation.{place_of, kept_count}
+use Rattle.turn_parts.specs.Parts.{addrs_from, service_name, service_path, namer_rule, table_by}
 use Rattle.weave.specs.World.{pick, StepValue, publish, enter, answer, remember, meet, ToldValue, nothing, opening_world, run_from}
-
--- an address of this machine
-abbrev pub local_addr : ℕ → Addr
-local_addr port = record { ip = 2130706433; port = port }
-
--- so many addresses of this machine, with ports that count up from one
-abbrev pub addrs_from : ℕ → ℕ → List Weighted
-addrs_from zero port = []
-addrs_from (suc n) port = record { addr = local_addr port; weight = 1000000 } ∷ addrs_from n (port + 1)
-
--- `s` and a number
-abbrev pub service_name : ℕ → List ℕ
-service_name s = codes "s" ++ decimal s
-
--- `/svc/sN`
-abbrev pub service_path : ℕ → Labels
-service_path s = codes "svc" ∷ service_name s ∷ []
-
--- `/svc => /#/io.l5d.fs`
-abbrev pub namer_rule : Rule
-namer_rule = record { prefix = Some (codes "svc") ∷ []; tree = leaf (codes "#" ∷ codes "io.l5d.fs" ∷ []) }
-
--- `/svc/sN => /#/io.l5d.fs/sM`
-abbrev pub service_rule : ℕ → ℕ → Rule
-service_rule n m = record { prefix = Some (codes "svc") ∷ Some (service_name n) ∷ []; tree = leaf (codes "#" ∷ codes "io.l5d.fs" ∷ service_name m ∷ []) }
-
--- the table that also sends one service to the next of the 16
-abbrev pub table_by : ℕ → List Rule
-table_by s = namer_rule ∷ service_rule s ((s + 1) % 16) ∷ []
 
 -- the change that comes before the turns: a table that sends each service to the book
 abbrev pub first_change : ChangeValue

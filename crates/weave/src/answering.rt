@@ -111,7 +111,9 @@ impl World {
         requires there { number < length self.old.passes.items }
         requires told { told_value told ≡ answer_of (settings_of self.old.settings) (ops_of self.old) (call_of (question_of asked)) }
         requires fresh { option_map kept_in_arc fresh ≡ fresh_of (settings_of self.old.settings) (ops_of self.old) (call_of (question_of asked)) }
-        ensures ok { OnOk result ((p : Pass) → slice_get self.old.passes.items number ≡ Some p → Becomes self.old self.new (entered (settings_of self.old.settings) (world_of self.old) number (pass_of p) (question_of asked))) }
+        ensures ok { OnOk result
+            ((p : Pass) → slice_get self.old.passes.items number ≡ Some p → Becomes self.old self.new
+            (entered (settings_of self.old.settings) (world_of self.old) number (pass_of p) (question_of asked))) }
         ensures err { OnErr result (Becomes self.old self.new (world_of self.old)) }
     {
         let point = self.operations.len();
@@ -126,7 +128,8 @@ impl World {
     pub(crate) fn take_answer(&mut self, number: usize) -> Told
         requires holds { Holds self.old }
         requires there { number < length self.old.passes.items }
-        ensures { (p : Pass) → slice_get self.old.passes.items number ≡ Some p → IsMade self.old self.new (answered (settings_of self.old.settings) (world_of self.old) number (pass_of p) (in_flight (pass_of p))) (told_value result) }
+        ensures { (p : Pass) → slice_get self.old.passes.items number ≡ Some p → IsMade self.old self.new
+            (answered (settings_of self.old.settings) (world_of self.old) number (pass_of p) (in_flight (pass_of p))) (told_value result) }
     {
         self.passes[number].take_answer()
     }

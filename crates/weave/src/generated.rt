@@ -7,7 +7,7 @@ ghost use Rattle.weave.specs.World.{publish, stepped, opening_world};
 ghost use Rattle.weave.specs.Generated.{weave_of, first_change, weave_line, turn_by, ask_of_turn, given_by};
 
 use crate::step::{Asked, Step, Told};
-use crate::turns::{addrs_change, first_change, service_path, table_change};
+use crate::turns::{addrs_change, first_change, table_change};
 use crate::world::World;
 use crate::{Bytes, Mem};
 use dtab_table::Dtab;
@@ -18,6 +18,7 @@ use rand_core::utils::NextWord;
 use rand_pcg::Pcg64;
 use std::alloc::Global;
 use std::sync::ledger::Ledger;
+use turn_parts::service_path;
 
 /// The passes of generated schedules.
 const PASSES: u32 = 4;

@@ -50,7 +50,15 @@ impl Pass {
 
     /// One call more, behind so many operations, of which so many are seen then. An `Err` changes nothing.
     pub(crate) fn call(&mut self, call: Call, at: usize, seen: usize) -> Mem<()>
-        ensures pass { OnOk result (pass_of self.new ≡ record { seen = seen; items = (pass_of self.old).items ++ (call_value call, at) ∷ []; flight = (pass_of self.old).flight; fresh = (pass_of self.old).fresh }) }
+        ensures pass { OnOk result
+            (pass_of self.new
+            ≡ record {
+              seen = seen;
+              items = (pass_of self.old).items ++ (call_value call, at) ∷ [];
+              flight = (pass_of self.old).flight;
+              fresh =
+                  (pass_of self.old).fresh;
+            }) }
         ensures flight { self.new.flight ≡ self.old.flight }
         ensures changes { self.new.changes ≡ self.old.changes }
         ensures keeps { self.new.keeps ≡ self.old.keeps }
@@ -75,7 +83,14 @@ impl Pass {
     /// One call more, as by [`Pass::call`], where there is room for it.
     pub(crate) fn call_in_room(&mut self, call: Call, at: usize, seen: usize)
         requires { vec_len self.old.items < vec_capacity self.old.items }
-        ensures pass { pass_of self.new ≡ record { seen = seen; items = (pass_of self.old).items ++ (call_value call, at) ∷ []; flight = (pass_of self.old).flight; fresh = (pass_of self.old).fresh } }
+        ensures pass { pass_of self.new
+            ≡ record {
+              seen = seen;
+              items = (pass_of self.old).items ++ (call_value call, at) ∷ [];
+              flight = (pass_of self.old).flight;
+              fresh =
+                  (pass_of self.old).fresh;
+            } }
         ensures flight { self.new.flight ≡ self.old.flight }
         ensures changes { self.new.changes ≡ self.old.changes }
         ensures keeps { self.new.keeps ≡ self.old.keeps }

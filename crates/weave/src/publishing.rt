@@ -45,7 +45,9 @@ impl World {
         requires there { number < length self.old.passes.items }
         requires accepted { is_some ready ≡ is_accepted (state_of self.old.state) (change_of (arc_value change)) }
         requires ready { IfSome ready (λ r. IsReadyFor (settings_of self.old.settings) (state_of self.old.state) (change_of (arc_value change)) (ready_of r)) }
-        ensures ok { OnOk result ((p : Pass) → slice_get self.old.passes.items number ≡ Some p → Becomes self.old self.new (called (settings_of self.old.settings) (world_of self.old) number (pass_of p) (changing (change_of (arc_value change))))) }
+        ensures ok { OnOk result
+            ((p : Pass) → slice_get self.old.passes.items number ≡ Some p → Becomes self.old self.new
+            (called (settings_of self.old.settings) (world_of self.old) number (pass_of p) (changing (change_of (arc_value change))))) }
         ensures err { OnErr result (Becomes self.old self.new (world_of self.old)) }
     {
         match ready {
@@ -59,7 +61,9 @@ impl World {
         requires holds { Holds self.old }
         requires there { number < length self.old.passes.items }
         requires ready { IsReadyFor (settings_of self.old.settings) (state_of self.old.state) (change_of (arc_value change)) (ready_of ready.now) }
-        ensures ok { OnOk result ((p : Pass) → slice_get self.old.passes.items number ≡ Some p → Becomes self.old self.new (called (settings_of self.old.settings) (world_of self.old) number (pass_of p) (changing (change_of (arc_value change))))) }
+        ensures ok { OnOk result
+            ((p : Pass) → slice_get self.old.passes.items number ≡ Some p → Becomes self.old self.new
+            (called (settings_of self.old.settings) (world_of self.old) number (pass_of p) (changing (change_of (arc_value change))))) }
         ensures err { OnErr result (Becomes self.old self.new (world_of self.old)) }
     {
         self.make_room(number as usize)?;
@@ -73,7 +77,9 @@ impl World {
         requires ready { IsReadyFor (settings_of self.old.settings) (state_of self.old.state) (change_of (arc_value change)) (ready_of ready.now) }
         requires operations { vec_len self.old.operations < vec_capacity self.old.operations }
         requires items { (p : Pass) → slice_get self.old.passes.items number ≡ Some p → vec_len p.items < vec_capacity p.items }
-        ensures ok { OnOk result ((p : Pass) → slice_get self.old.passes.items number ≡ Some p → Becomes self.old self.new (called (settings_of self.old.settings) (world_of self.old) number (pass_of p) (changing (change_of (arc_value change))))) }
+        ensures ok { OnOk result
+            ((p : Pass) → slice_get self.old.passes.items number ≡ Some p → Becomes self.old self.new
+            (called (settings_of self.old.settings) (world_of self.old) number (pass_of p) (changing (change_of (arc_value change))))) }
         ensures err { OnErr result (Becomes self.old self.new (world_of self.old)) }
     {
         let shared = Arc::try_clone(&change)?;

@@ -11,10 +11,8 @@ use crate::call::{Call, Operation};
 use crate::step::Told;
 use crate::world::World;
 use bind_cache::{Binding, MOST_COST};
+use router_log::MOST_BYTES;
 use std::sync::Arc;
-
-/// The most bytes of the texts of a delegation that is kept.
-const MOST_BYTES: usize = 8_192;
 
 impl World {
     ghost use Rattle.weave.specs.declared.pass.Pass.{Pass};
@@ -56,7 +54,9 @@ impl World {
         requires holds { Holds self.old }
         requires there { number < length self.old.passes.items }
         requires fresh { (p : Pass) → slice_get self.old.passes.items number ≡ Some p → Some (kept_of (arc_value binding)) ≡ option_map kept_in_arc p.fresh }
-        ensures ok { IfOk result (λ told. (p : Pass) → slice_get self.old.passes.items number ≡ Some p → IsMade self.old self.new (remembered (settings_of self.old.settings) (world_of self.old) number (pass_of p) (Some (kept_of (arc_value binding)))) (told_value told)) }
+        ensures ok { IfOk result
+            (λ told. (p : Pass) → slice_get self.old.passes.items number ≡ Some p → IsMade self.old self.new
+            (remembered (settings_of self.old.settings) (world_of self.old) number (pass_of p) (Some (kept_of (arc_value binding)))) (told_value told)) }
         ensures err { OnErr result (Becomes self.old self.new (world_of self.old)) }
     {
         if self.may_keep(&binding) {
@@ -81,7 +81,7 @@ impl World {
         if self.is_had(binding) {
             return false;
         }
-        self.keeps != u64::MAX
+        self.keeps < u64::MAX
     }
 
     /// Whether a change was accepted since a delegation was worked out.
@@ -106,7 +106,9 @@ impl World {
         requires there { number < length self.old.passes.items }
         requires fresh { (p : Pass) → slice_get self.old.passes.items number ≡ Some p → Some (kept_of (arc_value binding)) ≡ option_map kept_in_arc p.fresh }
         requires kept { is_kept (settings_of self.old.settings) (ops_of self.old) (kept_of (arc_value binding)) ≡ true }
-        ensures ok { OnOk result ((p : Pass) → slice_get self.old.passes.items number ≡ Some p → Becomes self.old self.new (called (settings_of self.old.settings) (world_of self.old) number (pass_of p) (keeping (kept_of (arc_value binding))))) }
+        ensures ok { OnOk result
+            ((p : Pass) → slice_get self.old.passes.items number ≡ Some p → Becomes self.old self.new
+            (called (settings_of self.old.settings) (world_of self.old) number (pass_of p) (keeping (kept_of (arc_value binding))))) }
         ensures err { OnErr result (Becomes self.old self.new (world_of self.old)) }
     {
         self.make_room(number as usize)?;
@@ -121,7 +123,9 @@ impl World {
         requires kept { is_kept (settings_of self.old.settings) (ops_of self.old) (kept_of (arc_value binding)) ≡ true }
         requires operations { vec_len self.old.operations < vec_capacity self.old.operations }
         requires items { (p : Pass) → slice_get self.old.passes.items number ≡ Some p → vec_len p.items < vec_capacity p.items }
-        ensures ok { OnOk result ((p : Pass) → slice_get self.old.passes.items number ≡ Some p → Becomes self.old self.new (called (settings_of self.old.settings) (world_of self.old) number (pass_of p) (keeping (kept_of (arc_value binding))))) }
+        ensures ok { OnOk result
+            ((p : Pass) → slice_get self.old.passes.items number ≡ Some p → Becomes self.old self.new
+            (called (settings_of self.old.settings) (world_of self.old) number (pass_of p) (keeping (kept_of (arc_value binding))))) }
         ensures err { OnErr result (Becomes self.old self.new (world_of self.old)) }
     {
         let published = Arc::try_clone(&binding)?;

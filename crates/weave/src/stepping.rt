@@ -63,7 +63,8 @@ impl World {
     pub(crate) fn see(&mut self, number: usize)
         requires holds { Holds self.old }
         requires there { number < length self.old.passes.items }
-        ensures sees { (p : Pass) → slice_get self.old.passes.items number ≡ Some p → Becomes self.old self.new (seeing (settings_of self.old.settings) (world_of self.old) number (pass_of p)) }
+        ensures sees { (p : Pass) → slice_get self.old.passes.items number ≡ Some p → Becomes self.old self.new
+            (seeing (settings_of self.old.settings) (world_of self.old) number (pass_of p)) }
         ensures passes { length self.new.passes.items ≡ length self.old.passes.items }
     {
         let point = self.operations.len();

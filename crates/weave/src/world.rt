@@ -70,8 +70,11 @@ impl World {
     pub(crate) fn note(&mut self, number: usize, call: Call) -> Mem<()>
         requires holds { Holds self.old }
         requires there { number < length self.old.passes.items }
-        requires nothing { (p : Pass) → slice_get self.old.passes.items number ≡ Some p → publishes_now (settings_of self.old.settings) number (ops_of self.old) (pass_of p) (call_value call) ≡ None }
-        ensures ok { OnOk result ((p : Pass) → slice_get self.old.passes.items number ≡ Some p → Becomes self.old self.new (called (settings_of self.old.settings) (world_of self.old) number (pass_of p) (call_value call))) }
+        requires nothing { (p : Pass) → slice_get self.old.passes.items number ≡ Some p → publishes_now (settings_of self.old.settings) number
+            (ops_of self.old) (pass_of p) (call_value call) ≡ None }
+        ensures ok { OnOk result
+            ((p : Pass) → slice_get self.old.passes.items number ≡ Some p → Becomes self.old self.new
+            (called (settings_of self.old.settings) (world_of self.old) number (pass_of p) (call_value call))) }
         ensures err { OnErr result (Becomes self.old self.new (world_of self.old)) }
     {
         let point = self.operations.len();

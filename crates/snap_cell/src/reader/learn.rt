@@ -1,5 +1,5 @@
-//! How a reader learns what was published.
-ghost use Rattle.std.specs.Prelude.{◌≡◌, ◌-◌, max, length};
+//! How a reader learns what was published, and notes its items.
+ghost use Rattle.std.specs.Prelude.{◌≡◌, ◌-◌, max, length, Some};
 ghost use mathlib.Core.List.{IsPrefix};
 ghost use Rattle.snap_cell.specs.History.{longer};
 ghost use Rattle.snap_cell.specs.Items.{added, InOrder};
@@ -54,5 +54,18 @@ impl<V: Published<O>, O: Operation, Q> Reader<V, O, Q> {
     {
         await_part(rt, &self.known, &writer.known);
         self.see(&writer.known, item);
+    }
+
+    /// Adds an item at the end of what it has seen: so stands a call that was answered from the value that it entered without an item, once its guard
+    /// has ended. It takes no memory and waits for nobody.
+    pub fn note(&mut self, item: Snapshot<Q>)
+        ensures same { SameReader self.old self.new × (refusals_of self.new ≡ refusals_of self.old) }
+        ensures there { IsThere self.old → IsThere self.new }
+        ensures seen { seen_of self.new ≡ seen_of self.old }
+        ensures item { items_of self.new ≡ added (items_of self.old) (Some item) (length (seen_of self.old)) }
+        ensures order { InOrder (items_of self.new) (length (seen_of self.new)) }
+    {
+        let items = mem::replace(&mut self.items, Snapshot::of(&Trail::Empty));
+        self.items = with(items, Some(item), self.known.count);
     }
 }

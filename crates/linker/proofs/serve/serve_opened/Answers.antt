@@ -12,7 +12,8 @@ returns-in-Err-Book g c = λ files config made.
     let old : Output = record { held = g.K.Sink.held c.args.out.now; faults = g.K.Sink.faults c.args.out.now } in
     let new : Output = record { held = g.K.Sink.held c.tell.new.out; faults = g.K.Sink.faults c.tell.new.out } in
     let e = c.in-Err-Book.ensures in
-    no_room g.row.J.Denot line_of (g.C.Clock.of_fork c.args.clock.now) files config (net_of c.args.net.now) (net_of c.start.new.net) old new c.tell.result (e.refused (ap Err c.in-Err-Book.field-0-is)) (e.kept (λ is. cc (is, c.in-Err-Book.field-0-is))) c.tell.ensures
+    no_room g.row.J.Denot line_of (g.C.Clock.of_fork c.args.clock.now) files config _ c.args.loaded c.args.site.now (net_of c.args.net.now) (net_of c.start.new.net) old new c.tell.result made
+    (e.refused (ap Err c.in-Err-Book.field-0-is)) (e.kept (λ is. cc (is, c.in-Err-Book.field-0-is))) c.tell.ensures
 
 pub returns-in-Err-Net : goal.returns-in-Err-Net
 returns-in-Err-Net g c = λ files config made.

@@ -1,4 +1,4 @@
-use Rattle.proxy_session.proofs.Calling.{reports_it, saw_more}
+use Rattle.proxy_session.proofs.Calling.{reports_it, saw_unanswered}
 use Rattle.proxy_session.proofs.reporting.report.Goals as goal
 
 pub returns-in-Ok-clause-ok : goal.returns-in-Ok-clause-ok
@@ -9,4 +9,4 @@ returns-in-Ok-clause-ok g c = (
 )
 
 pub returns-in-Err-clause-err : goal.returns-in-Err-clause-err
-returns-in-Err-clause-err g c = (c.now-moment.result, c.now-moment.ensures.tells, saw_more c.args.pass.now c.change.new.pass c.in-Err.ensures.number c.in-Err.ensures.want)
+returns-in-Err-clause-err g c = (c.now-moment.result, c.now-moment.ensures.tells, saw_unanswered c.args.pass.now c.change.new.pass c.in-Err.ensures.number c.in-Err.ensures.want)

@@ -1,6 +1,7 @@
 use Rattle.std.proofs.Common.{sym, subst, ◌∙◌}
 use Rattle.serving.specs.Passes.{AreFree}
 use Rattle.serving.proofs.Chains.{free_end, free_push}
+use Rattle.serving.proofs.Refusing.{stops_among}
 use Rattle.serving.proofs.Services.{seen_where}
 use Rattle.serving.proofs.loading.set_services.Goals as goal
 
@@ -11,3 +12,8 @@ returns-clause-free g c =
 
 pub returns-clause-seen : goal.returns-clause-seen
 returns-clause-seen g c = seen_where c.set_each-set.result c.args.items.items _ _ _ _ c.set_each-set.ensures.set c.push_reserved.ensures.items c.meet_each.ensures.met c.meet_each.ensures.seen
+
+pub returns-clause-refused : goal.returns-clause-refused
+returns-clause-refused g c = λ is.
+    stops_among _ _ c.pop.new.self.items c.meet_each.new.met.items _ c.in-Some.last c.set_each-set.new.pass c.meet_each.new.pass c.in-Some.ensures.items c.push_reserved.ensures.items (c.set_each-set.ensures.refused is)
+    c.meet_each.ensures.made c.meet_each.ensures.met c.meet_each.ensures.seen

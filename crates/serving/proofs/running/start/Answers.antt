@@ -1,7 +1,10 @@
-use Rattle.std.proofs.Common.{List, arith, subst}
+use Rattle.std.proofs.Common.{◌≡◌, List, Err, arith, refl, subst}
 use Rattle.linker_config.specs.declared.loaded.LoadedItem.{LoadedItem}
-use Rattle.serving.specs.Services.{HaveSeen}
+use Rattle.serving.specs.declared.loading.SetFault.{SetFault}
+use Rattle.serving.specs.declared.loading.SetFault.TheVariants as fault
+use Rattle.serving.specs.Services.{BookRefuses, HaveSeen}
 use Rattle.serving.proofs.Chains.{met_apart, new_apart, new_free, same_length}
+use Rattle.serving.proofs.Refusing.{refused_at_end}
 use Rattle.serving.proofs.running.start.Goals as goal
 
 pub close-requires-clause-apart : goal.close-requires-clause-apart
@@ -37,6 +40,17 @@ close-requires-in-Err-OutOfMemory-bind-clause-apart g c = met_apart c.in-Ok.pass
 pub close-requires-in-Err-OutOfMemory-bind-clause-all : goal.close-requires-in-Err-OutOfMemory-bind-clause-all
 close-requires-in-Err-OutOfMemory-bind-clause-all g c =
     let same = same_length c.set_services-set.new.met.items c.in-Ok.passes.items c.set_services-set.ensures.numbers in omega (arith, same, c.in-Ok.ensures.count)
+
+pub returns-in-Err-Book-clause-refused : goal.returns-in-Err-Book-clause-refused
+returns-in-Err-Book-clause-refused g c = λ is.
+    let same = same_length c.set_services-set.new.met.items c.in-Ok.passes.items c.set_services-set.ensures.numbers in
+    let is_fault : SetFault → Type 0 = λ f. c.set_services-set.result ≡ Err f in
+    let book : c.in-Err-Book.field-0 ≡ fault.Book = rw c.in-Err-Book.is at c.in-Err-Book.field-0-is in
+    let told : c.set_services-set.result ≡ Err fault.Book = subst is_fault book c.in-Err-Book.is in
+    let refuses =
+    refused_at_end _ c.in-Ok.passes.items c.set_services-set.new.met.items _ c.in-Ok.ensures.passes (omega (arith, same, c.in-Ok.ensures.count, c.requires.seats.0, c.requires.seats.1))
+    (c.set_services-set.ensures.refused told) c.close-in-Err-Book.ensures in
+    (subst (λ (items : List LoadedItem). BookRefuses g.J.Naming.settings items) c.into_items.ensures refuses, refl)
 
 pub returns-in-Ok-bind-clause-ready : goal.returns-in-Ok-bind-clause-ready
 returns-in-Ok-bind-clause-ready g c =

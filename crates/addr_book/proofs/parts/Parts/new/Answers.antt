@@ -1,4 +1,3 @@
-use Rattle.addr_book.specs.Uses.{IsSound}
 use Rattle.addr_book.proofs.Sound.{no_services}
 use Rattle.addr_book.proofs.parts.Parts.new.Goals as goal
 

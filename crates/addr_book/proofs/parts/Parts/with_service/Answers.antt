@@ -7,13 +7,17 @@ use Rattle.addr_book.specs.Book.{after_set, with_newcomers}
 use Rattle.addr_book.specs.BookFault.{set_refusal}
 use Rattle.addr_book.specs.AddrList.{AreDistinct}
 use Rattle.addr_book.proofs.AddrLists.{distinct_filtered}
-use Rattle.addr_book.proofs.Sound.{few_counts}
+use Rattle.addr_book.proofs.Sound.{few_counts, used_once}
 use Rattle.addr_book.proofs.SlotMaps.{newcomers_new}
 use Rattle.addr_book.proofs.Setting.{few_kept, few_news, refused_full, not_refused, set_contents, set_sound_book}
 use Rattle.addr_book.proofs.parts.Parts.with_service.Goals as goal
 
 pub moved-requires-clause-few : goal.moved-requires-clause-few
 moved-requires-clause-few c = few_counts _ _ _ c.requires
+
+pub moved-requires-clause-used : goal.moved-requires-clause-used
+moved-requires-clause-used c =
+    used_once c.args.self.now.services c.args.self.now.seats.slots c.args.self.now.seats.uses c.requires c.args.service.now c.addrs.result.now c.addrs.ensures.addrs
 
 pub overflow_add-count : goal.overflow_add-count
 overflow_add-count c =

@@ -1,11 +1,15 @@
-use Rattle.std.proofs.Common.{ap, sym, ◌∙◌}
+use Rattle.std.proofs.Common.{ap, ◌∙◌}
 use Rattle.std.specs.FinMap.{remove}
-use Rattle.addr_book.specs.Uses.{list_of, IsSound}
-use Rattle.addr_book.proofs.Sound.{few_counts, drop_slots, drop_sound}
+use Rattle.addr_book.specs.Uses.{list_of}
+use Rattle.addr_book.proofs.Sound.{few_counts, used_once, drop_slots, drop_sound}
 use Rattle.addr_book.proofs.parts.Parts.without_service.Goals as goal
 
 pub moved-requires-clause-few : goal.moved-requires-clause-few
 moved-requires-clause-few c = few_counts _ _ _ c.requires
+
+pub moved-requires-clause-used : goal.moved-requires-clause-used
+moved-requires-clause-used c =
+    used_once c.args.self.now.services c.args.self.now.seats.slots c.args.self.now.seats.uses c.requires c.args.service.now c.items.result.now (c.items.ensures.items ∙ ap list_of c.in-Some.ensures)
 
 pub returns-clause-sound : goal.returns-clause-sound
 returns-clause-sound c =

@@ -1,5 +1,5 @@
 use Rattle.std.proofs.Common.{sym, ap, ◌∙◌, subst, ◌+◌}
-use Rattle.std.specs.FinMap.{get, insert}
+use Rattle.std.specs.FinMap.{get}
 use Rattle.addr_book.specs.SlotMap.{IsSlotMap}
 use Rattle.addr_book.proofs.SlotMaps.{slot_more}
 use Rattle.addr_book.proofs.slot_map.SlotMap.with.Goals as goal

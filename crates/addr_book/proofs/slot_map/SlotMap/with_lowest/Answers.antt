@@ -1,5 +1,5 @@
-use Rattle.std.proofs.Common.{◌≡◌, ◌<◌, ◌≤◌, ◌+◌, ap, ◌∙◌, sym, refl, subst, length, drop, get_or, arith}
-use Rattle.std.specs.FinMap.{insert, len}
+use Rattle.std.proofs.Common.{◌<◌, ◌≤◌, ◌+◌, ap, ◌∙◌, sym, refl, subst, length, drop, get_or, arith}
+use Rattle.std.specs.FinMap.{len}
 use Rattle.addr_book.specs.declared.addr.Weighted.{Weighted}
 use Rattle.addr_book.specs.Book.{assigned}
 use Rattle.addr_book.specs.SlotMap.{IsSlotMap}

@@ -1,5 +1,5 @@
 use Rattle.std.proofs.Common.{ap, ◌∙◌, ◌==◌, arith}
-use Rattle.std.specs.Prelude.{not, ◌&&◌, ◌||◌}
+use Rattle.std.specs.Prelude.{◌||◌}
 use Rattle.addr_book.specs.SlotSet.{has_slot}
 use Rattle.addr_book.proofs.Bits.{has-put_read}
 use Rattle.addr_book.proofs.slot_set.SlotSet.put.Goals as goal

@@ -1,5 +1,5 @@
 use Rattle.std.proofs.Common.{ap, ◌∙◌, ◌==◌, arith}
-use Rattle.std.specs.Prelude.{not, ◌&&◌, ◌||◌}
+use Rattle.std.specs.Prelude.{not, ◌&&◌}
 use Rattle.addr_book.specs.SlotSet.{has_slot}
 use Rattle.addr_book.proofs.Bits.{has-take_read}
 use Rattle.addr_book.proofs.slot_set.SlotSet.take.Goals as goal

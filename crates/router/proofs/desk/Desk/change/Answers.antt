@@ -9,7 +9,7 @@ use Rattle.router_log.specs.Value.{Value, value_of}
 use Rattle.router.specs.Passes.{seen_in}
 use Rattle.router.specs.Update.{operations_of}
 use Rattle.router.specs.Whole.{whole_of}
-use Rattle.router.proofs.Accepting.{accepted_is, changed_is}
+use Rattle.router.proofs.Accepting.{accepted_is, changed_is, unanswered}
 use Rattle.router.proofs.desk.Desk.change.Goals as goal
 
 pub returns-in_ok-publish_change-in-Some-clause-changed : goal.returns-in_ok-publish_change-in-Some-clause-changed
@@ -26,5 +26,5 @@ returns-in_ok-publish_change-in-Some-clause-changed g c =
     let accepted = accepted_is c.in_ok-reply.ready true whole (value_of S (seen_in mid)) change c.in_ok-reply.ensures.accepted value (ap is_some c.in-Some.is) in
     let reply = c.in_ok-reply.ensures.reply ∙ (ap (λ (s : SettingsValue). reply_of s whole.state change) c.args.self.now.settings ∙ ap (λ (v : Value). reply_of S v.state change) value) in
     let e = c.in_ok-publish_change-in-Some.ensures in
-    changed_is c.args.pass.now mid c.publish_change.new.pass c.show.ensures.more c.show.ensures.number c.show.ensures.counts.0 c.show.ensures.counts.1
+    changed_is c.args.pass.now mid c.publish_change.new.pass (unanswered c.args.pass.now mid c.show.ensures.more) c.show.ensures.number c.show.ensures.counts.0 c.show.ensures.counts.1
     (seen_in mid) refl change c.in_ok-reply.reply true accepted reply e.called e.seen e.made e.kept e.refusals e.seat

@@ -14,7 +14,7 @@ use Rattle.router.specs.Changing.{remembered_as}
 use Rattle.router.specs.Passes.{seen_in, Entered}
 use Rattle.router.specs.Update.{operations_of}
 use Rattle.router.specs.Whole.{whole_of}
-use Rattle.router.proofs.Accepting.{remembered_is, unkept_is}
+use Rattle.router.proofs.Accepting.{remembered_is, unkept_is, unanswered}
 use Rattle.router.proofs.Readers.{prefix_trans}
 use Rattle.router.proofs.Remembering.{kept_answer, remembered_fits}
 use Rattle.router.proofs.desk.Desk.remember.Goals as goal
@@ -45,8 +45,8 @@ returns-in_ok-publish_kept-in-None-clause-remembered g c =
     let mid = c.show.new.pass in
     let is : is_kept S (seen_in mid) k ≡ true = ap (λ (l : List Operation). is_kept S l k) c.show.ensures.seen ∙ c.in-None.ensures.kept in
     let e = c.in_ok-publish_kept-in-None.ensures in
-    remembered_is c.args.pass.now mid c.publish_kept.new.pass c.show.ensures.more c.show.ensures.number c.show.ensures.counts.0 c.show.ensures.counts.1
-    (seen_in mid) refl k remembered.Kept true is (sym (kept_answer S (seen_in mid) k is)) e.called e.seen e.kept e.made e.refusals e.seat
+    remembered_is c.args.pass.now mid c.publish_kept.new.pass (unanswered c.args.pass.now mid c.show.ensures.more) c.show.ensures.number c.show.ensures.counts.0 c.show.ensures.counts.1
+    (seen_in mid) refl k remembered.Kept true is (sym (kept_answer S (seen_in mid) k is)) e.called e.seen e.kept e.made (e.refusals ∙ c.show.ensures.more.refusals) e.seat
 
 pub returns-in-Some-clause-remembered : goal.returns-in-Some-clause-remembered
 returns-in-Some-clause-remembered g c =
@@ -57,5 +57,5 @@ returns-in-Some-clause-remembered g c =
     let is : is_kept S (seen_in mid) k ≡ false = ap (λ (l : List Operation). is_kept S l k) c.show.ensures.seen ∙ c.in-Some.ensures.refused in
     let said : c.in-Some.said ≡ remembered_as S (seen_in mid) k = c.in-Some.ensures.said ∙ ap (λ (l : List Operation). remembered_as S l k) (sym c.show.ensures.seen) in
     let seen : seen_in new ≡ seen_in mid = c.show_call.ensures.seen ∙ (ap operations_of c.objection.ensures.writer.published ∙ sym c.show.ensures.seen) in
-    unkept_is c.args.pass.now mid new c.show.ensures.more c.show.ensures.number c.show.ensures.counts.0 c.show.ensures.counts.1
-    (seen_in mid) refl k c.in-Some.said is said (subst (λ (b : Binding). Entered mid new (keeping (kept_of b))) c.of.ensures c.show_call.ensures.entered) c.show_call.ensures.reads seen
+    unkept_is c.args.pass.now mid new (unanswered c.args.pass.now mid c.show.ensures.more) c.show.ensures.number c.show.ensures.counts.0 c.show.ensures.counts.1
+    (seen_in mid) refl k c.in-Some.said is said (subst (λ (b : Binding). Entered mid new (keeping (kept_of b))) c.of.ensures c.show_call.ensures.entered) c.show_call.ensures.reads seen c.show.ensures.more.refusals

@@ -6,7 +6,7 @@ use Rattle.machine.specs.Code.{settings_of, state_of, change_of, ready_of}
 use Rattle.machine.specs.Ready.{absorbed}
 use Rattle.bind_cache.specs.Bindings.{bindings_of}
 use Rattle.router_log.specs.Operation.{changed}
-use Rattle.router_log.specs.Taking.{untouched_by}
+use Rattle.router_log.specs.Value.{untouched_by}
 use Rattle.weave.specs.Code.{operation_of}
 use Rattle.weave.specs.Held.{ops_of}
 use Rattle.weave.proofs.Moving.{accepted, changes_few, standing}

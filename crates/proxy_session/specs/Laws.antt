@@ -1,0 +1,112 @@
+-- What is read of a head that goes on to a replica.
+use Rattle.std.specs.Prelude.{◌≡◌, ◌⊎◌, ◌<◌, ◌≤◌, ◌^◌, ℕ, zero, suc, Bool, true, List, [], ◌∷◌, ◌++◌, length, map, codes, All, IsSomeAnd, Option, Ok}
+use Rattle.std.specs.List.{concat}
+use Rattle.httparse.specs.Grammar.{trim_ows}
+use Rattle.line_base.specs.declared.dialer.DialEvent.TheVariants.{Dialed, Sent, Got, Hung}
+use Rattle.name_tree.specs.Canon.{AreByteLabels}
+use Rattle.http_wire.specs.declared.ended.Ended.{Ended}
+use Rattle.http_wire.specs.declared.head.Head.{Head}
+use Rattle.http_wire.specs.Fields.{values_of}
+use Rattle.http_wire.specs.Framing.{framing_of}
+use Rattle.http_wire.specs.Heads.{most, BeginsWith}
+use Rattle.identifier.specs.declared.rule.Kind.{Kind}
+use Rattle.identifier.specs.declared.rule.Kind.TheVariants.{Token, MethodAndHost, Segments, PathField, Static}
+use Rattle.identifier.specs.declared.rule.Rule.{Rule}
+use Rattle.machine.specs.Values.{SettingsValue, Replica}
+use Rattle.body_wire.specs.Bodies.{IsFrontBody}
+use Rattle.body_wire.specs.Passing.{IsFrontOf, form_of, most_passed}
+use Rattle.forward.specs.Laws.{table_texts}
+use Rattle.proxy_session.specs.Exchange.{Exchanges, Standing}
+use Rattle.proxy_session.specs.Onward.{IsForwarded, host_for}
+use Rattle.proxy_session.specs.Outside.{Grows, Upstream}
+use Rattle.proxy_session.specs.Seeking.{Seeks, Sought}
+use Rattle.proxy_session.specs.Session.{Sessions}
+
+-- a head that was read off some bytes
+pub record WasRead (head : Head) : Type 0 where
+  pub received : List ℕ
+  pub bytes : All (λ b. b < 256) received
+  pub len : ℕ
+  pub begins : BeginsWith received head len
+
+-- a rule whose paths are of bytes
+abbrev pub HasByteLabels : Kind → Type 0
+HasByteLabels (Token name) = Unit {0}
+HasByteLabels MethodAndHost = Unit {0}
+HasByteLabels (Segments count) = Unit {0}
+HasByteLabels (PathField name) = Unit {0}
+HasByteLabels (Static path) = AreByteLabels path
+
+pub record IsByteRule (rule : Rule) : Type 0 where
+  pub prefix : AreByteLabels rule.prefix
+  pub kind : HasByteLabels rule.kind
+
+-- a replica that has an address, and names of bytes
+pub record IsByteReplica (to : Replica) : Type 0 where
+  pub ip : to.addr.ip < 2 ^ 32
+  pub port : to.addr.port < 2 ^ 16
+  pub client : AreByteLabels to.client
+  pub residual : AreByteLabels to.residual
+
+-- The bytes are one head and nothing behind it. It has the method of the request, the target, the framing and the host of what the request seeks, no table of a
+-- client, and of the routers' tables none but the request's own
+pub record ReadsAs (head : Head) (sought : Sought) (to : Replica) (bytes : List ℕ) (read : Head) : Type 0 where
+  pub whole : BeginsWith bytes read (length bytes)
+  pub method : read.method ≡ head.method
+  pub target : read.target ≡ sought.line
+  pub version : read.version ≡ 1
+  pub framing : framing_of read.version read.fields ≡ Ok sought.framing
+  pub host : values_of (codes "host") read.fields ≡ host_for sought.host to.addr ∷ []
+  pub no_table : values_of (codes "l5d-dtab") read.fields ≡ []
+  pub table : values_of (codes "l5d-ctx-dtab") read.fields ≡ map trim_ows (table_texts sought.rules)
+
+-- the head with which a request that was read goes on is read so, where it is no longer than a head may be
+abbrev pub HeadsReadBack : Type 0
+HeadsReadBack =
+    (rule : Rule) (head : Head) (sought : Sought) (to : Replica) (bytes : List ℕ)
+    → IsByteRule rule → WasRead head → Seeks rule head (Ok sought) → IsByteReplica to → IsForwarded head sought to bytes → length bytes ≤ most
+    → (read : Head) × ReadsAs head sought to bytes read
+
+-- A replica was dialled, and what was sent to it is a head that is read so and what goes on behind it for a front of a body that is framed so, or a front of these
+pub record SendsHead (rule : Rule) (head : Head) (old new : Upstream) : Type 0 where
+  pub sought : Sought
+  pub seeks : Seeks rule head (Ok sought)
+  pub to : Replica
+  pub onward : List ℕ
+  pub reads : IsByteReplica to → length onward ≤ most → (read : Head) × ReadsAs head sought to onward read
+  pub sent : List (List ℕ)
+  pub got : List (List ℕ)
+  pub log : Grows old.log new.log (Dialed to.addr.ip to.addr.port ∷ (map Sent sent ++ (map Got got ++ Hung ∷ [])))
+  pub taken : List ℕ
+  pub behind : List ℕ
+  pub count : ℕ
+  pub body : IsFrontBody sought.framing (form_of true) most_passed taken behind count
+  pub front : IsFrontOf (onward ++ behind) (concat sent)
+
+-- in an exchange of a head that was read the dialer did nothing that its log shows, or just this
+abbrev pub ExchangesReadBack : Type 0
+ExchangesReadBack =
+    (settings : SettingsValue) (rule : Rule) (head : Head) (last : Bool) (old new : Standing) (result : Option Ended)
+    → IsByteRule rule → WasRead head → Exchanges settings rule head last old new result
+    → Grows old.upstream.log new.upstream.log [] ⊎ SendsHead rule head old.upstream new.upstream
+
+-- the bytes of a client that were read and not used yet, and those that it has yet to give, which are known
+pub record GivesBytes (s : Standing) : Type 0 where
+  pub kept : All (λ b. b < 256) s.kept
+  pub left : IsSomeAnd s.line.left (All (λ b. b < 256))
+
+-- the dialer did nothing that its log shows, or just this for some request that was read
+abbrev pub Visits : Rule → Upstream → Upstream → Type 0
+Visits rule old new = Grows old.log new.log [] ⊎ ((head : Head) × WasRead head × SendsHead rule head old new)
+
+-- so often
+abbrev pub SendsHeads : Rule → ℕ → Upstream → Upstream → Type 0
+SendsHeads rule zero old new = Grows old.log new.log []
+SendsHeads rule (suc n) old new = (mid : Upstream) × SendsHeads rule n old mid × Visits rule mid new
+
+-- in a session over the bytes of a client the dialer did nothing else
+abbrev pub SessionsReadBack : Type 0
+SessionsReadBack =
+    (settings : SettingsValue) (rule : Rule) (old new : Standing) (result : Ended)
+    → IsByteRule rule → GivesBytes old → Sessions settings rule old new result
+    → (n : ℕ) × SendsHeads rule n old.upstream new.upstream

@@ -1,6 +1,0 @@
-use Rattle.std.proofs.Common.{◌≡◌, ◌+◌, ◌-◌, ◌++◌}
-use Rattle.script.specs.Turns.{addrs_from}
-use Rattle.script.proofs.turn_parts.addrs_from.Given as goal
-
-abbrev pub invariant-loop-next : goal.invariant-loop-next
-invariant-loop-next l = l.items.items ++ addrs_from (l.count - l.next) (l.port + l.next) ≡ addrs_from l.count l.port

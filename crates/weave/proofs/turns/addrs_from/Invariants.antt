@@ -1,6 +1,0 @@
-use Rattle.std.proofs.Common.{◌≡◌, ◌+◌, ◌-◌, ◌++◌}
-use Rattle.weave.specs.Generated.{addrs_from}
-use Rattle.weave.proofs.turns.addrs_from.Given as goal
-
-abbrev pub invariant-loop-next : goal.invariant-loop-next
-invariant-loop-next l = l.items.items ++ addrs_from (l.count - l.next) (l.port + l.next) ≡ addrs_from l.count l.port
