@@ -21,7 +21,7 @@ impl<J: Naming> Router<J> {
     /// callers that read the older copy of the value.
     ///
     /// A report of a success that changes nothing in the published value, since no service has its address or the address has no failures, is answered from that value: it takes
-    /// no lock and no memory, and waits for nobody.
+    /// no lock and no memory, and waits for nobody. Only where the pass is not let in ([`Pass::refused`]) does it take the lock, as any other change.
     ///
     /// # Errors
     /// Want of memory publishes nothing. It may then come at every later change that would be accepted: where a copy of the value lacked the memory to take
