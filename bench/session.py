@@ -1,6 +1,6 @@
 #!/usr/bin/env python3
 """How long the router's own work on one request takes: a GET with eight header fields whose delegation is kept, one whose delegation has to be worked out, and a POST
-of 100 KB; and how many bytes a connection holds while it waits for its next request.
+of 100 KB; and how many bytes a connection holds while it waits for its first request.
 
 The two ends are in memory: the client gives one request a read, and the upstream its reply in one receive. It wants the toolchain's command rt, by which it proves,
 builds and runs a small program over the crates of sessions.
@@ -371,6 +371,7 @@ struct Room {
     names: Names,
     from_client: Rest,
     from_upstream: Rest,
+    head: Vec<u8>,
 }
 
 /// The resident memory of the program, in KiB, as `/proc` tells it.
@@ -393,6 +394,7 @@ fn time_rooms(rt: &HostRuntime, alloc: Global) -> io::Result<()> {
             names: Names::room(alloc)?,
             from_client: Rest::room(alloc)?,
             from_upstream: Rest::room(alloc)?,
+            head: Vec::with_capacity(alloc, 1024)?,
         })?;
     }
     tell_memory(rt, "after")

@@ -1,5 +1,5 @@
 #!/usr/bin/env python3
-"""Runs the built program `linker` where each status but 7 is due, and compares the status and both outputs. (bench/starve.py has 7.)
+"""Runs the built program `linker` where each status but 6 and 7 is due, and compares the status and both outputs. (bench/starve.py has 7.)
 
 The input of status 4 is a folder, which can't be read, and so is its configuration; the output of status 5 is /dev/full, which takes nothing.
 

@@ -1,11 +1,10 @@
 -- The addresses of a body, by what its reader answers.
-use Rattle.std.proofs.Common.{◌≡◌, ℕ, ◌≤◌, ◌<◌, Bool, true, false, List, length, Option, Some, None, Ok, Err, refl, sym, ap, ◌∙◌, arith}
-use Rattle.std.specs.Prelude.{nat_le, if◌then◌else◌}
+use Rattle.std.proofs.Common.{◌≡◌, ℕ, ◌≤◌, ◌<◌, true, false, List, length, Some, None, Ok, Err, refl, sym, ap, arith}
+use Rattle.std.specs.Prelude.{nat_le}
 use Rattle.std.proofs.lemmas.Bool.Decides.{nat_tests}
 use Rattle.addr_book.specs.declared.addr.Weighted.{Weighted}
 use Rattle.addr_book.specs.declared.addr_file.AddrFault.TheVariants.{BadLine, TooMany}
 use Rattle.addr_book.specs.AddrFile.{File, addrs, bad_at, file_value, IsFileAnswer}
-use Rattle.addr_book.specs.AddrList.{first_places}
 use Rattle.admin_api.specs.Demand.{addrs_of, few_addrs}
 
 small : (n : ℕ) → n ≤ 1024 → nat_le n 1024 ≡ true

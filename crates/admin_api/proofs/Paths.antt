@@ -1,5 +1,5 @@
 -- Demands of the admin interface by their paths.
-use Rattle.std.proofs.Common.{◌≡◌, ℕ, true, false, List, Option, ap, sym, ◌∙◌}
+use Rattle.std.proofs.Common.{◌≡◌, ℕ, false, List, Option, ap, sym, ◌∙◌}
 use Rattle.std.specs.Prelude.{bytes_eq, codes}
 use Rattle.http_wire.specs.declared.head.Head.{Head}
 use Rattle.ns_api.specs.declared.verb.Verb.{Verb}

@@ -6,24 +6,21 @@ use Rattle.std.proofs.KnownBytes.{Consumes-trans}
 use Rattle.std.specs.Io.KnownBytes.{Consumes}
 use Rattle.std.specs.declared.vec.Vec.{Vec}
 use Rattle.std.specs.declared.alloc.Global.{Global}
-use Rattle.line_base.specs.Counts.{Rose, raised}
 use Rattle.http_wire.specs.declared.ended.Ended.{Ended}
 use Rattle.http_wire.specs.declared.ended.Ended.TheVariants as ended
 use Rattle.http_wire.specs.declared.frames.Framing.{Framing}
 use Rattle.http_wire.specs.declared.frames.Framing.TheVariants.{Nothing, Length, Chunked, ToEnd}
 use Rattle.http_wire.specs.declared.frames.FramingFault.{FramingFault}
-use Rattle.http_wire.specs.declared.head.Field.{Field}
 use Rattle.http_wire.specs.declared.head.Head.{Head}
 use Rattle.http_wire.specs.declared.reading.HeadEnd.{HeadEnd}
 use Rattle.http_wire.specs.Fields.{same_ignoring_case, values_of}
-use Rattle.http_wire.specs.Framing.{agreed, coding_framing, framed, framing_of, length_framing, pieces_of}
+use Rattle.http_wire.specs.Framing.{agreed, coding_framing, framed, length_framing, pieces_of}
 use Rattle.http_wire.specs.Heads.{BeginsWith, IsBad, IsTooLarge, NamesOtherVersion}
 use Rattle.http_wire.specs.Reading.{Answers, ReadsHead, Whatever}
 use Rattle.http_wire.proofs.Turning.{begins_within}
 use Rattle.body_wire.specs.declared.end.BodyEnd.{BodyEnd}
 use Rattle.body_wire.specs.Bodies.{IsWholeBody}
 use Rattle.body_wire.specs.Passing.{CountsEnd, Ends as EndsBody, RaisedAt, ReadsBody, form_of, most_read, runs_to_end}
-use Rattle.own_reply.specs.declared.error.OwnError.{OwnError}
 use Rattle.ns_api.specs.Request.{has_body}
 use Rattle.admin_api.specs.declared.request.Refused.{Refused}
 use Rattle.admin_api.specs.declared.request.Refused.TheVariants.{Own, Ends}

@@ -1,5 +1,5 @@
 -- No request of the admin interface brings a table in but for a view.
-use Rattle.std.proofs.Common.{◌≡◌, ℕ, Bool, true, false, List, Option, Some, None}
+use Rattle.std.proofs.Common.{ℕ, Bool, true, false, List, Option, Some, None}
 use Rattle.std.specs.Prelude.{bytes_eq, codes, if◌then◌else◌}
 use Rattle.name_tree.specs.Path.{Labels}
 use Rattle.dtab_table.specs.Rules.{Rule}
@@ -7,7 +7,7 @@ use Rattle.addr_book.specs.declared.addr.Weighted.{Weighted}
 use Rattle.delegate_view.specs.Query.{view_asked}
 use Rattle.http_wire.specs.declared.head.Head.{Head}
 use Rattle.machine.specs.Values.{count_all}
-use Rattle.ns_api.specs.declared.verb.Methods.TheVariants.{Reads, Posts}
+use Rattle.ns_api.specs.declared.verb.Methods.TheVariants.{Reads}
 use Rattle.ns_api.specs.declared.verb.Verb.{Verb}
 use Rattle.ns_api.specs.declared.verb.Verb.TheVariants.{Get, Head as HeadVerb, Post, Put, Delete}
 use Rattle.ns_api.specs.Demand.{DemandValue, IsSoundDemand, answer, ask, stop, not_allowed}

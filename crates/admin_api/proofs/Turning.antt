@@ -1,9 +1,9 @@
 -- How the turns of a connection add up.
 use Rattle.std.proofs.Common.{◌≡◌, ◌<◌, ◌≤◌, ℕ, ◌+◌, ◌||◌, Bool, true, false, List, [], ◌++◌, eqb, refl, sym, subst, ap, ◌∙◌, arith, append_assoc, append-nil, Option, Some, None, inl, inr}
 use Rattle.std.proofs.lemmas.Bool.Decides.{nat_tests}
-use Rattle.std.specs.Io.KnownBytes.{Appends, Consumes, Keeps}
-use Rattle.std.proofs.KnownBytes.{Appends-trans, Consumes-trans}
-use Rattle.line_base.specs.Counts.{Rose, raised}
+use Rattle.std.specs.Io.KnownBytes.{Appends, Keeps}
+use Rattle.std.proofs.KnownBytes.{Appends-trans}
+use Rattle.line_base.specs.Counts.{Rose}
 use Rattle.http_wire.specs.declared.ended.Ended.{Ended}
 use Rattle.http_wire.specs.declared.ended.Ended.TheVariants as ended
 use Rattle.http_wire.specs.declared.head.Head.{Head}
@@ -19,7 +19,7 @@ use Rattle.admin_api.specs.declared.request.Refused.TheVariants.{Ends, Own}
 use Rattle.admin_api.specs.declared.serving.Which.{Which}
 use Rattle.admin_api.specs.Reading.{HasReadCauses, IsRefusal, ShowsNone}
 use Rattle.admin_api.specs.Requests.{IsRefusedAs, IsRequest}
-use Rattle.admin_api.specs.Serving.{Answers, EndsWith, EndsWithout, HasCauses, IsDelivered, IsServing, Serves, Turns, begun, calls_after, end_behind, one_more}
+use Rattle.admin_api.specs.Serving.{Answers, EndsWithout, HasCauses, IsDelivered, IsServing, Serves, Turns, end_behind, one_more}
 
 pub gives_none : (a b : Option (List ℕ)) → Keeps a b → Appends a b []
 gives_none None b keeps = tt

@@ -1,5 +1,5 @@
 -- The requests that the bytes of a connection begin with, and those that are refused before they are answered.
-use Rattle.std.specs.Prelude.{◌≡◌, ◌≢◌, ◌⊎◌, ℕ, ◌≤◌, Bool, true, false, List, [], ◌++◌, drop, codes, Option, Some, None, Ok, Err}
+use Rattle.std.specs.Prelude.{◌≡◌, ◌≢◌, ◌⊎◌, ℕ, ◌≤◌, nat_lt, Bool, true, false, List, [], ◌++◌, drop, codes, Some, None, Ok, Err}
 use Rattle.http_wire.specs.declared.frames.Framing.{Framing}
 use Rattle.http_wire.specs.declared.frames.FramingFault.{FramingFault}
 use Rattle.http_wire.specs.declared.head.Head.{Head}
@@ -15,12 +15,20 @@ use Rattle.own_reply.specs.declared.error.OwnError.{OwnError}
 use Rattle.own_reply.specs.declared.error.OwnError.TheVariants as own
 use Rattle.ns_api.specs.Request.{has_body}
 
--- the head passes the tests of its target, its framing and its host, and its body is framed so
+-- a head whose body is framed so names a longer one than is served
+abbrev pub names_long_body : Framing → Bool
+names_long_body Framing.Nothing = false
+names_long_body (Framing.Length n) = nat_lt most_read n
+names_long_body Framing.Chunked = false
+names_long_body Framing.ToEnd = false
+
+-- the head passes the tests of its target, its framing, its length and its host, and its body is framed so
 pub record IsTested (head : Head) (framing : Framing) : Type 0 where
   pub other : head.method ≢ codes "CONNECT"
   pub form : Form
   pub served : IsServed head.method head.target form
   pub framed : framing_of head.version head.fields ≡ Ok framing
+  pub short : names_long_body framing ≡ false
   pub host : List ℕ
   pub named : host_of head.version head.fields form.authority ≡ Some host
 
@@ -32,8 +40,10 @@ pub data Refuses (head : Head) : OwnError → Type 0 where
       → framing_of head.version head.fields ≡ Err FramingFault.Length → Refuses head own.Length
   bad_coding : (form : Form) → head.method ≢ codes "CONNECT" → IsServed head.method head.target form
       → framing_of head.version head.fields ≡ Err FramingFault.Coding → Refuses head own.Coding
+  long_length : (form : Form) (framing : Framing) → head.method ≢ codes "CONNECT" → IsServed head.method head.target form
+      → framing_of head.version head.fields ≡ Ok framing → names_long_body framing ≡ true → Refuses head own.TooLong
   no_host : (form : Form) (framing : Framing) → head.method ≢ codes "CONNECT" → IsServed head.method head.target form
-      → framing_of head.version head.fields ≡ Ok framing → host_of head.version head.fields form.authority ≡ None → Refuses head own.Host
+      → framing_of head.version head.fields ≡ Ok framing → names_long_body framing ≡ false → host_of head.version head.fields form.authority ≡ None → Refuses head own.Host
 
 -- the bytes begin with a head that passes the tests, and behind it these were taken of its body
 pub record BeginsRequest (bytes : List ℕ) (head : Head) (framing : Framing) (taken behind : List ℕ) : Type 0 where

@@ -1,6 +1,7 @@
 //! Reading the requests of a connection.
 ghost use Rattle.std.specs.Prelude.{◌≡◌, ◌++◌, List, ℕ, IfOk};
 ghost use Rattle.std.specs.Io.KnownBytes.{Consumes, Keeps};
+ghost use Rattle.admin_api.specs.Requests.{names_long_body};
 ghost use Rattle.admin_api.specs.Reading.{HasReadCauses, ShowsRequest, TellsTests, of_body, of_head, quiet_end};
 
 use crate::Bytes;
@@ -63,7 +64,20 @@ impl Refused {
     }
 }
 
-/// Tests the target, the framing and the host of a head, in this order, and gives the framing.
+/// The length in bytes of the longest body that is served.
+const MOST_BODY: u64 = 1_048_576;
+
+/// Whether a head whose body is framed so names a longer one than is served.
+fn names_long_body(framing: Framing) -> bool
+    ensures { result ≡ names_long_body framing }
+{
+    match framing {
+        Framing::Length(length) => length > MOST_BODY,
+        Framing::Nothing | Framing::Chunked | Framing::ToEnd => false,
+    }
+}
+
+/// Tests the target, the framing, the length and the host of a head, in this order, and gives the framing.
 fn tested(alloc: Global, head: &Head) -> Result<Framing, Refused>
     ensures { TellsTests head.now result }
 {
@@ -79,6 +93,9 @@ fn tested(alloc: Global, head: &Head) -> Result<Framing, Refused>
         Err(FramingFault::Length) => return Err(Refused::Own(OwnError::Length, with_body)),
         Err(FramingFault::Coding) => return Err(Refused::Own(OwnError::Coding, with_body)),
     };
+    if names_long_body(framing) {
+        return Err(Refused::Own(OwnError::TooLong, with_body));
+    }
     match read_host(alloc, head, &target) {
         Ok(_host) => Ok(framing),
         Err(HostFault::NoHost) => Err(Refused::Own(OwnError::Host, with_body)),

@@ -3,7 +3,7 @@ use crate::rows::{Row, replies};
 use admin_api::Which::{Admin, Namerd};
 use std::test::Fail;
 
-const ROWS: [Row; 25] = [
+const ROWS: [Row; 29] = [
     (
         Admin,
         "GET /admin/ping",
@@ -42,6 +42,13 @@ const ROWS: [Row; 25] = [
     ),
     (
         Admin,
+        "HEAD /api/1/addrs/web",
+        "",
+        "",
+        "404 Not Found\r\nContent-Type: text/plain\r\nContent-Length: 8\r\n\r\n",
+    ),
+    (
+        Admin,
         "PUT /api/1/addrs/web",
         "",
         "127.0.0.1 1 *3\n\nlocalhost 2\n127.0.0.1 1\n",
@@ -53,6 +60,13 @@ const ROWS: [Row; 25] = [
         "",
         "",
         "200 OK\r\nContent-Type: application/json\r\nContent-Length: 51\r\n\r\n{\"changes\":1,\"marks\":0,\"namespaces\":0,\"services\":1}",
+    ),
+    (
+        Admin,
+        "HEAD /admin/metrics.json",
+        "",
+        "",
+        "200 OK\r\nContent-Type: application/json\r\nContent-Length: 51\r\n\r\n",
     ),
     (
         Admin,
@@ -149,6 +163,13 @@ const ROWS: [Row; 25] = [
     ),
     (
         Admin,
+        "HEAD /delegator.json?path=/svc/a",
+        "",
+        "",
+        "200 OK\r\nContent-Type: application/json\r\nContent-Length: 141\r\n\r\n",
+    ),
+    (
+        Admin,
         "GET /delegator.json?path=%2Fs&dtab=/s+%3D%3E+!",
         "",
         "",
@@ -181,6 +202,13 @@ const ROWS: [Row; 25] = [
         "",
         "",
         "405 Method Not Allowed\r\nAllow: POST\r\nContent-Type: text/plain\r\nContent-Length: 7\r\n\r\nmethod\n",
+    ),
+    (
+        Admin,
+        "POST /admin/shutdown",
+        "",
+        "",
+        "200 OK\r\nContent-Type: text/plain\r\nContent-Length: 4\r\nConnection: close\r\n\r\nbye\n",
     ),
 ];
 

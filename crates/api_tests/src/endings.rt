@@ -20,7 +20,7 @@ type Row = (
 
 const PONG: &str = "200 OK\r\nContent-Type: text/plain\r\nContent-Length: 5\r\n\r\npong\n";
 
-const ROWS: [Row; 19] = [
+const ROWS: [Row; 23] = [
     (
         Admin,
         "\r\nGET /admin/ping HTTP/1.1\r\nHost: n\r\n\r\n\r\n",
@@ -154,11 +154,48 @@ const ROWS: [Row; 19] = [
         0,
     ),
     (
+        Admin,
+        "PUT /api/1/addrs/web HTTP/1.1\r\nHost: n\r\nContent-Length: 1048577\r\n\r\n",
+        Some(1),
+        None,
+        "413 Content Too Large\r\nContent-Type: text/plain\r\nl5d-err: too-long\r\nContent-Length: 9\r\nConnection: close\r\n\r\ntoo-long\n",
+        Ended::Closed,
+        0,
+    ),
+    (
         Namerd,
         "POST /api/1/dtabs/a HTTP/1.1\r\nHost: n\r\nTransfer-Encoding: chunked\r\n\r\n100001\r\n",
         Some(1),
         None,
         "413 Content Too Large\r\nContent-Type: text/plain\r\nl5d-err: too-long\r\nContent-Length: 9\r\nConnection: close\r\n\r\ntoo-long\n",
+        Ended::Closed,
+        0,
+    ),
+    // Its length is tested before the host.
+    (
+        Namerd,
+        "PUT /api/1/dtabs/a HTTP/1.1\r\nContent-Length: 1048577\r\n\r\n",
+        Some(1),
+        None,
+        "413 Content Too Large\r\nContent-Type: text/plain\r\nl5d-err: too-long\r\nContent-Length: 9\r\nConnection: close\r\n\r\ntoo-long\n",
+        Ended::Closed,
+        0,
+    ),
+    (
+        Admin,
+        "PUT /api/1/addrs/web HTTP/1.1\r\nContent-Length: 1048577\r\n\r\n",
+        Some(1),
+        None,
+        "413 Content Too Large\r\nContent-Type: text/plain\r\nl5d-err: too-long\r\nContent-Length: 9\r\nConnection: close\r\n\r\ntoo-long\n",
+        Ended::Closed,
+        0,
+    ),
+    (
+        Namerd,
+        "PUT /api/1/dtabs/a HTTP/1.1\r\nContent-Length: 1048576\r\n\r\n",
+        Some(1),
+        None,
+        "400 Bad Request\r\nContent-Type: text/plain\r\nl5d-err: host\r\nContent-Length: 5\r\nConnection: close\r\n\r\nhost\n",
         Ended::Closed,
         0,
     ),

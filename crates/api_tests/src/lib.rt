@@ -13,3 +13,5 @@ mod limits;
 mod namerd;
 #[cfg(test)]
 mod rows;
+#[cfg(test)]
+mod spent;

@@ -131,70 +131,91 @@ fn served<R: Wait>(
     }
 }
 
-/// The most requests of a kind that a new router takes, and the reply to one more.
-type Most = (Which, usize, &'static str);
+/// How many requests of a kind a new router takes, how many addresses each has, and the reply to one more.
+type Most = (Which, usize, usize, &'static str);
 
 const FULL: [Most; 3] = [
     (
         Namerd,
         256,
+        0,
         "HTTP/1.1 507 Insufficient Storage\r\nContent-Type: text/plain\r\nContent-Length: 15\r\n\r\ntoo-many-names\n",
     ),
     (
         Admin,
         4096,
+        0,
         "HTTP/1.1 507 Insufficient Storage\r\nContent-Type: text/plain\r\nContent-Length: 18\r\n\r\ntoo-many-services\n",
     ),
     (
         Admin,
         8,
+        1024,
         "HTTP/1.1 507 Insufficient Storage\r\nContent-Type: text/plain\r\nContent-Length: 10\r\n\r\nbook-full\n",
     ),
 ];
 
-/// A thousand and twenty-four addresses, by a number below 256.
-fn addresses(alloc: Global, number: usize) -> Mem<Bytes> {
+/// So many addresses, by a number below 256.
+fn addresses(alloc: Global, number: usize, count: usize) -> Mem<Bytes> {
     let mut lines = Vec::new(alloc);
-    for at in 0..1024usize {
+    for at in 0..count {
         let line = format!(in alloc; "10.{}.{}.{} 1\n", number, at / 256, at % 256)?;
         lines.extend_from_slice(line.as_bytes())?;
     }
     Ok(lines)
 }
 
-/// The request of this number: a new namespace; a new service with no address; or one with many, where few are taken.
-fn numbered(alloc: Global, to: Which, most: usize, number: usize) -> Mem<Bytes> {
+/// The request of this number: a new namespace, or a new service with so many addresses.
+fn numbered(alloc: Global, to: Which, number: usize, count: usize) -> Mem<Bytes> {
     let target = match to {
         Namerd => "POST /api/1/dtabs/n",
         Admin => "PUT /api/1/addrs/s",
     };
     let asks = format!(in alloc; "{}{}", target, number)?;
-    let body = if most == 8 {
-        addresses(alloc, number)?
-    } else {
-        Vec::new(alloc)
-    };
+    let body = addresses(alloc, number, count)?;
     request(alloc, asks.as_str(), "", body.as_slice())
 }
 
-/// One request more than are taken.
-fn one_too_many(alloc: Global, to: Which, most: usize) -> Mem<Bytes> {
+/// The requests that are taken, and one more, which has one address where each of them has many.
+fn one_too_many(alloc: Global, most: &Most) -> Mem<Bytes> {
+    let (to, taken, count, _refusal) = most;
     let mut bytes = Vec::new(alloc);
-    for number in 0..most.saturating_add(1) {
-        bytes.extend_from_slice(numbered(alloc, to, most, number)?.as_slice())?;
+    for number in 0..*taken {
+        bytes.extend_from_slice(numbered(alloc, *to, number, *count)?.as_slice())?;
     }
+    let one = if *count == 0 { 0 } else { 1 };
+    bytes.extend_from_slice(numbered(alloc, *to, *taken, one)?.as_slice())?;
     Ok(bytes)
+}
+
+/// The replies to them, behind `HTTP/1.1 `: a new namespace has the next version.
+fn replies_to(alloc: Global, most: &Most) -> Mem<String> {
+    let (to, taken, _count, refusal) = most;
+    let mut replies = Vec::new(alloc);
+    for number in 0..*taken {
+        let reply = match to {
+            Namerd => {
+                format!(in alloc;
+                    "HTTP/1.1 204 No Content\r\nETag: \"{}\"\r\n\r\n",
+                    number.saturating_add(1)
+                )?
+            }
+            Admin => String::from_str(alloc, "HTTP/1.1 204 No Content\r\n\r\n")?,
+        };
+        replies.extend_from_slice(reply.as_bytes())?;
+    }
+    replies.extend_from_slice(refusal.as_bytes())?;
+    said(alloc, replies.as_slice())
 }
 
 #[test]
 fn a_full_router_takes_no_more(rt: HostRuntime) -> Result<(), Fail> {
     let alloc = rt.alloc();
-    for (to, most, refusal) in &FULL {
-        let bytes = one_too_many(alloc, *to, *most)?;
-        let (told, ended, _length) = served(&rt, alloc, *to, bytes)?;
+    for most in &FULL {
+        let (told, ended, _length) = served(&rt, alloc, most.0, one_too_many(alloc, most)?)?;
+        let wanted = replies_to(alloc, most)?;
         assert_eq!(rt; ended, Ended::PeerEnded);
-        assert_eq!(rt; told.starts_with("204 No Content\r\n"), true);
-        assert_eq!(rt; told.ends_with(refusal), true, "{most}");
+        assert!(rt; told.as_str() == wanted.as_str(), "{}", most.3);
     }
     Ok(())
 }

@@ -3,7 +3,7 @@ use crate::rows::{Row, replies};
 use admin_api::Which::Namerd;
 use std::test::Fail;
 
-const ROWS: [Row; 37] = [
+const ROWS: [Row; 40] = [
     // A table is made once.
     (
         Namerd,
@@ -57,6 +57,13 @@ const ROWS: [Row; 37] = [
     ),
     (
         Namerd,
+        "PATCH /api/1/dtabs/web",
+        "",
+        "",
+        "405 Method Not Allowed\r\nAllow: GET, HEAD, POST, PUT, DELETE\r\nContent-Type: text/plain\r\nContent-Length: 7\r\n\r\nmethod\n",
+    ),
+    (
+        Namerd,
         "PATCH /api/1/dtabs/",
         "",
         "",
@@ -90,6 +97,14 @@ const ROWS: [Row; 37] = [
         "/svc =>",
         "400 Bad Request\r\nContent-Type: text/plain\r\nContent-Length: 5\r\n\r\ndtab\n",
     ),
+    // What is refused alters nothing.
+    (
+        Namerd,
+        "GET /api/1/dtabs/web",
+        "",
+        "",
+        "200 OK\r\nETag: \"1\"\r\nContent-Type: application/json\r\nContent-Length: 30\r\n\r\n[{\"dst\":\"/a\",\"prefix\":\"/svc\"}]",
+    ),
     (
         Namerd,
         "POST /api/1/dtabs/other",
@@ -103,6 +118,13 @@ const ROWS: [Row; 37] = [
         "",
         "",
         "404 Not Found\r\nContent-Type: text/plain\r\nContent-Length: 8\r\n\r\nmissing\n",
+    ),
+    (
+        Namerd,
+        "HEAD /api/1/dtabs/other",
+        "",
+        "",
+        "404 Not Found\r\nContent-Type: text/plain\r\nContent-Length: 8\r\n\r\n",
     ),
     // Two editors have version 1: the first puts its table, and the second is told of version 2.
     (
@@ -272,12 +294,39 @@ const ROWS: [Row; 37] = [
     ),
 ];
 
+/// The table `default` at version 1, put for another version.
+const STALE: [Row; 3] = [
+    (
+        Namerd,
+        "POST /api/1/dtabs/default",
+        "",
+        "/svc=>/#/io.l5d.fs",
+        "204 No Content\r\nETag: \"1\"\r\n\r\n",
+    ),
+    (
+        Namerd,
+        "PUT /api/1/dtabs/default",
+        "If-Match: \"9\"\r\n",
+        "",
+        "412 Precondition Failed\r\nETag: \"1\"\r\nContent-Type: text/plain\r\nContent-Length: 6\r\n\r\nstale\n",
+    ),
+    (
+        Namerd,
+        "GET /api/1/dtabs/default",
+        "",
+        "",
+        "200 OK\r\nETag: \"1\"\r\nContent-Type: application/json\r\nContent-Length: 40\r\n\r\n[{\"dst\":\"/#/io.l5d.fs\",\"prefix\":\"/svc\"}]",
+    ),
+];
+
 #[test]
 fn tables_are_made_shown_put_and_deleted(rt: HostRuntime) -> Result<(), Fail> {
-    let replies = replies(&rt, rt.alloc(), &ROWS)?;
-    assert_eq!(rt; replies.len(), ROWS.len());
-    for (told, (_to, asks, _fields, _body, reply)) in replies.iter().zip(&ROWS) {
-        assert_eq!(rt; told.as_str(), *reply, "{asks}");
+    for rows in [ROWS.as_slice(), STALE.as_slice()] {
+        let replies = replies(&rt, rt.alloc(), rows)?;
+        assert_eq!(rt; replies.len(), rows.len());
+        for (told, (_to, asks, _fields, _body, reply)) in replies.iter().zip(rows) {
+            assert_eq!(rt; told.as_str(), *reply, "{asks}");
+        }
     }
     Ok(())
 }

@@ -29,7 +29,7 @@ use Rattle.linker.specs.Found.{IfWrong}
 use Rattle.linker.specs.declared.run.Status.{Status}
 use Rattle.linker.specs.declared.run.Status.TheVariants as status
 use Rattle.linker.specs.Run.{AppendsFront, Course, line_told, no_memory, served, EndsServing, Ended, Filed, Linked, Output, Serves}
-use Rattle.linker.specs.Served.{Finish, broken, short, finish_code, IsConfig, IsLast, IsMadeBy, LoadsRoot, RefusesBook, RefusesService, ServedBy, TellsEnd, TellsNet, TellsServing, router_of, file_line, memory_line, serving_line, shut_down, site_of}
+use Rattle.linker.specs.Served.{Finish, broken, short, finish_code, AreLoaded, IsConfig, IsLast, IsMadeBy, LoadsRoot, RefusesBook, RefusesService, ServedBy, TellsEnd, TellsNet, TellsServing, router_of, file_line, memory_line, serving_line, shut_down, site_of}
 use Rattle.linker.specs.Told.{Tells, code_of}
 use Rattle.linker.proofs.Runs.{tells_end, tells_behind, tells_memory_first, fails_before}
 
@@ -52,13 +52,13 @@ module _ (J : Type 0) {P : Type 0} (line_of : P → Line) (moments : Option (Lis
   no_memory_yet net net_after old new result kept told = inr (inr (kept, tells_memory_first no_memory result old new told))
 
   -- an address can't be listened on
-  pub not_listening : (net net_after : Linked P) (old new : Output) (result : Status) → Rose net.faults net_after.faults → Tells (codes "error net\n") status.Net old new result
-      → EndsServing J line_of moments files c net net_after old new (code_of result)
-  not_listening net net_after old new result rose told =
+  pub not_listening : (net net_after : Linked P) (old new : Output) (result : Status) → AreLoaded files c → Rose net.faults net_after.faults
+      → Tells (codes "error net\n") status.Net old new result → EndsServing J line_of moments files c net net_after old new (code_of result)
+  not_listening net net_after old new result loaded rose told =
       inl (
         codes "error net\n",
         broken,
-        record { last = codes "error net\n"; is_last = refl; lines_are = inr (refl, refl) },
+        record { last = codes "error net\n"; is_last = (refl, loaded); lines_are = inr (refl, refl) },
         record { rose = λ _. rose; kept = λ other. absurd (other refl) },
         tells_end (served (codes "error net\n") broken) (codes "error net\n") status.Net result old new refl refl told,
       )

@@ -53,7 +53,7 @@ output_of read_failed = codes "error read\n"
 output_of too_long = codes "error long\n"
 output_of (script_read script) = (replay_of script).0
 output_of (line_told good line) = line
-output_of no_memory = []
+output_of no_memory = memory_line
 output_of (served lines finish) = lines
 
 -- the status where what was read is right, or is not

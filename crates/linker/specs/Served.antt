@@ -62,6 +62,10 @@ abbrev pub LoadsRoot : Option (List File) → Option (List ℕ) → Services →
 LoadsRoot files None told = told ≡ Ok []
 LoadsRoot files (Some root) told = Loads files root told
 
+-- the services of the folder that a configuration names were loaded: none of its files is refused
+abbrev pub AreLoaded : Option (List File) → Config → Type 0
+AreLoaded files config = (loaded : List LoadedItem) × LoadsRoot files config.root (Ok loaded)
+
 -- the book has no room for one of the services of the configured folder, behind those before it
 abbrev pub RefusesBook : Option (List File) → Config → Type 0
 RefusesBook files config = (loaded : List LoadedItem) × LoadsRoot files config.root (Ok loaded) × BookRefuses (settings_of config.settings) loaded
@@ -110,10 +114,11 @@ module _ (J : Type 0) {P : Type 0} (line_of : P → Line) (moments : Option (Lis
     pub passes : List (Pass J (router_of J cell (settings_of c.settings) words seats))
     pub whole : HasServed line_of (site_of c) moments loaded passes (listened (c.workers + 4) net) net_after end
 
-  -- what is told last: how many changes there were, behind which it is told where memory was wanting in a session; or that the net failed; or that memory was wanting before it could be served
+  -- what is told last: how many changes there were, behind which it is told where memory was wanting in a session; or that the net failed, where the services were loaded; or that memory was
+  -- wanting before it could be served
   abbrev pub IsLast : List ℕ → Finish → Type 0
   IsLast last shut_down = (end : Served) × ServedBy end × (end.lacked_memory ≡ false) × (last ≡ closed_line end.place)
-  IsLast last broken = last ≡ codes "error net\n"
+  IsLast last broken = (last ≡ codes "error net\n") × AreLoaded files c
   IsLast last short = (last ≡ memory_line) ⊎ ((end : Served) × ServedBy end × (end.lacked_memory ≡ true) × (last ≡ closed_line end.place ++ memory_line))
 
   -- these lines tell how it was to serve: where, and then what is told last. Where an address can't be listened on, that is told alone

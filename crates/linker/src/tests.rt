@@ -1,17 +1,21 @@
 //! The program over folders, nets, sources and sinks in memory: scripts with their replies, configurations, words, limits, faults at each call in turn, and
-//! a router that serves. And the adapters over std.
+//! routers that serve. And the adapters over std.
 use crate::program::linker;
 use line_base::{
-    Failed, Folder, FolderFault, Found, MemAddress, MemClock, MemDials, MemFile, MemFolder, MemNet,
-    MemPeer, MemSink, MemSource, MemVisits, Sink, Source,
+    DialEvent, Failed, Folder, FolderFault, Found, MemAddress, MemClock, MemDials, MemFile,
+    MemFolder, MemNet, MemPeer, MemSink, MemSource, MemVisits, Peer, Sink, Source,
 };
 use net_edge::{FileSystem, ReaderSource, WriterSink};
+use paired::Paired;
 use std::alloc::{AllocError, AllocGlobal, Global};
 use std::os::unix::fs::symlink;
 use std::sync::Wait;
+use std::sync::atomic::AtomicBool;
 use std::test::Fail;
 use std::thread::Threads;
 use std::{env, fs, process};
+
+mod paired;
 
 /// A script with a table, a blank line and two picks, and what it writes.
 const SAMPLE: &str = "dtab /svc => /$/inet/127.0.0.1/8080\n\npick /svc/a\npick /b\n";
@@ -77,6 +81,14 @@ fn sink(alloc: Global) -> MemSink {
     MemSink::of(alloc, Vec::new(alloc), Vec::new(alloc))
 }
 
+/// Puts bytes behind a text, each as a character.
+fn append(text: &mut String, bytes: &[u8]) -> Result<(), AllocError> {
+    for byte in bytes {
+        text.push(char::from(*byte))?;
+    }
+    Ok(())
+}
+
 /// What `replay` writes for a script, and its status.
 fn replayed<R: AllocGlobal + Threads + Wait + Sync>(
     rt: &R,
@@ -85,9 +97,7 @@ fn replayed<R: AllocGlobal + Threads + Wait + Sync>(
     let alloc = rt.alloc();
     let (sink, status) = run(rt, &["replay"], source(alloc, script)?, sink(alloc))?;
     let mut text = String::new(alloc);
-    for byte in sink.held() {
-        text.push(char::from(*byte))?;
-    }
+    append(&mut text, sink.held())?;
     Ok((text, status))
 }
 
@@ -327,6 +337,34 @@ fn limits(rt: HostRuntime) -> Result<(), Fail> {
     Ok(())
 }
 
+/// A table, and one pick so many times.
+fn many_picks(alloc: Global, picks: u32) -> Result<String, AllocError> {
+    let mut script = String::from_str(alloc, "dtab /svc => /$/inet/127.0.0.1/8080\n")?;
+    for _ in 0..picks {
+        script.push_str("pick /svc/web\n")?;
+    }
+    Ok(script)
+}
+
+/// What [`many_picks`] is answered.
+fn many_picked(alloc: Global, picks: u32) -> Result<String, AllocError> {
+    let mut replies = String::from_str(alloc, "ok\n")?;
+    for _ in 0..picks {
+        replies.push_str("127.0.0.1:8080 /$/inet/127.0.0.1/8080 /web\n")?;
+    }
+    Ok(replies)
+}
+
+/// 129,003 bytes of replies, which are not all held until the end.
+#[test]
+fn many_replies(rt: HostRuntime) -> Result<(), Fail> {
+    let alloc = rt.alloc();
+    let (text, status) = replayed(&rt, many_picks(alloc, 3_000)?.as_str())?;
+    assert_eq!(rt; (text.len(), status), (129_003, 0));
+    assert!(rt; text.as_str() == many_picked(alloc, 3_000)?.as_str());
+    Ok(())
+}
+
 #[test]
 fn words(rt: HostRuntime) -> Result<(), Fail> {
     let alloc = rt.alloc();
@@ -422,6 +460,15 @@ fn generated_runs(rt: HostRuntime) -> Result<(), Fail> {
         assert_eq!(rt; (failed.0.held(), failed.1), (b"".as_slice(), 5));
     }
     Ok(())
+}
+
+/// A file of a folder.
+fn file(alloc: Global, folder: &str, name: &str, text: &str) -> Result<MemFile, AllocError> {
+    Ok(MemFile::of(
+        String::from_str(alloc, folder)?,
+        String::from_str(alloc, name)?,
+        Vec::from_slice(alloc, text.as_bytes())?,
+    ))
 }
 
 /// A folder that has one file, `c.json`.
@@ -638,18 +685,24 @@ fn visit(alloc: Global, port: u16, bytes: &str) -> Result<MemAddress<MemPeer>, A
     if !bytes.is_empty() {
         peers.push(MemPeer::of(source(alloc, bytes)?, sink(alloc)))?;
     }
-    let visits = MemVisits {
-        peers,
-        failing: Vec::new(alloc),
-    };
+    visits(alloc, port, peers, Vec::new(alloc))
+}
+
+/// What comes to a listener of a port: these connections. The accepts whose numbers are in `failing` fail.
+fn visits<P: Drop>(
+    alloc: Global,
+    port: u16,
+    peers: Vec<P>,
+    failing: Vec<u64>,
+) -> Result<MemAddress<P>, AllocError> {
     Ok(MemAddress {
         ip: 0x7f00_0001,
         port,
-        visits: vec![in alloc; visits]?,
+        visits: vec![in alloc; MemVisits { peers, failing }]?,
     })
 }
 
-/// A net with these connections: to the router's first two listeners, and to one of each interface. Its first dialer is answered once, with `hi`.
+/// A net with these connections: to the router's first two listeners, and to one of each interface. Its first dialer is answered twice, with `hi`.
 fn net_of(
     alloc: Global,
     first: &str,
@@ -662,57 +715,113 @@ fn net_of(
     addresses.push(visit(alloc, 4140, second)?)?;
     addresses.push(visit(alloc, 4180, namerd)?)?;
     addresses.push(visit(alloc, 9990, admin)?)?;
-    let reply = "HTTP/1.1 200 OK\r\nContent-Length: 2\r\n\r\nhi";
+    let reply = b"HTTP/1.1 200 OK\r\nContent-Length: 2\r\n\r\nhi";
     let dials = MemDials {
-        replies: vec![in alloc; Vec::from_slice(alloc, reply.as_bytes())?]?,
+        replies: vec![in alloc;
+            Vec::from_slice(alloc, reply)?,
+            Vec::from_slice(alloc, reply)?,
+        ]?,
         sizes: Vec::new(alloc),
         failing: Vec::new(alloc),
     };
     Ok(MemNet::of(alloc, addresses, vec![in alloc; dials]?, Vec::new(alloc)))
 }
 
-/// A folder with the configuration `conf/c.json`, and the service `web` at `disco`.
-fn folder_of(alloc: Global, config: &str) -> Result<MemFolder, AllocError> {
-    let files = [
-        ("conf", "c.json", config),
-        ("disco", "web", "127.0.0.1 9001\n"),
-    ];
-    let mut all = Vec::new(alloc);
-    for (folder, name, text) in files {
-        all.push(MemFile::of(
-            String::from_str(alloc, folder)?,
-            String::from_str(alloc, name)?,
-            Vec::from_slice(alloc, text.as_bytes())?,
-        ))?;
+/// A folder with the configuration `conf/c.json`, and the service `web` at `disco`, whose file has one line so many times. The calls whose numbers are in
+/// `failing` fail.
+fn folder_of(
+    alloc: Global,
+    config: &str,
+    line: &str,
+    lines: u32,
+    failing: &[u64],
+) -> Result<MemFolder, AllocError> {
+    let mut text = String::new(alloc);
+    for _ in 0..lines {
+        text.push_str(line)?;
     }
-    Ok(MemFolder::of(alloc, all, Vec::new(alloc)))
+    let files = vec![in alloc;
+        file(alloc, "conf", "c.json", config)?,
+        file(alloc, "disco", "web", text.as_str())?,
+    ]?;
+    Ok(MemFolder::of(alloc, files, Vec::from_slice(alloc, failing)?))
+}
+
+/// A client that can be asked what it was answered.
+trait Answered {
+    fn answers(&self) -> &[u8];
+}
+
+impl Answered for MemPeer {
+    fn answers(&self) -> &[u8] {
+        self.sink().held()
+    }
+}
+
+impl Answered for Paired<'_> {
+    fn answers(&self) -> &[u8] {
+        self.client().sink().held()
+    }
 }
 
 /// What the connections to a net were given, one after another.
-fn given(alloc: Global, net: &MemNet<MemPeer>) -> Result<String, AllocError> {
+fn given<P: Peer + Drop + Answered>(alloc: Global, net: &MemNet<P>) -> Result<String, AllocError> {
     let mut text = String::new(alloc);
     for ended in net.ended() {
         for peer in ended.listener().returned() {
-            for byte in peer.sink().held() {
-                text.push(char::from(*byte))?;
+            append(&mut text, peer.answers())?;
+        }
+    }
+    Ok(text)
+}
+
+/// Puts what a dialer did behind a text: a line where it opened a connection and where it ended one, and the bytes that it sent.
+fn append_event(text: &mut String, event: &DialEvent) -> Result<(), AllocError> {
+    match event {
+        DialEvent::Dialed(ip, port) => write!(text, "dial {ip:x} {port}\n")?,
+        DialEvent::Sent(piece) => append(text, piece.bytes())?,
+        DialEvent::Got(_) => {}
+        DialEvent::Hung => text.push_str("hang\n")?,
+    }
+    Ok(())
+}
+
+/// What the dialers of a net did, one after another.
+fn dialed<P: Peer + Drop>(alloc: Global, net: &MemNet<P>) -> Result<String, AllocError> {
+    let mut text = String::new(alloc);
+    for ended in net.ended() {
+        if let Some(dialer) = ended.dialer() {
+            for event in dialer.log() {
+                append_event(&mut text, event)?;
             }
         }
     }
     Ok(text)
 }
 
-/// The status of `serve`, what it writes, and what the connections are given.
-fn served<R: AllocGlobal + Threads + Wait + Sync>(
+/// How it was to serve.
+#[derive(Drop)]
+struct Outcome {
+    written: String,
+    status: u8,
+    /// What the connections were given, one after another.
+    given: String,
+    /// What the dialers did, one after another.
+    dialed: String,
+}
+
+/// Serves by the configuration `conf/c.json`.
+fn served<R: AllocGlobal + Threads + Wait + Sync, P: Peer + Drop + Send + Answered>(
     rt: &R,
-    config: &str,
-    net: MemNet<MemPeer>,
-) -> Result<(MemSink, u8, String), AllocError> {
+    folder: MemFolder,
+    net: MemNet<P>,
+) -> Result<Outcome, AllocError> {
     let alloc = rt.alloc();
     let words = vec![in alloc;
         String::from_str(alloc, "serve")?,
         String::from_str(alloc, "conf/c.json")?,
     ]?;
-    let mut folder = folder_of(alloc, config)?;
+    let mut folder = folder;
     let mut net = net;
     let mut clock = MemClock::of(alloc, Vec::new(alloc))?;
     let mut source = source(alloc, "")?;
@@ -726,41 +835,180 @@ fn served<R: AllocGlobal + Threads + Wait + Sync>(
         &mut source,
         &mut sink,
     );
-    Ok((sink, status, given(alloc, &net)?))
+    let mut written = String::new(alloc);
+    append(&mut written, sink.held())?;
+    Ok(Outcome {
+        written,
+        status,
+        given: given(alloc, &net)?,
+        dialed: dialed(alloc, &net)?,
+    })
 }
+
+/// The services are those of a folder, and `/svc/web` names its service `web`.
+const WITH_SERVICES: &str =
+    "{\"namers\":[{\"kind\":\"io.l5d.fs\",\"rootDir\":\"disco\"}],\"routers\":[{\"protocol\":\"http\",\"dtab\":\"/svc => /#/io.l5d.fs\",\"servers\":[{\"port\":4140}]}]}";
+
+/// No table names anything, and there are two proxy jobs.
+const WITHOUT_TABLE: &str = "{\"routers\":[{\"protocol\":\"http\"}],\"workers\":2}";
 
 const FOR_WEB: &str = "GET / HTTP/1.1\r\nHost: web\r\n\r\n";
 
-/// A request that is routed, an edit and a shutdown. Where nothing more comes, a listener counts as closed.
+/// A request that is routed twice, an edit and a shutdown. Where nothing more comes, a listener counts as closed.
 #[test]
 fn a_router_that_serves(rt: HostRuntime) -> Result<(), Fail> {
+    let alloc = rt.alloc();
+    let requests =
+        "GET / HTTP/1.1\r\nHost: web\r\nUser-Agent: curl/8.5.0\r\nAccept: */*\r\n\r\nGET / HTTP/1.1\r\nHost: web\r\nUser-Agent: curl/8.5.0\r\nAccept: */*\r\n\r\n";
     let edit =
         "POST /api/1/dtabs/default HTTP/1.1\r\nHost: n\r\nContent-Type: application/dtab\r\nContent-Length: 12\r\n\r\n/other => /x";
     let shutdown = "POST /admin/shutdown HTTP/1.1\r\nHost: a\r\n\r\n";
-    let net = net_of(rt.alloc(), FOR_WEB, "", edit, shutdown)?;
-    let config =
-        "{\"namers\":[{\"kind\":\"io.l5d.fs\",\"rootDir\":\"disco\"}],\"routers\":[{\"protocol\":\"http\",\"dtab\":\"/svc => /#/io.l5d.fs\"}],\"workers\":1}";
-    let (sink, status, given) = served(&rt, config, net)?;
-    let written = "serving 127.0.0.1:4140 127.0.0.1:4180 127.0.0.1:9990\nclosed 2\n";
-    assert_eq!(rt; (sink.held(), status), (written.as_bytes(), 0));
+    let folder = folder_of(alloc, WITH_SERVICES, "127.0.0.1 9001\n", 1, &[])?;
+    let served = served(&rt, folder, net_of(alloc, requests, "", edit, shutdown)?)?;
     assert_eq!(rt;
-        given.as_str(),
-        "HTTP/1.1 200 OK\r\nContent-Length: 2\r\nVia: 1.1 linkerd\r\n\r\nhiHTTP/1.1 204 No Content\r\nETag: \"1\"\r\n\r\nHTTP/1.1 200 OK\r\nContent-Type: text/plain\r\nContent-Length: 4\r\nConnection: close\r\n\r\nbye\n"
+        (served.written.as_str(), served.status),
+        (
+            "serving 127.0.0.1:4140 127.0.0.1:4180 127.0.0.1:9990\nclosed 2\n",
+            0
+        )
+    );
+    assert_eq!(rt;
+        served.given.as_str(),
+        "HTTP/1.1 200 OK\r\nContent-Length: 2\r\nVia: 1.1 linkerd\r\n\r\nhiHTTP/1.1 200 OK\r\nContent-Length: 2\r\nVia: 1.1 linkerd\r\n\r\nhiHTTP/1.1 204 No Content\r\nETag: \"1\"\r\n\r\nHTTP/1.1 200 OK\r\nContent-Type: text/plain\r\nContent-Length: 4\r\nConnection: close\r\n\r\nbye\n"
+    );
+    assert_eq!(rt;
+        served.dialed.as_str(),
+        "dial 7f000001 9001\nGET / HTTP/1.1\r\nHost: web\r\nUser-Agent: curl/8.5.0\r\nAccept: */*\r\nVia: 1.1 linkerd\r\nl5d-dst-service: /svc/web\r\nl5d-dst-client: /#/io.l5d.fs/web\r\nConnection: close\r\n\r\nhang\ndial 7f000001 9001\nGET / HTTP/1.1\r\nHost: web\r\nUser-Agent: curl/8.5.0\r\nAccept: */*\r\nVia: 1.1 linkerd\r\nl5d-dst-service: /svc/web\r\nl5d-dst-client: /#/io.l5d.fs/web\r\nConnection: close\r\n\r\nhang\n"
     );
     Ok(())
 }
 
-/// Two requests that no table routes, each to a listener of its own.
+/// A net in which each of the router's first two listeners gets one client, and these ask only once both are read.
+fn net_of_pair<'a>(
+    alloc: Global,
+    first: &'a AtomicBool,
+    second: &'a AtomicBool,
+) -> Result<MemNet<Paired<'a>>, AllocError> {
+    let mut addresses = Vec::new(alloc);
+    for (here, there) in [(first, second), (second, first)] {
+        let client = MemPeer::of(source(alloc, FOR_WEB)?, sink(alloc));
+        let peers = vec![in alloc; Paired::of(here, there, client)]?;
+        addresses.push(visits(alloc, 4140, peers, Vec::new(alloc))?)?;
+    }
+    Ok(MemNet::of(alloc, addresses, Vec::new(alloc), Vec::new(alloc)))
+}
+
+/// Two requests that no table routes, each to a listener of its own. Each is asked only once the other's connection is read too, so both are served at once.
 #[test]
-fn a_router_without_a_table(rt: HostRuntime) -> Result<(), Fail> {
-    let net = net_of(rt.alloc(), FOR_WEB, FOR_WEB, "", "")?;
-    let config = "{\"routers\":[{\"protocol\":\"http\"}],\"workers\":2}";
-    let (sink, status, given) = served(&rt, config, net)?;
-    let written = "serving 127.0.0.1:4140 127.0.0.1:4180 127.0.0.1:9990\nclosed 0\n";
-    assert_eq!(rt; (sink.held(), status), (written.as_bytes(), 0));
+fn two_clients_at_once(rt: HostRuntime) -> Result<(), Fail> {
+    let alloc = rt.alloc();
+    let (first, second) = (AtomicBool::new(false), AtomicBool::new(false));
+    let folder = folder_of(alloc, WITHOUT_TABLE, "", 0, &[])?;
+    let served = served(&rt, folder, net_of_pair(alloc, &first, &second)?)?;
     assert_eq!(rt;
-        given.as_str(),
+        (served.written.as_str(), served.status),
+        (
+            "serving 127.0.0.1:4140 127.0.0.1:4180 127.0.0.1:9990\nclosed 0\n",
+            0
+        )
+    );
+    assert_eq!(rt;
+        served.given.as_str(),
         "HTTP/1.1 502 Bad Gateway\r\nContent-Type: text/plain\r\nl5d-err: negative\r\nContent-Length: 9\r\n\r\nnegative\nHTTP/1.1 502 Bad Gateway\r\nContent-Type: text/plain\r\nl5d-err: negative\r\nContent-Length: 9\r\n\r\nnegative\n"
+    );
+    assert_eq!(rt; served.dialed.as_str(), "");
+    Ok(())
+}
+
+/// What `serve` writes, and its status, where these calls of the folder and of `listen` fail, and so many accepts of the router's first listener; and where the
+/// file of the service `web` has one line so many times.
+fn served_amiss<R: AllocGlobal + Threads + Wait + Sync>(
+    rt: &R,
+    reads: &[u64],
+    listens: &[u64],
+    accepts: u64,
+    line: &str,
+    lines: u32,
+) -> Result<(String, u8), Fail> {
+    let alloc = rt.alloc();
+    let mut failing = Vec::new(alloc);
+    for accept in 0..accepts {
+        failing.push(accept)?;
+    }
+    let none: Vec<MemPeer> = Vec::new(alloc);
+    let net = MemNet::of(
+        alloc,
+        vec![in alloc; visits(alloc, 4140, none, failing)?]?,
+        Vec::new(alloc),
+        Vec::from_slice(alloc, listens)?,
+    );
+    let folder = folder_of(alloc, WITH_SERVICES, line, lines, reads)?;
+    let served = served(rt, folder, net)?;
+    Ok((served.written, served.status))
+}
+
+/// A folder that can't be read, files that are refused, addresses that can't be listened on, and accepts that fail.
+#[test]
+fn routers_that_do_not_serve(rt: HostRuntime) -> Result<(), Fail> {
+    let line = "127.0.0.1 9001\n";
+    let rows: [(&[u64], &[u64], u64, &str, u32, &str, u8); 9] = [
+        (&[1], &[0], 0, line, 1, "error read\n", 4),
+        (&[2], &[0], 0, line, 1, "error read\n", 4),
+        // A file of 1,048,590 bytes is too long. Its fault comes before that of the net.
+        (&[], &[0], 0, "127.0.0.1\n", 1, "error file web\n", 3),
+        (&[], &[0], 0, line, 69_906, "error file web\n", 3),
+        (&[], &[0], 0, line, 1, "error net\n", 6),
+        (&[], &[1], 0, line, 1, "error net\n", 6),
+        (&[], &[2], 0, line, 1, "error net\n", 6),
+        // A listener is broken at a hundred faults in a row.
+        (
+            &[],
+            &[],
+            99,
+            line,
+            1,
+            "serving 127.0.0.1:4140 127.0.0.1:4180 127.0.0.1:9990\nclosed 1\n",
+            0,
+        ),
+        (
+            &[],
+            &[],
+            100,
+            line,
+            1,
+            "serving 127.0.0.1:4140 127.0.0.1:4180 127.0.0.1:9990\nerror net\n",
+            6,
+        ),
+    ];
+    for (reads, listens, accepts, line, lines, written, status) in rows {
+        let (text, ended) = served_amiss(&rt, reads, listens, accepts, line, lines)?;
+        assert_eq!(rt; (text.as_str(), ended), (written, status));
+    }
+    Ok(())
+}
+
+/// A folder with the configuration `conf/c.json`, and nine services at `disco` with a thousand addresses each, all of them different.
+fn folder_of_many(alloc: Global) -> Result<MemFolder, AllocError> {
+    let mut files = vec![in alloc; file(alloc, "conf", "c.json", WITH_SERVICES)?]?;
+    for service in 1..10 {
+        let mut text = String::new(alloc);
+        for port in 1..1001 {
+            write!(text, "127.0.0.{service} {port}\n")?;
+        }
+        let name = format!(in alloc; "s{service}")?;
+        files.push(file(alloc, "disco", name.as_str(), text.as_str())?)?;
+    }
+    Ok(MemFolder::of(alloc, files, Vec::new(alloc)))
+}
+
+/// There is room for 8,192 addresses.
+#[test]
+fn services_without_room(rt: HostRuntime) -> Result<(), Fail> {
+    let alloc = rt.alloc();
+    let served = served(&rt, folder_of_many(alloc)?, net_of(alloc, "", "", "", "")?)?;
+    assert_eq!(rt;
+        (served.written.as_str(), served.status),
+        ("error book\n", 3)
     );
     Ok(())
 }

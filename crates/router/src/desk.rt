@@ -130,6 +130,7 @@ impl<J: Naming> Desk<J> {
         requires room { place_of (operations_of (published_by self.old.writer)) < 2 ^ 64 - 1 }
         ensures number { number_in pass.new ≡ number_in pass.old }
         ensures want { OnErr result (SawMore pass.old pass.new) }
+        ensures writer { OnErr result (SameWriter self.old.writer self.new.writer) }
         ensures called { OnOk result (Called pass.old pass.new (changing (change_of change)) (length (seen_in pass.old))) }
         ensures seen { OnOk result (seen_in pass.new ≡ seen_in pass.old ++ option_to_list (publishes J.settings (seen_in pass.old) (number_in pass.old) (made_in pass.old) (kept_in pass.old) (changing (change_of change)))) }
         ensures made { OnOk result (made_in pass.new ≡ made_in pass.old + 1) }
@@ -167,6 +168,7 @@ impl<J: Naming> Desk<J> {
         requires room { kept_count (operations_of (published_by self.old.writer)) < 2 ^ 64 - 1 }
         ensures number { number_in pass.new ≡ number_in pass.old }
         ensures want { OnErr result (SawMore pass.old pass.new) }
+        ensures writer { OnErr result (SameWriter self.old.writer self.new.writer) }
         ensures called { OnOk result (Called pass.old pass.new (keeping (kept_of binding)) (length (seen_in pass.old))) }
         ensures seen { OnOk result (seen_in pass.new ≡ seen_in pass.old ++ option_to_list (publishes J.settings (seen_in pass.old) (number_in pass.old) (made_in pass.old) (kept_in pass.old) (keeping (kept_of binding)))) }
         ensures made { OnOk result (made_in pass.new ≡ made_in pass.old) }
@@ -199,6 +201,7 @@ impl<J: Naming> Desk<J> {
         ensures number { number_in pass.new ≡ number_in pass.old }
         ensures changed { IfOk result (IsChanged pass.old pass.new (change_of change)) }
         ensures want { OnErr result (SawMore pass.old pass.new) }
+        ensures writer { OnErr result (SameWriter self.old.writer self.new.writer) }
     {
         let (reply, ready) = prepare_in(rt, alloc, &mut self.writer, &change)?;
         self.show(rt, pass);
@@ -257,6 +260,7 @@ impl<J: Naming> Desk<J> {
         ensures number { number_in pass.new ≡ number_in pass.old }
         ensures remembered { IfOk result (IsRemembered pass.old pass.new (kept_of binding)) }
         ensures want { OnErr result (SawMore pass.old pass.new) }
+        ensures writer { OnErr result (SameWriter self.old.writer self.new.writer) }
     {
         self.show(rt, pass);
         match self.objection(rt, &binding) {

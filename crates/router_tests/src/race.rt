@@ -85,7 +85,7 @@ fn hold_for_a_moment<J: Naming>(router: &Router<J>, pass: &mut Pass<J>, slot: u3
     true
 }
 
-/// Whether each pick is right for its table, and none is of an older one than that before it.
+/// Whether each pick is right for its table, and none is of an older one than its pass had seen before.
 fn watch<J: Naming, L: Ledger, R: Wait>(
     rt: &R,
     alloc: Global,
@@ -99,10 +99,10 @@ fn watch<J: Naming, L: Ledger, R: Wait>(
         return false;
     };
     let mut steps = Steps::<L>::start(blank);
-    let mut last = 0;
     for _turn in 0..PICKS {
+        let before = pass.place();
         match served(rt, alloc, router, pass, &ask, &mut steps) {
-            Some(place) if last <= place => last = place,
+            Some(place) if before <= place => {}
             _ => return false,
         }
     }

@@ -10,7 +10,7 @@ const B: usize = 1;
 const C: usize = 2;
 
 /// A change of one caller is seen by another that asks later, and by both where two meet.
-const MEETING: [Row; 10] = [
+const MEETING: [Row; 13] = [
     (B, Act::Look, "at 0 missing"),
     (
         A,
@@ -25,6 +25,9 @@ const MEETING: [Row; 10] = [
     (B, Act::Count, "pass 1 place 1 made 0 kept 0 refused 0"),
     (C, Act::Create("default", "/a => /b"), "exists 1"),
     (C, Act::Count, "pass 2 place 1 made 0 kept 0 refused 0"),
+    (A, Act::Create("other", "/a => /b"), "version 2"),
+    (A, Act::Meet, "places 2 2"),
+    (B, Act::Count, "pass 1 place 2 made 0 kept 0 refused 0"),
 ];
 
 /// The replica with the lesser load is taken. Two requests on one of twice the weight are as much as one on the other.
@@ -101,7 +104,7 @@ const REMEMBERED: [Row; 16] = [
 
 #[test]
 fn callers_that_meet_see_one_history(rt: HostRuntime) {
-    assert_eq!(rt; run(&rt, rt.alloc(), "", &MEETING), Some(1));
+    assert_eq!(rt; run(&rt, rt.alloc(), "", &MEETING), Some(2));
 }
 
 #[test]

@@ -1,6 +1,11 @@
-//! Whole sessions over peers, dialers and clocks in memory: worked exchanges with the bytes on both sides, hostile requests, each failing call, and limits.
+//! Whole sessions over peers, dialers and clocks in memory: worked exchanges with the bytes on both sides, hostile requests, each failing call, and limits; one
+//! request by itself; and two sessions beside one another.
 #![tactic(auto)]
 
+#[cfg(test)]
+mod beside;
+#[cfg(test)]
+mod first_request;
 #[cfg(test)]
 mod hostile;
 #[cfg(test)]

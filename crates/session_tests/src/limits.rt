@@ -36,7 +36,7 @@ fn a_connection_is_spent(rt: HostRuntime) -> Result<(), Fail> {
     };
     let played = play(&rt, alloc, &scene)?;
     let wanted = refusals(alloc)?;
-    assert_eq!(rt; played.ended, Spent);
+    assert_eq!(rt; played.ended, Some(Spent));
     assert!(rt; played.written == wanted, "the replies");
     Ok(())
 }
@@ -54,7 +54,7 @@ fn a_request_leaves_nothing_behind(rt: HostRuntime) -> Result<(), Fail> {
     let played = play(&rt, alloc, &scene)?;
     assert_eq!(rt;
         (played.ended, played.receives, played.load),
-        (PeerEnded, 3, Some(0))
+        (Some(PeerEnded), 3, Some(0))
     );
     Ok(())
 }

@@ -7,16 +7,16 @@ ghost use Rattle.router.specs.Values.{settings_in};
 ghost use Rattle.snap_cell.specs.Writers.{cell_written, opening_written};
 
 use crate::scene::{
-    Bytes, Mem, Scene, by_host, client, clock, one_address, settings, spelling, upstreams,
+    Bytes, Mem, Scene, Serving, by_host, client, clock, one_address, settings, spelling, upstreams,
 };
 use addr_book::Addr;
 use dtab_table::Dtab;
-use http_wire::Ended;
+use http_wire::{Ended, Rest, read_request_head};
 use identifier::Rule;
 use line_base::{DialEvent, Gate, MemClock, MemDialer, MemPeer};
 use machine::{Ask, Change, Reply};
 use name_tree::{Path, read_path};
-use proxy_session::serve_session;
+use proxy_session::{proxy_once, serve_session};
 use rand_core::SeedableRng;
 use rand_pcg::Pcg64;
 use router::{Names, Naming, Opened, Pass, Peek, Router, open};
@@ -43,7 +43,10 @@ pub(crate) struct Played {
     pub(crate) sent: String,
     /// How many receives were made.
     pub(crate) receives: usize,
-    pub(crate) ended: Ended,
+    /// How many calls of the dialer failed.
+    pub(crate) failed: u64,
+    /// How the connection ended; `None` where it goes on behind the one request that was served.
+    pub(crate) ended: Option<Ended>,
     /// How many reports on the address of `web` were taken in, and how often it has failed since it last did well. It had failed once.
     pub(crate) reported: (u64, u32),
     /// The load of the replica, where something is kept for it.
@@ -168,6 +171,41 @@ fn serve<J: Naming, R: Wait>(
     )
 }
 
+/// Reads the head of the client's first request and serves it, with a pass that holds no slot. `None` where the connection goes on.
+fn serve_first<J: Naming, R: Wait>(
+    rt: &R,
+    alloc: Global,
+    router: &Router<J>,
+    pass: &mut Pass<J>,
+    rule: &Rule,
+    outside: &mut Outside,
+) -> Option<Ended> {
+    let None = pass.holds() else {
+        return Some(Ended::OutOfMemory);
+    };
+    let Ok(mut rest) = Rest::room(alloc) else {
+        return Some(Ended::OutOfMemory);
+    };
+    let Ok(head) = read_request_head(alloc, &mut outside.peer, &mut rest) else {
+        return Some(Ended::Cut);
+    };
+    let mut words = Pcg64::seed_from_u64(7);
+    proxy_once(
+        rt,
+        alloc,
+        router,
+        pass,
+        rule,
+        &head,
+        false,
+        &mut outside.peer,
+        &mut rest,
+        &mut outside.dialer,
+        &mut outside.clock,
+        &mut words,
+    )
+}
+
 /// Gives `web` its address, which then fails once.
 fn prepare<J: Naming, R: Wait>(
     rt: &R,
@@ -189,12 +227,13 @@ fn prepare<J: Naming, R: Wait>(
 }
 
 /// What the outside was told of a session that ended so.
-fn told(alloc: Global, outside: &Outside, ended: Ended) -> Mem<Played> {
+fn told(alloc: Global, outside: &Outside, ended: Option<Ended>) -> Mem<Played> {
     let sent = sent_of(alloc, outside.dialer.log())?;
     Ok(Played {
         written: spelling(alloc, outside.peer.sink().held())?,
         sent: spelling(alloc, sent.as_slice())?,
         receives: receives_of(outside.dialer.log()),
+        failed: outside.dialer.faults(),
         ended,
         reported: (0, 0),
         load: None,
@@ -211,7 +250,10 @@ fn play_on<J: Naming, R: Wait>(
     scene: &Scene<'_>,
 ) -> Mem<Played> {
     let mut outside = Outside::of(alloc, scene)?;
-    let ended = serve(rt, alloc, router, pass, rule, &mut outside);
+    let ended = match scene.serving {
+        Serving::Session => Some(serve(rt, alloc, router, pass, rule, &mut outside)),
+        Serving::FirstRequest => serve_first(rt, alloc, router, pass, rule, &mut outside),
+    };
     told(alloc, &outside, ended)
 }
 

@@ -38,7 +38,13 @@ pub(crate) struct Row {
 }
 
 /// What came of a session, as one text.
-fn told(alloc: Global, written: &str, sent: &str, ended: Ended, reported: Reported) -> Mem<String> {
+fn told(
+    alloc: Global,
+    written: &str,
+    sent: &str,
+    ended: Option<Ended>,
+    reported: Reported,
+) -> Mem<String> {
     let (reports, failures) = reported;
     format!(in alloc; "{written} {sent} {ended:?} {reports} {failures}")
 }
@@ -54,7 +60,13 @@ impl Row {
         let (written, sent) = (played.written.as_str(), played.sent.as_str());
         Ok((
             told(alloc, written, sent, played.ended, played.reported)?,
-            told(alloc, self.written, self.sent, self.ended, self.reported)?,
+            told(
+                alloc,
+                self.written,
+                self.sent,
+                Some(self.ended),
+                self.reported,
+            )?,
         ))
     }
 }

@@ -35,6 +35,15 @@ pub(crate) enum Failing {
     Dial(u64),
 }
 
+/// What is served of what the client gives.
+#[derive(Clone, Copy)]
+pub(crate) enum Serving {
+    /// All of it, as a session.
+    Session,
+    /// The first request alone, which is not the last that its connection may carry.
+    FirstRequest,
+}
+
 /// What a session is played with. In the texts `|` is CR LF and `~` is LF.
 #[derive(Clone, Copy)]
 pub(crate) struct Scene<'a> {
@@ -45,6 +54,7 @@ pub(crate) struct Scene<'a> {
     pub(crate) times: usize,
     /// So many of these bytes come, and then the end.
     pub(crate) until: usize,
+    pub(crate) serving: Serving,
     /// The replies of the upstreams, in the order of the dials.
     pub(crate) replies: &'a [&'a str],
     /// The most bytes that a call moves.
@@ -60,6 +70,7 @@ impl<'a> Scene<'a> {
             gives,
             times: 1,
             until: usize::MAX,
+            serving: Serving::Session,
             replies,
             most: usize::MAX,
             failing: Failing::Nothing,

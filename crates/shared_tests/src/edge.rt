@@ -10,21 +10,25 @@ use std::{fs, thread};
 
 const LOOPBACK: u32 = 0x7f00_0001;
 
+/// A port of this machine.
+fn address(port: u16) -> SocketAddr {
+    SocketAddr::V4(SocketAddrV4::new(Ipv4Addr::from_bits(LOOPBACK), port))
+}
+
 /// A port that is free.
 fn free_port(
     rt: &impl std::net::Net<Listener = TcpListener, Stream = TcpStream>,
 ) -> std::io::Result<u16> {
-    let any = SocketAddr::V4(SocketAddrV4::new(Ipv4Addr::from_bits(LOOPBACK), 0));
-    Ok(TcpListener::bind(rt, any)?.local_addr()?.port())
+    Ok(TcpListener::bind(rt, address(0))?.local_addr()?.port())
 }
 
-/// Answers each connection with what it said first, in capitals, until the listener is closed; at most so many.
-fn echo<L: Listener>(listener: &mut L, most: u32) -> u32 {
+/// Answers each connection with what it said first, in capitals, until the listener is closed; at most so many. It gives how many it answered, and whether the listener was closed.
+fn echo<L: Listener>(listener: &mut L, most: u32) -> (u32, bool) {
     let mut served = 0u32;
     for _ in 0..most {
         let mut peer = match listener.accept() {
             Ok(Some(peer)) => peer,
-            Ok(None) => return served,
+            Ok(None) => return (served, true),
             Err(_) => continue,
         };
         let mut piece = [0u8; 16];
@@ -35,7 +39,7 @@ fn echo<L: Listener>(listener: &mut L, most: u32) -> u32 {
         }
         listener.finish(peer);
     }
-    served
+    (served, false)
 }
 
 /// Says `ping` on a connection of its own, and gives what comes back before the end.
@@ -59,21 +63,38 @@ fn ask<D: Dialer>(dialer: &mut D, port: u16) -> Result<([u8; 4], usize), Failed>
 /// What one thread does.
 #[derive(Drop)]
 enum Part<L, D, S> {
-    /// It answers connections.
-    Answers { listener: L, served: u32 },
-    /// It asks three times, and then calls the stop.
-    Asks { dialer: D, stop: S, heard: u32 },
+    /// It answers connections, until its listener is closed.
+    Answers {
+        listener: L,
+        served: u32,
+        is_closed: bool,
+    },
+    /// It asks twice at each port, and then calls the stop.
+    Asks {
+        dialer: D,
+        stop: S,
+        heard: u32,
+    },
 }
 
-fn play<L: Listener, D: Dialer, S: Stop>(part: &mut Part<L, D, S>, port: u16) {
+fn play<L: Listener, D: Dialer, S: Stop>(part: &mut Part<L, D, S>, ports: [u16; 2]) {
     match part {
-        Part::Answers { listener, served } => *served = echo(listener, 8),
+        Part::Answers {
+            listener,
+            served,
+            is_closed,
+        } => {
+            let (count, closed) = echo(listener, 8);
+            *served = count;
+            *is_closed = closed;
+        }
         Part::Asks {
             dialer,
             stop,
             heard,
         } => {
-            for _ in 0..3 {
+            let [one, other] = ports;
+            for port in [one, one, other, other] {
                 if ask(dialer, port) == Ok((*b"PING", 0)) {
                     *heard = heard.saturating_add(1);
                 }
@@ -83,42 +104,73 @@ fn play<L: Listener, D: Dialer, S: Stop>(part: &mut Part<L, D, S>, port: u16) {
     }
 }
 
-/// Two threads wait in one queue and answer three connections of a third; the address is in use meanwhile. A stop ends both, and then nobody listens.
-#[test]
-fn net_over_loopback(rt: HostRuntime) -> Result<(), Fail> {
-    let port = free_port(&rt)?;
-    let mut net = SocketNet::of(&rt)?;
-    let listeners = net.listen(LOOPBACK, port, 2)?;
-    assert_eq!(rt; net.listen(LOOPBACK, port, 1).err(), Some(NetFault::Failed));
-    let mut parts = Vec::new(rt.alloc());
-    for listener in listeners.into_items() {
+/// Adds a part for each of so many listeners of a port.
+fn listen<N: Net>(
+    net: &mut N,
+    port: u16,
+    copies: u32,
+    parts: &mut Vec<Part<N::L, N::D, N::S>>,
+) -> Result<(), Fail> {
+    for listener in net.listen(LOOPBACK, port, copies)?.into_items() {
         parts.push(Part::Answers {
             listener,
             served: 0,
+            is_closed: false,
         })?;
     }
+    Ok(())
+}
+
+/// Gives the listeners back: how many connections they answered, how many of them were closed and came back well, and how many answers were heard.
+fn end<N: Net>(net: &mut N, parts: Vec<Part<N::L, N::D, N::S>>) -> (u32, u32, u32) {
+    let mut answered = 0u32;
+    let mut closed = 0u32;
+    let mut all_heard = 0u32;
+    for part in parts {
+        match part {
+            Part::Answers {
+                listener,
+                served,
+                is_closed,
+            } => {
+                answered = answered.saturating_add(served);
+                let stop = net.stopper();
+                if net.end(listener, None, stop).is_ok() && is_closed {
+                    closed = closed.saturating_add(1);
+                }
+            }
+            Part::Asks { heard, .. } => all_heard = all_heard.saturating_add(heard),
+        }
+    }
+    (answered, closed, all_heard)
+}
+
+/// Two threads wait in the queue of an address, which is in use meanwhile, and one at another address. A fourth thread asks, and its stop closes all three listeners: then nobody
+/// listens.
+#[test]
+fn net_over_loopback(rt: HostRuntime) -> Result<(), Fail> {
+    let mut net = SocketNet::of(&rt)?;
+    let mut parts = Vec::new(rt.alloc());
+    let one = free_port(&rt)?;
+    listen(&mut net, one, 2, &mut parts)?;
+    assert_eq!(rt; net.listen(LOOPBACK, one, 1).err(), Some(NetFault::Failed));
+    assert_eq!(rt; net.refused(), Some(address(one)));
+    let other = free_port(&rt)?;
+    listen(&mut net, other, 1, &mut parts)?;
     parts.push(Part::Asks {
         dialer: net.dialer(),
         stop: net.stopper(),
         heard: 0,
     })?;
-    thread::for_each_mut(&rt, parts.as_mut_slice(), 3, &|_, part| play(part, port));
-    let mut served = 0u32;
-    for part in parts {
-        match part {
-            Part::Answers {
-                listener,
-                served: count,
-            } => {
-                served = served.saturating_add(count);
-                let stop = net.stopper();
-                assert_eq!(rt; net.end(listener, None, stop), Ok(()));
-            }
-            Part::Asks { heard, .. } => assert_eq!(rt; heard, 3),
-        }
-    }
-    assert_eq!(rt; served, 3);
-    assert_eq!(rt; ask(&mut net.dialer(), port), Err(Failed));
+    thread::for_each_mut(
+        &rt,
+        parts.as_mut_slice(),
+        4,
+        &|_, part| play(part, [one, other]),
+    );
+    assert_eq!(rt; end(&mut net, parts), (4, 3, 4));
+    assert_eq!(rt; ask(&mut net.dialer(), one), Err(Failed));
+    assert_eq!(rt; ask(&mut net.dialer(), other), Err(Failed));
     Ok(())
 }
 

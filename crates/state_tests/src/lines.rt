@@ -77,11 +77,11 @@ fn drop_line(alloc: Global, bytes: usize) -> Result<Vec<u8>, Fail> {
 /// A line of a command, then so many blanks, so many `;`, which are a table with no entry, and a blank at the end.
 fn table_line(
     alloc: Global,
-    command: &[u8],
+    command: &str,
     blanks: usize,
     semicolons: usize,
 ) -> Result<Vec<u8>, Fail> {
-    let mut line = command.to_vec(alloc)?;
+    let mut line = command.as_bytes().to_vec(alloc)?;
     for _blank in 0..blanks {
         line.push(b' ')?;
     }
@@ -94,9 +94,18 @@ fn table_line(
 
 #[test]
 fn measures_tables_from_their_first_byte_on(rt: HostRuntime) -> Result<(), Fail> {
-    for (blanks, semicolons, want) in [(9, 65_535, "change"), (1, 65_536, "bad")] {
-        let line = table_line(rt.alloc(), b"put web *", blanks, semicolons)?;
-        assert!(rt; kind(rt.alloc(), line.as_slice()) == want, "{semicolons}");
+    for (command, good) in [
+        ("create web", "change"),
+        ("put web *", "change"),
+        ("pick /a 0 0 0 0", "ask"),
+    ] {
+        for (blanks, semicolons, want) in [(9, 65_535, good), (1, 65_536, "bad")] {
+            let line = table_line(rt.alloc(), command, blanks, semicolons)?;
+            assert!(rt;
+                kind(rt.alloc(), line.as_slice()) == want,
+                "{command}, {semicolons}"
+            );
+        }
     }
     Ok(())
 }

@@ -101,7 +101,7 @@ fn told(alloc: Global, state: &mut State, by: By, line: &str) -> Result<Vec<u8>,
 }
 
 /// Lines that are carried out on one state, and their answers.
-const LINES: [(By, &str, &str); 24] = [
+const LINES: [(By, &str, &str); 30] = [
     (
         By::Apply,
         "create default /svc => /$/inet/127.0.0.1/1",
@@ -167,7 +167,22 @@ const LINES: [(By, &str, &str); 24] = [
         "pick /svc/web",
         "127.0.0.1:1 /#/io.l5d.fs/web /",
     ),
+    // A service without addresses is empty, and not negative: no alternative is tried.
+    (By::Apply, "addrs web", "ok 0"),
+    (
+        By::Absorb,
+        "put default * /svc => /#/io.l5d.fs | /$/inet/127.0.0.1/9",
+        "version 3",
+    ),
+    (By::Choose, "pick /svc/web", "empty"),
     (By::Apply, "drop web", "dropped"),
+    (
+        By::Choose,
+        "pick /svc/web",
+        "127.0.0.1:9 /$/inet/127.0.0.1/9 /web",
+    ),
+    (By::Apply, "drop web", "missing"),
+    (By::Absorb, "drop web", "missing"),
 ];
 
 #[test]

@@ -1,5 +1,4 @@
-use Rattle.std.proofs.Common.{◌≡◌, ◌≢◌, refl, ap, ◌∙◌, Ok, Err}
-use Rattle.body_wire.specs.declared.end.BodyEnd.{BodyEnd}
+use Rattle.std.proofs.Common.{ap, Err}
 use Rattle.admin_api.specs.declared.request.Request.{Request}
 use Rattle.admin_api.proofs.Requesting.{bad_test, body_causes, no_body, no_head, whole_request}
 use Rattle.admin_api.proofs.request.read_request.Goals as goal

@@ -1,4 +1,4 @@
-use Rattle.std.proofs.Common.{◌≡◌, List, ℕ, false, refl, subst, ◌∙◌, Ok, Err}
+use Rattle.std.proofs.Common.{List, ℕ, false, refl, subst, ◌∙◌}
 use Rattle.body_wire.specs.Passing.{IsFrontOf}
 use Rattle.admin_api.proofs.Turning.{delivered}
 use Rattle.admin_api.proofs.serving.deliver.Goals as goal

@@ -28,7 +28,7 @@ returns-in-Ok g c = λ files config before loaded made seen listening.
 pub returns-in-Err-Net : goal.returns-in-Err-Net
 returns-in-Err-Net g c = λ files config before loaded made seen listening.
     let e = c.in-Err-Net.ensures in
-    (codes "error net\n", broken, status.Net, refl, record { rose = λ _. e.broken (ap Err c.in-Err-Net.field-0-is); kept = λ other. absurd (other refl) }, refl, c.tell.ensures)
+    (codes "error net\n", broken, status.Net, (refl, (loaded, made.loads)), record { rose = λ _. e.broken (ap Err c.in-Err-Net.field-0-is); kept = λ other. absurd (other refl) }, refl, c.tell.ensures)
 
 pub returns-in-Err-OutOfMemory : goal.returns-in-Err-OutOfMemory
 returns-in-Err-OutOfMemory g c = λ files config before loaded made seen listening.

@@ -21,7 +21,7 @@ returns-in-Err-Net g c = λ files config made.
     let net_of = λ (n : g.row.N.Denot). let l : Linked g.row.N-L-P.Denot = record { state = g.N.Net.state n; faults = g.N.Net.faults n } in l in
     let old : Output = record { held = g.K.Sink.held c.args.out.now; faults = g.K.Sink.faults c.args.out.now } in
     let new : Output = record { held = g.K.Sink.held c.tell-in-Err-Net.new.out; faults = g.K.Sink.faults c.tell-in-Err-Net.new.out } in
-    not_listening g.row.J.Denot line_of (g.C.Clock.of_fork c.args.clock.now) files config (net_of c.args.net.now) (net_of c.start.new.net) old new c.tell-in-Err-Net.result (c.in-Err-Net.ensures.broken (ap Err c.in-Err-Net.field-0-is)) c.tell-in-Err-Net.ensures
+    not_listening g.row.J.Denot line_of (g.C.Clock.of_fork c.args.clock.now) files config (net_of c.args.net.now) (net_of c.start.new.net) old new c.tell-in-Err-Net.result (c.args.loaded, made.loads) (c.in-Err-Net.ensures.broken (ap Err c.in-Err-Net.field-0-is)) c.tell-in-Err-Net.ensures
 
 pub returns-in-Err-OutOfMemory : goal.returns-in-Err-OutOfMemory
 returns-in-Err-OutOfMemory g c = λ files config made.
