@@ -8,17 +8,15 @@ usage: bench/starve_serve.py [--program crates/linker/out/linker]
 """
 import argparse, mmap, os, socket, struct, subprocess, sys, tempfile, threading, time
 
+from starve import refusing_library
+
 HERE = os.path.dirname(os.path.abspath(__file__))
 
 # The file named by REFUSE has two numbers: which call is refused, or 0 for none, and how many there were since this was set.
-REFUSING_MALLOC = r"""
-#include <errno.h>
+BY_FILE = r"""
 #include <fcntl.h>
 #include <stdlib.h>
 #include <sys/mman.h>
-
-extern void *__libc_malloc(size_t);
-extern void *__libc_realloc(void *, size_t);
 
 static volatile long *state;
 
@@ -31,16 +29,6 @@ __attribute__((constructor)) static void begin(void) {
 static int is_refused(void) {
     if (!state || state[0] == 0) return 0;
     return __sync_add_and_fetch(&state[1], 1) == state[0];
-}
-
-void *malloc(size_t size) {
-    if (is_refused()) { errno = ENOMEM; return 0; }
-    return __libc_malloc(size);
-}
-
-void *realloc(void *old, size_t size) {
-    if (is_refused()) { errno = ENOMEM; return 0; }
-    return __libc_realloc(old, size);
 }
 """
 
@@ -120,8 +108,7 @@ def main():
     for one in sockets:
         one.close()
     with tempfile.TemporaryDirectory() as folder:
-        library = os.path.join(folder, "refuse.so")
-        subprocess.run(["cc", "-shared", "-fPIC", "-O1", "-x", "c", "-o", library, "-"], input=REFUSING_MALLOC.encode(), check=True)
+        library = refusing_library(folder, BY_FILE)
         os.mkdir(os.path.join(folder, "disco"))
         with open(os.path.join(folder, "disco", "web"), "w") as file:
             file.write(f"127.0.0.1 {replica.port}\n")
