@@ -1,5 +1,5 @@
 -- By which number prefixes are filed: a hash of their labels and of the places of `*`.
-use Rattle.std.specs.Prelude.{ℕ, ◌*◌, ◌%◌, ◌^◌, Bool, true, false, List, [], ◌∷◌, map, Some, None}
+use Rattle.std.specs.Prelude.{◌≡◌, ℕ, ◌*◌, ◌%◌, ◌^◌, Bool, true, false, List, [], ◌∷◌, length, map, take, Some, None}
 use Rattle.std.specs.Int.Bits.{bit_xor}
 use Rattle.dtab_index.specs.Index.{Label, Pattern}
 
@@ -11,9 +11,13 @@ abbrev pub with_bytes : ℕ → Label → ℕ
 with_bytes hash [] = hash
 with_bytes hash (b ∷ bs) = with_bytes (mixed hash b) bs
 
--- a label, and a mark that no byte is
+-- the hash of a label
+unfoldable pub label_hash : Label → ℕ
+label_hash label = with_bytes 14695981039346656037 label
+
+-- a label, of which its hash is mixed in
 unfoldable pub with_label : ℕ → Label → ℕ
-with_label hash label = mixed (with_bytes hash label) 256
+with_label hash label = mixed hash (label_hash label)
 
 -- a `*`
 unfoldable pub with_star : ℕ → ℕ
@@ -49,3 +53,18 @@ abbrev pub front_by : List Bool → List Label → List Pattern
 front_by [] path = []
 front_by (s ∷ ss) [] = []
 front_by (s ∷ ss) (l ∷ ls) = seen_by s l ∷ front_by ss ls
+
+-- these are the hashes of a path's first labels, as many as there are
+abbrev pub AreHashes : List ℕ → List Label → Type 0
+AreHashes hashes path = hashes ≡ map label_hash (take (length hashes) path)
+
+-- the hash of a label, or a `*` in its place
+abbrev pub with_seen : ℕ → Bool → ℕ → ℕ
+with_seen hash true word = with_star hash
+with_seen hash false word = mixed hash word
+
+-- the number by which such a prefix is filed, where the hashes of the path's labels are these
+abbrev pub key_by : ℕ → List Bool → List ℕ → ℕ
+key_by hash [] words = hash
+key_by hash (s ∷ ss) [] = hash
+key_by hash (s ∷ ss) (w ∷ ws) = key_by (with_seen hash s w) ss ws

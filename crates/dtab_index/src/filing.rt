@@ -4,12 +4,12 @@ ghost use Rattle.std.specs.Prelude.{◌≡◌, ◌++◌, ℕ, Bool, List, map, O
 ghost use Rattle.std.specs.Bool.{OnTrue};
 ghost use Rattle.std.specs.List.{slice_get};
 ghost use Rattle.std.specs.Option.{option_to_list};
-ghost use Rattle.dtab_index.specs.Key.{key_of, shape_of};
+ghost use Rattle.dtab_index.specs.Key.{key_of, shape_of, AreHashes};
 ghost use Rattle.dtab_index.specs.Filing.{places_at, candidates, position_of, matching_at, is_found, some_found_at};
 ghost use Rattle.dtab_index.specs.Prefix.{patterns_of, placed_of, stars_of};
 
 use crate::Mem;
-use crate::key::path_key;
+use crate::key::key_at;
 use crate::prefix::{Entry, Shape};
 use std::alloc::Global;
 use std::collections::HashMap;
@@ -54,14 +54,21 @@ pub(crate) fn note_place(alloc: Global, buckets: &mut Buckets, key: u64, place: 
     Ok(())
 }
 
-/// The places that are looked at for a path, among the prefixes of a shape.
-pub(crate) fn candidates<'a>(buckets: &'a Buckets, stars: &[bool], path: &[Vec<u8>]) -> &'a [usize]
+/// The places that are looked at for a path, among the prefixes of a shape. Labels of which the hash
+/// is given are not hashed.
+pub(crate) fn candidates<'a>(
+    buckets: &'a Buckets,
+    stars: &[bool],
+    path: &[Vec<u8>],
+    hashes: &[u64],
+) -> &'a [usize]
+    requires { AreHashes hashes.now (map (λ l. l.items) path.now) }
     ensures { result.now ≡ candidates (places_at buckets.now) stars.now (map (λ l. l.items) path.now) }
 {
     if path.len() < stars.len() {
         return &[];
     }
-    match buckets.get(&path_key(stars, path)) {
+    match buckets.get(&key_at(stars, path, hashes)) {
         Some(places) => places.as_slice(),
         None => &[],
     }

@@ -2,7 +2,7 @@
 
 use crate::Mem;
 use crate::filing::{candidates, gather, note_place, note_shape, some_found_at};
-use crate::key::prefix_key;
+use crate::key::{label_hashes, prefix_key};
 use crate::prefix::{Entry, Shape};
 use std::alloc::Global;
 use std::collections::HashMap;
@@ -14,6 +14,8 @@ pub struct Index {
     entries: Vec<Entry>,
     shapes: Vec<Shape>,
     buckets: HashMap<u64, Vec<usize>>,
+    /// How many labels the longest prefix has.
+    longest: usize,
 }
 
 impl Model for Index {
@@ -43,6 +45,7 @@ impl Index {
             entries: Vec::new(alloc),
             shapes: Vec::new(alloc),
             buckets: HashMap::new(alloc),
+            longest: 0,
         }
     }
 
@@ -58,20 +61,31 @@ impl Index {
         note_shape(alloc, &mut self.shapes, prefix.as_slice())?;
         let key = prefix_key(prefix.as_slice());
         note_place(alloc, &mut self.buckets, key, self.entries.len())?;
+        let longest = self.longest.max(prefix.len());
         self.entries.push(Entry { prefix, at })?;
+        self.longest = longest;
         Ok(())
     }
 
     /// The positions of the prefixes that match a path of these labels, the greatest first.
     ///
-    /// The cost is one pass over the path and one look-up for each shape that the index has, a comparison for each prefix that has
-    /// the path's labels, and the memory of the answer: none where nothing matches.
+    /// The cost is one pass over the path, and for each shape that the index has one look-up and one
+    /// step for each of its labels; a comparison for each prefix that has the path's labels; the
+    /// memory of the answer, none where nothing matches; and where there are several shapes, memory
+    /// for a number for each label.
     pub fn matching(&self, alloc: Global, path: &[Vec<u8>]) -> Mem<Vec<u32>>
         ensures { IfOk result (λ found. found.items ≡ matching self.now (map (λ l. l.items) path.now)) }
     {
         let mut found = Vec::new(alloc);
+        let hashed = if self.shapes.len() > 1 {
+            self.longest
+        } else {
+            0
+        };
+        let hashes = label_hashes(alloc, path, hashed)?;
         for shape in &self.shapes {
-            let places = candidates(&self.buckets, shape.stars.as_slice(), path);
+            let stars = shape.stars.as_slice();
+            let places = candidates(&self.buckets, stars, path, hashes.as_slice());
             gather(self.entries.as_slice(), places, path, &mut found)?;
         }
         found.sort_unstable();
@@ -88,7 +102,7 @@ impl Index {
         ensures { result ≡ some_matches_there from to self.now (map (λ l. l.items) path.now) }
     {
         for shape in &self.shapes {
-            let places = candidates(&self.buckets, shape.stars.as_slice(), path);
+            let places = candidates(&self.buckets, shape.stars.as_slice(), path, &[]);
             if some_found_at(self.entries.as_slice(), places, from, to, path) {
                 return true;
             }
