@@ -2,16 +2,29 @@
 use Rattle.std.specs.Prelude.{◌≡◌, ℕ, ◌<◌, List, length, slice_index_or, None}
 use Rattle.line_base.specs.Accepts.{Listening}
 use Rattle.line_base.specs.Nets.{Networking}
-use Rattle.net_edge.specs.declared.listener.SocketListener.{SocketListener}
-use Rattle.net_edge.specs.declared.peer.SocketPeer.{SocketPeer}
+use Rattle.net_edge.specs.declared.sockets.listener.SocketListener.{SocketListener}
+use Rattle.net_edge.specs.declared.sockets.peer.SocketPeer.{SocketPeer}
 
 -- a listener
 abbrev pub listening : {R : Type 0} → SocketListener R → Listening SocketPeer
-listening l = record { endpoint = None; visits = None; closes = l.closes; accepted = l.accepted; finished = l.finished; run = l.run }
+listening l = record {
+  endpoint = None;
+  visits = None;
+  closes = l.closes;
+  accepted = l.accepted;
+  finished = l.finished;
+  run = l.run;
+}
 
--- a net, by the listeners that came back clean, the stops that it handed out, and those that came back
+-- a net, by the listeners that came back clean, the stops that it handed out, and those that came
+-- back
 abbrev pub networking : ℕ → ℕ → ℕ → Networking SocketPeer
-networking clean given returned = record { told = None; clean = clean; stops_given = given; stops_returned = returned }
+networking clean given returned = record {
+  told = None;
+  clean = clean;
+  stops_given = given;
+  stops_returned = returned;
+}
 
 -- a listener before its first call
 pub record IsFresh {R : Type 0} (l : SocketListener R) : Type 0 where
@@ -19,7 +32,9 @@ pub record IsFresh {R : Type 0} (l : SocketListener R) : Type 0 where
   pub accepted : l.accepted ≡ 0
   pub finished : l.finished ≡ 0
   pub run : l.run ≡ 0
+  pub faults : l.faults ≡ 0
 
 -- each of these is
 abbrev pub AllFresh : {R : Type 0} → List (SocketListener R) → Type 0
-AllFresh {R} ls = (at : ℕ) (d : SocketListener R) → at < length ls → IsFresh (slice_index_or ls at d)
+AllFresh {R} ls =
+    (at : ℕ) (d : SocketListener R) → at < length ls → IsFresh (slice_index_or ls at d)

@@ -5,7 +5,8 @@ use line_base::Clock;
 use std::rt;
 use std::time::{Duration, Instant, SystemTime, UNIX_EPOCH};
 
-/// The clock of the machine, in milliseconds since 1970. It never goes back: it asks for the date once, and then counts on from there.
+/// The clock of the machine, in milliseconds since 1970. It never goes back: it asks for the date
+/// once, and then counts on from there.
 ///
 /// A moment at which the machine's clock can't be read is the last one that was told.
 #[derive(Drop)]

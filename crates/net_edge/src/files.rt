@@ -8,7 +8,8 @@ use std::fs::{self, DirEntry};
 use std::io::{self, ErrorKind, Read};
 use std::rt::Files;
 
-/// The file system of the process. A path that is relative begins at its working directory; a symbolic link stands for what it leads to.
+/// The file system of the process. A path that is relative begins at its working directory; a
+/// symbolic link stands for what it leads to.
 #[derive(Drop)]
 pub struct FileSystem<'a, R> {
     rt: &'a R,
@@ -23,7 +24,8 @@ impl<'a, R> FileSystem<'a, R> {
         FileSystem { rt, faults: 0 }
     }
 
-    /// What a call answers that ended with an error of this kind: want of memory, or a fault, which is counted.
+    /// What a call answers that ended with an error of this kind: out of memory, or a fault, which is
+    /// counted.
     fn fail<T>(&mut self, kind: ErrorKind) -> Result<T, FolderFault>
         ensures err { IsErr result }
         ensures cause { HasFolderCause self.old.faults self.new.faults result }
@@ -41,7 +43,8 @@ fn is_absent(kind: ErrorKind) -> bool {
     matches!(kind, ErrorKind::NotFound | ErrorKind::NotADirectory)
 }
 
-/// The name of a plain file among a folder's entries. A file that is gone by now is none, and one whose name is no UTF-8 is none that can be named.
+/// The name of a plain file among a folder's entries. A file that is gone by now is none, and one
+/// whose name is no UTF-8 is none that can be named.
 fn plain_name<R: Files + AllocGlobal + Drop>(
     rt: &R,
     entry: io::Result<DirEntry<R>>,

@@ -1,17 +1,33 @@
 //! The trusted edge: the outside of `line_base` over the machine.
 //!
-//! [`ReaderSource`] and [`WriterSink`] are a source and a sink over the standard streams and files, [`FileSystem`] is the folders of the process, and
-//! [`SystemClock`] its clock in milliseconds. [`SocketNet`] makes sockets: a [`SocketListener`] hands out [`SocketPeer`]s, a [`SocketDialer`] opens connections
-//! of its own, and a [`SocketStop`] closes the listeners.
+//! [`ReaderSource`] and [`WriterSink`] are a source and a sink over the standard streams and files,
+//! [`FileSystem`] is the folders of the process, and [`SystemClock`] its clock in milliseconds.
+//! [`SocketNet`] makes sockets: a [`SocketListener`] hands out [`SocketPeer`]s, a [`SocketDialer`]
+//! opens connections of its own, and a [`SocketStop`] closes the listeners.
 //!
-//! All listeners of an address wait in one queue. Sockets send what is written at once. A read or a write of theirs ends after [`IDLE_SECONDS`], a dial after
-//! [`DIAL_SECONDS`], as a fault. An accepted connection is ended gently: what was written still arrives, since the other end is first told that no more comes, and what it has
-//! yet to say is read and dropped, within bounds. A dialed one is ended at once, by a reset, and its socket is connected again by the next dial.
+//! # Waiting
+//! All listeners of an address share one socket, and wait in its queue of [`QUEUE_LENGTH`]. A stop
+//! lets those who are in the queue be accepted still, and closes the listeners behind them. Sockets
+//! send what is written at once. A read or a write of theirs ends after [`IDLE_SECONDS`], a dial
+//! after [`DIAL_SECONDS`], as a fault.
+//!
+//! # How connections end
+//! An accepted connection is ended gently: what was written still arrives, since the other end is
+//! first told that no more comes, and what it has yet to say is read and dropped, for two seconds
+//! at most. A dialed one is ended by a reset, and its socket is connected again by the next dial.
+//! But where the other end answered while bytes may still be on their way to it, the socket is
+//! closed in the ordinary way, so that they all arrive.
+//!
+//! # Descriptors
+//! `listen` opens what its listeners and as many dialers will want, and fails where the process may
+//! not open so much; [`Refusal`] says how many descriptors are wanted. So later no accept and no
+//! dial lacks one.
 //!
 //! # What is proved
-//! Each adapter meets its trait: every call that fails is counted, and the counts of ends, peers, closes and stops are right. What the machine's bytes and moments
-//! are is not told: no clause of these adapters speaks of content. So these few lines, which hand each call on to the machine, are trusted to do so; a test over
-//! loopback shows that they do.
+//! Each adapter meets its trait: every call that fails is counted, and the counts of ends, peers,
+//! closes and stops are right. What the machine's bytes and moments are is not told: no clause of
+//! these adapters speaks of content. So these few lines, which hand each call on to the machine,
+//! are trusted to do so; tests over loopback show that they do.
 //!
 //! # Example
 //! ```
@@ -21,23 +37,15 @@
 //! ```
 #![tactic(auto)]
 
-mod calls;
 mod clock;
-mod dialer;
 mod files;
-mod listener;
-mod net;
-mod peer;
-mod stop;
+mod sockets;
 mod streams;
-mod upstream;
 
 pub use clock::SystemClock;
-pub use dialer::SocketDialer;
 pub use files::FileSystem;
-pub use listener::SocketListener;
-pub use net::SocketNet;
-pub use peer::{IDLE_SECONDS, SocketPeer};
-pub use stop::SocketStop;
+pub use sockets::{
+    DIAL_SECONDS, IDLE_SECONDS, QUEUE_LENGTH, Refusal, SocketDialer, SocketListener, SocketNet,
+    SocketPeer, SocketStop,
+};
 pub use streams::{ReaderSource, WriterSink};
-pub use upstream::DIAL_SECONDS;

@@ -1,23 +1,29 @@
-//! Sockets that listen.
-ghost use Rattle.std.specs.Prelude.{◌≡◌, ◌≤◌, ◌<◌, ◌==◌, ◌&&◌, ◌↔◌, nat_lt, IsTrue};
-ghost use Rattle.net_edge.specs.Sockets.{listening};
+//! Listeners of an address, each of which hands out its clients one after another.
+ghost use Rattle.std.specs.Prelude.{◌≡◌, ◌≤◌, ◌==◌, ◌&&◌, ◌↔◌, nat_lt, IsTrue};
+ghost use Rattle.net_edge.specs.Sockets.{IsFresh, listening};
 
-use crate::peer::{SocketPeer, set_limits};
-use crate::stop::Closing;
+use super::peer::SocketPeer;
+use super::queue::{QUEUE_LENGTH, Queue};
+use super::stop::Closing;
 use line_base::{BROKEN_RUN, Failed, Listener};
-use std::net::TcpListener;
+use std::sync::Arc;
 use std::time::Duration;
 use std::{io, rt, thread};
 
-/// How many milliseconds an accept that failed waits before it answers: so a moment without descriptors is no run of failed accepts.
+/// How many milliseconds an accept that failed waits before it answers: so a moment without
+/// descriptors is no run of failed accepts.
 const PAUSE_MILLISECONDS: u64 = 50;
 
-/// A socket that listens. It tells no peers.
+/// What hands out clients of a queue. It tells no peers.
+///
+/// Once its net is stopped, it hands out those who wait in the queue, at most [`QUEUE_LENGTH`],
+/// and then answers that it is closed.
 #[derive(Drop)]
 pub struct SocketListener<'a, R> {
     rt: &'a R,
-    listener: TcpListener,
+    queue: Arc<Queue>,
     closing: Closing,
+    late: u32,
     closes: u64,
     accepted: u64,
     finished: u64,
@@ -25,22 +31,29 @@ pub struct SocketListener<'a, R> {
     faults: u64,
 }
 
-/// The next connection.
-fn next_peer(listener: &TcpListener) -> io::Result<SocketPeer> {
-    let (stream, _) = listener.accept()?;
-    set_limits(&stream)?;
-    Ok(SocketPeer::of(stream))
+/// The next client of a queue; none once the listeners are closed and nobody waits any more.
+fn next_peer(queue: &Queue, closing: &Closing) -> io::Result<Option<SocketPeer>> {
+    match queue.accept() {
+        Ok(stream) => Ok(Some(SocketPeer::over(stream)?)),
+        Err(_) if closing.is_closed() => {
+            // Others may wait for a client that comes no more.
+            queue.end();
+            Ok(None)
+        }
+        Err(error) => Err(error),
+    }
 }
 
 impl<'a, R> SocketListener<'a, R> {
-    /// A listener over this socket, before its first call.
-    pub(crate) fn of(rt: &'a R, listener: TcpListener, closing: Closing) -> SocketListener<'a, R>
-        ensures { (result.closes ≡ 0) × (result.accepted ≡ 0) × (result.finished ≡ 0) × (result.run ≡ 0) × (result.faults ≡ 0) }
+    /// A listener of this queue, before its first call.
+    pub(crate) fn of(rt: &'a R, queue: Arc<Queue>, closing: Closing) -> SocketListener<'a, R>
+        ensures fresh { IsFresh result }
     {
         SocketListener {
             rt,
-            listener,
+            queue,
             closing,
+            late: 0,
             closes: 0,
             accepted: 0,
             finished: 0,
@@ -58,7 +71,8 @@ impl<'a, R> SocketListener<'a, R> {
 
     /// Whether it answered that it is closed, and as many peers came back as it handed out.
     pub(crate) fn is_clean(&self) -> bool
-        ensures { result ≡ (nat_lt 0 self.now.closes && (self.now.finished == self.now.accepted)) }
+        ensures { result ≡ (nat_lt 0 self.now.closes
+            && (self.now.finished == self.now.accepted)) }
     {
         self.closes > 0 && self.finished == self.accepted
     }
@@ -72,18 +86,23 @@ impl<R: rt::Clock> Listener for SocketListener<'_, R> {
     ghost faults = { λ l. l.faults };
 
     fn accept(&mut self) -> Result<Option<SocketPeer>, Failed> {
-        if self.closes > 0 || self.closing.is_closed() {
+        let is_late = self.closing.is_closed();
+        if self.closes > 0 || (is_late && self.late >= QUEUE_LENGTH) {
+            self.queue.end();
             self.closes = self.closes.saturating_add(1);
             self.run = 0;
             return Ok(None);
         }
-        match next_peer(&self.listener) {
-            Ok(peer) => {
+        match next_peer(&self.queue, &self.closing) {
+            Ok(Some(peer)) => {
+                if is_late {
+                    self.late += 1;
+                }
                 self.accepted = self.accepted.saturating_add(1);
                 self.run = 0;
                 Ok(Some(peer))
             }
-            Err(_) if self.closing.is_closed() => {
+            Ok(None) => {
                 self.closes = self.closes.saturating_add(1);
                 self.run = 0;
                 Ok(None)
@@ -99,6 +118,6 @@ impl<R: rt::Clock> Listener for SocketListener<'_, R> {
 
     fn finish(&mut self, peer: SocketPeer) {
         self.finished = self.finished.saturating_add(1);
-        peer.end();
+        peer.end(self.rt);
     }
 }

@@ -1,9 +1,9 @@
 //! What closes the listeners.
 ghost use Rattle.std.specs.Prelude.{◌≡◌};
 
+use super::queue::Queue;
 use line_base::Stop;
 use std::alloc::{AllocError, Global};
-use std::net::{Shutdown, TcpStream};
 use std::sync::Arc;
 use std::sync::atomic::{AtomicU64, Ordering};
 
@@ -39,25 +39,26 @@ impl Closing {
     }
 }
 
-/// The sockets that listen.
-pub(crate) type Sockets = Arc<Vec<Arc<TcpStream>>>;
+/// The queues of a net's addresses.
+pub(crate) type Queues = Arc<Vec<Arc<Queue>>>;
 
-/// What closes the listeners: those that wait for a peer answer at once that they are closed, and so does each from then on.
+/// What closes the listeners. Those who wait in their queues are handed out still. Then each
+/// listener answers that it is closed, those that wait for a peer at once, and from then on always.
 #[derive(Drop)]
 pub struct SocketStop {
     closing: Option<Closing>,
-    sockets: Option<Sockets>,
+    queues: Option<Queues>,
     calls: u64,
 }
 
 impl SocketStop {
     /// A stop of these listeners, which was not called yet. It closes nothing of what is missing.
-    pub(crate) fn of(closing: Option<Closing>, sockets: Option<Sockets>) -> SocketStop
+    pub(crate) fn of(closing: Option<Closing>, queues: Option<Queues>) -> SocketStop
         ensures { result.calls ≡ 0 }
     {
         SocketStop {
             closing,
-            sockets,
+            queues,
             calls: 0,
         }
     }
@@ -68,12 +69,13 @@ impl Stop for SocketStop {
 
     fn stop(&mut self) {
         self.calls = self.calls.saturating_add(1);
+        // The listeners are closed before the queues are: an accept that fails then knows why.
         if let Some(closing) = &self.closing {
             closing.close();
         }
-        if let Some(sockets) = &self.sockets {
-            for socket in sockets.iter() {
-                let _ = socket.shutdown(Shutdown::Both);
+        if let Some(queues) = &self.queues {
+            for queue in queues.iter() {
+                queue.close();
             }
         }
     }

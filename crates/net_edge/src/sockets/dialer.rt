@@ -1,34 +1,39 @@
 //! Connections that are dialed.
 ghost use Rattle.std.specs.Prelude.{◌≡◌, None, is_some};
 
-use crate::upstream::Upstream;
+use super::dial_socket::DialSocket;
+use super::upstream::Upstream;
 use line_base::{Dialer, Failed};
-use std::net::{Net, TcpStream};
+use std::net::Net;
 
-/// What dials over sockets. It tells no log. It keeps the socket of its last connection for the next one.
+/// What dials over sockets. It tells no log.
+///
+/// It has one socket at most: that of its connection, or the one for the next. A net gives it the
+/// first. Where that was closed, the next dial opens another, in the descriptor that became free.
 #[derive(Drop)]
 pub struct SocketDialer<'a, R> {
     rt: &'a R,
     current: Option<Upstream>,
-    kept: Option<Upstream>,
+    next: Option<DialSocket>,
     faults: u64,
 }
 
 impl<'a, R> SocketDialer<'a, R> {
-    /// A dialer that reaches the machine by `rt`, with no connection and no fault so far.
-    pub(crate) fn of(rt: &'a R) -> SocketDialer<'a, R>
+    /// A dialer with this socket for its first connection, and with no fault so far. It reaches
+    /// the machine by `rt`.
+    pub(crate) fn of(rt: &'a R, next: Option<DialSocket>) -> SocketDialer<'a, R>
         ensures { (result.current ≡ None) × (result.faults ≡ 0) }
     {
         SocketDialer {
             rt,
             current: None,
-            kept: None,
+            next,
             faults: 0,
         }
     }
 }
 
-impl<R: Net<Stream = TcpStream>> Dialer for SocketDialer<'_, R> {
+impl<R: Net> Dialer for SocketDialer<'_, R> {
     ghost log = { λ _. None };
 
     ghost left = { λ _. None };
@@ -39,9 +44,13 @@ impl<R: Net<Stream = TcpStream>> Dialer for SocketDialer<'_, R> {
 
     fn dial(&mut self, ip: u32, port: u16) -> Result<(), Failed> {
         self.hang();
-        let dialed = match self.kept.take() {
-            Some(kept) => kept.redial(ip, port),
-            None => Upstream::dial(self.rt, ip, port).ok(),
+        let socket = match self.next.take() {
+            Some(socket) => Some(socket),
+            None => DialSocket::open(self.rt).ok(),
+        };
+        let dialed = match socket {
+            Some(socket) => Upstream::dial(socket, ip, port),
+            None => None,
         };
         match dialed {
             Some(upstream) => {
@@ -89,7 +98,7 @@ impl<R: Net<Stream = TcpStream>> Dialer for SocketDialer<'_, R> {
 
     fn hang(&mut self) {
         if let Some(upstream) = self.current.take() {
-            self.kept = upstream.hang();
+            self.next = upstream.hang();
         }
     }
 }

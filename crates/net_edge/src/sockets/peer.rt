@@ -1,31 +1,27 @@
 //! A connection that was accepted.
-ghost use Rattle.std.specs.Prelude.{◌≡◌, None};
+ghost use Rattle.std.specs.Prelude.{None};
 
-use crate::calls::{read_some, write_some};
+use super::calls::{read_some, write_some};
 use line_base::{Failed, Peer};
 use std::io::{self, Read};
 use std::net::{Shutdown, TcpStream};
-use std::time::Duration;
+use std::rt;
+use std::time::{Duration, Instant};
 
 /// How many seconds a read or a write of a socket may wait.
 pub const IDLE_SECONDS: u64 = 60;
 
-/// How many milliseconds each read may wait once a connection is being ended.
-const LINGER_MILLISECONDS: u64 = 500;
+/// How many milliseconds a connection that is being ended is read from.
+const LINGER_MILLISECONDS: u64 = 2_000;
 
-/// How many reads there are once a connection is being ended.
-const LINGER_READS: u32 = 16;
+/// How many milliseconds each such read may wait.
+const SILENCE_MILLISECONDS: u64 = 500;
+
+/// How many such reads there are.
+const LINGER_READS: u32 = 65_536;
 
 /// Bytes of one such read.
 const LINGER_PIECE: usize = 16_384;
-
-/// Makes a socket send at once, and end its reads and writes in time.
-pub(crate) fn set_limits(stream: &TcpStream) -> io::Result<()> {
-    stream.set_nodelay(true)?;
-    let limit = Duration::from_secs(IDLE_SECONDS);
-    stream.set_read_timeout(Some(limit))?;
-    stream.set_write_timeout(Some(limit))
-}
 
 /// A connection that was accepted. It tells no content.
 #[derive(Drop)]
@@ -37,41 +33,52 @@ pub struct SocketPeer {
 }
 
 impl SocketPeer {
-    /// A connection over this socket, with no fault and no end so far.
-    pub(crate) fn of(stream: TcpStream) -> SocketPeer
-        ensures { (result.read_faults ≡ 0) × (result.write_faults ≡ 0) × (result.ends ≡ 0) }
-    {
-        SocketPeer {
+    /// A connection over this socket, with no fault and no end so far. It sends at once, and ends
+    /// its reads and writes in time.
+    pub(crate) fn over(stream: TcpStream) -> io::Result<SocketPeer> {
+        stream.set_nodelay(true)?;
+        let limit = Duration::from_secs(IDLE_SECONDS);
+        stream.set_read_timeout(Some(limit))?;
+        stream.set_write_timeout(Some(limit))?;
+        Ok(SocketPeer {
             stream,
             read_faults: 0,
             write_faults: 0,
             ends: 0,
-        }
+        })
     }
 
-    /// Ends the connection. What was written still arrives: the other end is told that no more comes, and what it has yet to say is read and dropped, up to a
-    /// bound and for a bounded time, since a socket that is closed before its bytes were read resets the connection.
-    pub(crate) fn end(self) {
+    /// Ends the connection. What was written still arrives: the other end is told that no more
+    /// comes, and what it has yet to say is read and dropped, since a socket that is closed before
+    /// its bytes were read resets the connection. That is bounded in time.
+    pub(crate) fn end<R: rt::Clock>(self, rt: &R) {
         let SocketPeer {
             stream,
             read_faults: _,
             write_faults: _,
             ends,
         } = self;
-        let limit = Duration::from_millis(LINGER_MILLISECONDS);
-        let told = stream.shutdown(Shutdown::Write).is_ok();
-        if told && ends == 0 && stream.set_read_timeout(Some(limit)).is_ok() {
-            drain(stream);
+        let silence = Duration::from_millis(SILENCE_MILLISECONDS);
+        let is_told = stream.shutdown(Shutdown::Write).is_ok();
+        if is_told && ends == 0 && stream.set_read_timeout(Some(silence)).is_ok() {
+            drain(rt, stream);
         }
     }
 }
 
-/// Reads and drops what comes, up to a bound.
-fn drain(mut stream: TcpStream) {
+/// Reads and drops what comes, for a bounded time.
+fn drain<R: rt::Clock>(rt: &R, mut stream: TcpStream) {
+    let Ok(begin) = Instant::now(rt) else {
+        return;
+    };
     let mut piece = [0u8; LINGER_PIECE];
     for _ in 0..LINGER_READS {
         match stream.read(&mut piece) {
             Ok(count) if count > 0 => {}
+            _ => return,
+        }
+        match begin.elapsed(rt) {
+            Ok(elapsed) if elapsed < Duration::from_millis(LINGER_MILLISECONDS) => {}
             _ => return,
         }
     }

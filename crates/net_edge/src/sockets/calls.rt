@@ -1,8 +1,11 @@
 //! Calls on sockets that a signal may interrupt.
 ghost use Rattle.std.specs.Io.{ReadsAtMost, WritesAtMost};
 
+use super::address::ADDRESS_BYTES;
+use libc::net::{self, _SS_SIZE};
 use std::io::{self, ErrorKind, Read, Write};
 use std::net::TcpStream;
+use std::os::fd::AsRawFd;
 
 /// How often a call that a signal interrupted is made again.
 const INTERRUPTIONS: u32 = 16;
@@ -31,4 +34,18 @@ pub(crate) fn write_some(stream: &mut TcpStream, bytes: &[u8]) -> io::Result<usi
         }
     }
     Err(io::Error::from(ErrorKind::Interrupted))
+}
+
+/// Connects a socket to an address, within its limit of writes. A call that a signal interrupted
+/// goes on connecting, and the next waits for it.
+pub(crate) fn connect(stream: &TcpStream, raw: &[u8; _SS_SIZE]) -> bool {
+    for _ in 0..INTERRUPTIONS {
+        if unsafe { net::connect(stream.as_raw_fd(), raw, ADDRESS_BYTES) } == 0 {
+            return true;
+        }
+        if os::errno() != libc::EINTR {
+            return os::errno() == libc::EISCONN;
+        }
+    }
+    false
 }

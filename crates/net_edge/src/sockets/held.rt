@@ -1,0 +1,124 @@
+//! The sockets that a net holds.
+ghost use Rattle.std.specs.Prelude.{◌≡◌, length, IfOk};
+ghost use Rattle.net_edge.specs.Sockets.{AllFresh};
+
+use super::dial_socket::DialSocket;
+use super::listener::SocketListener;
+use super::queue::Queue;
+use super::stop::{Closing, Queues, SocketStop};
+use std::alloc::{AllocError, Global};
+use std::io::{self, ErrorKind};
+use std::net::{Net, SocketAddr, TcpListener, TcpStream};
+use std::sync::Arc;
+
+/// Descriptors that a process has beside those of its listeners: the standard streams and what it
+/// was started with. So many are named beyond those that were asked for up to a refusal, for a few
+/// listeners more too.
+const OTHER_DESCRIPTORS: u64 = 16;
+
+/// The queues of a net's addresses, and the sockets of the dialers to come.
+///
+/// A listener has one client at a time, and a dialer one socket. So a job takes two descriptors at
+/// most, and an address one more. All of them are there when `listen` is answered: the sockets of
+/// dialers are open, and room for the clients of all listeners was seen. What is closed later, a
+/// client's connection or a dialer's socket, gives its descriptor back before the same job opens
+/// the next. So where a process opens nothing else behind its last `listen`, no accept and no dial
+/// ever lacks a descriptor.
+#[derive(Drop)]
+pub(crate) struct HeldSockets {
+    alloc: Global,
+    closing: Closing,
+    queues: Queues,
+    for_dialers: Vec<DialSocket>,
+    /// How many listeners there are.
+    listeners: u32,
+}
+
+/// These queues, and one more.
+fn with_queue(alloc: Global, queues: &Queues, queue: &Arc<Queue>) -> io::Result<Queues> {
+    let mut all = Vec::new(alloc);
+    for queue in queues.iter() {
+        all.push(Arc::try_clone(queue)?)?;
+    }
+    all.push(Arc::try_clone(queue)?)?;
+    Ok(Arc::new(alloc, all)?)
+}
+
+/// So many listeners of one queue.
+fn copies_of<'a, R>(
+    rt: &'a R,
+    alloc: Global,
+    queue: &Arc<Queue>,
+    closing: &Closing,
+    copies: u32,
+) -> io::Result<Vec<SocketListener<'a, R>>>
+    ensures count { IfOk result (λ ls. length ls.items ≡ copies) }
+    ensures fresh { IfOk result (λ ls. AllFresh ls.items) }
+{
+    let mut listeners = Vec::new(alloc);
+    for _place in 0..copies {
+        let copy = SocketListener::of(rt, Arc::try_clone(queue)?, closing.share()?);
+        let Ok(()) = listeners.push(copy) else {
+            return Err(io::Error::from(ErrorKind::OutOfMemory));
+        };
+    }
+    Ok(listeners)
+}
+
+impl HeldSockets {
+    /// None so far.
+    pub(crate) fn none(alloc: Global) -> Result<HeldSockets, AllocError> {
+        Ok(HeldSockets {
+            alloc,
+            closing: Closing::open(alloc)?,
+            queues: Arc::new(alloc, Vec::new(alloc))?,
+            for_dialers: Vec::new(alloc),
+            listeners: 0,
+        })
+    }
+
+    /// So many listeners of an address. They share one queue, and each has a descriptor for a
+    /// client of its own and for a dialer.
+    pub(crate) fn listen<'a, R: Net<Listener = TcpListener, Stream = TcpStream>>(
+        &mut self,
+        rt: &'a R,
+        address: SocketAddr,
+        copies: u32,
+    ) -> io::Result<Vec<SocketListener<'a, R>>>
+        ensures count { IfOk result (λ ls. length ls.items ≡ copies) }
+        ensures fresh { IfOk result (λ ls. AllFresh ls.items) }
+    {
+        let queue = Arc::new(self.alloc, Queue::open(rt, address)?)?;
+        let queues = with_queue(self.alloc, &self.queues, &queue)?;
+        let listeners = copies_of(rt, self.alloc, &queue, &self.closing, copies)?;
+        for _ in 0..copies {
+            self.for_dialers.push(DialSocket::open(rt)?)?;
+        }
+        let clients = self.listeners.saturating_add(copies);
+        queue.make_sure(self.alloc, clients)?;
+        self.listeners = clients;
+        self.queues = queues;
+        Ok(listeners)
+    }
+
+    /// The socket of the next dialer, where one was made for it.
+    pub(crate) fn for_dialer(&mut self) -> Option<DialSocket> {
+        self.for_dialers.pop()
+    }
+
+    /// A stop of all listeners.
+    pub(crate) fn stopper(&self) -> SocketStop
+        ensures { result.calls ≡ 0 }
+    {
+        SocketStop::of(self.closing.share().ok(), Arc::try_clone(&self.queues).ok())
+    }
+
+    /// How many descriptors the process wants for so many listeners more.
+    pub(crate) fn wanted_descriptors(&self, copies: u32) -> u64 {
+        let addresses = (self.queues.len() as u64).saturating_add(1);
+        let jobs = u64::from(self.listeners.saturating_add(copies));
+        jobs.saturating_mul(2)
+            .saturating_add(addresses)
+            .saturating_add(OTHER_DESCRIPTORS)
+    }
+}

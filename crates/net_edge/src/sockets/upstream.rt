@@ -1,0 +1,87 @@
+//! A connection that was dialed.
+ghost use Rattle.std.specs.Prelude.{◌≤◌, length, IfOk};
+ghost use Rattle.std.specs.Io.{ReadsAtMost, WritesAtMost};
+
+use super::calls::{read_some, write_some};
+use super::dial_socket::DialSocket;
+use std::io;
+
+/// The most bytes that the first send of a connection takes without waiting: a new connection has
+/// room for them.
+const FIRST_SEND: usize = 4_096;
+
+/// What was sent over a connection.
+#[derive(Clone, Copy, PartialEq, Eq)]
+enum Sent {
+    /// Nothing so far.
+    Nothing,
+    /// One send of at most [`FIRST_SEND`] bytes, which left at once.
+    Short,
+    /// More, of which the kernel may hold some for long.
+    Long,
+}
+
+/// A socket that is connected.
+#[derive(Drop)]
+pub(crate) struct Upstream {
+    socket: DialSocket,
+    sent: Sent,
+    /// Whether the last call received what was asked for, or the end.
+    is_heard: bool,
+}
+
+impl Upstream {
+    /// The connection of a socket to an address; none where that fails.
+    pub(crate) fn dial(socket: DialSocket, ip: u32, port: u16) -> Option<Upstream> {
+        let mut socket = socket;
+        if !socket.connect(ip, port) {
+            return None;
+        }
+        Some(Upstream {
+            socket,
+            sent: Sent::Nothing,
+            is_heard: false,
+        })
+    }
+
+    /// Sends some bytes. Those of a short first send find room at once; behind them the limit is
+    /// that of reads.
+    pub(crate) fn send(&mut self, bytes: &[u8]) -> io::Result<usize>
+        ensures { WritesAtMost result bytes.now }
+    {
+        self.is_heard = false;
+        if self.sent == Sent::Nothing && bytes.len() <= FIRST_SEND {
+            self.sent = Sent::Short;
+        } else {
+            self.sent = Sent::Long;
+            self.socket.wait_for_writes(true)?;
+        }
+        write_some(&mut self.socket.stream, bytes)
+    }
+
+    /// Receives some bytes.
+    pub(crate) fn receive(&mut self, into: &mut [u8]) -> io::Result<usize>
+        ensures { ReadsAtMost result into.new }
+    {
+        let received = read_some(&mut self.socket.stream, into);
+        self.is_heard = received.is_ok();
+        received
+    }
+
+    /// Ends the connection, and gives its socket for the next one where it can be connected again.
+    ///
+    /// Where the other end answered while the kernel may still hold bytes for it, the socket is
+    /// closed in the ordinary way: the kernel sends them, then the end. The port is in use for a
+    /// minute then, unless the other end ended first. Else the connection is dissolved: what was
+    /// sent has arrived, or is not wanted.
+    pub(crate) fn hang(self) -> Option<DialSocket> {
+        if self.is_heard && self.sent == Sent::Long {
+            return None;
+        }
+        if self.socket.dissolve() {
+            Some(self.socket)
+        } else {
+            None
+        }
+    }
+}
