@@ -22,7 +22,8 @@ fn free_port(
     Ok(TcpListener::bind(rt, address(0))?.local_addr()?.port())
 }
 
-/// Answers each connection with what it said first, in capitals, until the listener is closed; at most so many. It gives how many it answered, and whether the listener was closed.
+/// Answers each connection with what it said first, in capitals, until the listener is closed; at
+/// most so many. It gives how many it answered, and whether the listener was closed.
 fn echo<L: Listener>(listener: &mut L, most: u32) -> (u32, bool) {
     let mut served = 0u32;
     for _ in 0..most {
@@ -121,7 +122,8 @@ fn listen<N: Net>(
     Ok(())
 }
 
-/// Gives the listeners back: how many connections they answered, how many of them were closed and came back well, and how many answers were heard.
+/// Gives the listeners back: how many connections they answered, how many of them were closed and
+/// came back well, and how many answers were heard.
 fn end<N: Net>(net: &mut N, parts: Vec<Part<N::L, N::D, N::S>>) -> (u32, u32, u32) {
     let mut answered = 0u32;
     let mut closed = 0u32;
@@ -145,8 +147,8 @@ fn end<N: Net>(net: &mut N, parts: Vec<Part<N::L, N::D, N::S>>) -> (u32, u32, u3
     (answered, closed, all_heard)
 }
 
-/// Two threads wait in the queue of an address, which is in use meanwhile, and one at another address. A fourth thread asks, and its stop closes all three listeners: then nobody
-/// listens.
+/// Two threads wait in the queue of an address, which is in use meanwhile, and one at another
+/// address. A fourth thread asks, and its stop closes all three listeners: then nobody listens.
 #[test]
 fn net_over_loopback(rt: HostRuntime) -> Result<(), Fail> {
     let mut net = SocketNet::of(&rt)?;
@@ -154,7 +156,10 @@ fn net_over_loopback(rt: HostRuntime) -> Result<(), Fail> {
     let one = free_port(&rt)?;
     listen(&mut net, one, 2, &mut parts)?;
     assert_eq!(rt; net.listen(LOOPBACK, one, 1).err(), Some(NetFault::Failed));
-    assert_eq!(rt; net.refused(), Some(address(one)));
+    assert_eq!(rt;
+        net.refused().map(|refusal| refusal.address()),
+        Some(address(one))
+    );
     let other = free_port(&rt)?;
     listen(&mut net, other, 1, &mut parts)?;
     parts.push(Part::Asks {
@@ -196,7 +201,8 @@ fn found<F: Folder>(folder: &mut F, path: &str, most: usize) -> Result<Option<us
     }
 }
 
-/// A file of three bytes in the folder where the test runs, two streams over bytes, and the clock, whose moments don't fall.
+/// A file of three bytes in the folder where the test runs, two streams over bytes, and the clock,
+/// whose moments don't fall.
 #[test]
 fn files_streams_and_clock(rt: HostRuntime) -> Result<(), Fail> {
     fs::write(&rt, "three", "abc")?;

@@ -9,3 +9,5 @@ mod edge;
 mod jobs;
 #[cfg(test)]
 mod loads;
+#[cfg(test)]
+mod sockets;

@@ -1,0 +1,330 @@
+#!/usr/bin/env python3
+"""Runs `linker serve` against odd peers, and with few descriptors.
+
+usage: bench/edge.py [PROGRAM] [--slow]
+
+- A replica that answers right behind the request's head and reads on slowly: it gets all of a body
+  of 200,000 bytes, and all of one of 3,500,000.
+- A POST of 5 MB to a name without a replica, by Python's client: it gets its 502.
+- Clients that wait in the queue with their requests sent when a shutdown is asked for: each gets
+  its reply.
+- 40 descriptors for 16 workers: the program ends with `error net`, and says how many it wants. With
+  so many, 24 requests at once are all answered.
+- With `--slow`, for a minute: a client that asks for nothing, one that does not read its reply, and
+  a replica that neither reads nor answers. Each is given up after 60 seconds.
+
+The script ends with 0 where nothing was wrong.
+"""
+import contextlib, http.client, json, os, re, resource, socket, subprocess, sys, tempfile
+import threading, time
+
+ROOT = os.path.dirname(os.path.dirname(os.path.abspath(__file__)))
+SLOW = "--slow" in sys.argv[1:]
+PROGRAM = next((word for word in sys.argv[1:] if word != "--slow"), os.path.join(ROOT, "linker"))
+HEAD_OF_202 = b"HTTP/1.1 202 Accepted\r\nContent-Length: 0\r\n\r\n"
+
+
+def free_ports(count):
+    sockets = [socket.socket() for _ in range(count)]
+    for one in sockets:
+        one.bind(("127.0.0.1", 0))
+    ports = [one.getsockname()[1] for one in sockets]
+    for one in sockets:
+        one.close()
+    return ports
+
+
+def read_head(connection):
+    """The head that comes, and what came behind it."""
+    text = b""
+    while b"\r\n\r\n" not in text:
+        piece = connection.recv(65_536)
+        if not piece:
+            break
+        text += piece
+    head, _, rest = text.partition(b"\r\n\r\n")
+    return head, rest
+
+
+def read_all(connection):
+    text = b""
+    while piece := connection.recv(65_536):
+        text += piece
+    return text
+
+
+class Replica:
+    """Serves each connection by `serve` in a thread of its own."""
+
+    def __init__(self, serve):
+        self.listener = socket.create_server(("127.0.0.1", 0), backlog=512)
+        self.port = self.listener.getsockname()[1]
+        self.serve = serve
+        threading.Thread(target=self.run, daemon=True).start()
+
+    def run(self):
+        while True:
+            connection, _ = self.listener.accept()
+            threading.Thread(target=self.one, args=(connection,), daemon=True).start()
+
+    def one(self, connection):
+        with contextlib.suppress(OSError), connection:
+            self.serve(connection)
+
+
+@contextlib.contextmanager
+def proxy(replicas, workers, descriptors=None):
+    """A proxy whose services are these replicas, by their names; a worker has one client."""
+    with tempfile.TemporaryDirectory() as folder:
+        router, namerd, admin = free_ports(3)
+        os.mkdir(os.path.join(folder, "disco"))
+        for name, replica in replicas.items():
+            with open(os.path.join(folder, "disco", name), "w") as file:
+                file.write(f"127.0.0.1 {replica.port}\n")
+        config = {
+            "admin": {"port": admin},
+            "namerd": {"port": namerd},
+            "namers": [{"kind": "io.l5d.fs", "rootDir": "disco"}],
+            "routers": [{
+                "protocol": "http",
+                "dtab": "/svc => /#/io.l5d.fs",
+                "servers": [{"port": router}],
+            }],
+            "workers": workers,
+        }
+        with open(os.path.join(folder, "c.json"), "w") as file:
+            json.dump(config, file)
+
+        def limit():
+            if descriptors:
+                resource.setrlimit(resource.RLIMIT_NOFILE, (descriptors, descriptors))
+
+        with open(os.path.join(folder, "log"), "w+b") as log:
+            program = subprocess.Popen([PROGRAM, "serve", "c.json"], cwd=folder, preexec_fn=limit,
+                                       stdout=subprocess.PIPE, stderr=log)
+            line = program.stdout.readline()
+            program.router, program.admin, program.first_line = router, admin, line
+            try:
+                yield program
+            finally:
+                if program.poll() is None and line.startswith(b"serving"):
+                    with contextlib.suppress(OSError):
+                        shut_down(program)
+                try:
+                    program.wait(90)
+                except subprocess.TimeoutExpired:
+                    program.kill()
+                    program.wait()
+                log.seek(0)
+                program.log = log.read().decode()
+
+
+def shut_down(program):
+    client = http.client.HTTPConnection("127.0.0.1", program.admin, timeout=30)
+    client.request("POST", "/admin/shutdown")
+    client.getresponse().read()
+    client.close()
+
+
+def connect(program):
+    return socket.create_connection(("127.0.0.1", program.router), timeout=100)
+
+
+def request(name, method="GET", length=None, close=True):
+    head = f"{method} / HTTP/1.1\r\nHost: {name}\r\n"
+    if length is not None:
+        head += f"Content-Length: {length}\r\n"
+    if close:
+        head += "Connection: close\r\n"
+    return (head + "\r\n").encode()
+
+
+faults = []
+
+
+def check(name, is_right, what=""):
+    print(f"{'ok  ' if is_right else 'WRONG'} {name} {what}", flush=True)
+    if not is_right:
+        faults.append(name)
+
+
+def early_reply(size):
+    """A replica that answers 202 behind the head gets the whole body."""
+    bodies, is_done = [], threading.Event()
+
+    def serve(connection):
+        _, rest = read_head(connection)
+        connection.sendall(HEAD_OF_202)
+        got = len(rest)
+        try:
+            while piece := connection.recv(16_384):
+                got += len(piece)
+                time.sleep(0.001)
+        finally:
+            bodies.append(got)
+            is_done.set()
+
+    with proxy({"web": Replica(serve)}, 2) as program, connect(program) as client:
+        client.sendall(request("web", "POST", size) + b"x" * size)
+        reply = read_all(client)
+        is_done.wait(60)
+    check(f"an early reply: {bodies} of {size} bytes arrived",
+          bodies == [size] and reply.startswith(b"HTTP/1.1 202"))
+
+
+def unread_body():
+    """A POST of 5 MB to a name without a replica has its reply, though the body is not read."""
+    statuses = []
+    with proxy({}, 2) as program:
+        for _ in range(3):
+            client = http.client.HTTPConnection("127.0.0.1", program.router, timeout=30)
+            try:
+                client.request("POST", "/", b"x" * 5_000_000, {"Host": "nobody"})
+                statuses.append(client.getresponse().status)
+            except OSError as error:
+                statuses.append(type(error).__name__)
+            client.close()
+    check(f"a reply behind an unread body: {statuses}", statuses == [502, 502, 502])
+
+
+def waiting_at_the_stop():
+    """Clients that wait in the queue when a shutdown is asked for are answered."""
+    go = threading.Event()
+
+    def serve(connection):
+        read_head(connection)
+        go.wait(60)
+        connection.sendall(HEAD_OF_202)
+
+    with proxy({"web": Replica(serve)}, 2) as program:
+        clients = [connect(program) for _ in range(12)]
+        for client in clients:
+            client.sendall(request("web"))
+        time.sleep(0.5)
+        shut_down(program)
+        time.sleep(0.2)
+        go.set()
+        replies = []
+        for client in clients:
+            try:
+                replies.append(read_all(client)[9:12])
+            except OSError as error:
+                replies.append(type(error).__name__)
+            client.close()
+        status = program.wait(30)
+    check(f"clients that wait at the stop: {replies}, status {status}",
+          replies == [b"202"] * 12 and status == 0)
+
+
+def stop_of_idle_workers():
+    """A shutdown with nobody in the queue ends at once."""
+    with proxy({}, 16) as program:
+        begin = time.monotonic()
+        shut_down(program)
+        status = program.wait(30)
+        took = time.monotonic() - begin
+    check(f"a stop of idle workers took {took:.2f} s, status {status}", status == 0 and took < 3)
+
+
+def few_descriptors():
+    """Too few descriptors are refused at the start; with the number that is named, all goes."""
+    with proxy({}, 16, 40) as program:
+        pass
+    wanted = re.search(r"(\d+) descriptors are wanted", program.log)
+    check(f"40 descriptors: status {program.returncode}, {program.log.splitlines()[-1:]}",
+          program.returncode == 6 and program.first_line == b"error net\n" and wanted)
+    if not wanted:
+        return
+
+    def serve(connection):
+        read_head(connection)
+        time.sleep(0.1)
+        connection.sendall(HEAD_OF_202)
+
+    replies = []
+
+    def ask(program):
+        with contextlib.suppress(OSError), connect(program) as client:
+            client.sendall(request("web", "POST", 10_000) + b"x" * 10_000)
+            replies.append(read_all(client)[9:12])
+
+    number = int(wanted[1])
+    with proxy({"web": Replica(serve)}, 16, number) as program:
+        for _ in range(10):
+            askers = [threading.Thread(target=ask, args=(program,)) for _ in range(24)]
+            for asker in askers:
+                asker.start()
+            for asker in askers:
+                asker.join()
+    good = replies.count(b"202")
+    check(f"{number} descriptors: {good} of 240 answered, status {program.returncode}",
+          good == 240 and program.returncode == 0)
+
+
+def waits():
+    """Each wait on a socket ends after 60 seconds."""
+    ended = {}
+
+    def note(name, begin):
+        ended[name] = round(time.monotonic() - begin)
+
+    def never(connection):
+        begin = time.monotonic()
+        read_head(connection)
+        with contextlib.suppress(OSError):
+            while connection.getsockopt(socket.IPPROTO_TCP, socket.TCP_INFO, 1) == b"\x01":
+                time.sleep(0.2)
+        note("a replica that does not read", begin)
+
+    def large(connection):
+        read_head(connection)
+        begin = time.monotonic()
+        connection.sendall(b"HTTP/1.1 200 OK\r\nContent-Length: 100000000\r\n\r\n")
+        with contextlib.suppress(OSError):
+            for _ in range(1_000):
+                connection.sendall(b"x" * 100_000)
+        note("a client that does not read", begin)
+
+    def silent(program):
+        begin = time.monotonic()
+        with connect(program) as client:
+            client.recv(1)
+        note("a client that asks for nothing", begin)
+
+    def unread(program):
+        with connect(program) as client:
+            client.setsockopt(socket.SOL_SOCKET, socket.SO_RCVBUF, 4_096)
+            client.sendall(request("large"))
+            time.sleep(70)
+
+    def unheard(program):
+        with contextlib.suppress(OSError), connect(program) as client:
+            client.sendall(request("never", "POST", 100_000_000))
+            while True:
+                client.sendall(b"x" * 100_000)
+
+    replicas = {"never": Replica(never), "large": Replica(large)}
+    with proxy(replicas, 4) as program:
+        askers = [threading.Thread(target=ask, args=(program,), daemon=True)
+                  for ask in (silent, unread, unheard)]
+        for asker in askers:
+            asker.start()
+        for asker in askers:
+            asker.join(90)
+    check(f"waits end after a minute: {ended}",
+          len(ended) == 3 and all(58 <= seconds <= 66 for seconds in ended.values()))
+
+
+def main():
+    early_reply(200_000)
+    early_reply(3_500_000)
+    unread_body()
+    waiting_at_the_stop()
+    stop_of_idle_workers()
+    few_descriptors()
+    if SLOW:
+        waits()
+    sys.exit(f"wrong: {faults}" if faults else 0)
+
+
+main()
