@@ -62,11 +62,11 @@ module _ (sure : TreeValue → Bool) where
     cover-stops at (r ∷ rs) prefix fit h =
         ⊎_elim (λ later. first_of-IsStop_left look (rewrites rs path) (option_to_list (rewrite r path)) (cover-stops (at + 1) rs prefix fit later))
         (λ here.
-          let parts = and_parts (covers r.prefix prefix) (sure r.tree) (if_some (covers r.prefix prefix && sure r.tree) at here) in
-          let behind = drop (length r.prefix) path in
-          let one = first_of-one look (append_rest r.tree behind) (stop r.tree behind parts.1) in
-          let last : IsStop (first_of look (option_to_list (rewrite r path))) = rw (rewrite-matching r path (covers-matches r.prefix prefix path parts.0 fit)) one in
-          first_of-IsStop_right look narrow (rewrites rs path) (option_to_list (rewrite r path)) last)
+        let parts = and_parts (covers r.prefix prefix) (sure r.tree) (if_some (covers r.prefix prefix && sure r.tree) at here) in
+        let behind = drop (length r.prefix) path in
+        let one = first_of-one look (append_rest r.tree behind) (stop r.tree behind parts.1) in
+        let last : IsStop (first_of look (option_to_list (rewrite r path))) = rw (rewrite-matching r path (covers-matches r.prefix prefix path parts.0 fit)) one in
+        first_of-IsStop_right look narrow (rewrites rs path) (option_to_list (rewrite r path)) last)
         (some_or (last_cover sure (at + 1) rs prefix) (if covers r.prefix prefix && sure r.tree then Some at else None) h)
 
     -- so the search comes to the same without the entries that have one
@@ -99,7 +99,7 @@ among look front old new back path same =
     let parts : (rules : List Rule) → first_of look (rewrites (front ++ (rules ++ back)) path) ≡ or_else (or_else (first_of look (rewrites back path)) (first_of look (rewrites rules path))) (first_of look (rewrites front path)) =
     λ rules. ap (first_of look) (rewrites-among front rules back path)
     ∙ (first_of-append look (rewrites back path ++ rewrites rules path) (rewrites front path)
-      ∙ ap (λ (t : Told). or_else t (first_of look (rewrites front path))) (first_of-append look (rewrites back path) (rewrites rules path))) in
+    ∙ ap (λ (t : Told). or_else t (first_of look (rewrites front path))) (first_of-append look (rewrites back path) (rewrites rules path))) in
     parts new ∙ (ap (λ (t : Told). or_else (or_else (first_of look (rewrites back path)) t) (first_of look (rewrites front path))) same ∙ sym (parts old))
 
 module _ (front rules back : List Rule) (book : Contents) where
@@ -189,10 +189,10 @@ module _ (sure : TreeValue → Bool) where
       let each : P (last_cover sure (at + 1) rs r.prefix) =
       elim (last_cover sure (at + 1) rs r.prefix) as P [
         | None ↦
-          (let not_named : is_named (before ++ hidden_from sure (at + 1) rs) at ≡ false = not_before at before are (hidden_from sure (at + 1) rs) ∙ not_behind at (hidden_from sure (at + 1) rs) (hidden-from (at + 1) rs) in
+            (let not_named : is_named (before ++ hidden_from sure (at + 1) rs) at ≡ false = not_before at before are (hidden_from sure (at + 1) rs) ∙ not_behind at (hidden_from sure (at + 1) rs) (hidden-from (at + 1) rs) in
             rw not_named (ap (λ (qs : List Rule). r ∷ qs) (without-kept (at + 1) before rs (before_later at before are))))
         | Some by ↦
-          (let entry : Hidden = record { entry = at; by = by } in
+            (let entry : Hidden = record { entry = at; by = by } in
             let more : List Hidden = hidden_from sure (at + 1) rs in
             let same_at : (at == at) ≡ true = eq-eqb at at refl in
             let named : is_named (before ++ (entry ∷ more)) at ≡ true = not_before at before are (entry ∷ more) ∙ (rw same_at refl) in

@@ -126,11 +126,11 @@ module _ (front rules back : List Rule) (book : Contents) where
   match-stops rounds stop left [] path rest h = cc
   match-stops rounds stop left (r ∷ rs) path rest h =
       ⊎_elim (λ here.
-        let parts = and_parts (matches r.prefix path) (sure_tree (sure_path rules rounds) r.tree) here in
-        let behind = drop (length r.prefix) (path ++ rest) in
-        let one = first_of-one (look left) (append_rest r.tree behind) (tree-stops rounds stop left r.tree behind parts.1) in
-        let last : IsStop (first_of (look left) (option_to_list (rewrite r (path ++ rest)))) = rw (rewrite-matching r (path ++ rest) (matches-append r.prefix path rest parts.0)) one in
-        first_of-IsStop_right (look left) (lookup-IsNarrow whole (named_in book) left) (rewrites rs (path ++ rest)) (option_to_list (rewrite r (path ++ rest))) last)
+      let parts = and_parts (matches r.prefix path) (sure_tree (sure_path rules rounds) r.tree) here in
+      let behind = drop (length r.prefix) (path ++ rest) in
+      let one = first_of-one (look left) (append_rest r.tree behind) (tree-stops rounds stop left r.tree behind parts.1) in
+      let last : IsStop (first_of (look left) (option_to_list (rewrite r (path ++ rest)))) = rw (rewrite-matching r (path ++ rest) (matches-append r.prefix path rest parts.0)) one in
+      first_of-IsStop_right (look left) (lookup-IsNarrow whole (named_in book) left) (rewrites rs (path ++ rest)) (option_to_list (rewrite r (path ++ rest))) last)
       (λ later. first_of-IsStop_left (look left) (rewrites rs (path ++ rest)) (option_to_list (rewrite r (path ++ rest))) (match-stops rounds stop left rs path rest later))
       (or_cases (matches r.prefix path && sure_tree (sure_path rules rounds) r.tree) (some_match (sure_path rules rounds) rs path) h)
 
@@ -172,7 +172,7 @@ module _ (front rules back : List Rule) (book : Contents) where
   sure-stops (suc rounds) (suc left) path rest h =
       lookup-stops left (path ++ rest)
       (⊎_elim (λ own. named-inner left path rest own) (λ matched. matched-inner left (path ++ rest) (match-stops rounds (sure-stops rounds) left rules path rest matched))
-        (or_cases (is_some (named_addr path)) (some_match (sure_path rules rounds) rules path) h))
+      (or_cases (is_some (named_addr path)) (some_match (sure_path rules rounds) rules path) h))
 
   -- so a sure tree stops a search, whatever labels stand behind its leaves and however many lookups are left
   pub sure_tree-IsStop : (left : ℕ) (t : TreeValue) (rest : Labels) → is_sure rules t ≡ true → IsStop (walk (look left) (append_rest t rest))
