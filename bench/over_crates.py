@@ -1,29 +1,33 @@
 """Runs a small program over some of the repository's crates, in a folder of its own."""
-import os, shutil, subprocess, sys, tempfile
+import collections, os, shutil, subprocess, sys, tempfile
 
 ROOT = os.path.dirname(os.path.dirname(os.path.abspath(__file__)))
 
+# What crates.txt says of a crate: its line, and the libraries that it stands on.
+Listed = collections.namedtuple("Listed", "line libraries")
 
-def libraries_of_crates():
-    """What crates.txt says: the libraries that each crate stands on, by the crate's name."""
-    libraries = {}
-    with open(os.path.join(ROOT, "crates.txt")) as file:
+
+def listed_crates(root=ROOT):
+    """What crates.txt says of each crate, by the crate's name. Lower crates come first."""
+    listed = {}
+    with open(os.path.join(root, "crates.txt")) as file:
         for line in file:
-            name, colon, named = line.partition("#")[0].partition(":")
+            line = line.partition("#")[0].strip()
+            head, colon, libraries = line.partition(":")
             if colon:
-                libraries[name.strip()] = named.split()
-    return libraries
+                listed[head.split()[0]] = Listed(line, libraries.split())
+    return listed
 
 
-def at_or_below(named, libraries):
-    """The crates of the repository among these libraries and below them."""
+def at_or_below(named, listed):
+    """The crates of the repository among these libraries and below them, lower ones first."""
     reached, waiting = set(), list(named)
     while waiting:
         name = waiting.pop()
-        if name in libraries and name not in reached:
+        if name in listed and name not in reached:
             reached.add(name)
-            waiting.extend(libraries[name])
-    return reached
+            waiting.extend(listed[name].libraries)
+    return [name for name in listed if name in reached]
 
 
 def left_out(folder, names):
@@ -50,17 +54,17 @@ def output_of(name, program, named, proofs=None):
     command = os.environ.get("RT", "rt")
     if not shutil.which(command):
         sys.exit(f"{name}: the toolchain's command {command} was not found")
-    libraries = libraries_of_crates()
+    listed = listed_crates()
     with tempfile.TemporaryDirectory(prefix=f"{name}-") as work:
         lines = []
-        for crate in at_or_below(named, libraries):
+        for crate in at_or_below(named, listed):
             shutil.copytree(
                 os.path.join(ROOT, "crates", crate),
                 os.path.join(work, "crates", crate),
                 ignore=left_out,
                 copy_function=share,
             )
-            lines.append(f"{crate}: {' '.join(libraries[crate])}\n")
+            lines.append(f"{listed[crate].line}\n")
         lines.append(f"{name}: {' '.join(named)}\n")
         with open(os.path.join(work, "crates.txt"), "w") as file:
             file.writelines(lines)

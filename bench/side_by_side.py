@@ -1,0 +1,138 @@
+"""Works on several crates at once, each in a repository of its own.
+
+While an `rt` runs, it keeps every crate below its own to itself. So two of them in one repository mostly wait for each other. Here each crate gets a folder
+with what it stands on: copies of the texts, and links to the libraries that are built of them.
+"""
+import collections, contextlib, os, shutil, subprocess, threading
+from concurrent.futures import FIRST_COMPLETED, ThreadPoolExecutor, wait
+
+from over_crates import at_or_below, listed_crates, share
+
+# A task: the keys of those that it waits for, how much there is to do, and a call that does it with so many processors and tells whether it went well.
+Task = collections.namedtuple("Task", "waits_for size call")
+
+# The memory that a check may take, in bytes. A few take more, and `rt` makes a check again that was killed for it.
+MEMORY_OF_A_CHECK = 3_000_000_000
+
+
+def lay_out(root, name, place):
+    """Lays a crate and what it stands on out in a folder, as they are in a repository whose libraries below it are built. What stays in the folder of an
+    earlier time is the crate's own `out/`."""
+    listed = listed_crates(root)
+    crates = at_or_below([name], listed)
+    os.makedirs(place, exist_ok=True)
+    with open(os.path.join(place, "crates.txt"), "w") as file:
+        file.writelines(f"{listed[crate].line}\n" for crate in crates)
+    for crate in crates:
+        source, target = os.path.join(root, "crates", crate), os.path.join(place, "crates", crate)
+        os.makedirs(target, exist_ok=True)
+        for part in os.listdir(target):
+            if crate != name or part != "out":
+                discard(os.path.join(target, part))
+        shutil.copytree(source, target, ignore=shutil.ignore_patterns("out"), dirs_exist_ok=True)
+        if crate != name:
+            link_tree(os.path.join(source, "out", "rlib"), os.path.join(target, "out", "rlib"))
+
+
+def link_tree(source, target):
+    """Makes a folder with the same files as another: what is built is large, and its files are replaced and never changed."""
+    shutil.copytree(source, target, copy_function=share)
+
+
+def discard(path):
+    """Removes a file, or a folder with all that is in it."""
+    if os.path.isdir(path) and not os.path.islink(path):
+        shutil.rmtree(path)
+    else:
+        with contextlib.suppress(FileNotFoundError):
+            os.remove(path)
+
+
+def lines_of(root, crate):
+    """How many lines of code a crate has."""
+    count = 0
+    for at, _, names in os.walk(os.path.join(root, "crates", crate, "src")):
+        for name in names:
+            if name.endswith(".rt"):
+                with open(os.path.join(at, name), "rb") as file:
+                    count += file.read().count(b"\n")
+    return count
+
+
+def processors():
+    """How many processors there are to use, as far as there is memory for a check on each."""
+    with open("/proc/meminfo") as file:
+        free = next(int(line.split()[1]) for line in file if line.startswith("MemAvailable:"))
+    return max(1, min(len(os.sched_getaffinity(0)), 1024 * free // MEMORY_OF_A_CHECK))
+
+
+class Commands:
+    """Commands that run, which end when this script does."""
+
+    def __init__(self):
+        self.running, self.is_over, self.changing = set(), False, threading.Lock()
+
+    @contextlib.contextmanager
+    def started(self, words, folder, output):
+        """A command that runs in a folder with nothing on its standard input."""
+        with self.changing:
+            if self.is_over:
+                raise InterruptedError
+            command = subprocess.Popen(
+                words, cwd=folder, stdin=subprocess.DEVNULL, stdout=output, stderr=subprocess.STDOUT, text=True, errors="replace"
+            )
+            self.running.add(command)
+        try:
+            yield command
+            command.wait()
+        finally:
+            with self.changing:
+                self.running.discard(command)
+
+    def status_of(self, words, folder, output):
+        """Runs a command to its end, and gives its status."""
+        with self.started(words, folder, output) as command:
+            pass
+        return command.returncode
+
+    def end(self):
+        """Ends those that run, and lets no other begin."""
+        with self.changing:
+            self.is_over = True
+            for command in self.running:
+                command.terminate()
+
+
+def in_lanes(tasks, lanes, commands):
+    """Does tasks side by side on so many processors, and gives for each whether it went well. `tasks` has them by their keys, each behind those that it waits for.
+
+    The one with the longest chain of others behind it comes first, since the whole takes no less time than that chain. It gets the processors that no other
+    task can use, up to four. What waits for one that did not go well isn't done.
+    """
+    chain = dict.fromkeys(tasks, 0)
+    for key in reversed(list(tasks)):
+        chain[key] += tasks[key].size
+        for below in tasks[key].waits_for:
+            chain[below] = max(chain[below], chain[key])
+    left, running, went_well = sorted(tasks, key=lambda key: -chain[key]), {}, {}
+    with ThreadPoolExecutor(lanes) as pool:
+        try:
+            while left or running:
+                ready = [key for key in left if all(below in went_well for below in tasks[key].waits_for)]
+                for at, key in enumerate(ready):
+                    idle = lanes - sum(jobs for _, jobs in running.values())
+                    if not all(went_well[below] for below in tasks[key].waits_for):
+                        went_well[key] = False
+                    elif idle > 0:
+                        jobs = max(1, min(4, idle // (len(ready) - at)))
+                        running[pool.submit(tasks[key].call, jobs)] = key, jobs
+                    else:
+                        continue
+                    left.remove(key)
+                for done in wait(running, return_when=FIRST_COMPLETED).done:
+                    key, _ = running.pop(done)
+                    went_well[key] = done.result()
+        except BaseException:
+            commands.end()
+            raise
+    return went_well
