@@ -19,11 +19,7 @@ pub fn served_path(arguments: io::Result<Args>) -> Option<String> {
 
 /// Why it serves no more, by the status and the address that could not be listened on, if there was
 /// one.
-pub fn reason(
-    alloc: Global,
-    status: u8,
-    refused: Option<&Refusal>,
-) -> Result<String, AllocError> {
+pub fn reason(alloc: Global, status: u8, refused: Option<&Refusal>) -> Result<String, AllocError> {
     match (status, refused) {
         (0, _) => String::from_str(alloc, "it was shut down"),
         (3, _) => String::from_str(alloc, "its configuration or its services are refused"),
