@@ -12,7 +12,7 @@ usage: bench/edge.py [PROGRAM] [--slow]
   so many, 24 requests at once are all answered.
 - With `--slow`, for a minute: a client that asks for nothing, one that does not read its reply, and
   a replica that neither reads nor answers. Each should be given up after 60 seconds; the last two
-  are not, where the kernel goes on taking a few bytes for them.
+  take some minutes, where the kernel goes on taking a few bytes for them.
 
 The script ends with 0 where nothing was wrong.
 """
