@@ -107,6 +107,8 @@ fn staged<J: Naming, R: Wait + Abort>(
 
 /// Plays a scene on a new router with this configured table, and ends it: how many changes there were.
 pub fn run<R: Wait + Abort>(rt: &R, alloc: Global, base: &str, rows: &[Row]) -> Option<u64> {
-    let opened = open(rt, alloc, settings(alloc, base)?, 3).ok()?;
+    let Ok(opened) = open(rt, alloc, settings(alloc, base)?, 3) else {
+        return None;
+    };
     staged::<Brand, R>(rt, alloc, opened, rows)
 }
