@@ -150,15 +150,13 @@ impl End {
 }
 
 impl Peer for End {
-    ghost left = { λ _. None };
-
-    ghost given = { λ _. None };
-
-    ghost read_faults = { λ _. 0 };
-
-    ghost write_faults = { λ _. 0 };
-
-    ghost ends = { λ e. e.ends };
+    ghost line = { λ e. record {
+      left = None;
+      given = None;
+      read_faults = 0;
+      write_faults = 0;
+      ends = e.ends;
+    } };
 
     fn read(&mut self, into: &mut [u8]) -> Result<usize, Failed> {
         let count = self.give(into);
@@ -174,13 +172,12 @@ impl Peer for End {
 }
 
 impl Dialer for End {
-    ghost log = { λ _. None };
-
-    ghost left = { λ _. None };
-
-    ghost is_open = { λ e. e.is_open };
-
-    ghost faults = { λ _. 0 };
+    ghost upstream = { λ e. record {
+      log = None;
+      left = None;
+      is_open = e.is_open;
+      faults = 0;
+    } };
 
     fn dial(&mut self, _ip: u32, _port: u16) -> Result<(), Failed> {
         self.is_open = true;

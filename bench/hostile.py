@@ -1,17 +1,19 @@
 #!/usr/bin/env python3
-"""How long one pick takes `linker replay` whose request brings the worst table of its own: each row is one line `pick PATH 0 0 0 0 TABLE`, with a table of at most
-65,536 bytes, as a client can send it in a field of its head.
+"""How long one pick takes `linker replay` whose request brings the worst table of its own, and how much memory: each row is one line `pick PATH 0 0 0 0 TABLE`, with a
+table of at most 65,536 bytes, as a client can send it in a field of its head. The last row is a `view`, whose table an operator configured. Each runs on a stack
+of 1 MiB, half of what a worker's thread has where the stack's size is not limited.
 
-What a delegation costs is bounded by its lookups, the trees that are tried and the bytes of the paths that are looked up; the rows go to these bounds one by one.
+What a delegation costs is bounded by its lookups and the bytes of the paths that are looked up; the rows go to these bounds one by one.
 
 usage: bench/hostile.py [PROGRAM]       (crates/linker/out/linker, if left out)
 """
-import os, statistics, subprocess, sys, tempfile
+import os, resource, signal, statistics, subprocess, sys, tempfile
 
 HERE = os.path.dirname(os.path.abspath(__file__))
 
 ROUNDS = 3
 MOST_BYTES = 65_536
+STACK_BYTES = 1 << 20
 
 # As many branches as a union may have whose leaves are all looked up: with the lookup of the union itself there are 10,000.
 BRANCHES = 9_999
@@ -39,11 +41,35 @@ def shapes(count, labels):
     return ";".join(names)
 
 
+def long_prefixes(count, labels, last):
+    """So many prefixes of so many labels, each of other stars but for the last label."""
+    names = []
+    for number in range(count):
+        stars = "".join("/*" if number >> at & 1 else "/x" for at in range(labels - 1))
+        names.append(stars + last + "=>~")
+    return ";".join(names)
+
+
+def nested(number, unions):
+    """An entry whose leaf stands in so many unions of one branch each."""
+    return f"/{number}=>" + "1*(" * (unions - 1) + f"1*/{number + 1}" + ")" * (unions - 1)
+
+
+def chain(last, unions):
+    """A chain of 99 such entries to an address."""
+    return ";".join([nested(number, unions) for number in range(1, 99)] + [f"/99=>{last}"])
+
+
 def rows():
-    """The name of each row, its path, its table and the reply."""
+    """The name of each row, its path, its table and how the reply begins."""
     spread = f"/s=>{union('/a')};"
     long_rest = "/x" * 1_000
     deep = "/d" + long_rest
+    twice = f"/s=>{union('/b', 100)};/b=>{union('/a', 98)};"
+    many = "/s" + "/x" * 30
+    to_x = f"/s=>{union('/b', 100)};/b=>{union('/x', 98)};"
+    address = "/$/inet/1.1.1.1/1"
+    bound = f"/s=>{union('/b', 100)};/b=>{union(address, 98)}"
     return [
         # No alternative behind a `!` is tried: none is copied either.
         ("alternatives that are not tried, 9,999 times", "/s", filled(spread + "/a=>!", "|/c"), "failing"),
@@ -55,22 +81,51 @@ def rows():
         ("alternatives that are all negative, 9,999 times", "/s", filled(spread + "/a=>~", "|~"), "negative"),
         ("branches that all fail, 9,999 times", "/s", filled(spread + "/a=>!", "&!"), "failing"),
         ("branches of weight 0, 9,999 times", "/s", filled(spread + "/a=>0*/c", "&0*/c"), "negative"),
+        ("marks and unions of a mark, 9,800 times", "/s", filled(twice + "/a=>~", "|1*~|~"), "negative"),
         # Entries that match, and entries of other shapes, which are looked for one by one.
         ("1,000 entries that match, 9,999 times", "/s", spread + ";".join(["/a=>~"] * 1_000), "negative"),
+        ("1,000 entries of 30 labels that match, 9,800 times", many, to_x + ";".join(["/x" * 30 + "=>~"] * 1_000), "negative"),
         ("1,000 shapes of prefixes, 9,999 times", "/s/" + "x" * 1_900 + "/x" * 11, spread + shapes(1_000, 11), "negative"),
+        ("1,000 shapes of 30 labels, 9,800 times", many, to_x + long_prefixes(1_000, 30, "/y"), "negative"),
+        ("1,000 shapes of 30 labels that match, 9,800 times", many, to_x + long_prefixes(1_000, 30, "/x"), "negative"),
+        # Each leaf that is bound keeps the labels behind its own; and unions that stand in each other.
+        ("9,800 bound leaves with 1,000 labels behind each", "/s" + long_rest, bound, f"1.1.1.1:1 {address} /x/x"),
+        ("6,300 unions in each other", "/1", chain(address, 64), f"1.1.1.1:1 {address} /"),
     ]
 
 
-def run(program, line):
-    """One run: the seconds of processor time, the most memory in MiB (never less than this script's own), and the reply."""
+def views():
+    """So are the rows of views."""
+    long_rest = "/x" * 1_000
+    address = "/$/inet/1.1.1.1/1"
+    bound = f"/s=>{union('/b', 100)};/b=>{union(address, 98)}"
+    return [("a view of 9,901 lookups of paths of 1,000 labels", "/s" + long_rest, bound, "bound 9901")]
+
+
+def small_stack():
+    resource.setrlimit(resource.RLIMIT_STACK, (STACK_BYTES, STACK_BYTES))
+
+
+def run(program, script_text):
+    """One run: the seconds of processor time, the most memory in MiB (never less than this script's own), and the last line of the reply."""
     with tempfile.TemporaryFile() as script, tempfile.TemporaryFile() as out:
-        script.write(line)
+        script.write(script_text)
         script.seek(0)
-        child = subprocess.Popen([program, "replay"], stdin=script, stdout=out)
+        child = subprocess.Popen([program, "replay"], stdin=script, stdout=out, preexec_fn=small_stack)
         _, status, use = os.wait4(child.pid, 0)
         child.returncode = os.waitstatus_to_exitcode(status)
         out.seek(0)
-        return use.ru_utime + use.ru_stime, use.ru_maxrss / 1024, out.read().decode().strip()
+        lines = out.read().decode().splitlines() or [""]
+        told = lines[-1] if child.returncode >= 0 else signal.Signals(-child.returncode).name
+        return use.ru_utime + use.ru_stime, use.ru_maxrss / 1024, told
+
+
+def measure(program, name, table, script_text, reply):
+    done = [run(program, script_text.encode()) for _ in range(ROUNDS)]
+    seconds = statistics.median(d[0] for d in done)
+    told = done[0][2]
+    shown = reply if told.startswith(reply) else f"{told[:40]}, and not {reply}"
+    print(f"| {name} | {len(table):,} | {shown} | {seconds:.3f} | {max(d[1] for d in done):.1f} |", flush=True)
 
 
 def main():
@@ -79,10 +134,9 @@ def main():
     print("|---|---|---|---|---|")
     for name, path, table, reply in rows():
         assert len(table) <= MOST_BYTES and len(path) <= 2_048, name
-        done = [run(program, f"pick {path} 0 0 0 0 {table}\n".encode()) for _ in range(ROUNDS)]
-        seconds = statistics.median(d[0] for d in done)
-        told = done[0][2] if done[0][2] == reply else f"{done[0][2]}, and not {reply}"
-        print(f"| {name} | {len(table):,} | {told} | {seconds:.3f} | {max(d[1] for d in done):.1f} |", flush=True)
+        measure(program, name, table, f"pick {path} 0 0 0 0 {table}\n", reply)
+    for name, path, table, reply in views():
+        measure(program, name, table, f"dtab {table}\nview {path}\n", reply)
 
 
 if __name__ == "__main__":

@@ -28,7 +28,7 @@ ghost use Rattle.snap_cell.specs.Writers.{cell_written, opening_written};
 use addr_book::{Addr, Name, read_addrs};
 use choose_core::Limits;
 use dtab_table::{Dtab, read_dtab};
-use line_base::Steps;
+use step_count::Steps;
 use machine::{Ask, Change, Settings};
 use name_tree::read_path;
 use router::{Answer, Names, Naming, Opened, Pass, Peek, Router, open};
@@ -561,7 +561,7 @@ for_each_mut-requires-sync-F g c κs within =
 for ROUND, SHARED in [("pick_round", "Picking"), ("report_round", "Reporting")]:
     PROOFS[f"proofs/{ROUND}/Answers.antt"] = CROSSING.replace("ROUND", ROUND).replace("SHARED", SHARED)
 
-LIBRARIES = """line_base name_tree dtab_table addr_book ns_store choose_core bind_core machine bind_cache one_history router_log load_words snap_cell router logbook left_right
+LIBRARIES = """step_count name_tree dtab_table addr_book ns_store choose_core bind_core machine bind_cache one_history router_log load_words snap_cell router logbook left_right
 crossbeam_utils atomic_table"""
 
 

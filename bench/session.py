@@ -1,6 +1,6 @@
 #!/usr/bin/env python3
 """How long the router's own work on one request takes: a GET with eight header fields whose delegation is kept, one whose delegation has to be worked out, and a POST
-of 100 KB; and how many bytes a connection holds while it waits for its first request.
+of 100 KB; and how many bytes the room of a server holds.
 
 The two ends are in memory: the client gives one request a read, and the upstream its reply in one receive. It wants the toolchain's command rt, by which it proves,
 builds and runs a small program over the crates of sessions.
@@ -22,15 +22,15 @@ ghost use Rattle.snap_cell.specs.Writers.{cell_written, opening_written};
 use addr_book::{AddrList, Name, read_addrs};
 use choose_core::Limits;
 use dtab_table::read_dtab;
-use http_wire::{Ended, FieldName, Rest};
+use http_wire::{Ended, FieldName};
 use identifier::{Kind, Rule};
 use line_base::{Dialer, Failed, Gate, MemClock, Peer};
 use machine::{Change, Settings};
 use name_tree::read_path;
-use proxy_session::serve_session;
+use proxy_session::{Connection, Context, Parts, Room, Server};
 use rand_core::SeedableRng;
 use rand_pcg::Pcg64;
-use router::{Names, Naming, Opened, Pass, Router, open};
+use router::{Naming, Opened, Pass, Router, open};
 use std::alloc::{AllocError, Global};
 use std::marker::Brand;
 use std::rt::Runtime;
@@ -105,15 +105,13 @@ impl Client {
 }
 
 impl Peer for Client {
-    ghost left = { λ _. None };
-
-    ghost given = { λ _. None };
-
-    ghost read_faults = { λ _. 0 };
-
-    ghost write_faults = { λ _. 0 };
-
-    ghost ends = { λ c. c.ends };
+    ghost line = { λ c. record {
+      left = None;
+      given = None;
+      read_faults = 0;
+      write_faults = 0;
+      ends = c.ends;
+    } };
 
     fn read(&mut self, into: &mut [u8]) -> Result<usize, Failed> {
         let count = self.give(into);
@@ -152,13 +150,12 @@ impl Upstream {
 }
 
 impl Dialer for Upstream {
-    ghost log = { λ _. None };
-
-    ghost left = { λ _. None };
-
-    ghost is_open = { λ u. u.is_open };
-
-    ghost faults = { λ _. 0 };
+    ghost upstream = { λ u. record {
+      log = None;
+      left = None;
+      is_open = u.is_open;
+      faults = 0;
+    } };
 
     fn dial(&mut self, _ip: u32, _port: u16) -> Result<(), Failed> {
         self.is_open = true;
@@ -268,67 +265,59 @@ impl Case {
     }
 }
 
-/// Serves one client, and says how that ended.
-fn serve<J: Naming, R: Runtime + Wait>(
-    rt: &R,
-    alloc: Global,
-    router: &Router<J>,
-    pass: &mut Pass<J>,
-    rule: &Rule,
-    client: &mut Client,
-    upstream: &mut Upstream,
-) -> io::Result<Ended> {
-    let mut clock = MemClock::of(alloc, vec![in alloc; 1000]?)?;
-    let mut words = Pcg64::seed_from_u64(7);
-    let None = pass.holds() else {
-        return Ok(Ended::OutOfMemory);
-    };
-    Ok(serve_session(
-        rt, alloc, router, pass, rule, client, upstream, &mut clock, &mut words, &Free, 0,
-    ))
-}
-
-/// Serves one client and writes how long each of its requests took.
+/// Serves one client over this pass, and writes how long each of its requests took.
 fn time<J: Naming, R: Runtime + Wait>(
-    rt: &R,
-    alloc: Global,
-    router: &Router<J>,
-    pass: &mut Pass<J>,
-    rule: &Rule,
+    context: &Context<'_, J, R>,
+    pass: Pass<J>,
     case: Case,
-) -> io::Result<()> {
-    let mut client = case.client(alloc)?;
-    let mut upstream = Upstream {
-        reply: Vec::from_slice(alloc, REPLY.as_bytes())?,
-        at: 0,
-        seen: 0,
-        is_open: false,
+) -> io::Result<Pass<J>> {
+    let (rt, alloc) = (context.rt, context.alloc);
+    let parts = Parts {
+        pass,
+        dialer: Upstream {
+            reply: Vec::from_slice(alloc, REPLY.as_bytes())?,
+            at: 0,
+            seen: 0,
+            is_open: false,
+        },
+        clock: MemClock::of(alloc, vec![in alloc; 1000]?)?,
+        words: Pcg64::seed_from_u64(7),
     };
+    let None = parts.pass.holds() else {
+        return Ok(parts.pass);
+    };
+    let mut server = Server::of(Room::new(alloc)?, parts);
+    let mut connection = Connection::of(case.client(alloc)?);
     let start = Instant::now(rt)?;
-    let ended = serve(rt, alloc, router, pass, rule, &mut client, &mut upstream)?;
+    let ended = server.serve_session(context, &mut connection, &Free, 0);
     let took = start.elapsed(rt)?.as_nanos() / u128::from(case.requests().max(1));
     let name = case.name();
-    println!(rt; "session,{name},{took},{ended:?},{},{}", client.seen, upstream.seen)
+    let Parts {
+        pass,
+        dialer,
+        clock: _,
+        words: _,
+    } = server.into_parts();
+    let seen = connection.into_peer().seen;
+    println!(rt; "session,{name},{took},{ended:?},{seen},{}", dialer.seen)?;
+    Ok(pass)
 }
 
 /// Times all cases, each some times.
 fn time_all<J: Naming, R: Runtime + Wait>(
-    rt: &R,
-    alloc: Global,
-    router: &Router<J>,
-    pass: &mut Pass<J>,
-    rule: &Rule,
+    context: &Context<'_, J, R>,
+    mut pass: Pass<J>,
     change: Change,
-) -> io::Result<()>
+) -> io::Result<Pass<J>>
     requires { IsSoundChange (change_of change) }
 {
-    let _set = router.change(rt, alloc, pass, change)?;
+    let _set = context.router.change(context.rt, context.alloc, &mut pass, change)?;
     for _ in 0..5u32 {
-        time(rt, alloc, router, pass, rule, Case::Kept)?;
-        time(rt, alloc, router, pass, rule, Case::WorkedOut)?;
-        time(rt, alloc, router, pass, rule, Case::Body)?;
+        pass = time(context, pass, Case::Kept)?;
+        pass = time(context, pass, Case::WorkedOut)?;
+        pass = time(context, pass, Case::Body)?;
     }
-    Ok(())
+    Ok(pass)
 }
 
 /// Names a router of one pass, times sessions over it and ends it.
@@ -348,14 +337,18 @@ fn time_named<J: Naming, R: Runtime + Wait>(
     requires change { IsSoundChange (change_of change) }
 {
     let (router, mut passes) = opened.named::<J, R>(rt, alloc)?;
-    let timed = match passes.as_mut_slice() {
-        [pass] => time_all(rt, alloc, &router, pass, rule, change),
-        _ => unreachable!(),
-    };
-    match router.close(rt, passes) {
-        Ok(_) => timed,
-        Err(_) => unreachable!(),
+    if let Some(pass) = passes.pop() {
+        let context = Context {
+            rt,
+            alloc,
+            router: &router,
+            rule,
+        };
+        let pass = time_all(&context, pass, change)?;
+        passes.push(pass)?;
     }
+    let _closed = router.close(rt, passes);
+    Ok(())
 }
 
 /// The change that gives a service these addresses.
@@ -363,15 +356,6 @@ fn set(service: Name, list: AddrList) -> Change
     ensures { IsSoundChange (change_of result) }
 {
     Change::SetAddrs { service, list }
-}
-
-/// What a session sets aside for all its requests.
-#[derive(Drop)]
-struct Room {
-    names: Names,
-    from_client: Rest,
-    from_upstream: Rest,
-    head: Vec<u8>,
 }
 
 /// The resident memory of the program, in KiB, as `/proc` tells it.
@@ -385,17 +369,12 @@ fn tell_memory(rt: &HostRuntime, what: &str) -> io::Result<()> {
     Ok(())
 }
 
-/// Sets aside what 10,000 sessions do, and writes the memory before and after.
+/// Sets aside what 10,000 servers do, and writes the memory before and after.
 fn time_rooms(rt: &HostRuntime, alloc: Global) -> io::Result<()> {
     let mut rooms = Vec::with_capacity(alloc, 10000)?;
     tell_memory(rt, "before")?;
     for _ in 0..10000u32 {
-        rooms.push(Room {
-            names: Names::room(alloc)?,
-            from_client: Rest::room(alloc)?,
-            from_upstream: Rest::room(alloc)?,
-            head: Vec::with_capacity(alloc, 1024)?,
-        })?;
+        rooms.push(Room::new(alloc)?)?;
     }
     tell_memory(rt, "after")
 }
@@ -435,7 +414,7 @@ ghosts-time_named-J-Naming g a = record {
 }
 """}
 
-LIBRARIES = """line_base name_tree dtab_table addr_book ns_store choose_core bind_core machine bind_cache one_history router_log load_words snap_cell router http_wire identifier
+LIBRARIES = """line_base step_count name_tree dtab_table addr_book ns_store choose_core bind_core machine bind_cache one_history router_log load_words snap_cell router http_wire identifier
 proxy_session rand_core rand_pcg body_wire forward own_reply logbook left_right crossbeam_utils atomic_table httparse http"""
 
 CASES = {

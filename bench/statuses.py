@@ -17,6 +17,9 @@ MOST_CONFIG = 1_048_576
 CONFIG = b'{"routers":[{"protocol":"http"}]}'
 GOOD = b"ok router 127.0.0.1:4140 namerd 127.0.0.1:4180 admin 127.0.0.1:9990\n"
 
+# What is written to standard error where the configured table covers the prefix of requests' paths.
+COVERED = b"linker: an entry of routers[0].dtab covers routers[0].dstPrefix, so it is tried before every entry of the namespace\n"
+
 # Generated runs, and the lines that sum them up.
 RUNS = [
     ("storm", 0, 7, b"changes 1 refused 0 picked 0 none 0 ports 0"),
@@ -38,9 +41,9 @@ def main():
     program = parser.parse_args().program
     wrong = []
 
-    def check(what, words, stdin, status, written, stdout=subprocess.PIPE):
+    def check(what, words, stdin, status, written, stdout=subprocess.PIPE, warning=b""):
         done = subprocess.run([program, *words], stdin=stdin, stdout=stdout, stderr=subprocess.PIPE)
-        told = done.stderr.startswith(USAGE) if status == 2 else not done.stderr
+        told = done.stderr.startswith(USAGE) if status == 2 else done.stderr == warning
         is_right = done.returncode == status and (done.stdout or b"") == written and told
         print(f"{'right' if is_right else 'WRONG'}: {what}: status {done.returncode}")
         if not is_right:
@@ -83,10 +86,12 @@ def main():
         check("the longest script", ["replay"], blanks(MOST), 0, b"")
         check("a byte more", ["replay"], blanks(MOST + 1), 8, b"error long\n")
 
-        def told(what, path, status, written, stdout=subprocess.PIPE):
-            check(what, ["check", path], subprocess.DEVNULL, status, written, stdout)
+        def told(what, path, status, written, stdout=subprocess.PIPE, warning=b""):
+            check(what, ["check", path], subprocess.DEVNULL, status, written, stdout, warning)
 
         told("the example", os.path.join(HERE, "..", "examples", "linker.json"), 0, GOOD)
+        for table, warning in [(b"/svc => /host", COVERED), (b"/*/web => !; / => /host", COVERED), (b"/svc/web => /host", b""), (b"/host => /svc", b"")]:
+            told(f"the table {table.decode()}", config(CONFIG.replace(b"}]", b',"dtab":"%s"}]' % table)), 0, GOOD, warning=warning)
         told("the longest configuration", config(CONFIG.ljust(MOST_CONFIG)), 0, GOOD)
         told("a byte more", config(CONFIG.ljust(MOST_CONFIG + 1)), 3, b"error config long\n")
         told("no configuration", os.path.join(folder, "none"), 3, b"error config absent\n")

@@ -129,6 +129,16 @@ impl Book {
         let _parts = &self.parts;
     }
 
+    /// The same services and the same slots once more. The two share all, so it costs a count that
+    /// goes up by one.
+    pub fn shared(&self) -> Mem<Book>
+        ensures { IfOk result (λ book. book ≡ self.now) }
+    {
+        Ok(Book {
+            parts: Arc::try_clone(&self.parts)?,
+        })
+    }
+
     /// Prepares the book with these addresses for the service, in the place of those that it has, if it is there. What is prepared does not change this book.
     /// [`BookFault::TooManyServices`] comes before [`BookFault::BookFull`], and [`BookFault::Missing`] never.
     ///

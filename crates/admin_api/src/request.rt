@@ -1,6 +1,7 @@
 //! Reading the requests of a connection.
 ghost use Rattle.std.specs.Prelude.{◌≡◌, ◌++◌, List, ℕ, IfOk};
-ghost use Rattle.std.specs.Io.KnownBytes.{Consumes, Keeps};
+ghost use Rattle.std.specs.Io.KnownBytes.{Consumes};
+ghost use Rattle.line_base.specs.Lines.{IsUnwritten};
 ghost use Rattle.admin_api.specs.Requests.{names_long_body};
 ghost use Rattle.admin_api.specs.Reading.{HasReadCauses, ShowsRequest, TellsTests, of_body, of_head, quiet_end};
 
@@ -109,9 +110,9 @@ pub(crate) fn read_request<P: Peer>(
     peer: &mut P,
     rest: &mut Rest,
 ) -> Result<Request, Refused>
-    ensures bytes { (came : List ℕ) × Consumes (P.left peer.old) (P.left peer.new) came × ShowsRequest (rest.old ++ came) rest.new result }
-    ensures causes { HasReadCauses (P.ends peer.old) (P.ends peer.new) (P.read_faults peer.old) (P.read_faults peer.new) (quiet_end result) }
-    ensures others { (Keeps (P.given peer.old) (P.given peer.new)) × (P.write_faults peer.new ≡ P.write_faults peer.old) }
+    ensures bytes { (came : List ℕ) × Consumes (P.line peer.old).left (P.line peer.new).left came × ShowsRequest (rest.old ++ came) rest.new result }
+    ensures causes { HasReadCauses (P.line peer.old).ends (P.line peer.new).ends (P.line peer.old).read_faults (P.line peer.new).read_faults (quiet_end result) }
+    ensures others { IsUnwritten (P.line peer.old) (P.line peer.new) }
 {
     let head = match read_request_head(alloc, peer, rest) {
         Ok(head) => head,

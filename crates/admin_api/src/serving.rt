@@ -1,7 +1,8 @@
 //! One connection of an interface, request by request.
 ghost use Rattle.std.specs.Prelude.{◌≡◌, ◌≤◌, ◌++◌, ◌||◌, Bool, IfOk, OnErr, List, ℕ, Some};
-ghost use Rattle.std.specs.Io.KnownBytes.{Appends, Consumes, Keeps};
+ghost use Rattle.std.specs.Io.KnownBytes.{Appends, Consumes};
 ghost use Rattle.line_base.specs.Counts.{Rose};
+ghost use Rattle.line_base.specs.Lines.{IsUnread};
 ghost use Rattle.router.specs.Passes.{number_in};
 ghost use Rattle.ns_api.specs.Answering.{AnswersBy, IsTaken, LeavesBy};
 ghost use Rattle.admin_api.specs.Serving.{Answers, HasCauses, IsDelivered, IsServing, Turns, calls_after, demand_of, end_behind};
@@ -42,10 +43,10 @@ pub fn serve_admin<J: Naming, R: Wait, P: Peer, S: Stop>(
     peer: &mut P,
 ) -> Ended
     ensures number { number_in pass.new ≡ number_in pass.old }
-    ensures serves { (came : List ℕ) × (gave : List ℕ) × (stopped : Bool) × Consumes (P.left peer.old) (P.left peer.new) came × Appends (P.given peer.old) (P.given peer.new) gave
+    ensures serves { (came : List ℕ) × (gave : List ℕ) × (stopped : Bool) × Consumes (P.line peer.old).left (P.line peer.new).left came × Appends (P.line peer.old).given (P.line peer.new).given gave
         × (S.calls stop.new ≡ calls_after (S.calls stop.old) stopped) × IsServing which pass.old pass.new came gave stopped result }
-    ensures causes { HasCauses (P.ends peer.old) (P.ends peer.new) (P.read_faults peer.old) (P.read_faults peer.new) (P.write_faults peer.old)
-        (P.write_faults peer.new) (Some result) }
+    ensures causes { HasCauses (P.line peer.old).ends (P.line peer.new).ends (P.line peer.old).read_faults (P.line peer.new).read_faults (P.line peer.old).write_faults
+        (P.line peer.new).write_faults (Some result) }
 {
     let Ok(mut rest) = Rest::room(alloc) else {
         return Ended::OutOfMemory;
@@ -82,9 +83,9 @@ fn serve_next<J: Naming, R: Wait, P: Peer, S: Stop>(
     rest: &mut Rest,
 ) -> Option<Ended>
     ensures number { number_in pass.new ≡ number_in pass.old }
-    ensures turn { (came : List ℕ) × (gave : List ℕ) × (stopped : Bool) × Consumes (P.left peer.old) (P.left peer.new) came × Appends (P.given peer.old) (P.given peer.new) gave
+    ensures turn { (came : List ℕ) × (gave : List ℕ) × (stopped : Bool) × Consumes (P.line peer.old).left (P.line peer.new).left came × Appends (P.line peer.old).given (P.line peer.new).given gave
         × (S.calls stop.new ≡ calls_after (S.calls stop.old) stopped) × Turns which last pass.old pass.new (rest.old ++ came) rest.new gave stopped result }
-    ensures causes { HasCauses (P.ends peer.old) (P.ends peer.new) (P.read_faults peer.old) (P.read_faults peer.new) (P.write_faults peer.old) (P.write_faults peer.new) result }
+    ensures causes { HasCauses (P.line peer.old).ends (P.line peer.new).ends (P.line peer.old).read_faults (P.line peer.new).read_faults (P.line peer.old).write_faults (P.line peer.new).write_faults result }
 {
     match read_request(alloc, peer, rest) {
         Ok(request) => reply_to(rt, alloc, router, pass, which, last, stop, peer, &request),
@@ -107,12 +108,11 @@ fn reply_to<J: Naming, R: Wait, P: Peer, S: Stop>(
 ) -> Option<Ended>
     requires { IsTaken request.now.head }
     ensures number { number_in pass.new ≡ number_in pass.old }
-    ensures answers { (gave : List ℕ) × (stopped : Bool) × Appends (P.given peer.old) (P.given peer.new) gave × (S.calls stop.new ≡ calls_after (S.calls stop.old) stopped)
+    ensures answers { (gave : List ℕ) × (stopped : Bool) × Appends (P.line peer.old).given (P.line peer.new).given gave × (S.calls stop.new ≡ calls_after (S.calls stop.old) stopped)
         × Answers which last request.now.head request.now.body.items pass.old pass.new gave stopped result }
-    ensures others { (Keeps (P.left peer.old) (P.left peer.new)) × (P.read_faults peer.new ≡ P.read_faults peer.old)
-        × (P.ends peer.new ≡ P.ends peer.old) }
-    ensures cause { result ≡ Some Ended.WriteFault → Rose (P.write_faults peer.old) (P.write_faults peer.new) }
-    ensures later { P.write_faults peer.old ≤ P.write_faults peer.new }
+    ensures others { IsUnread (P.line peer.old) (P.line peer.new) }
+    ensures cause { result ≡ Some Ended.WriteFault → Rose (P.line peer.old).write_faults (P.line peer.new).write_faults }
+    ensures later { (P.line peer.old).write_faults ≤ (P.line peer.new).write_faults }
 {
     match answer(
         rt,
@@ -159,12 +159,11 @@ fn deliver<P: Peer, S: Stop>(
     last: bool,
     reply: &ApiReply,
 ) -> Option<Ended>
-    ensures bytes { (gave : List ℕ) × (stopped : Bool) × Appends (P.given peer.old) (P.given peer.new) gave × (S.calls stop.new ≡ calls_after (S.calls stop.old) stopped)
+    ensures bytes { (gave : List ℕ) × (stopped : Bool) × Appends (P.line peer.old).given (P.line peer.new).given gave × (S.calls stop.new ≡ calls_after (S.calls stop.old) stopped)
         × IsDelivered head.now last reply.now gave stopped result }
-    ensures others { (Keeps (P.left peer.old) (P.left peer.new)) × (P.read_faults peer.new ≡ P.read_faults peer.old)
-        × (P.ends peer.new ≡ P.ends peer.old) }
-    ensures cause { result ≡ Some Ended.WriteFault → Rose (P.write_faults peer.old) (P.write_faults peer.new) }
-    ensures later { P.write_faults peer.old ≤ P.write_faults peer.new }
+    ensures others { IsUnread (P.line peer.old) (P.line peer.new) }
+    ensures cause { result ≡ Some Ended.WriteFault → Rose (P.line peer.old).write_faults (P.line peer.new).write_faults }
+    ensures later { (P.line peer.old).write_faults ≤ (P.line peer.new).write_faults }
 {
     match write_all(peer, reply.bytes.as_slice()) {
         Ok(()) => {

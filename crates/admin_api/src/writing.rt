@@ -1,7 +1,8 @@
 //! Writing replies to a peer.
 ghost use Rattle.std.specs.Prelude.{◌≡◌, ◌≤◌, List, ℕ};
-ghost use Rattle.std.specs.Io.KnownBytes.{Appends, Keeps};
+ghost use Rattle.std.specs.Io.KnownBytes.{Appends};
 ghost use Rattle.line_base.specs.Counts.{Rose};
+ghost use Rattle.line_base.specs.Lines.{IsUnread};
 ghost use Rattle.admin_api.specs.Reading.{IsRefusal};
 
 use body_wire::write_all;
@@ -12,11 +13,10 @@ use std::alloc::Global;
 
 /// Refuses a request, and closes the connection behind the reply.
 pub(crate) fn refuse<P: Peer>(alloc: Global, peer: &mut P, err: OwnError, with_body: bool) -> Ended
-    ensures bytes { (sent : List ℕ) × Appends (P.given peer.old) (P.given peer.new) sent × IsRefusal err with_body sent result }
-    ensures others { (Keeps (P.left peer.old) (P.left peer.new)) × (P.read_faults peer.new ≡ P.read_faults peer.old)
-        × (P.ends peer.new ≡ P.ends peer.old) }
-    ensures cause { result ≡ Ended.WriteFault → Rose (P.write_faults peer.old) (P.write_faults peer.new) }
-    ensures later { P.write_faults peer.old ≤ P.write_faults peer.new }
+    ensures bytes { (sent : List ℕ) × Appends (P.line peer.old).given (P.line peer.new).given sent × IsRefusal err with_body sent result }
+    ensures others { IsUnread (P.line peer.old) (P.line peer.new) }
+    ensures cause { result ≡ Ended.WriteFault → Rose (P.line peer.old).write_faults (P.line peer.new).write_faults }
+    ensures later { (P.line peer.old).write_faults ≤ (P.line peer.new).write_faults }
 {
     let Ok(reply) = own_reply(alloc, err, true, with_body) else {
         return Ended::OutOfMemory;

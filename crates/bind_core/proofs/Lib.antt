@@ -3,12 +3,15 @@ pub mod Closing
 pub mod Filled
 pub mod Gathers
 pub mod Joined
+pub mod Leaning
 pub mod Local
 pub mod Narrow
+pub mod Paying
 pub mod Stacks
 pub mod Stepping
 pub mod Telling
 pub mod Trees
+pub mod Trimming
 pub mod Turns
 pub mod Unions
 pub mod Widths

@@ -1,7 +1,9 @@
 pub mod Delegation
+pub mod Depth
 pub mod Kept
 pub mod Laws
 pub mod Outcome
 pub mod Rewritten
 pub mod Stack
 pub mod Tables
+pub mod Turns

@@ -7,7 +7,8 @@ use Rattle.name_tree.specs.Path.{Labels}
 use Rattle.name_tree.specs.Value.{TreeValue, TreeValues, Branches, leaf, neg, fail, empty, alt, union, none, more, no_branch, branch, append_rest, append_rest_branches}
 use Rattle.name_tree.specs.Tree.{value_of, listed}
 use Rattle.name_tree.specs.declared.tree.Tree.{Tree}
-use Rattle.dtab_table.specs.Dtab.{rewrites, rewritten_by_each}
+use Rattle.dtab_table.specs.Dtab.{rewrites}
+use Rattle.dtab_table.specs.LeanTrees.{lean_trees, lent_trees}
 use Rattle.dtab_table.specs.Rules.{Rule}
 use Rattle.bind_core.specs.declared.frame.Choice.{Choice}
 use Rattle.bind_core.specs.declared.frame.TreesLeft.{TreesLeft}
@@ -54,7 +55,8 @@ end_at at ending [] = []
 end_at zero ending (v ∷ vs) = record v { ending = ending } ∷ vs
 end_at (suc at) ending (v ∷ vs) = v ∷ end_at at ending vs
 
--- where a lookup ends, it comes to what is told; unless that ends all, since it came to that before it had ended
+-- where a lookup ends, it comes to what is told; unless that ends all, since it came to that before
+-- it had ended
 abbrev pub closed : Option ℕ → Told → Told
 closed None told = told
 closed (Some at) told = if ends_all told.0 then told else (told.0, end_at at told.0 told.1)
@@ -95,8 +97,9 @@ module _ (work : Labels → ℕ) where
 
 -- the trees that are left, with the rest of a path behind their leaves
 abbrev pub trees_left : TreesLeft → Labels → List TreeValue
-trees_left (trees.Entries entries) path = rewritten_by_each path (into_iter_items entries)
-trees_left (trees.Alternatives left) path = map (λ t. append_rest (value_of t) (drop left.from path)) (iter_rest left.trees)
+trees_left (trees.Entries entries) path = lent_trees path (into_iter_items entries)
+trees_left (trees.Alternatives left) path =
+    map (λ t. append_rest (value_of t) (drop left.from path)) (iter_rest left.trees)
 
 -- there is none
 abbrev pub NoTreeLeft : TreesLeft → Type 0
@@ -105,7 +108,9 @@ NoTreeLeft left = (path : Labels) → trees_left left path ≡ []
 -- the next of them, and how many labels of the path its prefix took
 abbrev pub IsNextTree : TreesLeft → TreesLeft → Option (Bor Tree × ℕ) → Type 0
 IsNextTree old new None = NoTreeLeft old
-IsNextTree old new (Some next) = (path : Labels) → trees_left old path ≡ append_rest (value_of next.0.now) (drop next.1 path) ∷ trees_left new path
+IsNextTree old new (Some next) = (path : Labels)
+    → trees_left old path
+    ≡ append_rest (value_of next.0.now) (drop next.1 path) ∷ trees_left new path
 
 -- the trees that are left in a frame
 abbrev pub choice_names : Choice → List TreeValue
@@ -113,16 +118,19 @@ choice_names f = trees_left f.trees (labels_of f.path)
 
 -- the branches that are left in a frame
 abbrev pub union_branches : Union → Branches
-union_branches f = append_rest_branches (listed (iter_rest f.branches)) (drop f.from (labels_of f.path))
+union_branches f = append_rest_branches (listed (iter_rest f.branches))
+    (drop f.from (labels_of f.path))
 
 -- what is told, unless that ends all; then it is the first
 abbrev pub unless_ended : Told → Told → Told
 unless_ended first told = if ends_all first.0 then first else told
 
--- what a union comes to that kept so much, where the branch with this weight tells so and the others are left
+-- what a union comes to that kept so much, where the branch with this weight tells so and the
+-- others are left
 abbrev pub union_told : Kept → ℕ → Told → List Evaluated → Told
 union_told k n told [] = unless_ended told (kept_ending (kept_with k n told.0), told.1)
-union_told k n told (b ∷ bs) = unless_ended told (union_told (kept_with k n told.0) b.weight (behind told.1 b.told) bs)
+union_told k n told (b ∷ bs) = unless_ended told
+    (union_told (kept_with k n told.0) b.weight (behind told.1 b.told) bs)
 
 -- a lookup of the code, counted from 0, ended so
 abbrev pub end_item : ℕ → Ended → List TraceItem → List TraceItem
@@ -135,7 +143,8 @@ abbrev pub end_items : Option ℕ → Ended → List TraceItem → List TraceIte
 end_items None ended items = items
 end_items (Some at) ended items = end_item at ended items
 
--- one lookup more, of which no more than so many are kept: where there were so many before, all are let go
+-- one lookup more, of which no more than so many are kept: where there were so many before, all are
+-- let go
 abbrev pub with_item : ℕ → ℕ → TraceItem → List TraceItem → List TraceItem
 with_item most count item items = if nat_lt count most then items ++ item ∷ [] else []
 
@@ -143,7 +152,8 @@ with_item most count item items = if nat_lt count most then items ++ item ∷ []
 pub record Fits (most : ℕ) (visits : List Visit) (work : Work) : Type 0 where
   pub most_is : work.visits.most ≡ most
   pub count : work.count ≡ length visits
-  pub items : work.visits.items.items ≡ (if nat_lt most (length visits) then [] else map traced visits)
+  pub items : work.visits.items.items
+      ≡ (if nat_lt most (length visits) then [] else map traced visits)
 
 -- the answer is that there are too many lookups, and there are
 pub record IsTooWide (whole : Told) (work : Work) (next : Task) : Type 0 where
@@ -152,17 +162,18 @@ pub record IsTooWide (whole : Told) (work : Work) (next : Task) : Type 0 where
   pub items : work.visits.items.items ≡ []
   pub many : most_wide < length whole.1
 
--- the answer to what was told, within the limit on lookups, with the lookups where there are at most so many
+-- the answer to what was told, within the limit on lookups, with the lookups where there are at
+-- most so many
 pub record IsAnswer (most : ℕ) (whole : Told) (work : Work) (told : Outcome) : Type 0 where
   pub outcome : ending_of told ≡ within_width whole
   pub count : work.count ≡ min (length whole.1) (most_wide + 1)
   pub items : work.visits.items.items ≡ map traced (visits_within most whole)
 
 module _ (rules : List Rule) where
-  -- the turns that a path takes, with so many lookups left in its chain
+  -- the turns that a path takes at most, with so many lookups left in its chain
   unfoldable pub path_work : ℕ → Labels → ℕ
   path_work zero path = 1
-  path_work (suc left) path = 1 + list_work (path_work left) (rewrites rules path)
+  path_work (suc left) path = 1 + list_work (path_work left) (lean_trees (rewrites rules path))
 
   -- the turns that are left for a frame, and for a stack
   abbrev pub choice_work : Choice → ℕ
@@ -185,9 +196,11 @@ module _ (rules : List Rule) where
   task_work (task.Tell outcome) = 0
 
 module _ (rules : List Rule) (names : Names) where
-  -- what a lookup or an alternation comes to: its trees in order, and then what its path names by itself
+  -- what a lookup or an alternation comes to: its trees in order, and then what its path names by
+  -- itself
   abbrev pub choice_told : Choice → Told
-  choice_told f = or_else (first_of (lookup rules names f.left) (choice_names f)) (named_ending f.named, [])
+  choice_told f = or_else (first_of (lookup rules names f.left) (choice_names f))
+      (named_ending f.named, [])
 
   -- what it tells on, after what was told before it
   abbrev pub choice_on : Choice → Told → Told
@@ -195,11 +208,14 @@ module _ (rules : List Rule) (names : Names) where
 
   -- what the lookup that began last comes to, with these trees, and what its path names
   abbrev pub lookup_on : List TreeValue → Option Leaf → ℕ → ℕ → List Visit → Told
-  lookup_on trees named visit left visits = closed (Some visit) (behind visits (or_else (first_of (lookup rules names left) trees) (named_ending named, [])))
+  lookup_on trees named visit left visits =
+      closed (Some visit) (behind visits (or_else (first_of (lookup rules names left) trees)
+      (named_ending named, [])))
 
   -- what a union makes of what is told of the branch that is evaluated
   abbrev pub union_on : Union → Told → Told
-  union_on f told = union_told (kept_of f.gathered) f.weight told (walk_each (lookup rules names f.left) (union_branches f))
+  union_on f told = union_told (kept_of f.gathered) f.weight told
+      (walk_each (lookup rules names f.left) (union_branches f))
 
   -- what a frame makes of what is told before it
   abbrev pub frame_on : Frame → Told → Told
@@ -213,11 +229,13 @@ module _ (rules : List Rule) (names : Names) where
 
   -- what a task tells, after these lookups
   abbrev pub task_told : Task → List Visit → Told
-  task_told (task.Try tree left) visits = behind visits (walk (lookup rules names left) (tree_of tree))
+  task_told (task.Try tree left) visits =
+      behind visits (walk (lookup rules names left) (tree_of tree))
   task_told (task.Tell outcome) visits = (ending_of outcome, visits)
 
   -- the task and the stack come to what was asked
-  pub record IsOpen (most : ℕ) (whole : Told) (stack : List Frame) (work : Work) (next : Task) : Type 0 where
+  pub record IsOpen (most : ℕ) (whole : Told) (stack : List Frame) (work : Work) (next : Task)
+      : Type 0 where
     pub visits : List Visit
     pub fits : Fits most visits work
     pub few : work.count ≤ most_wide
@@ -227,10 +245,12 @@ module _ (rules : List Rule) (names : Names) where
   abbrev pub LeadsTo : ℕ → Told → List Frame → Work → Task → Type 0
   LeadsTo most whole stack work next = IsOpen most whole stack work next ⊎ IsTooWide whole work next
 
-  -- a step to the whole: it puts frames on the stack, and they lead to the whole with the next task, in fewer turns than so many. The whole
-  -- goes on from the lookups that were made before
-  pub record IsStep (most : ℕ) (whole : List Visit → Told) (turns : ℕ) (old new : Work) (next : Task) : Type 0 where
+  -- a step to the whole: it puts frames on the stack, and they lead to the whole with the next
+  -- task, in fewer turns than so many. The whole goes on from the lookups that were made before
+  pub record IsStep (most : ℕ) (whole : List Visit → Told) (turns : ℕ) (old new : Work) (next : Task)
+      : Type 0 where
     pub more : List Frame
     pub pushed : new.stack.items ≡ old.stack.items ++ more
     pub less : stack_work rules more + task_work rules next < turns
-    pub leads : (visits : List Visit) → Fits most visits old → LeadsTo most (whole visits) more new next
+    pub leads : (visits : List Visit) → Fits most visits old
+        → LeadsTo most (whole visits) more new next

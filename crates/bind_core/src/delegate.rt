@@ -1,5 +1,5 @@
 //! Delegation, with a stack of what is left to try in place of a recursion.
-ghost use Rattle.std.specs.Prelude.{◌≡◌, ◌+◌, ◌<◌, ◌≤◌, ◌↔◌, List, [], length, min, false, IfOk};
+ghost use Rattle.std.specs.Prelude.{◌≡◌, ◌+◌, ◌*◌, ◌<◌, ◌≤◌, ◌↔◌, ℕ, List, [], length, min, false, IfOk};
 ghost use Rattle.dtab_table.specs.TableCanon.{AreSoundRules};
 ghost use Rattle.addr_book.specs.Found.{IsFilled, IsBounded};
 ghost use Rattle.dtab_table.specs.Rules.{Rule};
@@ -8,6 +8,8 @@ ghost use Rattle.bind_core.specs.Delegation.{Names, lookup, walk, named_ending, 
 ghost use Rattle.bind_core.specs.Outcome.{IsDelegated, ending_of, most_for, paths_for, items_for};
 ghost use Rattle.bind_core.specs.Rewritten.{labels_of, tree_of};
 ghost use Rattle.bind_core.specs.Tables.{rules_in};
+ghost use Rattle.bind_core.specs.Depth.{greatest_depth, turns_per_lookup};
+ghost use Rattle.bind_core.specs.Turns.{IsPaid, IsDue, CanLookUp, IsTurn, IsFirst};
 ghost use Rattle.bind_core.specs.Stack.{IsStep, IsAnswer, Fits, rules_at, names_at, behind, ends_all, frame_on, frame_work, choice_on, choice_work, union_on, union_work, lookup_on, path_work, tree_work, list_work, trees_left};
 
 use crate::Mem;
@@ -20,10 +22,10 @@ use crate::trace::{PathList, Trace};
 use crate::visits::Visits;
 use crate::work::{Scene, Task, Work};
 use addr_book::{Book, Bound, Leaf, name_answer};
-use line_base::Steps;
 use name_tree::{Path, Tree};
 use std::alloc::Global;
 use std::sync::ledger::Ledger;
+use step_count::Steps;
 
 /// The most lookups in a chain.
 const MOST_DEEP: u32 = 100;
@@ -34,40 +36,50 @@ const MOST_WIDE: u32 = 10_000;
 /// The most lookups of which the paths are told.
 const MOST_ASKED: u32 = 256;
 
-/// What a path comes to in the tables, and which lookups that takes (Finagle user guide, "Names and Naming in Finagle").
+/// What a path comes to in the tables, and which lookups that takes (Finagle user guide, "Names and
+/// Naming in Finagle").
 ///
-/// A lookup tries, in order, the trees of all entries whose prefix matches the path, the last entry first, so those of the
-/// request's own table first and those of the namespace last, each with the rest of the path behind every leaf; and then
-/// what the path names by itself. The first that isn't negative is the outcome. A leaf is looked up in turn, and an
-/// alternation is the first of its trees that isn't negative: `!` and `$` stop the search.
+/// A lookup tries, in order, the trees of all entries whose prefix matches the path, the last entry
+/// first, so those of the request's own table first and those of the namespace last, each with the
+/// rest of the path behind every leaf; and then what the path names by itself. The first that isn't
+/// negative is the outcome. A leaf is looked up in turn, and an alternation is the first of its
+/// trees that isn't negative: `!` and `$` stop the search.
 ///
-/// A union evaluates its branches in order, but for those of weight 0. It is bound to the bound ones with their
-/// weights, in their order; negative, empty and failing ones are dropped. Where all are dropped, it is failing if one
-/// fails, else empty if one is empty, else negative.
+/// A union evaluates its branches in order, but for those of weight 0. It is bound to the bound
+/// ones with their weights, in their order; negative, empty and failing ones are dropped. Where all
+/// are dropped, it is failing if one fails, else empty if one is empty, else negative.
 ///
-/// A path is too deep where it is reached after 100 lookups in its chain, or where its canonical text is longer than
-/// 2,048 bytes, and that ends the whole delegation at once, in a branch of a union too. A delegation that needs more
-/// than 10,000 lookups is too wide, whatever else it would come to; it ends as soon as that is known.
+/// A path is too deep where it is reached after 100 lookups in its chain, or where its canonical
+/// text is longer than 2,048 bytes, and that ends the whole delegation at once, in a branch of a
+/// union too. A delegation that needs more than 10,000 lookups is too wide, whatever else it would
+/// come to; it ends as soon as that is known.
 ///
-/// Each union in a bound outcome has a branch, and no weight in it is 0. Where the table's trees are sound, as those of a
-/// text are, each has at most 65,536 branches, with weights below 10^12.
+/// Each union in a bound outcome has a branch, and no weight in it is 0. Where the table's trees
+/// are sound, as those of a text are, each has at most 65,536 branches, with weights below 10^12.
 ///
-/// With [`Wanted::Asked`] the paths that were looked up are told, where there are at most 256; with [`Wanted::Trace`] each
-/// lookup, where the outcome isn't too wide.
+/// With [`Wanted::Asked`] the paths that were looked up are told, where there are at most 256; with
+/// [`Wanted::Trace`] each lookup, where the outcome isn't too wide.
 ///
 /// # Cost
-/// Each lookup ticks `steps` at least once. What a delegation takes is bounded by its lookups, the trees that are tried for them and the
-/// bytes of the paths that are looked up:
+/// Each lookup ticks `steps` at least once, and so does each turn of the loop. There are at most
+/// `12 * (depth + 1) * (cost + 1)` ticks, where `depth` is the greatest depth to which alternations
+/// and unions stand in each other in the tables' trees. So what a delegation takes is bounded by
+/// its lookups and by the bytes of the paths that are looked up:
 ///
-/// - A lookup costs one pass over the text of its path, [`Dtab::matching`](dtab_table::Dtab::matching) in each of the three tables, and a
-///   look-up in the book. It takes memory for a reference to each entry that matches, and for a copy of the path where the leaf that it was
-///   reached by had a rest behind it, or where a list is wanted and kept.
-/// - A tree that is tried, a mark too, costs a turn of a loop, whatever stands in it or behind it. A branch of weight 0 costs a test. The
-///   trees are lent by the tables: nothing is copied of alternatives and branches that aren't reached.
+/// - A lookup costs one pass over the text of its path,
+///   [`Dtab::lean_matching`](dtab_table::Dtab::lean_matching) in each of the three tables, and a
+///   look-up in the book. It takes memory for a reference to each entry that matches, and for a
+///   copy of the path where the leaf that it was reached by had a rest behind it, or where a list
+///   is wanted and kept.
+/// - A tree that is tried costs a turn of a loop, whatever stands in it or behind it. Of each tree
+///   the tables keep what makes lookups, and that is tried: marks in front of others, what stands
+///   behind a `!` or a `$` and branches of weight 0 cost nothing. The trees are lent by the tables:
+///   nothing is copied of alternatives and branches that aren't reached.
 /// - A leaf whose own text is longer than 2,048 bytes is not joined with a rest.
 ///
-/// One chain is followed at a time: what is held is a frame for each of its lookups, alternations and unions that have something left to
-/// try, the paths of these, each once, and the bound branches of those unions.
+/// One chain is followed at a time: what is held is a frame for each of its lookups, alternations
+/// and unions that have something left to try, the paths of these, each once, and the bound
+/// branches of those unions.
 pub fn bind<L: Ledger>(
     alloc: Global,
     tables: &Tables<'_>,
@@ -76,12 +88,16 @@ pub fn bind<L: Ledger>(
     wanted: Wanted,
     steps: &mut Steps<L>,
 ) -> Mem<Delegated>
-    ensures delegated { IfOk result (IsDelegated (rules_in tables.now) (named_in book.now) path.now wanted) }
+    ensures delegated { IfOk result
+        (IsDelegated (rules_in tables.now) (named_in book.now) path.now wanted) }
     ensures cost { IfOk result (λ d. d.cost ≤ 10001) }
     ensures width { IfOk result (λ d. (d.outcome ≡ Outcome.TooWide) ↔ (d.cost ≡ 10001)) }
     ensures counted { IfOk result (λ d. steps.old + min d.cost 10000 ≤ steps.new) }
+    ensures turns { IfOk result (λ d. steps.new
+        ≤ steps.old + turns_per_lookup (greatest_depth (rules_in tables.now)) * (d.cost + 1)) }
     ensures filled { IfOk result (λ d. IfBound IsFilled (ending_of d.outcome)) }
-    ensures bounded { AreSoundRules (rules_in tables.now) → IfOk result (λ d. IfBound IsBounded (ending_of d.outcome)) }
+    ensures bounded { AreSoundRules (rules_in tables.now)
+        → IfOk result (λ d. IfBound IsBounded (ending_of d.outcome)) }
 {
     let scene = Scene { tables, book };
     let mut work = Work::new(alloc, most_kept(wanted));
@@ -123,7 +139,8 @@ fn told_lists(alloc: Global, wanted: Wanted, visits: Visits) -> Mem<(PathList, T
 
 /// What a path comes to, with so many lookups left in its chain.
 ///
-/// Each turn does the next task. What is told goes to the last frame; where it ends all, the frames that are left are let go.
+/// Each turn does the next task. What is told goes to the last frame; where it ends all, the frames
+/// that are left are let go.
 fn evaluate<'a, L: Ledger>(
     alloc: Global,
     scene: &Scene<'a>,
@@ -135,11 +152,15 @@ fn evaluate<'a, L: Ledger>(
     requires stack { work.old.stack.items ≡ [] }
     requires fits { Fits work.old.visits.most [] work.old }
     requires most { work.old.visits.most ≤ 10000 }
-    ensures answer { IfOk result (IsAnswer work.old.visits.most (lookup (rules_at scene.now) (names_at scene.now) left path.now) work.new) }
+    ensures answer { IfOk result (IsAnswer work.old.visits.most
+        (lookup (rules_at scene.now) (names_at scene.now) left path.now) work.new) }
     ensures counted { IfOk result (λ _. steps.old + min work.new.count 10000 ≤ steps.new) }
+    ensures turns { IfOk result (λ _. steps.new ≤ steps.old
+        + turns_per_lookup (greatest_depth (rules_at scene.now)) * (work.new.count + 1)) }
 {
     let mut task = look_up(alloc, scene, work, HeldPath::Lent(path), left, steps)?;
     loop {
+        steps.tick();
         task = match task {
             Task::Try(tree, left) => step(alloc, scene, work, tree, left, steps)?,
             Task::Tell(told) => {
@@ -155,13 +176,17 @@ fn evaluate<'a, L: Ledger>(
     }
 }
 
-/// One turn: a frame that was taken off the stack gets what was told, which doesn't end all. If something is left of
-/// it to try, it goes back on the stack, and the next of it is tried.
+/// One turn: a frame that was taken off the stack gets what was told, which doesn't end all. If
+/// something is left of it to try, it goes back on the stack, and the next of it is tried.
 fn turn<'a>(work: &mut Work<'a>, frame: Frame<'a>, told: Outcome) -> Mem<Task<'a>>
     requires few { work.old.count ≤ 10000 }
     requires goes_on { ends_all (ending_of told) ≡ false }
-    ensures step { (rules : List Rule) → (names : Names) → IfOk result (IsStep rules names work.old.visits.most
-        (λ visits. frame_on rules names frame.entry (ending_of told, visits)) (frame_work rules frame.entry) work.old work.new) }
+    ensures step { (rules : List Rule) → (names : Names)
+        → IfOk result (IsStep rules names work.old.visits.most
+        (λ visits. frame_on rules names frame.entry (ending_of told, visits))
+        (frame_work rules frame.entry) work.old work.new) }
+    ensures moves { IfOk result
+        (IsTurn frame.entry (ending_of told) work.old.stack.items work.new.stack.items) }
     ensures count { work.new.count ≡ work.old.count }
 {
     match frame {
@@ -170,13 +195,17 @@ fn turn<'a>(work: &mut Work<'a>, frame: Frame<'a>, told: Outcome) -> Mem<Task<'a
     }
 }
 
-/// A turn of a lookup or an alternation: its next tree is tried where negative was told, and what its path names where
-/// there is none. Anything else that was told is told on.
+/// A turn of a lookup or an alternation: its next tree is tried where negative was told, and what
+/// its path names where there is none. Anything else that was told is told on.
 fn next_tree<'a>(work: &mut Work<'a>, mut choice: Choice<'a>, told: Outcome) -> Mem<Task<'a>>
     requires few { work.old.count ≤ 10000 }
     requires goes_on { ends_all (ending_of told) ≡ false }
-    ensures step { (rules : List Rule) → (names : Names) → IfOk result (IsStep rules names work.old.visits.most
-        (λ visits. choice_on rules names choice.entry (ending_of told, visits)) (choice_work rules choice.entry) work.old work.new) }
+    ensures step { (rules : List Rule) → (names : Names)
+        → IfOk result (IsStep rules names work.old.visits.most
+        (λ visits. choice_on rules names choice.entry (ending_of told, visits))
+        (choice_work rules choice.entry) work.old work.new) }
+    ensures moves { IfOk result (IsTurn (Frame.Choice choice.entry) (ending_of told)
+        work.old.stack.items work.new.stack.items) }
     ensures count { work.new.count ≡ work.old.count }
 {
     let Outcome::Neg = told else {
@@ -194,13 +223,18 @@ fn next_tree<'a>(work: &mut Work<'a>, mut choice: Choice<'a>, told: Outcome) -> 
     Ok(Task::Try(Rewritten { tree, path, from }, left))
 }
 
-/// A turn of a union: it keeps what was told of the branch that was evaluated, and the next of those whose weight isn't 0
-/// is tried. Where there is none, it tells what its branches come to together.
+/// A turn of a union: it keeps what was told of the branch that was evaluated, and the next of
+/// those whose weight isn't 0 is tried. Where there is none, it tells what its branches come to
+/// together.
 fn next_branch<'a>(work: &mut Work<'a>, mut union: Union<'a>, told: Outcome) -> Mem<Task<'a>>
     requires few { work.old.count ≤ 10000 }
     requires goes_on { ends_all (ending_of told) ≡ false }
-    ensures step { (rules : List Rule) → (names : Names) → IfOk result (IsStep rules names work.old.visits.most
-        (λ visits. union_on rules names union.entry (ending_of told, visits)) (union_work rules union.entry) work.old work.new) }
+    ensures step { (rules : List Rule) → (names : Names)
+        → IfOk result (IsStep rules names work.old.visits.most
+        (λ visits. union_on rules names union.entry (ending_of told, visits))
+        (union_work rules union.entry) work.old work.new) }
+    ensures moves { IfOk result (IsTurn (Frame.Union union.entry) (ending_of told)
+        work.old.stack.items work.new.stack.items) }
     ensures count { work.new.count ≡ work.old.count }
 {
     let told_of = union.weight;
@@ -216,7 +250,8 @@ fn next_branch<'a>(work: &mut Work<'a>, mut union: Union<'a>, told: Outcome) -> 
     Ok(Task::Try(Rewritten { tree, path, from }, left))
 }
 
-/// One step: a tree is tried. What has to be tried of it later goes on the stack.
+/// One step: a tree is tried, and of an alternation or a union the first tree or branch is tried
+/// next. What has to be tried of it later goes on the stack.
 fn step<'a, L: Ledger>(
     alloc: Global,
     scene: &Scene<'a>,
@@ -226,10 +261,17 @@ fn step<'a, L: Ledger>(
     steps: &mut Steps<L>,
 ) -> Mem<Task<'a>>
     requires { work.old.count ≤ 10000 }
-    ensures step { IfOk result (IsStep (rules_at scene.now) (names_at scene.now) work.old.visits.most
-        (λ visits. behind visits (walk (lookup (rules_at scene.now) (names_at scene.now) left) (tree_of tried.entry)))
-        (tree_work (path_work (rules_at scene.now) left) (tree_of tried.entry)) work.old work.new) }
-    ensures counted { IfOk result (λ _. steps.old + min work.new.count 10000 ≤ steps.new + work.old.count) }
+    ensures step { let look = lookup (rules_at scene.now) (names_at scene.now) left in
+        IfOk result (IsStep (rules_at scene.now) (names_at scene.now) work.old.visits.most
+        (λ visits. behind visits (walk look (tree_of tried.entry)))
+        (tree_work (path_work (rules_at scene.now) left) (tree_of tried.entry))
+        work.old work.new) }
+    ensures counted { IfOk result
+        (λ _. steps.old + min work.new.count 10000 ≤ steps.new + work.old.count) }
+    ensures paid { (depth start : ℕ) → greatest_depth (rules_at scene.now) ≤ depth
+        → IsDue depth start steps.old work.old.stack.items work.old.count
+        (Task.Try tried.entry left)
+        → IfOk result (IsPaid depth start steps.new work.new.stack.items work.new.count) }
 {
     match tried.tree {
         Tree::Neg => Ok(Task::Tell(Outcome::Neg)),
@@ -243,7 +285,7 @@ fn step<'a, L: Ledger>(
             }
         }
         Tree::Alt(trees) => {
-            work.stack.push(Frame::Choice(Choice {
+            let choice = Choice {
                 trees: TreesLeft::Alternatives(Alternatives {
                     trees: trees.items().iter(),
                     from: tried.from,
@@ -252,24 +294,25 @@ fn step<'a, L: Ledger>(
                 named: None,
                 visit: None,
                 left,
-            }))?;
-            Ok(Task::Tell(Outcome::Neg))
+            };
+            next_tree(work, choice, Outcome::Neg)
         }
         Tree::Union(branches) => {
-            work.stack.push(Frame::Union(Union {
+            let union = Union {
                 branches: branches.items().iter(),
                 path: tried.path,
                 from: tried.from,
                 weight: 0,
                 gathered: Gathered::new(alloc),
                 left,
-            }))?;
-            Ok(Task::Tell(Outcome::Neg))
+            };
+            next_branch(work, union, Outcome::Neg)
         }
     }
 }
 
-/// One lookup of a path. The first tree that it is rewritten to is tried next, and what is left to try after it goes on the stack.
+/// One lookup of a path. The first tree that it is rewritten to is tried next, and what is left to
+/// try after it goes on the stack.
 fn look_up<'a, L: Ledger>(
     alloc: Global,
     scene: &Scene<'a>,
@@ -279,10 +322,15 @@ fn look_up<'a, L: Ledger>(
     steps: &mut Steps<L>,
 ) -> Mem<Task<'a>>
     requires { work.old.count ≤ 10000 }
-    ensures step { IfOk result (IsStep (rules_at scene.now) (names_at scene.now) work.old.visits.most
-        (λ visits. behind visits (lookup (rules_at scene.now) (names_at scene.now) left (labels_of path.entry)))
+    ensures step { let look = lookup (rules_at scene.now) (names_at scene.now) left in
+        IfOk result (IsStep (rules_at scene.now) (names_at scene.now) work.old.visits.most
+        (λ visits. behind visits (look (labels_of path.entry)))
         (path_work (rules_at scene.now) left (labels_of path.entry)) work.old work.new) }
-    ensures counted { IfOk result (λ _. steps.old + min work.new.count 10000 ≤ steps.new + work.old.count) }
+    ensures counted { IfOk result
+        (λ _. steps.old + min work.new.count 10000 ≤ steps.new + work.old.count) }
+    ensures paid { (depth start : ℕ) → greatest_depth (rules_at scene.now) ≤ depth
+        → CanLookUp depth start steps.old work.old.stack.items work.old.count
+        → IfOk result (IsPaid depth start steps.new work.new.stack.items work.new.count) }
 {
     let looked_up = path.as_path();
     if left == 0 || !looked_up.text_fits(MOST_PATH_BYTES) {
@@ -303,8 +351,9 @@ fn look_up<'a, L: Ledger>(
     first_tree(work, trees, path, named, visit, left - 1)
 }
 
-/// The first of the trees of a lookup, whose leaves have so many lookups left in the chain, is tried next. What the path names by itself is
-/// told where there are none. Where nothing is left to try after it and no lookup is kept, no frame is left either.
+/// The first of the trees of a lookup, whose leaves have so many lookups left in the chain, is
+/// tried next. What the path names by itself is told where there are none. Where nothing is left to
+/// try after it and no lookup is kept, no frame is left either.
 fn first_tree<'a>(
     work: &mut Work<'a>,
     mut trees: TreesLeft<'a>,
@@ -315,9 +364,13 @@ fn first_tree<'a>(
 ) -> Mem<Task<'a>>
     requires few { work.old.count ≤ 10000 }
     requires begun { visit < work.old.count }
-    ensures step { (rules : List Rule) → (names : Names) → IfOk result (IsStep rules names work.old.visits.most
-        (λ visits. lookup_on rules names (trees_left trees.entry (labels_of path.entry)) named visit left visits)
-        (list_work (path_work rules left) (trees_left trees.entry (labels_of path.entry))) work.old work.new) }
+    ensures step { (rules : List Rule) → (names : Names)
+        → let ts = trees_left trees.entry (labels_of path.entry) in
+        IfOk result (IsStep rules names work.old.visits.most
+        (λ visits. lookup_on rules names ts named visit left visits)
+        (list_work (path_work rules left) ts) work.old work.new) }
+    ensures moves { IfOk result (IsFirst (trees_left trees.entry (labels_of path.entry))
+        work.old.stack.items work.new.stack.items) }
     ensures count { work.new.count ≡ work.old.count }
 {
     let Some((tree, from)) = trees.next() else {

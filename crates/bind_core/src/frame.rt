@@ -7,7 +7,7 @@ ghost use Rattle.bind_core.specs.Stack.{NoTreeLeft, IsNextTree, IsNextWeighted};
 use crate::gathered::Gathered;
 use crate::rewritten::HeldPath;
 use addr_book::Leaf;
-use dtab_table::Entry;
+use dtab_table::LeanTree;
 use name_tree::{Branch, Tree};
 use std::alloc::Global;
 use std::slice::Iter;
@@ -31,7 +31,8 @@ pub(crate) struct Choice<'a> {
     pub(crate) path: HeldPath<'a>,
     /// What the path names by itself, which is tried after the trees. An alternation names nothing.
     pub(crate) named: Option<Leaf>,
-    /// Which lookup it is of, counted from 0 in the order in which they began. An alternation is of none.
+    /// Which lookup it is of, counted from 0 in the order in which they began. An alternation is of
+    /// none.
     pub(crate) visit: Option<u32>,
     /// How many lookups are left in the chain for the leaves of the trees.
     pub(crate) left: u32,
@@ -40,8 +41,8 @@ pub(crate) struct Choice<'a> {
 /// Trees of the tables that are left to try. They are lent.
 #[derive(Drop)]
 pub(crate) enum TreesLeft<'a> {
-    /// Those of entries that match the path that was looked up.
-    Entries(IntoIter<&'a Entry, Global>),
+    /// Those of the entries that match the path that was looked up.
+    Entries(IntoIter<LeanTree<'a>, Global>),
     /// Alternatives of one tree.
     Alternatives(Alternatives<'a>),
 }
@@ -58,7 +59,8 @@ pub(crate) struct Alternatives<'a> {
 /// What is left of a union.
 #[derive(Drop)]
 pub(crate) struct Union<'a> {
-    /// The branches that are left, which are evaluated in order where their weight isn't 0. They are lent.
+    /// The branches that are left, which are evaluated in order where their weight isn't 0. They
+    /// are lent.
     pub(crate) branches: Iter<'a, Branch>,
     /// The path that was looked up, whose rest stands behind their leaves.
     pub(crate) path: HeldPath<'a>,
@@ -89,8 +91,8 @@ impl<'a> TreesLeft<'a> {
     {
         match self {
             TreesLeft::Entries(entries) => {
-                let entry = entries.next()?;
-                Some((&entry.tree, entry.prefix.labels().len()))
+                let lent = entries.next()?;
+                Some((lent.tree, lent.taken))
             }
             TreesLeft::Alternatives(left) => {
                 let tree = left.trees.next()?;
@@ -102,7 +104,8 @@ impl<'a> TreesLeft<'a> {
 
 /// The weight and the tree of the next branch whose weight isn't 0.
 pub(crate) fn next_weighted<'a>(branches: &mut Iter<'a, Branch>) -> Option<(u64, &'a Tree)>
-    ensures { IsNextWeighted (listed (iter_rest branches.old)) (listed (iter_rest branches.new)) result }
+    ensures { IsNextWeighted (listed (iter_rest branches.old))
+        (listed (iter_rest branches.new)) result }
 {
     while let Some(branch) = branches.next() {
         if branch.weight > 0 {

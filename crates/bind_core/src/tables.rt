@@ -1,17 +1,19 @@
 //! The tables of a delegation.
-ghost use Rattle.std.specs.Prelude.{◌≡◌, ◌<◌, ◌≤◌, ◌++◌, IfOk, OnOk};
-ghost use Rattle.dtab_table.specs.Dtab.{rules_of, rewrites, rewritten_by_each};
+ghost use Rattle.std.specs.Prelude.{◌≡◌, ◌+◌, ◌<◌, ◌≤◌, ◌++◌, IfOk, OnOk};
+ghost use Rattle.dtab_table.specs.Dtab.{rules_of, rewrites};
+ghost use Rattle.dtab_table.specs.LeanTrees.{lean_trees, lent_trees};
 ghost use Rattle.bind_core.specs.Tables.{rules_in};
 
 use crate::Mem;
-use dtab_table::{Dtab, Entry};
-use line_base::Steps;
+use dtab_table::{Dtab, LeanTree};
 use name_tree::Path;
 use std::alloc::Global;
 use std::sync::ledger::Ledger;
+use step_count::Steps;
 
-/// The tables that a path is delegated by. They stand for one table that has the entries of all three, those of `space` first and those of
-/// `local` last, without making it: so the request's own entries are tried first, and the namespace's last.
+/// The tables that a path is delegated by. They stand for one table that has the entries of all
+/// three, those of `space` first and those of `local` last, without making it: so the request's own
+/// entries are tried first, and the namespace's last.
 #[derive(Clone, Copy)]
 pub struct Tables<'a> {
     /// The namespace's table.
@@ -23,15 +25,18 @@ pub struct Tables<'a> {
 }
 
 impl<'a> Tables<'a> {
-    /// The entries of the tables that match a path, in the order in which their trees are tried. It ticks at least once.
+    /// What there is to try of the trees that the tables rewrite a path to, in the order in which
+    /// they are tried. It ticks once, and once for each table that has an entry.
     pub(crate) fn matching<L: Ledger>(
         &self,
         alloc: Global,
         path: &Path,
         steps: &mut Steps<L>,
-    ) -> Mem<Vec<&'a Entry>>
-        ensures trees { IfOk result (λ found. rewritten_by_each path.now found.items ≡ rewrites (rules_in self.now) path.now) }
+    ) -> Mem<Vec<LeanTree<'a>>>
+        ensures trees { IfOk result (λ found. lent_trees path.now found.items
+            ≡ lean_trees (rewrites (rules_in self.now) path.now)) }
         ensures ticks { steps.old < steps.new }
+        ensures few_ticks { steps.new ≤ steps.old + 4 }
     {
         steps.tick();
         let mut found = Vec::new(alloc);
@@ -42,27 +47,29 @@ impl<'a> Tables<'a> {
     }
 }
 
-/// Puts the entries of a table that match a path behind others.
+/// Puts what there is to try of the trees that a table rewrites a path to behind others.
 fn append_matching<'a, L: Ledger>(
     alloc: Global,
     table: &'a Dtab,
     path: &Path,
-    found: &mut Vec<&'a Entry>,
+    found: &mut Vec<LeanTree<'a>>,
     steps: &mut Steps<L>,
 ) -> Mem<()>
-    ensures trees { OnOk result (rewritten_by_each path.now found.new.items ≡ rewritten_by_each path.now found.old.items ++ rewrites (rules_of table.now) path.now) }
+    ensures trees { OnOk result (lent_trees path.now found.new.items
+        ≡ lent_trees path.now found.old.items ++ lean_trees (rewrites (rules_of table.now) path.now)) }
     ensures ticks { steps.old ≤ steps.new }
+    ensures few_ticks { steps.new ≤ steps.old + 1 }
 {
     if table.len() == 0 {
         return Ok(());
     }
-    let more = table.matching(alloc, path, steps)?;
+    let more = table.lean_matching(alloc, path, steps)?;
     if found.is_empty() {
         *found = more;
         return Ok(());
     }
-    for entry in more {
-        found.push(entry)?;
+    for lent in more {
+        found.push(lent)?;
     }
     Ok(())
 }

@@ -1,7 +1,8 @@
 //! The body of a reply, on its way back to a client.
 ghost use Rattle.std.specs.Prelude.{◌≡◌, ◌≢◌, ℕ, List, [], IsTrue, Err};
 ghost use Rattle.std.specs.List.{concat};
-ghost use Rattle.std.specs.Io.KnownBytes.{Appends, Consumes, Keeps};
+ghost use Rattle.std.specs.Io.KnownBytes.{Appends, Consumes};
+ghost use Rattle.line_base.specs.Lines.{IsUnread};
 ghost use Rattle.body_wire.specs.Passing.{EndsPieces, PassesOn, RaisedAt, ReceivesPieces, form_of, most_passed};
 
 use crate::Bytes;
@@ -33,19 +34,18 @@ pub fn pass_back<P: Peer, D: Dialer>(
     out: &mut Bytes,
     peer: &mut P,
 ) -> Result<u64, BodyEnd>
-    requires { IsTrue (D.is_open dialer.old) }
+    requires { IsTrue (D.upstream dialer.old).is_open }
     ensures body { (pieces : List (List ℕ)) × (sent : List ℕ)
-        × Consumes (D.left dialer.old) (D.left dialer.new) (concat pieces)
-        × ReceivesPieces (D.log dialer.old) (D.log dialer.new) pieces
-        × Appends (P.given peer.old) (P.given peer.new) sent
+        × Consumes (D.upstream dialer.old).left (D.upstream dialer.new).left (concat pieces)
+        × ReceivesPieces (D.upstream dialer.old).log (D.upstream dialer.new).log pieces
+        × Appends (P.line peer.old).given (P.line peer.new).given sent
         × EndsPieces framing pieces result
         × PassesOn framing (form_of chunked) most_passed out.old.items rest.old pieces sent rest.new result }
-    ensures receives { RaisedAt (Err BodyEnd.RecvFault) (D.faults dialer.old) (D.faults dialer.new) result }
-    ensures writes { RaisedAt (Err BodyEnd.WriteFault) (P.write_faults peer.old) (P.write_faults peer.new) result }
+    ensures receives { RaisedAt (Err BodyEnd.RecvFault) (D.upstream dialer.old).faults (D.upstream dialer.new).faults result }
+    ensures writes { RaisedAt (Err BodyEnd.WriteFault) (P.line peer.old).write_faults (P.line peer.new).write_faults result }
     ensures never { (result ≢ Err BodyEnd.ReadFault) × (result ≢ Err BodyEnd.SendFault) }
-    ensures peer_stays { (Keeps (P.left peer.old) (P.left peer.new)) × (P.read_faults peer.new ≡ P.read_faults peer.old)
-        × (P.ends peer.new ≡ P.ends peer.old) }
-    ensures dialer_stays { D.is_open dialer.new ≡ D.is_open dialer.old }
+    ensures peer_stays { IsUnread (P.line peer.old) (P.line peer.new) }
+    ensures dialer_stays { (D.upstream dialer.new).is_open ≡ (D.upstream dialer.old).is_open }
     ensures out { out.new.items ≡ [] }
 {
     let mut decoder = Decoder::of(framing, Form::of(chunked), MOST_PASSED);

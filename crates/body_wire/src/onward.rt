@@ -2,6 +2,7 @@
 ghost use Rattle.std.specs.Prelude.{◌≡◌, ◌≢◌, ℕ, List, [], IsTrue, Err};
 ghost use Rattle.std.specs.List.{concat};
 ghost use Rattle.std.specs.Io.KnownBytes.{Consumes, Keeps};
+ghost use Rattle.line_base.specs.Lines.{IsUnwritten};
 ghost use Rattle.body_wire.specs.declared.form.Form.{Form};
 ghost use Rattle.body_wire.specs.Passing.{CountsEnd, PassesOn, RaisedAt, Sends, most_passed};
 
@@ -33,17 +34,17 @@ pub fn pass_body<P: Peer, D: Dialer>(
     out: &mut Bytes,
     dialer: &mut D,
 ) -> Result<u64, BodyEnd>
-    requires { IsTrue (D.is_open dialer.old) }
+    requires { IsTrue (D.upstream dialer.old).is_open }
     ensures body { (pieces : List (List ℕ)) × (sent : List ℕ)
-        × Consumes (P.left peer.old) (P.left peer.new) (concat pieces)
-        × Sends (D.log dialer.old) (D.log dialer.new) sent
+        × Consumes (P.line peer.old).left (P.line peer.new).left (concat pieces)
+        × Sends (D.upstream dialer.old).log (D.upstream dialer.new).log sent
         × PassesOn framing Form.Chunks most_passed out.old.items rest.old pieces sent rest.new result }
-    ensures ends { CountsEnd framing (P.ends peer.old) (P.ends peer.new) result }
-    ensures reads { RaisedAt (Err BodyEnd.ReadFault) (P.read_faults peer.old) (P.read_faults peer.new) result }
-    ensures sends { RaisedAt (Err BodyEnd.SendFault) (D.faults dialer.old) (D.faults dialer.new) result }
+    ensures ends { CountsEnd framing (P.line peer.old).ends (P.line peer.new).ends result }
+    ensures reads { RaisedAt (Err BodyEnd.ReadFault) (P.line peer.old).read_faults (P.line peer.new).read_faults result }
+    ensures sends { RaisedAt (Err BodyEnd.SendFault) (D.upstream dialer.old).faults (D.upstream dialer.new).faults result }
     ensures never { (result ≢ Err BodyEnd.WriteFault) × (result ≢ Err BodyEnd.RecvFault) }
-    ensures peer_stays { (Keeps (P.given peer.old) (P.given peer.new)) × (P.write_faults peer.new ≡ P.write_faults peer.old) }
-    ensures dialer_stays { (D.is_open dialer.new ≡ D.is_open dialer.old) × Keeps (D.left dialer.old) (D.left dialer.new) }
+    ensures peer_stays { IsUnwritten (P.line peer.old) (P.line peer.new) }
+    ensures dialer_stays { ((D.upstream dialer.new).is_open ≡ (D.upstream dialer.old).is_open) × Keeps (D.upstream dialer.old).left (D.upstream dialer.new).left }
     ensures out { out.new.items ≡ [] }
 {
     let mut decoder = Decoder::of(framing, Form::Chunks, MOST_PASSED);

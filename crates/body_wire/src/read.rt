@@ -1,6 +1,7 @@
 //! A body that is read whole.
 ghost use Rattle.std.specs.Prelude.{◌≡◌, ◌≢◌, ℕ, List, Err};
-ghost use Rattle.std.specs.Io.KnownBytes.{Consumes, Keeps};
+ghost use Rattle.std.specs.Io.KnownBytes.{Consumes};
+ghost use Rattle.line_base.specs.Lines.{IsUnwritten};
 ghost use Rattle.body_wire.specs.Passing.{CountsEnd, RaisedAt, ReadsBody, unread};
 ghost use Rattle.body_wire.specs.Turns.{read_at_end};
 
@@ -28,12 +29,12 @@ pub fn read_body<P: Peer>(
     rest: &mut Rest,
     framing: Framing,
 ) -> Result<Bytes, BodyEnd>
-    ensures body { (came : List ℕ) × Consumes (P.left peer.old) (P.left peer.new) came
+    ensures body { (came : List ℕ) × Consumes (P.line peer.old).left (P.line peer.new).left came
         × ReadsBody framing rest.old came rest.new result }
-    ensures ends { CountsEnd framing (P.ends peer.old) (P.ends peer.new) (unread result) }
-    ensures reads { RaisedAt (Err BodyEnd.ReadFault) (P.read_faults peer.old) (P.read_faults peer.new) (unread result) }
+    ensures ends { CountsEnd framing (P.line peer.old).ends (P.line peer.new).ends (unread result) }
+    ensures reads { RaisedAt (Err BodyEnd.ReadFault) (P.line peer.old).read_faults (P.line peer.new).read_faults (unread result) }
     ensures never { (result ≢ Err BodyEnd.WriteFault) × (result ≢ Err BodyEnd.SendFault) × (result ≢ Err BodyEnd.RecvFault) }
-    ensures others { (Keeps (P.given peer.old) (P.given peer.new)) × (P.write_faults peer.new ≡ P.write_faults peer.old) }
+    ensures others { IsUnwritten (P.line peer.old) (P.line peer.new) }
 {
     let mut decoder = Decoder::of(framing, Form::Content, MOST_READ);
     let mut content = Vec::new(alloc);

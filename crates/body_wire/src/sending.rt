@@ -13,10 +13,10 @@ use line_base::{Dialer, Failed};
 
 /// Sends all bytes to a dialer.
 fn send_all<D: Dialer>(dialer: &mut D, bytes: &[u8]) -> Result<(), Failed>
-    requires { IsTrue (D.is_open dialer.old) }
-    ensures bytes { (sent : List ℕ) × Sends (D.log dialer.old) (D.log dialer.new) sent × SendsAll bytes.now sent result }
-    ensures stays { (D.is_open dialer.new ≡ D.is_open dialer.old) × Keeps (D.left dialer.old) (D.left dialer.new) }
-    ensures cause { HasCause (D.faults dialer.old) (D.faults dialer.new) result }
+    requires { IsTrue (D.upstream dialer.old).is_open }
+    ensures bytes { (sent : List ℕ) × Sends (D.upstream dialer.old).log (D.upstream dialer.new).log sent × SendsAll bytes.now sent result }
+    ensures stays { ((D.upstream dialer.new).is_open ≡ (D.upstream dialer.old).is_open) × Keeps (D.upstream dialer.old).left (D.upstream dialer.new).left }
+    ensures cause { HasCause (D.upstream dialer.old).faults (D.upstream dialer.new).faults result }
 {
     let mut at = 0;
     while at < bytes.len() {
@@ -35,11 +35,11 @@ fn send_run<D: Dialer>(
     out: &Bytes,
     dialer: &mut D,
 ) -> Result<(), Failed>
-    requires { IsTrue (D.is_open dialer.old) }
-    ensures bytes { (sent : List ℕ) × Sends (D.log dialer.old) (D.log dialer.new) sent
+    requires { IsTrue (D.upstream dialer.old).is_open }
+    ensures bytes { (sent : List ℕ) × Sends (D.upstream dialer.old).log (D.upstream dialer.new).log sent
         × RunGoes decoder.old decoder.new rest.old rest.new out.now.items sent result }
-    ensures stays { (D.is_open dialer.new ≡ D.is_open dialer.old) × Keeps (D.left dialer.old) (D.left dialer.new) }
-    ensures cause { HasCause (D.faults dialer.old) (D.faults dialer.new) result }
+    ensures stays { ((D.upstream dialer.new).is_open ≡ (D.upstream dialer.old).is_open) × Keeps (D.upstream dialer.old).left (D.upstream dialer.new).left }
+    ensures cause { HasCause (D.upstream dialer.old).faults (D.upstream dialer.new).faults result }
 {
     let run = lone_run(decoder, rest.kept(), out);
     if run == 0 {
@@ -58,12 +58,12 @@ pub(crate) fn send_turn<D: Dialer>(
     out: &mut Bytes,
     dialer: &mut D,
 ) -> Result<Stop, TurnFault>
-    requires { IsTrue (D.is_open dialer.old) }
-    ensures bytes { (sent : List ℕ) × Sends (D.log dialer.old) (D.log dialer.new) sent
+    requires { IsTrue (D.upstream dialer.old).is_open }
+    ensures bytes { (sent : List ℕ) × Sends (D.upstream dialer.old).log (D.upstream dialer.new).log sent
         × Turns decoder.old decoder.new rest.old rest.new out.old.items sent result }
     ensures out { out.new.items ≡ [] }
-    ensures stays { (D.is_open dialer.new ≡ D.is_open dialer.old) × Keeps (D.left dialer.old) (D.left dialer.new) }
-    ensures cause { TurnCause (D.faults dialer.old) (D.faults dialer.new) result }
+    ensures stays { ((D.upstream dialer.new).is_open ≡ (D.upstream dialer.old).is_open) × Keeps (D.upstream dialer.old).left (D.upstream dialer.new).left }
+    ensures cause { TurnCause (D.upstream dialer.old).faults (D.upstream dialer.new).faults result }
 {
     match send_run(decoder, rest, out, dialer) {
         Ok(()) => {}
@@ -80,10 +80,10 @@ pub(crate) fn send_turn<D: Dialer>(
 
 /// Sends what goes on, unless there was no memory for it.
 fn send_taken<D: Dialer>(taken: &Mem<Stop>, out: &Bytes, dialer: &mut D) -> Result<Stop, TurnFault>
-    requires { IsTrue (D.is_open dialer.old) }
-    ensures bytes { (sent : List ℕ) × Sends (D.log dialer.old) (D.log dialer.new) sent × TakenGoes taken.now out.now.items sent result }
-    ensures stays { (D.is_open dialer.new ≡ D.is_open dialer.old) × Keeps (D.left dialer.old) (D.left dialer.new) }
-    ensures cause { TurnCause (D.faults dialer.old) (D.faults dialer.new) result }
+    requires { IsTrue (D.upstream dialer.old).is_open }
+    ensures bytes { (sent : List ℕ) × Sends (D.upstream dialer.old).log (D.upstream dialer.new).log sent × TakenGoes taken.now out.now.items sent result }
+    ensures stays { ((D.upstream dialer.new).is_open ≡ (D.upstream dialer.old).is_open) × Keeps (D.upstream dialer.old).left (D.upstream dialer.new).left }
+    ensures cause { TurnCause (D.upstream dialer.old).faults (D.upstream dialer.new).faults result }
 {
     match taken {
         Ok(stop) => match send_all(dialer, out.as_slice()) {

@@ -1,7 +1,8 @@
 //! Passing a body on to a peer.
 ghost use Rattle.std.specs.Prelude.{◌≡◌, [], List, ℕ};
-ghost use Rattle.std.specs.Io.KnownBytes.{Appends, Keeps};
+ghost use Rattle.std.specs.Io.KnownBytes.{Appends};
 ghost use Rattle.line_base.specs.Counts.{HasCause};
+ghost use Rattle.line_base.specs.Lines.{IsUnread};
 ghost use Rattle.body_wire.specs.Turns.{RunGoes, SendsAll, TakenGoes, TurnCause, Turns};
 
 use crate::decoder::{Decoder, Stop};
@@ -12,10 +13,9 @@ use line_base::{Failed, Peer};
 
 /// Writes all bytes to a peer, in as many calls as it takes, or a front of them where one fails.
 pub fn write_all<P: Peer>(peer: &mut P, bytes: &[u8]) -> Result<(), Failed>
-    ensures bytes { (sent : List ℕ) × Appends (P.given peer.old) (P.given peer.new) sent × SendsAll bytes.now sent result }
-    ensures others { (Keeps (P.left peer.old) (P.left peer.new)) × (P.read_faults peer.new ≡ P.read_faults peer.old)
-        × (P.ends peer.new ≡ P.ends peer.old) }
-    ensures cause { HasCause (P.write_faults peer.old) (P.write_faults peer.new) result }
+    ensures bytes { (sent : List ℕ) × Appends (P.line peer.old).given (P.line peer.new).given sent × SendsAll bytes.now sent result }
+    ensures others { IsUnread (P.line peer.old) (P.line peer.new) }
+    ensures cause { HasCause (P.line peer.old).write_faults (P.line peer.new).write_faults result }
 {
     let mut at = 0;
     while at < bytes.len() {
@@ -34,11 +34,10 @@ fn write_run<P: Peer>(
     out: &Bytes,
     peer: &mut P,
 ) -> Result<(), Failed>
-    ensures bytes { (sent : List ℕ) × Appends (P.given peer.old) (P.given peer.new) sent
+    ensures bytes { (sent : List ℕ) × Appends (P.line peer.old).given (P.line peer.new).given sent
         × RunGoes decoder.old decoder.new rest.old rest.new out.now.items sent result }
-    ensures others { (Keeps (P.left peer.old) (P.left peer.new)) × (P.read_faults peer.new ≡ P.read_faults peer.old)
-        × (P.ends peer.new ≡ P.ends peer.old) }
-    ensures cause { HasCause (P.write_faults peer.old) (P.write_faults peer.new) result }
+    ensures others { IsUnread (P.line peer.old) (P.line peer.new) }
+    ensures cause { HasCause (P.line peer.old).write_faults (P.line peer.new).write_faults result }
 {
     let run = lone_run(decoder, rest.kept(), out);
     if run == 0 {
@@ -57,12 +56,11 @@ pub(crate) fn write_turn<P: Peer>(
     out: &mut Bytes,
     peer: &mut P,
 ) -> Result<Stop, TurnFault>
-    ensures bytes { (sent : List ℕ) × Appends (P.given peer.old) (P.given peer.new) sent
+    ensures bytes { (sent : List ℕ) × Appends (P.line peer.old).given (P.line peer.new).given sent
         × Turns decoder.old decoder.new rest.old rest.new out.old.items sent result }
     ensures out { out.new.items ≡ [] }
-    ensures others { (Keeps (P.left peer.old) (P.left peer.new)) × (P.read_faults peer.new ≡ P.read_faults peer.old)
-        × (P.ends peer.new ≡ P.ends peer.old) }
-    ensures cause { TurnCause (P.write_faults peer.old) (P.write_faults peer.new) result }
+    ensures others { IsUnread (P.line peer.old) (P.line peer.new) }
+    ensures cause { TurnCause (P.line peer.old).write_faults (P.line peer.new).write_faults result }
 {
     match write_run(decoder, rest, out, peer) {
         Ok(()) => {}
@@ -79,10 +77,9 @@ pub(crate) fn write_turn<P: Peer>(
 
 /// Writes what goes on, unless there was no memory for it.
 fn write_taken<P: Peer>(taken: &Mem<Stop>, out: &Bytes, peer: &mut P) -> Result<Stop, TurnFault>
-    ensures bytes { (sent : List ℕ) × Appends (P.given peer.old) (P.given peer.new) sent × TakenGoes taken.now out.now.items sent result }
-    ensures others { (Keeps (P.left peer.old) (P.left peer.new)) × (P.read_faults peer.new ≡ P.read_faults peer.old)
-        × (P.ends peer.new ≡ P.ends peer.old) }
-    ensures cause { TurnCause (P.write_faults peer.old) (P.write_faults peer.new) result }
+    ensures bytes { (sent : List ℕ) × Appends (P.line peer.old).given (P.line peer.new).given sent × TakenGoes taken.now out.now.items sent result }
+    ensures others { IsUnread (P.line peer.old) (P.line peer.new) }
+    ensures cause { TurnCause (P.line peer.old).write_faults (P.line peer.new).write_faults result }
 {
     match taken {
         Ok(stop) => match write_all(peer, out.as_slice()) {

@@ -3,5 +3,7 @@ pub mod Drawing
 pub mod Equals
 pub mod Finding
 pub mod Keeping
+pub mod Nearing
 pub mod Passing
+pub mod Telling
 pub mod Ways

@@ -1,7 +1,6 @@
 -- Addresses that pass through a sieve, one by one along a list.
 use Rattle.std.proofs.Common.{◌≡◌, ℕ, zero, suc, ◌+◌, ◌<◌, List, [], ◌∷◌, length, get_or, drop, Bool, true, false, cond, None, refl, sym, ap, ◌∙◌, arith, not, add-one, drop-cons}
-use Rattle.std.specs.Prelude.{filter, slice_get, ◌||◌, ◌&&◌}
-use Rattle.std.specs.List.{list_all}
+use Rattle.std.specs.Prelude.{filter, slice_get, ◌||◌}
 use Rattle.addr_book.specs.declared.addr.Weighted.{Weighted}
 use Rattle.addr_book.specs.declared.addr.Addr.{Addr}
 use Rattle.choose_core.specs.declared.mark.Limits.{Limits}
@@ -36,7 +35,7 @@ module _ {X : Type 0} (p : X → Bool) where
 abbrev pub sieved : Bool → MarkMap → ℕ → Limits → List Weighted → List Weighted
 sieved all marks moment limits list = filter (λ item. all || is_alive marks moment limits item) list
 
-or_all : (list : List Weighted) → some_or_all list list ≡ list
+pub or_all : (list : List Weighted) → some_or_all list list ≡ list
 or_all [] = refl
 or_all (item ∷ list) = refl
 
@@ -46,55 +45,6 @@ pub all_over : (marks : MarkMap) (moment : ℕ) (limits : Limits) (list : List W
 all_over marks moment limits list none =
     let kept : filter (is_alive marks moment limits) list ≡ list = filter_all (is_alive marks moment limits) (λ item. ap not (none item.addr limits)) list in
     filter_all (λ _. true) (λ _. refl) list ∙ sym (ap (λ some. some_or_all some list) kept ∙ or_all list)
-
-both_are : (a b : Bool) → (a && b) ≡ true → (a ≡ true) × (b ≡ true)
-both_are true b e = (refl, e)
-both_are false b e = cc
-
-none_left : (marks : MarkMap) (moment : ℕ) (limits : Limits) (list : List Weighted) → list_all (λ item. is_dead_mark (mark_at marks item.addr) moment limits) list ≡ true → filter (is_alive marks moment limits) list ≡ []
-none_left marks moment limits [] dead = refl
-none_left marks moment limits (item ∷ list) dead =
-    let here = both_are (is_dead_mark (mark_at marks item.addr) moment limits) (list_all (λ other. is_dead_mark (mark_at marks other.addr) moment limits) list) dead in
-    ap (λ b. cond (not b) (item ∷ filter (is_alive marks moment limits) list) (filter (is_alive marks moment limits) list)) here.0 ∙ none_left marks moment limits list here.1
-
-some_left : (marks : MarkMap) (moment : ℕ) (limits : Limits) (all list : List Weighted) → list_all (λ item. is_dead_mark (mark_at marks item.addr) moment limits) list ≡ false
-    → some_or_all (filter (is_alive marks moment limits) list) all ≡ filter (is_alive marks moment limits) list
-some_left marks moment limits all [] dead = cc
-some_left marks moment limits all (item ∷ list) dead =
-    let rest = some_left marks moment limits all list in
-    elim (is_dead_mark (mark_at marks item.addr) moment limits) as (λ b. (b && list_all (λ other. is_dead_mark (mark_at marks other.addr) moment limits) list) ≡ false
-    → some_or_all (cond (not b) (item ∷ filter (is_alive marks moment limits) list) (filter (is_alive marks moment limits) list)) all ≡ cond (not b) (item ∷ filter (is_alive marks moment limits) list) (filter (is_alive marks moment limits) list)) [
-      | true ↦ λ e. rest e
-      | false ↦ λ e. refl
-    ] dead
-
--- all are dead, so all pass
-pub all_dead : (marks : MarkMap) (moment : ℕ) (limits : Limits) (list : List Weighted) → list_all (λ item. is_dead_mark (mark_at marks item.addr) moment limits) list ≡ true → sieved true marks moment limits list ≡ live_of marks moment limits list
-all_dead marks moment limits list dead = filter_all (λ _. true) (λ _. refl) list ∙ sym (ap (λ some. some_or_all some list) (none_left marks moment limits list dead))
-
-pub some_alive : (marks : MarkMap) (moment : ℕ) (limits : Limits) (list : List Weighted) → list_all (λ item. is_dead_mark (mark_at marks item.addr) moment limits) list ≡ false → sieved false marks moment limits list ≡ live_of marks moment limits list
-some_alive marks moment limits list dead = sym (some_left marks moment limits list list dead)
-
-all_pass : {X : Type 0} (p : X → Bool) (xs : List X) → list_all p xs ≡ true → filter p xs ≡ xs
-all_pass p [] all = refl
-all_pass p (x ∷ xs) all =
-    let here = both_are (p x) (list_all p xs) all in
-    ap (λ b. cond b (x ∷ filter p xs) (filter p xs)) here.0 ∙ ap (λ (ys : List _). x ∷ ys) (all_pass p xs here.1)
-
-none_dead : (marks : MarkMap) (moment : ℕ) (limits : Limits) (list : List Weighted) → list_all (is_alive marks moment limits) list ≡ true → sieved true marks moment limits list ≡ live_of marks moment limits list
-none_dead marks moment limits list alive =
-    filter_all (λ _. true) (λ _. refl) list ∙ sym (ap (λ some. some_or_all some list) (all_pass (is_alive marks moment limits) list alive) ∙ or_all list)
-
--- all pass where the list is alike
-pub by_likeness : (marks : MarkMap) (moment : ℕ) (limits : Limits) (list : List Weighted)
-    → sieved (list_all (λ item. is_dead_mark (mark_at marks item.addr) moment limits) list || list_all (is_alive marks moment limits) list) marks moment limits list ≡ live_of marks moment limits list
-by_likeness marks moment limits list = by_both (list_all (λ item. is_dead_mark (mark_at marks item.addr) moment limits) list) (list_all (is_alive marks moment limits) list) refl refl
-  where
-    by_both : (dead alive : Bool) → list_all (λ item. is_dead_mark (mark_at marks item.addr) moment limits) list ≡ dead → list_all (is_alive marks moment limits) list ≡ alive
-        → sieved (dead || alive) marks moment limits list ≡ live_of marks moment limits list
-    by_both true alive dead_is alive_is = all_dead marks moment limits list dead_is
-    by_both false true dead_is alive_is = none_dead marks moment limits list alive_is
-    by_both false false dead_is alive_is = some_alive marks moment limits list dead_is
 
 -- where all pass the list is whole
 pub whole : (sieve : Sieve) (list : List Weighted) → sieve.all ≡ true → passing sieve list ≡ list

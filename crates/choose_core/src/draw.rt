@@ -2,7 +2,7 @@
 ghost use Rattle.std.specs.Prelude.{◌≡◌, ◌≢◌, ◌<◌, ◌≤◌, length, sum, slice_index, slice_get, Some, remove};
 ghost use Rattle.addr_book.specs.AddrList.{HaveWeights};
 ghost use Rattle.choose_core.specs.Live.{live_of};
-ghost use Rattle.choose_core.specs.Sieve.{passing};
+ghost use Rattle.choose_core.specs.Sieve.{passing, TellsOf};
 ghost use Rattle.choose_core.specs.Pair.{weights_of, place_over, place_in_whole, pair_of, scaled, IsPair};
 
 use crate::live::passing_at;
@@ -19,8 +19,9 @@ const WORDS: u128 = 1 << 64;
 ///
 /// For words that are drawn evenly, an address is the first with a probability of its weight over the sum of the weights.
 ///
-/// It goes over the list four times: for who is alive, for the sum, for the first place, and for the second. Marks are looked up where an
-/// address may still be left out: once for each address, and in each pass where some addresses of the list are dead and others alive.
+/// It goes over the list four times: for who is alive, for the sum, for the first place, and for the
+/// second. Marks are looked up in the first of these alone, and only where an address may still be
+/// left out.
 pub fn pair(
     list: &[Weighted],
     marks: &Marks,
@@ -68,6 +69,7 @@ pub fn drawn_pair(
 /// The two places that two words draw among the addresses of a list that pass.
 fn places(list: &[Weighted], sieve: &Sieve, w1: u64, w2: u64) -> (usize, usize)
     requires some { 0 < length (passing sieve.now list.now) }
+    requires tells { TellsOf sieve.now list.now }
     requires few { length list.now ≤ 1024 }
     requires weights { HaveWeights list.now }
     ensures { IsPair w1 w2 result (passing sieve.now list.now) }
@@ -94,13 +96,14 @@ struct Drawn {
 
 /// The sum of the weights of a live list.
 fn total_weight(list: &[Weighted], sieve: &Sieve) -> u64
+    requires tells { TellsOf sieve.now list.now }
     requires few { length list.now ≤ 1024 }
     requires weights { HaveWeights list.now }
     ensures { result ≡ sum (weights_of (passing sieve.now list.now)) }
 {
     let mut total = 0;
-    for item in list {
-        if sieve.passes(*item) {
+    for (index, item) in list.iter().enumerate() {
+        if sieve.passes(index, *item) {
             total += item.weight;
         }
     }
@@ -110,13 +113,14 @@ fn total_weight(list: &[Weighted], sieve: &Sieve) -> u64
 /// The first place of a live list whose cumulative weight exceeds a number, and the weight there; the number of its addresses, and 0,
 /// where there is none.
 fn draw(list: &[Weighted], sieve: &Sieve, over: u64) -> Drawn
+    requires { TellsOf sieve.now list.now }
     ensures at { result.at ≡ place_over (weights_of (passing sieve.now list.now)) over }
     ensures weight { result.weight ≡ slice_index (weights_of (passing sieve.now list.now)) result.at }
 {
     let mut left = over;
     let mut at = 0;
-    for item in list {
-        if sieve.passes(*item) {
+    for (index, item) in list.iter().enumerate() {
+        if sieve.passes(index, *item) {
             if left < item.weight {
                 return Drawn {
                     at,
@@ -132,13 +136,14 @@ fn draw(list: &[Weighted], sieve: &Sieve, over: u64) -> Drawn
 
 /// The first place of a live list whose cumulative weight exceeds a number, where the address at one place does not count.
 fn draw_other(list: &[Weighted], sieve: &Sieve, out: usize, over: u64) -> usize
-    requires { out < length (passing sieve.now list.now) }
+    requires tells { TellsOf sieve.now list.now }
+    requires out { out < length (passing sieve.now list.now) }
     ensures { result ≡ place_in_whole out (place_over (remove (weights_of (passing sieve.now list.now)) out) over) }
 {
     let mut left = over;
     let mut at = 0;
-    for item in list {
-        if sieve.passes(*item) {
+    for (index, item) in list.iter().enumerate() {
+        if sieve.passes(index, *item) {
             if at != out {
                 if left < item.weight {
                     return at;

@@ -26,6 +26,7 @@
 
 use std::alloc::AllocError;
 
+mod bits;
 mod draw;
 mod laws;
 mod left;

@@ -1,7 +1,7 @@
 //! Live lists: the addresses of a service that are alive, or all where none is.
 ghost use Rattle.std.specs.Prelude.{◌≡◌, ◌<◌, length, slice_get, Some};
 ghost use Rattle.choose_core.specs.Live.{live_of};
-ghost use Rattle.choose_core.specs.Sieve.{passing};
+ghost use Rattle.choose_core.specs.Sieve.{passing, TellsOf};
 
 use crate::mark::Limits;
 use crate::marks::Marks;
@@ -10,8 +10,8 @@ use addr_book::Weighted;
 
 /// How many addresses of a list are alive at a moment; all of them count where none is alive.
 ///
-/// It takes no time at a moment from which on no address is left out, as where none has failures. Otherwise it looks each mark of the list
-/// up about once, and once more where some of its addresses are dead and others alive.
+/// It takes no time at a moment from which on no address is left out, as where none has failures.
+/// Otherwise it looks each mark of the list up once.
 pub fn live_count(list: &[Weighted], marks: &Marks, moment: u64, limits: Limits) -> usize
     ensures { result ≡ length (live_of marks.now moment limits list.now) }
 {
@@ -20,8 +20,8 @@ pub fn live_count(list: &[Weighted], marks: &Marks, moment: u64, limits: Limits)
 
 /// The address at a place among those that are alive at a moment, or among all where none is alive, in the list's order.
 ///
-/// It takes no time at a moment from which on no address is left out, as where none has failures. Otherwise it looks each mark of the list
-/// up about once, and those as far as the address once more where some of the list's addresses are dead and others alive.
+/// It takes no time at a moment from which on no address is left out, as where none has failures.
+/// Otherwise it looks each mark of the list up once.
 pub fn live_at(list: &[Weighted], marks: &Marks, moment: u64, limits: Limits, at: usize) -> Weighted
     requires { at < length (live_of marks.now moment limits list.now) }
     ensures { slice_get (live_of marks.now moment limits list.now) at ≡ Some result }
@@ -31,7 +31,8 @@ pub fn live_at(list: &[Weighted], marks: &Marks, moment: u64, limits: Limits, at
 
 /// The address at a place among those of a list that pass, which has one there.
 pub(crate) fn passing_at(list: &[Weighted], sieve: &Sieve, at: usize) -> Weighted
-    requires { at < length (passing sieve.now list.now) }
+    requires tells { TellsOf sieve.now list.now }
+    requires within { at < length (passing sieve.now list.now) }
     ensures { slice_get (passing sieve.now list.now) at ≡ Some result }
 {
     if sieve.takes_all() {
@@ -45,14 +46,15 @@ pub(crate) fn passing_at(list: &[Weighted], sieve: &Sieve, at: usize) -> Weighte
 
 /// How many addresses of a list pass.
 fn passing_count(list: &[Weighted], sieve: &Sieve) -> usize
+    requires { TellsOf sieve.now list.now }
     ensures { result ≡ length (passing sieve.now list.now) }
 {
     if sieve.takes_all() {
         return list.len();
     }
     let mut count = 0;
-    for item in list {
-        if sieve.passes(*item) {
+    for (index, item) in list.iter().enumerate() {
+        if sieve.passes(index, *item) {
             count += 1;
         }
     }
@@ -69,11 +71,12 @@ fn item_at(list: &[Weighted], at: usize) -> Weighted
 
 /// The address at a place among those of a list that pass.
 fn nth_passing(list: &[Weighted], sieve: &Sieve, at: usize) -> Option<Weighted>
+    requires { TellsOf sieve.now list.now }
     ensures { result ≡ slice_get (passing sieve.now list.now) at }
 {
     let mut left = at;
-    for item in list {
-        if sieve.passes(*item) {
+    for (index, item) in list.iter().enumerate() {
+        if sieve.passes(index, *item) {
             if left == 0 {
                 return Some(*item);
             }

@@ -10,7 +10,7 @@ ghost use Rattle.choose_core.specs.Marks.{no_marks, mark_at, with_mark};
 
 use crate::Mem;
 use crate::mark::{Limits, Mark};
-use crate::marked::{Marked, search, set_nowhere, set_there};
+use crate::marked::{Marked, search, search_near, set_nowhere, set_there};
 use addr_book::{Addr, Book, Weighted};
 use std::alloc::Global;
 use std::marker::Model;
@@ -58,6 +58,18 @@ impl Marks {
         })
     }
 
+    /// The same marks once more, in room of their own for 8,192.
+    pub fn copied(&self, alloc: Global) -> Mem<Marks>
+        ensures { IfOk result (λ marks. marks ≡ self.now) }
+    {
+        let mut items = Vec::with_capacity(alloc, MOST_MARKS)?;
+        items.extend_from_slice(self.items.as_slice())?;
+        Ok(Marks {
+            items,
+            until: self.until,
+        })
+    }
+
     /// How many addresses have a count above 0.
     pub fn count(&self) -> u32
         ensures count { result ≡ fin.len self.now }
@@ -82,6 +94,23 @@ impl Marks {
         ensures { result ≡ is_dead_mark (mark_at self.now addr) moment limits }
     {
         self.mark(addr).is_dead(moment, limits)
+    }
+
+    /// Whether an address is dead at a moment, and near which place it was looked for. Where the
+    /// place of the address looked up before is given, one that comes soon behind is found at once.
+    pub(crate) fn is_dead_near(
+        &self,
+        addr: Addr,
+        near: usize,
+        moment: u64,
+        limits: Limits,
+    ) -> (bool, usize)
+        ensures { result.0 ≡ is_dead_mark (mark_at self.now addr) moment limits }
+    {
+        match search_near(self.items.as_slice(), addr, near) {
+            Ok(at) => (self.items[at].mark.is_dead(moment, limits), at),
+            Err(at) => (Mark::NONE.is_dead(moment, limits), at),
+        }
     }
 
     /// Whether it is known, without a look-up, that no address is dead at a moment.

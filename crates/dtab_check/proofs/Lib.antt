@@ -1,3 +1,9 @@
+pub mod Covering
+pub mod Indexing
+pub mod Links
+pub mod Lives
 pub mod Replacing
+pub mod Rounds
+pub mod Searching
 pub mod Stopping
 pub mod Surely

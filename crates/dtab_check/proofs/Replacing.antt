@@ -1,9 +1,9 @@
 -- A table without its hidden entries may stand in its place.
 use Rattle.std.proofs.Common.{◌≡◌, ◌-◌, ◌+◌, ◌≤◌, ◌<◌, ⊎_elim, ◌⊎◌, inl, inr, ℕ, zero, suc, Bool, true, false, ◌&&◌, List, [], ◌∷◌, ◌++◌, length, map, drop, min, Option, Some, None, refl, sym, ap, ◌∙◌, append_assoc, arith}
-use Rattle.std.specs.Prelude.{nat_lt, ◌||◌, ◌==◌, if◌then◌else◌, is_some}
+use Rattle.std.specs.Prelude.{nat_lt, ◌==◌, if◌then◌else◌, is_some}
 use Rattle.std.specs.Option.{option_or, option_to_list}
 use Rattle.std.specs.Str.{bytes_eq}
-use Rattle.std.proofs.lemmas.Bool.{or_cases, and_parts, and_from, cases_Bool, ne_eqb, eq-eqb, or_from}
+use Rattle.std.proofs.lemmas.Bool.{and_parts, and_from, cases_Bool, ne_eqb, eq-eqb}
 use Rattle.std.proofs.lemmas.List.{append-nil}
 use Rattle.std.proofs.lemmas.Slice.Eq.{bytes_eq-Decides}
 use Rattle.name_tree.specs.Path.{Label, Labels, canon_path}
@@ -14,11 +14,11 @@ use Rattle.dtab_table.specs.Rules.{Rule}
 use Rattle.dtab_table.specs.Dtab.{rewrite, rewrites}
 use Rattle.addr_book.specs.Book.{Contents}
 use Rattle.addr_book.specs.Namer.{named_in}
-use Rattle.bind_core.specs.Delegation.{Told, Visit, negative, too_deep, or_else, walk, first_of, named_ending, visited, lookup, told_in, within_width, visits_within, most_deep, most_wide, most_path_bytes}
+use Rattle.bind_core.specs.Delegation.{Told, too_deep, or_else, walk, first_of, named_ending, visited, lookup, told_in, within_width, visits_within, most_deep, most_wide, most_path_bytes}
 use Rattle.bind_core.proofs.Narrow.{IsNarrow, lookup-IsNarrow}
-use Rattle.dtab_check.specs.declared.hidden.Hidden.{Hidden}
+use Rattle.dtab_check.specs.declared.hidden_list.Hidden.{Hidden}
 use Rattle.dtab_check.specs.Sure.{is_sure}
-use Rattle.dtab_check.specs.Hidden.{covers, last_cover, hidden_by, hidden_from, hidden_in, is_named, without_from, without}
+use Rattle.dtab_check.specs.Hidden.{pattern_covers, covers, last_cover, hidden_by, hidden_from, hidden_in, is_named, without_from, without}
 use Rattle.dtab_check.specs.Laws.{ComesToSame, MayReplace}
 use Rattle.dtab_check.proofs.Stopping.{IsStop, first_of-append, first_of-IsStop_left, first_of-IsStop_right, first_of-stop, first_of-same}
 use Rattle.dtab_check.proofs.Surely.{look, sure_tree-IsStop, rewrites-among, rewrite-matching, rewrite-other, first_of-one}
@@ -30,16 +30,19 @@ equal_labels m l k first second =
     (bytes_eq-Decides m k).1 (same ∙ also)
 
 -- a prefix that covers another matches what that one matches
+pattern_covers-fits : (p q : Pattern) (l : Label) → pattern_covers p q ≡ true → fits q l ≡ true → fits p l ≡ true
+pattern_covers-fits None q l cover h = refl
+pattern_covers-fits (Some m) None l cover h = cc
+pattern_covers-fits (Some m) (Some k) l cover h = equal_labels m k l cover h
+
 covers-matches : (ps qs : List Pattern) (path : Labels) → covers ps qs ≡ true → matches qs path ≡ true → matches ps path ≡ true
 covers-matches [] qs path cover h = refl
 covers-matches (p ∷ ps) [] path cover h = cc
 covers-matches (p ∷ ps) (q ∷ qs) [] cover h = cc
-covers-matches (None ∷ ps) (q ∷ qs) (l ∷ ls) cover h = let parts = and_parts (fits q l) (matches qs ls) h in covers-matches ps qs ls cover parts.1
-covers-matches (Some m ∷ ps) (None ∷ qs) (l ∷ ls) cover h = cc
-covers-matches (Some m ∷ ps) (Some k ∷ qs) (l ∷ ls) cover h =
-    let parts = and_parts (bytes_eq k l) (matches qs ls) h in
-    let covered = and_parts (bytes_eq m k) (covers ps qs) cover in
-    and_from (bytes_eq m l) (matches ps ls) (equal_labels m k l covered.0 parts.0) (covers-matches ps qs ls covered.1 parts.1)
+covers-matches (p ∷ ps) (q ∷ qs) (l ∷ ls) cover h =
+    let parts = and_parts (fits q l) (matches qs ls) h in
+    let covered = and_parts (pattern_covers p q) (covers ps qs) cover in
+    and_from (fits p l) (matches ps ls) (pattern_covers-fits p q l covered.0 parts.0) (covers-matches ps qs ls covered.1 parts.1)
 
 some_or : {A : Type 0} (x y : Option A) → is_some (option_or x y) ≡ true → (is_some x ≡ true) ⊎ (is_some y ≡ true)
 some_or None y h = inr h

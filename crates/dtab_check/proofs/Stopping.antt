@@ -1,11 +1,10 @@
 -- Endings that stop a search, and unions and lists of trees of which one has such an ending.
-use Rattle.std.proofs.Common.{◌≡◌, ⊎_elim, ℕ, Bool, true, false, List, [], ◌∷◌, ◌++◌, refl, sym, ap, ◌∙◌}
-use Rattle.std.specs.Prelude.{◌||◌, ◌==◌, if◌then◌else◌}
-use Rattle.std.proofs.lemmas.Bool.{or_cases, or_left, or_right}
+use Rattle.std.proofs.Common.{◌≡◌, ℕ, Bool, true, false, List, [], ◌∷◌, ◌++◌, refl, sym, ap, ◌∙◌}
+use Rattle.std.specs.Prelude.{◌||◌, if◌then◌else◌}
 use Rattle.name_tree.specs.Path.{Labels}
 use Rattle.name_tree.specs.Value.{TreeValue, TreeValues, Branches, leaf, neg, fail, empty, alt, union, none, more, no_branch, branch}
 use Rattle.addr_book.specs.Found.{Found}
-use Rattle.bind_core.specs.Delegation.{Ending, negative, failing, no_replica, too_deep, too_wide, bound, Told, Evaluated, or_else, is_too_deep, is_failing, is_empty, some_end, found_at, found_in, kept, joint, together, walk, walk_all, walk_each, first_of}
+use Rattle.bind_core.specs.Delegation.{Ending, negative, failing, no_replica, too_deep, too_wide, bound, Told, Evaluated, or_else, is_too_deep, is_failing, is_empty, some_end, found_at, found_in, kept, together, walk, walk_all, walk_each, first_of}
 use Rattle.bind_core.proofs.Narrow.{IsNarrow, first_of-IsNarrow}
 use Rattle.bind_core.proofs.Stacks.{or_else-assoc}
 

@@ -1,27 +1,27 @@
 -- What is sure stops a search, in each table that has the entries of the table in which it is sure.
-use Rattle.std.proofs.Common.{◌≡◌, ◌-◌, ⊎_elim, ◌⊎◌, inl, inr, ℕ, zero, suc, Bool, true, false, ◌&&◌, List, [], ◌∷◌, ◌++◌, length, drop, Option, Some, None, refl, sym, ap, ◌∙◌, append_assoc}
+use Rattle.std.proofs.Common.{◌≡◌, ◌-◌, ⊎_elim, ℕ, zero, suc, Bool, true, false, ◌&&◌, List, [], ◌∷◌, ◌++◌, length, drop, Option, Some, None, refl, sym, ap, ◌∙◌, append_assoc}
 use Rattle.std.specs.Prelude.{nat_lt, ◌||◌, ◌==◌, if◌then◌else◌, is_some, option_map, codes}
 use Rattle.std.specs.Option.{option_or, option_to_list}
 use Rattle.std.specs.Str.{bytes_eq}
 use Rattle.std.proofs.lemmas.Bool.{or_cases, or_left, or_right, and_parts, and_from}
 use Rattle.std.proofs.lemmas.List.{append-nil}
-use Rattle.name_tree.specs.Path.{Label, Labels, canon_path}
+use Rattle.name_tree.specs.Path.{Labels, canon_path}
 use Rattle.name_tree.specs.Value.{TreeValue, TreeValues, Branches, leaf, neg, fail, empty, alt, union, none, more, no_branch, branch, append_rest, append_rest_all, append_rest_branches}
 use Rattle.dtab_index.specs.Index.{fits, matches}
 use Rattle.dtab_table.specs.Pattern.{Pattern}
 use Rattle.dtab_table.specs.Rules.{Rule}
-use Rattle.dtab_table.specs.Dtab.{rest_behind, rewrite, rewrites}
+use Rattle.dtab_table.specs.Dtab.{rewrite, rewrites}
 use Rattle.dtab_table.proofs.Rewriting.{rest_is}
 use Rattle.addr_book.specs.declared.leaf.Leaf.{Leaf}
-use Rattle.addr_book.specs.Book.{Contents, Services}
+use Rattle.addr_book.specs.Book.{Contents}
 use Rattle.addr_book.specs.Namer.{named_addr, named_service, named_in, leaf_at}
 use Rattle.addr_book.specs.Addr.{addr_of, host_value, port_value}
 use Rattle.addr_book.specs.declared.addr.Addr.{Addr}
 use Rattle.addr_book.specs.declared.leaf.Cluster.TheVariants.{Inet}
-use Rattle.bind_core.specs.Delegation.{Ending, negative, too_deep, bound, Told, Evaluated, or_else, some_end, together, walk, walk_all, walk_each, first_of, named_ending, Names, visited, lookup, most_deep, most_path_bytes}
+use Rattle.bind_core.specs.Delegation.{negative, too_deep, Told, or_else, some_end, walk, walk_all, walk_each, first_of, named_ending, visited, lookup, most_deep, most_path_bytes}
 use Rattle.bind_core.proofs.Narrow.{IsNarrow, walk-IsNarrow, first_of-IsNarrow, lookup-IsNarrow}
 use Rattle.dtab_check.specs.Sure.{sure_tree, some_alternative, some_branch, some_match, sure_path, is_sure}
-use Rattle.dtab_check.proofs.Stopping.{stops, IsStop, or_else-IsStop_left, or_else-IsStop_right, together-IsStop, first_of-append, first_of-IsStop_left, first_of-IsStop_right}
+use Rattle.dtab_check.proofs.Stopping.{stops, IsStop, or_else-IsStop_left, or_else-IsStop_right, together-IsStop, first_of-IsStop_left, first_of-IsStop_right}
 
 -- a tree with labels behind its leaves
 module _ (path_sure : Labels → Bool) (rest : Labels) (look : Labels → Told) (narrow : (path : Labels) → IsNarrow (look path)) (stop : (path : Labels) → path_sure path ≡ true → IsStop (look (path ++ rest))) where

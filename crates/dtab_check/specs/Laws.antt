@@ -13,7 +13,9 @@ pub record ComesToSame (old new : List Rule) (names : Names) (path : Labels) : T
   pub asked : asked_of new names path ≡ asked_of old names path
   pub trace : trace_of new names path ≡ trace_of old names path
 
--- one table may stand in place of another: every path comes to the same, whatever table stands before it, whatever table stands behind it, and
--- with every book
+-- one table may stand in place of another: every path comes to the same, whatever table stands
+-- before it, whatever table stands behind it, and with every book
 abbrev pub MayReplace : List Rule → List Rule → Type 0
-MayReplace old new = (front back : List Rule) (book : Contents) (path : Labels) → ComesToSame (front ++ (old ++ back)) (front ++ (new ++ back)) (named_in book) path
+MayReplace old new =
+    (front back : List Rule) (book : Contents) (path : Labels)
+    → ComesToSame (front ++ (old ++ back)) (front ++ (new ++ back)) (named_in book) path

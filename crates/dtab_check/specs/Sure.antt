@@ -1,15 +1,19 @@
--- Trees that are sure: in any table that has a table's entries, and with any book of services, whatever is looked up for them is never negative.
-use Rattle.std.specs.Prelude.{ℕ, zero, suc, Bool, true, false, ◌&&◌, ◌||◌, ◌==◌, if◌then◌else◌, List, [], ◌∷◌, length, is_some}
+-- Trees that are sure: in any table that has a table's entries, and with any book of services,
+-- whatever is looked up for them is never negative.
+use Rattle.std.specs.Prelude.{ℕ, zero, suc, Bool, true, false, ◌&&◌, ◌||◌, ◌==◌, if◌then◌else◌}
+use Rattle.std.specs.Prelude.{List, [], ◌∷◌, length, is_some}
 use Rattle.name_tree.specs.Path.{Labels}
-use Rattle.name_tree.specs.Value.{TreeValue, TreeValues, Branches, leaf, neg, fail, empty, alt, union, none, more, no_branch, branch}
+use Rattle.name_tree.specs.Value.{TreeValue, leaf, neg, fail, empty, alt, union}
+use Rattle.name_tree.specs.Value.{TreeValues, none, more, Branches, no_branch, branch}
 use Rattle.dtab_index.specs.Index.{matches}
 use Rattle.dtab_table.specs.Rules.{Rule}
 use Rattle.addr_book.specs.Namer.{named_addr}
 
 module _ (path_sure : Labels → Bool) where
   abbrev mutual
-    -- whether a tree is sure, where this says of each leaf whether it is: a mark other than `~`, an alternation of which one alternative is sure,
-    -- a union of which one branch is that has a weight
+    -- whether a tree is sure, where this says of each leaf whether it is: a mark other than `~`, an
+    -- alternation of which one alternative is sure, a union of which one branch is that has a
+    -- weight
     pub sure_tree : TreeValue → Bool
     sure_tree (leaf path) = path_sure path
     sure_tree neg = false
@@ -31,11 +35,13 @@ module _ (path_sure : Labels → Bool) where
   some_match [] path = false
   some_match (r ∷ rs) path = (matches r.prefix path && sure_tree r.tree) || some_match rs path
 
--- whether a leaf is sure after so many rounds over a table: it names an address by itself, or some entry matches it whose tree was sure one round
--- before. A leaf that names a service is not sure by itself: the service may be in no book
+-- whether a leaf is sure after so many rounds over a table: it names an address by itself, or some
+-- entry matches it whose tree was sure one round before. A leaf that names a service is not sure by
+-- itself: the service may be in no book
 abbrev pub sure_path : List Rule → ℕ → Labels → Bool
 sure_path rules zero path = is_some (named_addr path)
-sure_path rules (suc rounds) path = is_some (named_addr path) || some_match (sure_path rules rounds) rules path
+sure_path rules (suc rounds) path =
+    is_some (named_addr path) || some_match (sure_path rules rounds) rules path
 
 -- whether a tree of a table is sure: as many rounds as the table has entries find all that are
 abbrev pub is_sure : List Rule → TreeValue → Bool

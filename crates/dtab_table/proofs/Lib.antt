@@ -11,3 +11,6 @@ pub mod TableSounds
 pub mod TableSpelled
 pub mod TableWriting
 pub mod There
+pub mod Comparing
+pub mod LeanMatching
+pub mod LeanRests

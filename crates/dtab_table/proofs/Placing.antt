@@ -9,7 +9,7 @@ below : (most n : ℕ) (es : List Entry) → n + length es ≤ most → AreBelow
 below most n [] fits = tt
 below most n (e ∷ es) fits = (omega arith, below most (n + 1) es (omega arith))
 
-placed_push : (n : ℕ) (es : List Entry) (e : Entry) → placed_from n (es ++ e ∷ []) ≡ placed_from n es ++ (e.prefix, n + length es) ∷ []
+pub placed_push : (n : ℕ) (es : List Entry) (e : Entry) → placed_from n (es ++ e ∷ []) ≡ placed_from n es ++ (e.prefix, n + length es) ∷ []
 placed_push n [] e = let same : n + 0 ≡ n = omega arith in rw same refl
 placed_push n (f ∷ es) e = let same : n + 1 + length es ≡ n + length (f ∷ es) = omega arith in ap (λ (ps : List Placed). (f.prefix, n) ∷ ps) (placed_push (n + 1) es e ∙ (rw same refl))
 

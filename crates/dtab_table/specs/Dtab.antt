@@ -1,6 +1,9 @@
 -- Delegation tables as values, and what they rewrite a path to.
 use Rattle.std.specs.Prelude.{Bool, false, ◌||◌, if◌then◌else◌, List, [], ◌∷◌, ◌++◌, length, map, drop, Option, Some, None, option_map}
+use Rattle.std.specs.Arc.{arc_value}
 use Rattle.std.specs.Borrow.{Bor}
+use Rattle.std.specs.declared.alloc.Global.{Global}
+use Rattle.std.specs.declared.sync.Arc.{Arc}
 use Rattle.std.specs.Option.{option_to_list}
 use Rattle.std.specs.Str.{bytes_eq}
 use Rattle.name_tree.specs.Path.{Labels}
@@ -11,10 +14,16 @@ use Rattle.dtab_table.specs.Pattern.{Pattern}
 use Rattle.dtab_table.specs.Rules.{Rule, rule_of}
 use Rattle.dtab_table.specs.declared.dtab.Dtab.{Dtab}
 use Rattle.dtab_table.specs.declared.entry.Entry.{Entry}
+use Rattle.dtab_table.specs.declared.parts.Parts.{Parts}
+
+-- the entries that a table shares with its copies, if it has any
+abbrev pub entries_in : Option (Arc Parts Global) → List Entry
+entries_in None = []
+entries_in (Some parts) = arc_value parts
 
 -- the rules of a table, in their order
 abbrev pub rules_of : Dtab → List Rule
-rules_of dtab = map rule_of dtab.entries.items
+rules_of dtab = map rule_of (entries_in dtab.parts)
 
 -- what follows a prefix in a path that it matches: the path has a label for each of the prefix, the same unless that is `*`
 abbrev pub rest_behind : List Pattern → Labels → Option Labels

@@ -1,7 +1,9 @@
 pub mod Answers
 pub mod Computed
 pub mod Dtab
+pub mod Kept
 pub mod Laws
+pub mod LeanTrees
 pub mod Pattern
 pub mod PrefixReading
 pub mod Readers

@@ -1,32 +1,29 @@
 //! Delegation tables.
-ghost use Rattle.std.specs.Prelude.{◌≡◌, ◌-◌, ◌<◌, ◌≤◌, ◌^◌, [], length, map, take, drop, slice_get, Some, IfOk, All};
+ghost use Rattle.std.specs.Prelude.{◌≡◌, ◌+◌, ◌-◌, ◌<◌, ◌≤◌, ◌^◌, [], length, map, take, drop, slice_get, Some, IfOk, All};
 ghost use Rattle.name_tree.specs.Tree.{value_of};
-ghost use Rattle.dtab_table.specs.Rules.{rule_of, placed_from};
+ghost use Rattle.dtab_table.specs.LeanTrees.{lean_trees, lent_trees};
+ghost use Rattle.dtab_table.specs.Rules.{rule_of};
 
 use crate::Mem;
 use crate::entry::{Entry, EntryList};
-use crate::joining::put_copies;
-use crate::matching::some_entry_matches;
+use crate::lean_tree::LeanTree;
+use crate::parts::Parts;
 use crate::tree_list::TreeList;
-use dtab_index::Index;
-use line_base::Steps;
 use name_tree::Path;
 use std::alloc::Global;
+use std::sync::Arc;
 use std::sync::ledger::Ledger;
-
-/// Of how many entries each is compared with a path, in place of a look-up.
-const FEW_ENTRIES: usize = 4;
+use step_count::Steps;
 
 /// A delegation table: a list of entries. Of two that match a path, the later one is tried first.
 ///
-/// Contracts see what it says as `rules_of dtab`, the list of its prefixes and trees. Beside the entries it keeps an index of their
-/// prefixes, in which the position of an entry is its place in the list, counted from 0.
+/// Contracts see what it says as `rules_of dtab`, the list of its prefixes and trees. Its entries never
+/// change, and it shares them with its copies. Beside the entries it keeps what there is to try of
+/// their trees, and where there are more than a few, an index of their prefixes.
 #[derive(Debug, Drop)]
 pub struct Dtab {
-    entries: Vec<Entry>,
-    index: Index,
-    ghost indexed: { index ≡ placed_from 0 entries.items },
-    ghost few: { length entries.items < 2 ^ 32 },
+    /// `None` stands for no entry.
+    parts: Option<Arc<Parts>>,
 }
 
 impl Dtab {
@@ -34,30 +31,29 @@ impl Dtab {
     ghost use Rattle.dtab_table.specs.Rules.{rule_of};
 
     /// The table with no entry. It takes no memory.
-    pub fn empty(alloc: Global) -> Dtab
+    pub fn empty(_alloc: Global) -> Dtab
         ensures { rules_of result ≡ [] }
     {
-        Dtab {
-            entries: Vec::new(alloc),
-            index: Index::new(alloc),
-        }
+        Dtab { parts: None }
     }
 
-    /// The table of these entries, in their order. It copies their prefixes into an index.
+    /// The table of these entries, in their order. It makes what there is to try of their trees, and
+    /// where they are more than a few, copies their prefixes into an index.
     pub fn of(alloc: Global, entries: EntryList) -> Mem<Dtab>
         requires { length entries < 2 ^ 32 }
         ensures { IfOk result (λ dtab. rules_of dtab ≡ map rule_of entries) }
     {
-        let entries = entries.into_items();
-        let index = index_of(alloc, entries.as_slice())?;
-        Ok(Dtab { entries, index })
+        let parts = Parts::of(alloc, entries.into_items())?;
+        Ok(Dtab {
+            parts: Some(Arc::new(alloc, parts)?),
+        })
     }
 
     /// How many entries it has.
     pub fn len(&self) -> usize
         ensures { result ≡ length (rules_of self.now) }
     {
-        self.entries.len()
+        self.entries().len()
     }
 
     /// Its entry at a place, counted from 0.
@@ -65,32 +61,29 @@ impl Dtab {
         requires { at < length (rules_of self.now) }
         ensures { slice_get (rules_of self.now) at ≡ Some (rule_of result.now) }
     {
-        &self.entries[at]
+        &self.entries()[at]
     }
 
     /// Its entries, in order.
     pub fn entries(&self) -> &[Entry]
         ensures { map rule_of result.now ≡ rules_of self.now }
     {
-        self.entries.as_slice()
+        match &self.parts {
+            Some(parts) => parts.entries(),
+            None => &[],
+        }
     }
 
-    /// Its entries, in order. It takes no memory.
-    pub fn into_entries(self) -> EntryList
-        ensures { map rule_of result ≡ rules_of self }
-    {
-        EntryList::of(self.entries)
-    }
-
-    /// A copy of it.
-    ///
-    /// The cost is that of its entries' labels and leaves, which are copied, the prefixes twice.
-    pub fn copied(&self, alloc: Global) -> Mem<Dtab>
+    /// The same table once more. The two share their entries, and no memory is taken.
+    pub fn copied(&self, _alloc: Global) -> Mem<Dtab>
         ensures { IfOk result (λ dtab. rules_of dtab ≡ rules_of self.now) }
     {
-        let mut entries = Vec::with_capacity(alloc, self.entries.len())?;
-        put_copies(alloc, self.entries(), &mut entries)?;
-        Dtab::of(alloc, EntryList::of(entries))
+        match &self.parts {
+            Some(parts) => Ok(Dtab {
+                parts: Some(Arc::try_clone(parts)?),
+            }),
+            None => Ok(Dtab { parts: None }),
+        }
     }
 
     /// Whether the prefix of some entry, from one place to before another, counted from 0, matches a path. It takes no memory.
@@ -102,18 +95,18 @@ impl Dtab {
         requires within { to ≤ length (rules_of self.now) }
         ensures { result ≡ some_matches (take (to - from) (drop from (rules_of self.now))) path.now }
     {
-        if to - from <= FEW_ENTRIES {
-            return some_entry_matches(&self.entries[from..to], path);
+        match &self.parts {
+            Some(parts) => parts.matches_any(from, to, path),
+            None => false,
         }
-        self.index
-            .matches_any(from as u32, to as u32, path.labels())
     }
 
     /// The entries whose prefix matches a path, the last entry first. The prefix of each takes the first labels of the path, as many as it has
-    /// itself, and the labels behind those are the rest. One call is at least one step.
+    /// itself, and the labels behind those are the rest. One call is one step.
     ///
-    /// The cost is one look-up in the table's index for each shape of its prefixes, and the memory of the answer, a reference for each entry
-    /// that matches. No tree is looked at, and none is copied.
+    /// The cost is one look-up in the table's index for each shape of its prefixes, or a comparison
+    /// with each of a few entries, and the memory of the answer, a reference for each entry that
+    /// matches. No tree is looked at, and none is copied.
     pub fn matching<'a, L: Ledger>(
         &'a self,
         alloc: Global,
@@ -122,16 +115,35 @@ impl Dtab {
     ) -> Mem<Vec<&'a Entry>>
         ensures trees { IfOk result (λ found. rewritten_by_each path.now found.items ≡ rewrites (rules_of self.now) path.now) }
         ensures long { IfOk result (λ found. All (λ entry. length entry.now.prefix ≤ length path.now) found.items) }
-        ensures ticks { steps.old < steps.new }
+        ensures ticks { steps.new ≡ steps.old + 1 }
     {
         steps.tick();
-        let places = self.index.matching(alloc, path.labels())?;
-        let mut found = Vec::with_capacity(alloc, places.len())?;
-        for at in &places {
-            let entry = &self.entries[*at as usize];
-            found.push(entry)?;
+        match &self.parts {
+            Some(parts) => parts.matching(alloc, path),
+            None => Ok(Vec::new(alloc)),
         }
-        Ok(found)
+    }
+
+    /// What there is to try of the trees that the table rewrites a path to: of the entries that match,
+    /// the last entry first, each tree without what makes no lookup, unless nothing is left of it.
+    /// Whatever stands behind the leaves, these come to the same as all the trees, after the same
+    /// lookups. One call is one step.
+    ///
+    /// The cost is that of [`Dtab::matching`]. The trees are lent.
+    pub fn lean_matching<'a, L: Ledger>(
+        &'a self,
+        alloc: Global,
+        path: &Path,
+        steps: &mut Steps<L>,
+    ) -> Mem<Vec<LeanTree<'a>>>
+        ensures trees { IfOk result (λ found. lent_trees path.now found.items ≡ lean_trees (rewrites (rules_of self.now) path.now)) }
+        ensures ticks { steps.new ≡ steps.old + 1 }
+    {
+        steps.tick();
+        match &self.parts {
+            Some(parts) => parts.lean_matching(alloc, path),
+            None => Ok(Vec::new(alloc)),
+        }
     }
 
     /// What the table rewrites a path to: the trees of all entries whose prefix matches, the last entry first, each with the
@@ -146,7 +158,7 @@ impl Dtab {
         steps: &mut Steps<L>,
     ) -> Mem<TreeList>
         ensures trees { IfOk result (λ trees. map value_of trees ≡ rewrites (rules_of self.now) path.now) }
-        ensures ticks { steps.old < steps.new }
+        ensures ticks { steps.new ≡ steps.old + 1 }
     {
         let found = self.matching(alloc, path, steps)?;
         let mut trees = Vec::with_capacity(alloc, found.len())?;
@@ -156,16 +168,4 @@ impl Dtab {
         }
         Ok(TreeList::of(trees))
     }
-}
-
-/// The index of the prefixes of some entries, whose positions are their places, counted from 0.
-fn index_of(alloc: Global, entries: &[Entry]) -> Mem<Index>
-    requires { length entries.now < 2 ^ 32 }
-    ensures { IfOk result (λ index. index ≡ placed_from 0 entries.now) }
-{
-    let mut index = Index::new(alloc);
-    for (at, entry) in entries.iter().enumerate() {
-        index.add(entry.prefix.patterns(alloc)?, at as u32)?;
-    }
-    Ok(index)
 }

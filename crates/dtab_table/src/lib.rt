@@ -12,7 +12,7 @@
 //! for at most one value, and the canonical text of a value is read as that value ([`texts_have_one_value`],
 //! [`canonical_texts_read_back`]). `table_of` of `specs/Computed.antt` computes the same values byte by byte, for definitions that go by cases
 //! on what a text stands for ([`computed_values_are_exact`]). A lookup is exactly `rewrites` of `specs/Dtab.antt`, and takes at least one step of the
-//! [`Steps`](line_base::Steps) that it is lent.
+//! [`Steps`](step_count::Steps) that it is lent.
 //!
 //! # Example
 //! ```
@@ -33,7 +33,11 @@ mod dtab;
 mod entry;
 mod joining;
 mod laws;
+mod lean_tree;
+mod lending;
 mod matching;
+mod parts;
+mod places;
 mod prefix;
 mod prefix_reader;
 mod prefix_text;
@@ -49,8 +53,9 @@ pub use laws::{
     canonical_texts_read_back, computed_values_are_exact, only_matches_rewrite,
     texts_have_one_value,
 };
+pub use lean_tree::LeanTree;
 pub use prefix::{Prefix, PrefixLabel};
-pub use read::{DtabFault, MOST_ENTRIES, PrefixFault, read_dtab, read_prefix};
+pub use read::{DtabFault, MOST_ENTRIES, PrefixFault, read_dtab, read_entries, read_prefix};
 pub use tree_list::TreeList;
 pub use write::{write_dtab, write_prefix};
 

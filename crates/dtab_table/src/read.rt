@@ -1,7 +1,7 @@
 //! The readers of prefixes and tables.
-ghost use Rattle.std.specs.Prelude.{◌≡◌, ◌⊎◌, List, Some, None, IfOk, MatchResult};
+ghost use Rattle.std.specs.Prelude.{◌≡◌, ◌⊎◌, List, Some, None, IfOk, MatchResult, map};
 ghost use Rattle.dtab_table.specs.Pattern.{Pattern};
-ghost use Rattle.dtab_table.specs.Rules.{Rule};
+ghost use Rattle.dtab_table.specs.Rules.{Rule, rule_of};
 ghost use Rattle.dtab_table.specs.TableCanon.{ArePatterns, AreSoundRules};
 ghost use Rattle.dtab_table.specs.Dtab.{rules_of};
 ghost use Rattle.dtab_table.specs.TableGrammar.{PrefixText};
@@ -87,9 +87,34 @@ pub fn read_dtab(alloc: Global, text: &[u8]) -> Result<Dtab, DtabFault>
     dtab_in(alloc, text)
 }
 
+/// Reads the text of a table, as [`read_dtab`] does, and gives its entries in place of a table of them.
+///
+/// It takes time linear in the text.
+pub fn read_entries(alloc: Global, text: &[u8]) -> Result<EntryList, DtabFault>
+    ensures exact { MatchResult result (λ list. IsTable text.now (map rule_of list)) (DtabFaultFits text.now) }
+    ensures computed { MatchResult result (λ list. table_of text.now ≡ Some (map rule_of list)) (λ fault. (fault ≡ DtabFault.OutOfMemory) ⊎ (table_of text.now ≡ None)) }
+    ensures sound { IfOk result (λ list. AreSoundRules (map rule_of list)) }
+{
+    entries_in(alloc, text)
+}
+
 /// The table that a text stands for.
 fn dtab_in(alloc: Global, text: &[u8]) -> Result<Dtab, DtabFault>
     ensures { MatchResult result (λ dtab. IsTable text.now (rules_of dtab)) (DtabFaultFits text.now) }
+{
+    let entries = match entries_in(alloc, text) {
+        Ok(entries) => entries,
+        Err(fault) => return Err(fault),
+    };
+    match Dtab::of(alloc, entries) {
+        Ok(dtab) => Ok(dtab),
+        Err(_) => Err(DtabFault::OutOfMemory),
+    }
+}
+
+/// The entries of the table that a text stands for.
+fn entries_in(alloc: Global, text: &[u8]) -> Result<EntryList, DtabFault>
+    ensures { MatchResult result (λ list. IsTable text.now (map rule_of list)) (DtabFaultFits text.now) }
 {
     if text.len() > MOST_BYTES {
         return Err(DtabFault::TooLong(MOST_BYTES));
@@ -114,8 +139,5 @@ fn dtab_in(alloc: Global, text: &[u8]) -> Result<Dtab, DtabFault>
     if count > MOST_ENTRIES {
         return Err(DtabFault::TooMany(count));
     }
-    match Dtab::of(alloc, EntryList::of(entries)) {
-        Ok(dtab) => Ok(dtab),
-        Err(_) => Err(DtabFault::OutOfMemory),
-    }
+    Ok(EntryList::of(entries))
 }

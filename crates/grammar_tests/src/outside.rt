@@ -4,12 +4,13 @@ ghost use Rattle.std.specs.Prelude.{◌≡◌, ◌<◌};
 use line_base::{
     Clock, DialEvent, Dialer, Failed, Folder, FolderFault, Found, Listener, Mem, MemAddress,
     MemClock, MemDialer, MemDials, MemFile, MemFolder, MemNet, MemPeer, MemSink, MemSource,
-    MemStop, MemVisits, Net, NetFault, Peer, Sink, Source, Steps, Stop,
+    MemStop, MemVisits, Net, NetFault, Peer, Sink, Source, Stop,
 };
 use std::alloc::Global;
 use std::marker::Brand;
 use std::sync::ledger::{Blank, Ledger};
 use std::test::Fail;
+use step_count::Steps;
 
 /// A source of these bytes, in pieces of such sizes.
 fn source_of(alloc: Global, bytes: &[u8], sizes: &[usize], failing: &[u64]) -> Mem<MemSource> {

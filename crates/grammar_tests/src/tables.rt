@@ -5,12 +5,12 @@ use dtab_table::{
     Dtab, DtabFault, Entry, EntryList, Mem, Prefix, PrefixFault, PrefixLabel, joined, read_dtab,
     read_prefix, write_dtab, write_prefix,
 };
-use line_base::Steps;
 use name_tree::{Path, Tree, append_path, read_path, read_tree};
 use std::alloc::Global;
 use std::marker::Brand;
 use std::sync::ledger::{Blank, Ledger};
 use std::test::Fail;
+use step_count::Steps;
 
 /// Places at which texts of tables leave the grammar.
 const TABLE_FAULTS: [(&[u8], usize); 30] = [

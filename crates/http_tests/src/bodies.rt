@@ -85,18 +85,39 @@ fn is_passed(
     count: usize,
 ) -> Result<bool, Fail> {
     let [read, received] = answers;
-    let once = Calls::whole();
     let chunks = goes(alloc, true, count)?;
     let content = goes(alloc, false, count)?;
-    let passed = onward(alloc, Chunked, b"", comes, gives, once)?;
-    let returned = back(alloc, Chunked, true, comes, gives, once)?;
-    let bare = back(alloc, Chunked, false, comes, gives, once)?;
     Ok(
-        came_to(&passed, read, chunks.as_slice())
-            && came_to(&returned, received, chunks.as_slice())
-            && came_to(&bare, received, content.as_slice())
+        goes_onward(alloc, comes, gives, read, chunks.as_slice())?
+            && goes_back(alloc, true, comes, gives, received, chunks.as_slice())?
+            && goes_back(alloc, false, comes, gives, received, content.as_slice())?
             && length_of(alloc, comes, gives)? == read,
     )
+}
+
+/// Whether a body of which these bytes come in such calls is passed on so.
+fn goes_onward(
+    alloc: Global,
+    comes: &[u8],
+    gives: Calls,
+    answer: Result<u64, BodyEnd>,
+    went: &[u8],
+) -> Result<bool, Fail> {
+    let passed = onward(alloc, Chunked, b"", comes, gives, Calls::whole())?;
+    Ok(came_to(&passed, answer, went))
+}
+
+/// Whether such a body is passed back so, in chunks or as content alone.
+fn goes_back(
+    alloc: Global,
+    chunked: bool,
+    comes: &[u8],
+    gives: Calls,
+    answer: Result<u64, BodyEnd>,
+    went: &[u8],
+) -> Result<bool, Fail> {
+    let returned = back(alloc, Chunked, chunked, comes, gives, Calls::whole())?;
+    Ok(came_to(&returned, answer, went))
 }
 
 /// How long the content of such a body is that is read.
@@ -266,6 +287,44 @@ fn is_at_end(framing: Framing, answer: Result<u64, BodyEnd>) -> bool {
     }
 }
 
+/// What a body comes to: the answer, what goes on, and how many bytes are taken by calls of one byte.
+#[derive(Clone, Copy)]
+struct Wanted<'a> {
+    answer: Result<u64, BodyEnd>,
+    went: &'a [u8],
+    ends: usize,
+}
+
+/// Whether a body that was passed on in such calls came to this.
+fn is_wanted(passed: &Passed, calls: Calls, wanted: Wanted<'_>) -> bool {
+    (passed.got == wanted.ends || calls.most > 1) && came_to(passed, wanted.answer, wanted.went)
+}
+
+/// Whether a body comes to this where it is passed on in such calls.
+fn is_onward(
+    alloc: Global,
+    framing: Framing,
+    comes: &[u8],
+    calls: Calls,
+    wanted: Wanted<'_>,
+) -> Result<bool, Fail> {
+    let passed = onward(alloc, framing, b"", comes, calls, calls)?;
+    Ok(is_wanted(&passed, calls, wanted))
+}
+
+/// Whether a body comes to this where it is passed back in such calls, in chunks or as content alone.
+fn is_back(
+    alloc: Global,
+    framing: Framing,
+    chunked: bool,
+    comes: &[u8],
+    calls: Calls,
+    wanted: Wanted<'_>,
+) -> Result<bool, Fail> {
+    let returned = back(alloc, framing, chunked, comes, calls, calls)?;
+    Ok(is_wanted(&returned, calls, wanted))
+}
+
 /// Whether a row's body is passed on as it says, in calls of so many bytes at most, and no byte behind it is taken by calls of one byte.
 fn is_row_passed(
     alloc: Global,
@@ -277,16 +336,20 @@ fn is_row_passed(
     let (framing, _text, count, chunks, content, answer) = row;
     let chunks = spelled(alloc, chunks, *count)?;
     let content = spelled(alloc, content, *count)?;
+    let in_chunks = Wanted {
+        answer: *answer,
+        went: chunks.as_slice(),
+        ends,
+    };
+    let bare = Wanted {
+        went: content.as_slice(),
+        ..in_chunks
+    };
     let calls = Calls::by(most);
-    let passed = onward(alloc, *framing, b"", comes, calls, calls)?;
-    let returned = back(alloc, *framing, true, comes, calls, calls)?;
-    let bare = back(alloc, *framing, false, comes, calls, calls)?;
-    let is_at_end = passed.got == ends && returned.got == ends && bare.got == ends;
     Ok(
-        (is_at_end || most > 1)
-            && came_to(&passed, *answer, chunks.as_slice())
-            && came_to(&returned, *answer, chunks.as_slice())
-            && came_to(&bare, *answer, content.as_slice()),
+        is_onward(alloc, *framing, comes, calls, in_chunks)?
+            && is_back(alloc, *framing, true, comes, calls, in_chunks)?
+            && is_back(alloc, *framing, false, comes, calls, bare)?,
     )
 }
 

@@ -253,6 +253,38 @@ fn values_that_are_said(rt: HostRuntime) -> Result<(), Fail> {
     Ok(())
 }
 
+#[test]
+fn tables_that_cover_the_prefix(rt: HostRuntime) -> Result<(), Fail> {
+    let rows = [
+        (r#"{"routers":[{"protocol":"http"}]}"#, false),
+        (
+            r#"{"routers":[{"protocol":"http","dtab":"/svc => /host"}]}"#,
+            true,
+        ),
+        (
+            r#"{"routers":[{"protocol":"http","dtab":"/host => /svc; /svc/web => /host"}]}"#,
+            false,
+        ),
+        (
+            r#"{"routers":[{"protocol":"http","dtab":"/* => /host; /host => !"}]}"#,
+            true,
+        ),
+        (
+            r#"{"routers":[{"protocol":"http","dtab":"/a => /host","dstPrefix":"/a/b"}]}"#,
+            true,
+        ),
+        (
+            r#"{"routers":[{"protocol":"http","dtab":"/a/b => /host","dstPrefix":"/a"}]}"#,
+            false,
+        ),
+    ];
+    for (text, is_covered) in rows {
+        let config = config_of(rt.alloc(), text)?;
+        assert_eq!(rt; config.table_covers_prefix(), is_covered, "of {text}");
+    }
+    Ok(())
+}
+
 /// What loading a folder of these files comes to, a line each: a service with the number of its addresses, or the refusal.
 fn loaded<F: Folder>(alloc: Global, folder: &mut F) -> Mem<String> {
     let mut text = String::new(alloc);

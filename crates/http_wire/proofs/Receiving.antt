@@ -1,7 +1,6 @@
 -- What receiving in pieces adds up to.
 use Rattle.std.proofs.Common.{◌≡◌, ◌≤◌, ◌<◌, inl, inr, ℕ, Bool, true, false, ltb, List, [], ◌∷◌, ◌++◌, length, take, drop, map, refl, sym, ap, ◌∙◌, subst, arith, Option, Some, None, Result, Ok, Err, append_assoc, append-nil, length-append}
 use Rattle.std.proofs.lemmas.Bool.Decides.{nat_tests}
-use Rattle.line_base.specs.Counts.{Rose}
 use Rattle.std.proofs.lemmas.List.{map-append, take_all, drop-append-le}
 use Rattle.std.specs.Io.KnownBytes.{Consumes}
 use Rattle.std.proofs.KnownBytes.{Consumes-trans}
@@ -15,7 +14,7 @@ use Rattle.http_wire.specs.declared.reading.HeadEnd.{HeadEnd}
 use Rattle.http_wire.specs.declared.reply_watch.StatusPlace.{StatusPlace}
 use Rattle.http_wire.specs.FirstLine.{skip_empty_lines}
 use Rattle.http_wire.specs.Heads.{window, most, most_piece}
-use Rattle.http_wire.specs.Reading.{Whatever}
+use Rattle.http_wire.specs.Reading.{Whatever, is_fault, raised_at}
 use Rattle.http_wire.specs.Replies.{BeginsWithReply, IsBadReply, IsDecidedReply, IsOpenReply, IsTooLargeReply, IsUnfinishedReply, Tracks, is_at_end}
 use Rattle.http_wire.specs.ReplyReading.{AnswersReply, LooksReply, joined, LogsGot, IsPromptReply, SaysEnd, ReadsReply, GotPiece, StopsAt}
 use Rattle.http_wire.proofs.Settled.{window_more, window_full}
@@ -74,10 +73,6 @@ too_large_reply bytes decided open_ = record { many = many (ltb (length bytes) m
     many : (t : Bool) → ltb (length bytes) most ≡ t → most ≤ length bytes
     many true test = let few : length bytes < most = grind (arith, nat_tests, test) in absurd (decided_or_open bytes few (decided few) open_)
     many false test = grind (arith, nat_tests, test)
-
--- a count that rose after another moment rose after an earlier one
-pub rose_later : (a b c : ℕ) → a ≤ b → Rose b c → Rose a c
-rose_later a b c before rose = grind (arith, before, rose)
 
 unfinished_reply : (bytes : List ℕ) → length bytes < most → IsOpenReply bytes → IsUnfinishedReply bytes
 unfolding window
@@ -139,6 +134,18 @@ one_more l0 l1 l2 g0 g1 g2 k0 k1 k2 before unfinished now = record {
   grown = now.grown ∙ (ap (λ (xs : List ℕ). xs ++ now.piece) before.grown
       ∙ (append_assoc k0 (joined before.pieces) now.piece ∙ ap (λ (xs : List ℕ). k0 ++ xs) (sym (joined-push before.pieces now.piece))));
 }
+
+-- a look is no failed receive
+pub quiet_after : (before now : ℕ) (k0 k1 : List ℕ) (result : Result ReplyHead HeadEnd) → now ≡ before → LooksReply k0 k1 result
+    → now ≡ raised_at (is_fault result) before
+quiet_after before now k0 k1 (Ok head) same l = same
+quiet_after before now k0 k1 (Err HeadEnd.Ended) same l = absurd l
+quiet_after before now k0 k1 (Err HeadEnd.Cut) same l = absurd l
+quiet_after before now k0 k1 (Err HeadEnd.ReadFault) same l = absurd l
+quiet_after before now k0 k1 (Err HeadEnd.Version) same l = absurd l
+quiet_after before now k0 k1 (Err HeadEnd.Bad) same l = same
+quiet_after before now k0 k1 (Err HeadEnd.TooLarge) same l = same
+quiet_after before now k0 k1 (Err HeadEnd.OutOfMemory) same l = same
 
 -- an answer by a look
 pub looked_reply : (l0 l1 : Option (List ℕ)) (g0 g1 : Option (List DialEvent)) (k0 k1 k2 : List ℕ) (result : Result ReplyHead HeadEnd) → SoFar l0 l1 g0 g1 k0 k1

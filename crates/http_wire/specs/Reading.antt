@@ -82,15 +82,18 @@ is_end (Err HeadEnd.ReadFault) = false
 is_end (Err HeadEnd.OutOfMemory) = false
 
 -- the answer is that a read failed
-abbrev pub is_fault : Result Head HeadEnd → Bool
-is_fault (Ok head) = false
-is_fault (Err HeadEnd.Ended) = false
-is_fault (Err HeadEnd.Cut) = false
-is_fault (Err HeadEnd.Bad) = false
-is_fault (Err HeadEnd.Version) = false
-is_fault (Err HeadEnd.TooLarge) = false
-is_fault (Err HeadEnd.ReadFault) = true
-is_fault (Err HeadEnd.OutOfMemory) = false
+abbrev pub is_read_fault : HeadEnd → Bool
+is_read_fault HeadEnd.Ended = false
+is_read_fault HeadEnd.Cut = false
+is_read_fault HeadEnd.Bad = false
+is_read_fault HeadEnd.Version = false
+is_read_fault HeadEnd.TooLarge = false
+is_read_fault HeadEnd.ReadFault = true
+is_read_fault HeadEnd.OutOfMemory = false
+
+abbrev pub is_fault : {T : Type 0} → Result T HeadEnd → Bool
+is_fault (Ok x) = false
+is_fault (Err end) = is_read_fault end
 
 -- one more where the answer is such
 abbrev pub raised_at : Bool → ℕ → ℕ

@@ -1,6 +1,6 @@
 //! Reading the head of a request.
 ghost use Rattle.std.specs.Prelude.{◌≡◌, IfOk};
-ghost use Rattle.std.specs.Io.KnownBytes.{Keeps};
+ghost use Rattle.line_base.specs.Lines.{IsUnwritten};
 ghost use Rattle.http_wire.specs.Heads.{IsUnfinished};
 ghost use Rattle.http_wire.specs.Places.{StandsAt};
 ghost use Rattle.http_wire.specs.Reading.{HasCauses, Looks, LooksFirst, ReadsHead, Trusts, Turns};
@@ -54,12 +54,11 @@ pub fn read_request_head<P: Peer>(
     peer: &mut P,
     rest: &mut Rest,
 ) -> Result<Head, HeadEnd>
-    ensures head { ReadsHead (P.left peer.old) (P.left peer.new) rest.old rest.new result }
+    ensures head { ReadsHead (P.line peer.old).left (P.line peer.new).left rest.old rest.new result }
     ensures sound { IfOk result IsSoundHead }
-    ensures causes { HasCauses (P.ends peer.old) (P.ends peer.new)
-        (P.read_faults peer.old) (P.read_faults peer.new) result }
-    ensures others { (Keeps (P.given peer.old) (P.given peer.new))
-        × (P.write_faults peer.new ≡ P.write_faults peer.old) }
+    ensures causes { HasCauses (P.line peer.old).ends (P.line peer.new).ends
+        (P.line peer.old).read_faults (P.line peer.new).read_faults result }
+    ensures others { IsUnwritten (P.line peer.old) (P.line peer.new) }
 {
     match first_look(alloc, peer, rest) {
         Turn::Answered(answer) => return answer,
@@ -87,10 +86,9 @@ enum Turn {
 /// Looks at the bytes that are kept, or where there are none at the first that come: mostly they have a whole head, and nothing is to be
 /// followed.
 fn first_look<P: Peer>(alloc: Global, peer: &mut P, rest: &mut Rest) -> Turn
-    ensures bytes { LooksFirst (P.left peer.old) (P.left peer.new) rest.old rest.new
-        (P.ends peer.old) (P.ends peer.new) (P.read_faults peer.old) (P.read_faults peer.new) result }
-    ensures others { (Keeps (P.given peer.old) (P.given peer.new))
-        × (P.write_faults peer.new ≡ P.write_faults peer.old) }
+    ensures bytes { LooksFirst (P.line peer.old).left (P.line peer.new).left rest.old rest.new
+        (P.line peer.old).ends (P.line peer.new).ends (P.line peer.old).read_faults (P.line peer.new).read_faults result }
+    ensures others { IsUnwritten (P.line peer.old) (P.line peer.new) }
 {
     if !rest.kept().is_empty() {
         return answer(alloc, rest);
@@ -104,11 +102,10 @@ fn first_look<P: Peer>(alloc: Global, peer: &mut P, rest: &mut Rest) -> Turn
 /// Looks at the bytes where it is due, and reads once where they show no answer.
 fn take_turn<P: Peer>(alloc: Global, peer: &mut P, rest: &mut Rest, watch: &mut Watch) -> Turn
     requires { Trusts watch.old rest.old }
-    ensures bytes { Turns (P.left peer.old) (P.left peer.new) rest.old rest.new
-        (P.ends peer.old) (P.ends peer.new) (P.read_faults peer.old) (P.read_faults peer.new) result }
+    ensures bytes { Turns (P.line peer.old).left (P.line peer.new).left rest.old rest.new
+        (P.line peer.old).ends (P.line peer.new).ends (P.line peer.old).read_faults (P.line peer.new).read_faults result }
     ensures trusts { result ≡ Turn.More → Trusts watch.new rest.new }
-    ensures others { (Keeps (P.given peer.old) (P.given peer.new))
-        × (P.write_faults peer.new ≡ P.write_faults peer.old) }
+    ensures others { IsUnwritten (P.line peer.old) (P.line peer.new) }
 {
     if !watch.is_due() && rest.kept().len() < MOST_HEAD {
         return read_once(peer, rest, watch);
@@ -123,11 +120,10 @@ fn take_turn<P: Peer>(alloc: Global, peer: &mut P, rest: &mut Rest, watch: &mut 
 fn read_once<P: Peer>(peer: &mut P, rest: &mut Rest, watch: &mut Watch) -> Turn
     requires stands { StandsAt watch.old.progress rest.old }
     requires unfinished { IsUnfinished rest.old }
-    ensures bytes { Turns (P.left peer.old) (P.left peer.new) rest.old rest.new
-        (P.ends peer.old) (P.ends peer.new) (P.read_faults peer.old) (P.read_faults peer.new) result }
+    ensures bytes { Turns (P.line peer.old).left (P.line peer.new).left rest.old rest.new
+        (P.line peer.old).ends (P.line peer.new).ends (P.line peer.old).read_faults (P.line peer.new).read_faults result }
     ensures trusts { result ≡ Turn.More → Trusts watch.new rest.new }
-    ensures others { (Keeps (P.given peer.old) (P.given peer.new))
-        × (P.write_faults peer.new ≡ P.write_faults peer.old) }
+    ensures others { IsUnwritten (P.line peer.old) (P.line peer.new) }
 {
     let followed = rest.kept().len();
     match fill_once(peer, rest) {
@@ -142,10 +138,9 @@ fn read_once<P: Peer>(peer: &mut P, rest: &mut Rest, watch: &mut Watch) -> Turn
 /// Reads once behind the bytes of an unfinished head.
 fn fill_once<P: Peer>(peer: &mut P, rest: &mut Rest) -> Turn
     requires { IsUnfinished rest.old }
-    ensures bytes { Turns (P.left peer.old) (P.left peer.new) rest.old rest.new
-        (P.ends peer.old) (P.ends peer.new) (P.read_faults peer.old) (P.read_faults peer.new) result }
-    ensures others { (Keeps (P.given peer.old) (P.given peer.new))
-        × (P.write_faults peer.new ≡ P.write_faults peer.old) }
+    ensures bytes { Turns (P.line peer.old).left (P.line peer.new).left rest.old rest.new
+        (P.line peer.old).ends (P.line peer.new).ends (P.line peer.old).read_faults (P.line peer.new).read_faults result }
+    ensures others { IsUnwritten (P.line peer.old) (P.line peer.new) }
 {
     match rest.fill(peer) {
         Ok(0) if behind_empty_lines(rest.kept()).is_empty() => Turn::Answered(Err(HeadEnd::Ended)),

@@ -1,7 +1,7 @@
 //! Reading the head of a reply.
 ghost use Rattle.std.specs.Prelude.{◌≡◌, true, false, ◌<◌, ◌≤◌, Err, length, IfOk, IsTrue, OnOk};
-ghost use Rattle.line_base.specs.Counts.{Rose};
 ghost use Rattle.http_wire.specs.Heads.{most};
+ghost use Rattle.http_wire.specs.Reading.{is_fault, raised_at};
 ghost use Rattle.http_wire.specs.Replies.{is_at_end, IsDecidedReply, Tracks};
 ghost use Rattle.http_wire.specs.ReplyReading.{LooksReply, ReadsReply, ReceivesOnce, ShowsReply};
 ghost use Rattle.http_wire.specs.Sound.{IsSoundReply};
@@ -32,13 +32,14 @@ pub fn read_reply_head<D: Dialer>(
     dialer: &mut D,
     rest: &mut Rest,
 ) -> Result<ReplyHead, HeadEnd>
-    requires { IsTrue (D.is_open dialer.old) }
-    ensures head { ReadsReply (D.left dialer.old) (D.left dialer.new) (D.log dialer.old) (D.log dialer.new)
+    requires { IsTrue (D.upstream dialer.old).is_open }
+    ensures head { ReadsReply (D.upstream dialer.old).left (D.upstream dialer.new).left (D.upstream dialer.old).log (D.upstream dialer.new).log
         rest.old rest.new result }
     ensures sound { IfOk result IsSoundReply }
-    ensures fault { result ≡ Err HeadEnd.ReadFault → Rose (D.faults dialer.old) (D.faults dialer.new) }
-    ensures faults { D.faults dialer.old ≤ D.faults dialer.new }
-    ensures stays { D.is_open dialer.new ≡ D.is_open dialer.old }
+    ensures fault { (D.upstream dialer.new).faults ≡ raised_at (is_fault result)
+        (D.upstream dialer.old).faults }
+    ensures faults { (D.upstream dialer.old).faults ≤ (D.upstream dialer.new).faults }
+    ensures stays { (D.upstream dialer.new).is_open ≡ (D.upstream dialer.old).is_open }
 {
     let mut watch = ReplyWatch::new();
     watch.follow(rest.kept());
@@ -65,15 +66,16 @@ fn receive_once<D: Dialer>(
     rest: &mut Rest,
     watch: &mut ReplyWatch,
 ) -> Result<(), HeadEnd>
-    requires open_ { IsTrue (D.is_open dialer.old) }
+    requires open_ { IsTrue (D.upstream dialer.old).is_open }
     requires few { length rest.old < most }
     requires tracks { Tracks rest.old watch.old.place }
-    ensures bytes { ReceivesOnce (D.left dialer.old) (D.left dialer.new) (D.log dialer.old) (D.log dialer.new)
+    ensures bytes { ReceivesOnce (D.upstream dialer.old).left (D.upstream dialer.new).left (D.upstream dialer.old).log (D.upstream dialer.new).log
         rest.old rest.new result }
     ensures tracks { OnOk result (Tracks rest.new watch.new.place) }
-    ensures fault { result ≡ Err HeadEnd.ReadFault → Rose (D.faults dialer.old) (D.faults dialer.new) }
-    ensures faults { D.faults dialer.old ≤ D.faults dialer.new }
-    ensures stays { D.is_open dialer.new ≡ D.is_open dialer.old }
+    ensures fault { (D.upstream dialer.new).faults ≡ raised_at (is_fault result)
+        (D.upstream dialer.old).faults }
+    ensures faults { (D.upstream dialer.old).faults ≤ (D.upstream dialer.new).faults }
+    ensures stays { (D.upstream dialer.new).is_open ≡ (D.upstream dialer.old).is_open }
 {
     let followed = rest.kept().len();
     match rest.fill_from(dialer) {

@@ -1,7 +1,7 @@
 //! The bytes that were read past a head.
 ghost use Rattle.std.specs.Prelude.{◌≡◌, ◌≤◌, ◌<◌, [], ◌++◌, drop, length, IfOk, OnOk, OnErr, Ok, Err, IsTrue};
-ghost use Rattle.std.specs.Io.KnownBytes.{Keeps};
-ghost use Rattle.line_base.specs.Counts.{HasCause, CountsEnds, Rose, raised};
+ghost use Rattle.line_base.specs.Counts.{HasCause, CountsEnds, raised};
+ghost use Rattle.line_base.specs.Lines.{IsUnwritten};
 ghost use Rattle.http_wire.specs.Heads.{most, most_piece};
 ghost use Rattle.http_wire.specs.Rest.{Fills, Receives};
 
@@ -89,18 +89,17 @@ impl Rest {
     /// the room for the bytes is made first.
     pub(crate) fn fill<P: Peer>(&mut self, peer: &mut P) -> Result<usize, FillFault>
         requires { length self.old < most }
-        ensures bytes { Fills (P.left peer.old) (P.left peer.new) self.old self.new result }
+        ensures bytes { Fills (P.line peer.old).left (P.line peer.new).left self.old self.new result }
         ensures short { IfOk result (λ n. n ≤ most_piece) }
-        ensures ended { result ≡ Ok 0 → P.ends peer.new ≡ raised (P.ends peer.old) }
-        ensures going { IfOk result (λ n. 0 < n → P.ends peer.new ≡ P.ends peer.old) }
-        ensures stopped { OnErr result (P.ends peer.new ≡ P.ends peer.old) }
-        ensures ends { P.ends peer.old ≤ P.ends peer.new }
-        ensures fault { result ≡ Err FillFault.ReadFault → P.read_faults peer.new ≡ raised (P.read_faults peer.old) }
-        ensures kept { OnOk result (P.read_faults peer.new ≡ P.read_faults peer.old) }
-        ensures spared { result ≡ Err FillFault.OutOfMemory → P.read_faults peer.new ≡ P.read_faults peer.old }
-        ensures faults { P.read_faults peer.old ≤ P.read_faults peer.new }
-        ensures others { (Keeps (P.given peer.old) (P.given peer.new))
-            × (P.write_faults peer.new ≡ P.write_faults peer.old) }
+        ensures ended { result ≡ Ok 0 → (P.line peer.new).ends ≡ raised (P.line peer.old).ends }
+        ensures going { IfOk result (λ n. 0 < n → (P.line peer.new).ends ≡ (P.line peer.old).ends) }
+        ensures stopped { OnErr result ((P.line peer.new).ends ≡ (P.line peer.old).ends) }
+        ensures ends { (P.line peer.old).ends ≤ (P.line peer.new).ends }
+        ensures fault { result ≡ Err FillFault.ReadFault → (P.line peer.new).read_faults ≡ raised (P.line peer.old).read_faults }
+        ensures kept { OnOk result ((P.line peer.new).read_faults ≡ (P.line peer.old).read_faults) }
+        ensures spared { result ≡ Err FillFault.OutOfMemory → (P.line peer.new).read_faults ≡ (P.line peer.old).read_faults }
+        ensures faults { (P.line peer.old).read_faults ≤ (P.line peer.new).read_faults }
+        ensures others { IsUnwritten (P.line peer.old) (P.line peer.new) }
     {
         match self.room.open() {
             Ok(most) => match self.room.read(peer, most) {
@@ -115,12 +114,11 @@ impl Rest {
     /// is the end. It takes no memory. An `Err` changes nothing.
     pub fn pull<P: Peer>(&mut self, peer: &mut P) -> Result<usize, Failed>
         requires { length self.old < 16384 }
-        ensures bytes { Fills (P.left peer.old) (P.left peer.new) self.old self.new result }
+        ensures bytes { Fills (P.line peer.old).left (P.line peer.new).left self.old self.new result }
         ensures most { length self.new ≤ 16384 }
-        ensures cause { HasCause (P.read_faults peer.old) (P.read_faults peer.new) result }
-        ensures end { CountsEnds (P.ends peer.old) (P.ends peer.new) result 1 }
-        ensures others { (Keeps (P.given peer.old) (P.given peer.new))
-            × (P.write_faults peer.new ≡ P.write_faults peer.old) }
+        ensures cause { HasCause (P.line peer.old).read_faults (P.line peer.new).read_faults result }
+        ensures end { CountsEnds (P.line peer.old).ends (P.line peer.new).ends result 1 }
+        ensures others { IsUnwritten (P.line peer.old) (P.line peer.new) }
     {
         let most = BODY_ROOM - self.kept().len();
         self.room.move_to_front();
@@ -129,14 +127,16 @@ impl Rest {
 
     /// Receives once from a dialer, as [`Rest::fill`] reads from a peer. 0 is the end.
     pub(crate) fn fill_from<D: Dialer>(&mut self, dialer: &mut D) -> Result<usize, FillFault>
-        requires open_ { IsTrue (D.is_open dialer.old) }
+        requires open_ { IsTrue (D.upstream dialer.old).is_open }
         requires few { length self.old < most }
-        ensures bytes { Receives (D.left dialer.old) (D.left dialer.new) (D.log dialer.old) (D.log dialer.new)
+        ensures bytes { Receives (D.upstream dialer.old).left (D.upstream dialer.new).left (D.upstream dialer.old).log (D.upstream dialer.new).log
             self.old self.new result }
         ensures short { IfOk result (λ n. n ≤ most_piece) }
-        ensures fault { result ≡ Err FillFault.ReadFault → Rose (D.faults dialer.old) (D.faults dialer.new) }
-        ensures faults { D.faults dialer.old ≤ D.faults dialer.new }
-        ensures stays { D.is_open dialer.new ≡ D.is_open dialer.old }
+        ensures fault { result ≡ Err FillFault.ReadFault → (D.upstream dialer.new).faults ≡ raised (D.upstream dialer.old).faults }
+        ensures kept { OnOk result ((D.upstream dialer.new).faults ≡ (D.upstream dialer.old).faults) }
+        ensures spared { result ≡ Err FillFault.OutOfMemory → (D.upstream dialer.new).faults ≡ (D.upstream dialer.old).faults }
+        ensures faults { (D.upstream dialer.old).faults ≤ (D.upstream dialer.new).faults }
+        ensures stays { (D.upstream dialer.new).is_open ≡ (D.upstream dialer.old).is_open }
     {
         match self.room.open() {
             Ok(most) => match self.room.receive(dialer, most) {
@@ -150,13 +150,13 @@ impl Rest {
     /// Receives once from a dialer, as [`Rest::pull`] reads from a peer: into the room behind the others, so that at most 16,384 bytes
     /// are kept then, with no memory. 0 is the end. An `Err` changes nothing.
     pub fn pull_from<D: Dialer>(&mut self, dialer: &mut D) -> Result<usize, Failed>
-        requires open_ { IsTrue (D.is_open dialer.old) }
+        requires open_ { IsTrue (D.upstream dialer.old).is_open }
         requires few { length self.old < 16384 }
-        ensures bytes { Receives (D.left dialer.old) (D.left dialer.new) (D.log dialer.old) (D.log dialer.new)
+        ensures bytes { Receives (D.upstream dialer.old).left (D.upstream dialer.new).left (D.upstream dialer.old).log (D.upstream dialer.new).log
             self.old self.new result }
         ensures most { length self.new ≤ 16384 }
-        ensures cause { HasCause (D.faults dialer.old) (D.faults dialer.new) result }
-        ensures stays { D.is_open dialer.new ≡ D.is_open dialer.old }
+        ensures cause { HasCause (D.upstream dialer.old).faults (D.upstream dialer.new).faults result }
+        ensures stays { (D.upstream dialer.new).is_open ≡ (D.upstream dialer.old).is_open }
     {
         let most = BODY_ROOM - self.kept().len();
         self.room.move_to_front();

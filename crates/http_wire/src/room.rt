@@ -27,7 +27,7 @@ pub(crate) struct Room {
 }
 
 impl Room {
-    ghost use Rattle.std.specs.Io.KnownBytes.{Keeps};
+    ghost use Rattle.line_base.specs.Lines.{IsUnwritten};
     ghost use Rattle.line_base.specs.Counts.{HasCause, CountsEnds};
     ghost use Rattle.http_wire.specs.Rest.{held, Fills, Receives};
 
@@ -119,12 +119,11 @@ impl Room {
     pub(crate) fn read<P: Peer>(&mut self, peer: &mut P, most: usize) -> Result<usize, Failed>
         requires some { 0 < most }
         requires room { self.old.end + most ≤ vec_len self.old.bytes }
-        ensures bytes { Fills (P.left peer.old) (P.left peer.new) (held self.old) (held self.new) result }
+        ensures bytes { Fills (P.line peer.old).left (P.line peer.new).left (held self.old) (held self.new) result }
         ensures short { IfOk result (λ n. n ≤ most) }
-        ensures cause { HasCause (P.read_faults peer.old) (P.read_faults peer.new) result }
-        ensures end { CountsEnds (P.ends peer.old) (P.ends peer.new) result most }
-        ensures others { (Keeps (P.given peer.old) (P.given peer.new))
-            × (P.write_faults peer.new ≡ P.write_faults peer.old) }
+        ensures cause { HasCause (P.line peer.old).read_faults (P.line peer.new).read_faults result }
+        ensures end { CountsEnds (P.line peer.old).ends (P.line peer.new).ends result most }
+        ensures others { IsUnwritten (P.line peer.old) (P.line peer.new) }
     {
         let end = self.end + most;
         match peer.read(&mut self.bytes[self.end..end]) {
@@ -142,14 +141,14 @@ impl Room {
         dialer: &mut D,
         most: usize,
     ) -> Result<usize, Failed>
-        requires open_ { IsTrue (D.is_open dialer.old) }
+        requires open_ { IsTrue (D.upstream dialer.old).is_open }
         requires some { 0 < most }
         requires room { self.old.end + most ≤ vec_len self.old.bytes }
-        ensures bytes { Receives (D.left dialer.old) (D.left dialer.new) (D.log dialer.old) (D.log dialer.new)
+        ensures bytes { Receives (D.upstream dialer.old).left (D.upstream dialer.new).left (D.upstream dialer.old).log (D.upstream dialer.new).log
             (held self.old) (held self.new) result }
         ensures short { IfOk result (λ n. n ≤ most) }
-        ensures cause { HasCause (D.faults dialer.old) (D.faults dialer.new) result }
-        ensures stays { D.is_open dialer.new ≡ D.is_open dialer.old }
+        ensures cause { HasCause (D.upstream dialer.old).faults (D.upstream dialer.new).faults result }
+        ensures stays { (D.upstream dialer.new).is_open ≡ (D.upstream dialer.old).is_open }
     {
         let end = self.end + most;
         match dialer.recv(&mut self.bytes[self.end..end]) {

@@ -7,7 +7,7 @@ ghost use Rattle.dtab_table.specs.TableCanon.{AreSoundRules};
 ghost use Rattle.identifier.specs.Local.{joined_rules, local_rules, Adds, Gives};
 
 use crate::fault::LocalFault;
-use dtab_table::{Dtab, DtabFault, Entry, EntryList, MOST_ENTRIES, read_dtab};
+use dtab_table::{Dtab, DtabFault, Entry, EntryList, MOST_ENTRIES, read_entries};
 use http_wire::{Field, Head};
 use std::alloc::Global;
 
@@ -18,7 +18,7 @@ use std::alloc::Global;
 /// It takes time and memory for the texts.
 ///
 /// # Errors
-/// `BadDtab` exactly where [`read_dtab`] refuses one of the values, or the whole has more than 1,024 entries. `OutOfMemory` where there was no
+/// `BadDtab` exactly where [`read_entries`] refuses one of the values, or the whole has more than 1,024 entries. `OutOfMemory` where there was no
 /// memory for the table.
 pub fn local_dtab(alloc: Global, head: &Head) -> Result<Dtab, LocalFault>
     ensures rules { Gives (local_rules head.now.fields) result }
@@ -55,9 +55,9 @@ fn add_tables(
 fn add_table(alloc: Global, text: &[u8], entries: &mut Vec<Entry>) -> Result<(), LocalFault>
     ensures { Adds entries.old.items entries.new.items (table_of text.now) result }
 {
-    match read_dtab(alloc, text) {
-        Ok(dtab) => {
-            let mut more = dtab.into_entries().into_items();
+    match read_entries(alloc, text) {
+        Ok(list) => {
+            let mut more = list.into_items();
             entries.append(&mut more)?;
             Ok(())
         }

@@ -1,7 +1,27 @@
--- What a dialer's log gains at each call, where it is told.
+-- What a dialer tells of itself, and what its log gains at each call, where it is told.
 use Rattle.std.specs.Prelude.{◌≡◌, ℕ, ◌<◌, Bool, true, false, List, [], ◌∷◌, ◌++◌, length, take, Option, Some, None, Result, MatchResult}
 use Rattle.line_base.specs.declared.dialer.DialEvent.{DialEvent}
 use Rattle.line_base.specs.declared.dialer.DialEvent.TheVariants.{Dialed, Sent, Got, Hung}
+
+-- a dialer: what it did, in order, where it tells it; the bytes that the other end has yet to give, where they are told; whether a
+-- connection is open; and how often a call failed. The count never falls, and stands still at the last value of a `u64`
+pub record Upstream : Type 0 where
+  pub log : Option (List DialEvent)
+  pub left : Option (List ℕ)
+  pub is_open : Bool
+  pub faults : ℕ
+
+-- a known log grows by these events
+abbrev pub Grows : Option (List DialEvent) → Option (List DialEvent) → List DialEvent → Type 0
+Grows None new events = Unit {0}
+Grows (Some old) None events = ⊥
+Grows (Some old) (Some new) events = new ≡ old ++ events
+
+-- the dialer did nothing
+pub record IsIdle (old new : Upstream) : Type 0 where
+  pub log : Grows old.log new.log []
+  pub is_open : new.is_open ≡ old.is_open
+  pub faults : new.faults ≡ old.faults
 
 -- a known log stays as it was
 abbrev pub KeepsLog : Option (List DialEvent) → Option (List DialEvent) → Type 0

@@ -16,6 +16,12 @@ pub record File : Type 0 where
   pub name : List ℕ
   pub bytes : List ℕ
 
+-- folders: the files, where they are told, and how often a call failed. The count never falls, and stands still at the last value
+-- of a `u64`
+pub record Filed : Type 0 where
+  pub files : Option (List File)
+  pub faults : ℕ
+
 -- the path of a file: its folder, a slash, and its name
 abbrev pub path_of : File → List ℕ
 path_of file = file.folder ++ 47 ∷ file.name

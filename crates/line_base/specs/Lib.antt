@@ -3,5 +3,7 @@ pub mod Clocks
 pub mod Counts
 pub mod Dials
 pub mod Files
+pub mod Lines
 pub mod Memory
 pub mod Nets
+pub mod Streams

@@ -1,9 +1,12 @@
 -- What the objects in memory hold.
-use Rattle.std.specs.Prelude.{◌≡◌, ℕ, ◌-◌, ◌^◌, ◌==◌, max, Bool, if◌then◌else◌, List, [], ◌∷◌, drop, Option, Contains, slice_index_or}
+use Rattle.std.specs.Prelude.{◌≡◌, ℕ, ◌-◌, ◌^◌, ◌==◌, max, Bool, if◌then◌else◌, List, [], ◌∷◌, drop, Option, Some, Contains, slice_index_or}
 use Rattle.line_base.specs.Accepts.{Listening}
 use Rattle.line_base.specs.Counts.{raised}
-use Rattle.line_base.specs.Files.{File}
+use Rattle.line_base.specs.Dials.{Upstream}
+use Rattle.line_base.specs.Files.{File, Filed}
+use Rattle.line_base.specs.Lines.{Line}
 use Rattle.line_base.specs.Nets.{Networking}
+use Rattle.line_base.specs.Streams.{Input, Output}
 use Rattle.line_base.specs.declared.dialer.DialEvent.{DialEvent}
 
 -- when calls are to fail, and how many bytes each may move: calls are numbered from 0, and `calls` is the number of the next one
@@ -57,6 +60,25 @@ pub record Dialing : Type 0 where
   pub plan : Plan
   pub faults : ℕ
 
+-- what a source, a sink, a peer, a dialer and folders in memory tell of themselves, which is all
+abbrev pub input_of : Giving → Input
+input_of s = record { left = Some s.left; faults = s.faults; ends = s.ends }
+
+abbrev pub output_of : Taking → Output
+output_of s = record { held = Some s.held; faults = s.faults }
+
+abbrev pub line_of : Meeting → Line
+line_of p = record {
+  left = Some p.source.left;
+  given = Some p.sink.held;
+  read_faults = p.source.faults;
+  write_faults = p.sink.faults;
+  ends = p.source.ends;
+}
+
+abbrev pub upstream_of : Dialing → Upstream
+upstream_of d = record { log = Some d.log; left = Some d.left; is_open = d.is_open; faults = d.faults }
+
 -- the reply that the next dial is given, and none past the last
 abbrev pub next_reply : List (List ℕ) → List ℕ
 next_reply [] = []
@@ -76,6 +98,9 @@ pub record Filing : Type 0 where
   pub files : List File
   pub plan : Plan
   pub faults : ℕ
+
+abbrev pub filed_of : Filing → Filed
+filed_of d = record { files = Some d.files; faults = d.faults }
 
 -- a listener: what it tells, the peers that are to come, a plan of its accepts, and its faults
 pub record Hosting (P : Type 0) : Type 0 where

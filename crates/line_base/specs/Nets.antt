@@ -2,6 +2,7 @@
 use Rattle.std.specs.Prelude.{◌≡◌, ℕ, ◌+◌, ◌-◌, ◌<◌, ◌≤◌, ◌==◌, ◌&&◌, nat_lt, Bool, if◌then◌else◌, List, [], ◌∷◌, ◌++◌, length, slice_index_or, Option, Some, None, IsSome, OnSome, IfSome, Result, Ok, Err, option_map}
 use Rattle.line_base.specs.Accepts.{Listening, no_visits}
 use Rattle.line_base.specs.Counts.{raised}
+use Rattle.line_base.specs.Dials.{Upstream}
 use Rattle.line_base.specs.declared.dialer.DialEvent.{DialEvent}
 use Rattle.line_base.specs.declared.listener.Endpoint.{Endpoint}
 use Rattle.line_base.specs.declared.net.NetFault.{NetFault}
@@ -76,9 +77,9 @@ pub record IsNewLog {P : Type 0} (told : Option (Returns P)) (log : Option (List
   pub tells : OnSome told (IsSome log)
 
 -- the log of a dialer that came back, if there was one
-abbrev pub log_of : {D : Type 0} → (D → Option (List DialEvent)) → Option D → Option (List DialEvent)
-log_of log None = None
-log_of log (Some d) = log d
+abbrev pub log_of : {D : Type 0} → (D → Upstream) → Option D → Option (List DialEvent)
+log_of upstream None = None
+log_of upstream (Some d) = (upstream d).log
 
 -- a net's count of faults never falls: a call that fails raises it by one, and any other, want of memory too, leaves it as it was
 pub record HasNetCause {T : Type 0} (before now : ℕ) (result : Result T NetFault) : Type 0 where

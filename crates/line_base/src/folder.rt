@@ -1,5 +1,5 @@
 //! Folders of files.
-ghost use Rattle.std.specs.Prelude.{◌≡◌, List, ℕ, map, Option, IfOk};
+ghost use Rattle.std.specs.Prelude.{◌≡◌, map, IfOk};
 ghost use Rattle.std.specs.String.{string_bytes};
 
 use crate::Bytes;
@@ -58,24 +58,21 @@ pub enum FolderFault {
 
 /// Folders of plain files.
 pub trait Folder {
-    ghost use Rattle.line_base.specs.Files.{File, FindsAt, HasFolderCause, IsWithin, Names};
+    ghost use Rattle.line_base.specs.Files.{Filed, FindsAt, HasFolderCause, IsWithin, Names};
 
-    /// The files, where they are told.
-    ghost files: { Self → Option (List File) };
-
-    /// How often a call failed. The count never falls, and stands still at the last value of a `u64`.
-    ghost faults: { Self → ℕ };
+    /// What they tell of themselves: the files, and how often a call failed.
+    ghost filed: { Self → Filed };
 
     /// The names of a folder's plain files, each once, in the order of their bytes.
     fn names(&mut self, folder: &str) -> Result<NameList, FolderFault>
-        ensures names { IfOk result (λ names. Names (files self.old) folder.now names) }
-        ensures same { files self.new ≡ files self.old }
-        ensures cause { HasFolderCause (faults self.old) (faults self.new) result };
+        ensures names { IfOk result (λ names. Names (filed self.old).files folder.now names) }
+        ensures same { (filed self.new).files ≡ (filed self.old).files }
+        ensures cause { HasFolderCause (filed self.old).faults (filed self.new).faults result };
 
     /// The file at a path, if it has at most so many bytes.
     fn read(&mut self, path: &str, most: usize) -> Result<Found, FolderFault>
-        ensures found { IfOk result (λ found. FindsAt (files self.old) path.now most found) }
+        ensures found { IfOk result (λ found. FindsAt (filed self.old).files path.now most found) }
         ensures within { IfOk result (λ found. IsWithin found most) }
-        ensures same { files self.new ≡ files self.old }
-        ensures cause { HasFolderCause (faults self.old) (faults self.new) result };
+        ensures same { (filed self.new).files ≡ (filed self.old).files }
+        ensures cause { HasFolderCause (filed self.old).faults (filed self.new).faults result };
 }

@@ -9,12 +9,11 @@
 //! its bytes too, and of the peers that came and went; a real file or socket tells none.
 //!
 //! [`MemSource`], [`MemSink`], [`MemPeer`], [`MemListener`], [`MemDialer`], [`MemFolder`], [`MemClock`], [`MemStop`] and [`MemNet`] are
-//! the outside in memory, for tests: they give their bytes in pieces of stated sizes and fail at stated calls. [`Steps`] counts ticks and
-//! takes no memory.
+//! the outside in memory, for tests: they give their bytes in pieces of stated sizes and fail at stated calls.
 //!
 //! # What is proved
 //! The objects in memory meet their traits, with their content told; each call of theirs is counted, and fails where its number is
-//! listed. [`Steps::tick`] adds one.
+//! listed.
 //!
 //! # Example
 //! ```
@@ -35,7 +34,6 @@ mod net;
 mod outside;
 mod piece;
 mod signals;
-mod steps;
 
 pub use clock::Clock;
 pub use dialer::{DialEvent, Dialer};
@@ -49,7 +47,6 @@ pub use net::{BROKEN_RUN, Net, NetFault};
 pub use outside::{Failed, Peer, Sink, Source};
 pub use piece::Piece;
 pub use signals::{Gate, Stop};
-pub use steps::Steps;
 
 /// A value, unless there was no memory for it.
 pub type Mem<T> = Result<T, AllocError>;

@@ -47,8 +47,8 @@ pub trait Net {
 
     /// A new dialer.
     fn dialer(&mut self) -> Self::D
-        ensures closed { Self.D.is_open result ≡ false }
-        ensures log { IsNewLog (state self.old).told (Self.D.log result) }
+        ensures closed { (Self.D.upstream result).is_open ≡ false }
+        ensures log { IsNewLog (state self.old).told (Self.D.upstream result).log }
         ensures kept { (state self.new ≡ state self.old) × (faults self.new ≡ faults self.old) };
 
     /// A new stop, which closes all listeners of this net.
@@ -65,7 +65,7 @@ pub trait Net {
         dialer: Option<Self::D>,
         stop: Self::S,
     ) -> Result<(), Failed>
-        ensures state { state self.new ≡ after_end (state self.old) (record { listener = Self.L.state listener; log = log_of Self.D.log dialer; stops = Self.S.calls stop }) }
+        ensures state { state self.new ≡ after_end (state self.old) (record { listener = Self.L.state listener; log = log_of Self.D.upstream dialer; stops = Self.S.calls stop }) }
         ensures broken { IsErr result ↔ (BROKEN_RUN ≤ (Self.L.state listener).run) }
         ensures cause { HasCause (faults self.old) (faults self.new) result };
 }

@@ -1,19 +1,27 @@
-//! What is told on standard error of a router that serves.
+//! What is told on standard error of a configuration that is checked, and of a router that serves.
+use linker_commands::{Command, read_words, words_behind_name};
 use net_edge::Refusal;
 use std::alloc::{AllocError, Global};
 use std::env::Args;
 use std::io;
 
-/// The path of the configuration that the process is to serve by, if that is what its arguments ask for. The first of them is the program's name.
-pub fn served_path(arguments: io::Result<Args>) -> Option<String> {
-    let mut arguments = arguments.ok()?;
-    let _program = arguments.next()?;
-    let command = arguments.next()?;
-    let path = arguments.next()?;
-    if command.as_str() == "serve" && arguments.next().is_none() {
-        Some(path)
-    } else {
-        None
+/// What the process is asked to do with a configuration.
+#[derive(Debug, Drop)]
+pub enum Asked {
+    /// To check it.
+    Check,
+    /// To serve by the one at this path.
+    Serve(String),
+}
+
+/// What the arguments of the process ask to do with a configuration, as `read_words` reads them, if
+/// they ask that and there is memory to say so. The first of them is the program's name.
+pub fn asked_of(alloc: Global, arguments: io::Result<Args>) -> Option<Asked> {
+    let words = words_behind_name(alloc, arguments.ok()?).ok()?;
+    match read_words(words.as_slice()).ok()? {
+        Command::Check(_) => Some(Asked::Check),
+        Command::Serve(path) => Some(Asked::Serve(String::from_str(alloc, path).ok()?)),
+        _ => None,
     }
 }
 
@@ -27,7 +35,7 @@ pub fn reason(alloc: Global, status: u8, refused: Option<&Refusal>) -> Result<St
         (5, _) => String::from_str(alloc, "standard output could not be written to"),
         (6, Some(refusal)) => format!(in alloc; "{refusal}"),
         (6, None) => String::from_str(alloc, "connections could not be accepted"),
-        (7, _) => String::from_str(alloc, "memory was wanting"),
+        (7, _) => String::from_str(alloc, "it was out of memory"),
         _ => String::from_str(alloc, "its words fit no command"),
     }
 }

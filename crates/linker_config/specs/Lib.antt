@@ -1,6 +1,7 @@
 pub mod Answers
 pub mod Client
 pub mod Config
+pub mod Covering
 pub mod Folder
 pub mod Identifier
 pub mod Keys

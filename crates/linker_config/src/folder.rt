@@ -27,9 +27,9 @@ pub fn load_folder<F: Folder>(
     folder: &mut F,
     root: &str,
 ) -> Result<Loaded, LoadFault>
-    ensures loads { Loads (F.files folder.old) root.now result }
-    ensures files { F.files folder.new ≡ F.files folder.old }
-    ensures cause { HasLoadCause (F.faults folder.old) (F.faults folder.new) result }
+    ensures loads { Loads (F.filed folder.old).files root.now result }
+    ensures files { (F.filed folder.new).files ≡ (F.filed folder.old).files }
+    ensures cause { HasLoadCause (F.filed folder.old).faults (F.filed folder.new).faults result }
 {
     let names = match folder.names(root) {
         Ok(names) => names,
@@ -49,9 +49,9 @@ fn load_names<F: Folder>(
     root: &str,
     names: &[String],
 ) -> Result<Vec<LoadedItem>, LoadFault>
-    ensures comes { (files : List File) → F.files folder.old ≡ Some files → Comes (services_told files root.now (map (λ n. string_bytes n) names.now)) result }
-    ensures files { F.files folder.new ≡ F.files folder.old }
-    ensures cause { HasLoadCause (F.faults folder.old) (F.faults folder.new) result }
+    ensures comes { (files : List File) → (F.filed folder.old).files ≡ Some files → Comes (services_told files root.now (map (λ n. string_bytes n) names.now)) result }
+    ensures files { (F.filed folder.new).files ≡ (F.filed folder.old).files }
+    ensures cause { HasLoadCause (F.filed folder.old).faults (F.filed folder.new).faults result }
 {
     let mut items = Vec::new(alloc);
     for name in names {
@@ -71,9 +71,9 @@ fn load_name<F: Folder>(
     name: &str,
     items: &mut Vec<LoadedItem>,
 ) -> Result<(), LoadFault>
-    ensures steps { (files : List File) → F.files folder.old ≡ Some files → Steps files root.now name.now items.old.items items.new.items result }
-    ensures files { F.files folder.new ≡ F.files folder.old }
-    ensures cause { HasLoadCause (F.faults folder.old) (F.faults folder.new) result }
+    ensures steps { (files : List File) → (F.filed folder.old).files ≡ Some files → Steps files root.now name.now items.old.items items.new.items result }
+    ensures files { (F.filed folder.new).files ≡ (F.filed folder.old).files }
+    ensures cause { HasLoadCause (F.filed folder.old).faults (F.filed folder.new).faults result }
 {
     let service = match Name::of(alloc, name.as_bytes()) {
         Ok(service) => service,

@@ -7,7 +7,8 @@
 //! # What is proved
 //! What a configuration says is a function of the tree that `serde_json` reads: `config_of` of `specs/Config.antt`, with a definition for each
 //! object in the files beside it, and one rule for the keys of all of them (`keys_told` of `specs/Keys.antt`). [`read_config`] gives exactly its value, or exactly its first
-//! fault, which names its key from the top, and [`ConfigFault::BadJson`] exactly where the text is no JSON. [`load_folder`] gives the services of a
+//! fault, which names its key from the top, and [`ConfigFault::BadJson`] exactly where the text is no JSON. [`Config::table_covers_prefix`] tells exactly
+//! whether an entry of the router's own table matches what all requests' paths begin with. [`load_folder`] gives the services of a
 //! folder in the order of their names, or the first refusal of a file, exactly as `services_told` of `specs/Folder.antt` says, where the folder
 //! tells its files; it fails for the folder only where the folder's count of faults rose. That memory is there is not proved.
 //!
@@ -27,6 +28,7 @@ use std::alloc::AllocError;
 
 mod client;
 mod config;
+mod covering;
 mod fault;
 mod folder;
 mod keys;

@@ -15,10 +15,10 @@ use crate::state::State;
 use addr_book::{AddrList, Name};
 use bind_core::{Delegated, Tables, Wanted, bind};
 use dtab_table::Dtab;
-use line_base::Steps;
 use name_tree::Path;
 use std::alloc::Global;
 use std::sync::ledger::Ledger;
+use step_count::Steps;
 
 impl State {
     /// Delegates a path in this state: by the namespace's table, the configured one and a request's own, as if they were one, and by the

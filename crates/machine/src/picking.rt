@@ -25,9 +25,9 @@ use crate::state::State;
 use addr_book::{Addr, Bound, Cluster, Leaf, Name, ONE_WEIGHT, Weighted};
 use bind_core::{Outcome, Wanted};
 use choose_core::{Limits, branch, drawn_pair, is_open};
-use line_base::Steps;
 use std::alloc::Global;
 use std::sync::ledger::Ledger;
+use step_count::Steps;
 
 impl State {
     /// The two replicas between which an ask decides, in a bound that its path came to. `None` where no address is left in the bound. It

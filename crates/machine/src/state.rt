@@ -43,6 +43,19 @@ impl State {
         })
     }
 
+    /// An equal state, for what takes long to work out of one that changes meanwhile. The two share
+    /// the namespaces and the services, which costs two counts; the marks are copied.
+    pub fn shared(&self, alloc: Global) -> Mem<State>
+        ensures { IfOk result (λ state. state_of state ≡ state_of self.now) }
+    {
+        Ok(State {
+            store: self.store.shared()?,
+            book: self.book.shared()?,
+            marks: self.marks.copied(alloc)?,
+            place: self.place,
+        })
+    }
+
     /// How many changes it has accepted.
     pub fn place(&self) -> u64
         ensures { result ≡ (state_of self.now).place }

@@ -10,6 +10,7 @@ pub mod Depth
 pub mod Frames
 pub mod Fronts
 pub mod LabelLists
+pub mod Leaning
 pub mod Labels
 pub mod Numbers
 pub mod Only

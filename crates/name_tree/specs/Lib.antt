@@ -6,6 +6,8 @@ pub mod Grammar
 pub mod Growth
 pub mod LabelReading
 pub mod Laws
+pub mod Lean
+pub mod LeanUnion
 pub mod Parts
 pub mod Path
 pub mod PathReading

@@ -34,6 +34,7 @@ use std::alloc::AllocError;
 
 mod label;
 mod laws;
+mod lean;
 mod path;
 mod path_text;
 mod read;

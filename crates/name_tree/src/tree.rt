@@ -123,7 +123,7 @@ impl Tree {
     }
 
     /// Whether this is `~`.
-    fn is_neg(&self) -> bool
+    pub(crate) fn is_neg(&self) -> bool
         ensures { IsTrue result ↔ (neg ≡ value_of self.now) }
     {
         match self {
@@ -137,7 +137,7 @@ impl Tree {
     }
 
     /// Whether this is `!`.
-    fn is_fail(&self) -> bool
+    pub(crate) fn is_fail(&self) -> bool
         ensures { IsTrue result ↔ (fail ≡ value_of self.now) }
     {
         match self {
@@ -151,7 +151,7 @@ impl Tree {
     }
 
     /// Whether this is `$`.
-    fn is_empty(&self) -> bool
+    pub(crate) fn is_empty(&self) -> bool
         ensures { IsTrue result ↔ (empty ≡ value_of self.now) }
     {
         match self {

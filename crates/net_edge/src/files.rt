@@ -103,9 +103,7 @@ fn read_within<F: Read + Drop>(alloc: Global, mut file: F, most: usize) -> io::R
 }
 
 impl<R: Files + AllocGlobal + Clone + Drop> Folder for FileSystem<'_, R> {
-    ghost files = { λ _. None };
-
-    ghost faults = { λ d. d.faults };
+    ghost filed = { λ d. record { files = None; faults = d.faults } };
 
     fn names(&mut self, folder: &str) -> Result<NameList, FolderFault> {
         match plain_names(self.rt, folder) {

@@ -27,11 +27,7 @@ impl<R> ReaderSource<R> {
 }
 
 impl<R: Read> Source for ReaderSource<R> {
-    ghost left = { λ s. R.remaining s.inner };
-
-    ghost faults = { λ s. s.faults };
-
-    ghost ends = { λ s. s.ends };
+    ghost input = { λ s. record { left = R.remaining s.inner; faults = s.faults; ends = s.ends } };
 
     fn read(&mut self, into: &mut [u8]) -> Result<usize, Failed> {
         if into.is_empty() {
@@ -69,9 +65,7 @@ impl<W> WriterSink<W> {
 }
 
 impl<W: Write> Sink for WriterSink<W> {
-    ghost held = { λ s. W.contents s.inner };
-
-    ghost faults = { λ s. s.faults };
+    ghost output = { λ s. record { held = W.contents s.inner; faults = s.faults } };
 
     fn write(&mut self, bytes: &[u8]) -> Result<usize, Failed> {
         if bytes.is_empty() {

@@ -16,13 +16,13 @@ use crate::response::Response;
 use crate::telling::response_to;
 use crate::{Bytes, Mem};
 use http_wire::{Head, TargetFault, read_target};
-use line_base::Steps;
 use machine::{Change, Look, Reply};
 use router::{Looked, Naming, Pass, Router};
 use std::alloc::{AllocError, Global};
 use std::marker::Brand;
 use std::sync::Wait;
 use std::sync::ledger::{Blank, Ledger};
+use step_count::Steps;
 
 /// How the response to this request goes out, which may be the last that its connection carries.
 pub fn delivery_of(head: &Head, last: bool) -> Delivery

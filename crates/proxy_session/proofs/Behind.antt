@@ -18,7 +18,16 @@ use Rattle.proxy_session.specs.Found.{Picks, ReturnsSome, Says, client_in, fresh
 use Rattle.proxy_session.proofs.Calling.{finds_anew, stops_anew}
 
 pub sees_same : (a : Caller) → SeesMore a a
-sees_same a = record { number = refl; seen = ([], append-nil a.seen); items = refl; reads = refl; slots = record { taken = refl; slot = refl } }
+sees_same a = record {
+  number = refl;
+  seen = ([], append-nil a.seen);
+  items = refl;
+  reads = refl;
+  slots = record {
+    taken = refl;
+    slot = refl;
+  };
+}
 
 -- what a second ask found says, whatever names are kept
 abbrev pub SaysAny : PickValue → Found → Type 0
@@ -32,7 +41,8 @@ module _ (settings : SettingsValue) (old mid new : Caller) (ask : AskValue) wher
   found_behind names misses (Ok f) x = (x.0, inr (mid, misses, x.1), x.2 names)
   found_behind names misses (Err e) x = tt
 
-  pub stopped_behind : Misses settings old mid ask → (r : Result Found AllocError) → OnErr r (StopsAnew settings mid new ask) → OnErr r (StopsAsking settings old new ask)
+  pub stopped_behind : Misses settings old mid ask → (r : Result Found AllocError)
+      → OnErr r (StopsAnew settings mid new ask) → OnErr r (StopsAsking settings old new ask)
   stopped_behind misses (Ok f) x = tt
   stopped_behind misses (Err e) x = (mid, misses, x)
 
@@ -43,20 +53,35 @@ module _ (settings : SettingsValue) (old mid new : Caller) (ask : AskValue) wher
   kept_behind p picks (Ok f) x = (said_in p, finds_anew settings old mid new ask p picks x.0, x.1)
   kept_behind p picks (Err e) x = tt
 
-  pub unkept_behind : (p : Picked) → Picks settings old mid ask p → (r : Result Found AllocError) → OnErr r (SeesMore mid new) → OnErr r (StopsAnew settings old new ask)
+  pub unkept_behind : (p : Picked) → Picks settings old mid ask p → (r : Result Found AllocError)
+      → OnErr r (SeesMore mid new) → OnErr r (StopsAnew settings old new ask)
   unkept_behind p picks (Ok f) x = tt
   unkept_behind p picks (Err e) x = stops_anew settings old mid new ask p picks x
 
 module _ (settings : SettingsValue) (old new : Caller) (p : Picked) where
   -- a replica that was picked, with the texts of its names
-  pub keeps_replica : (choice : Choice) (client residual : Labels) (fresh : Option Binding) (texts : Texts) → p ≡ picked.Replica choice client residual fresh
-      → ReturnsSome settings old new fresh → ((names : Names) → (client_in names texts ≡ canon_path client) × (residual_in names texts ≡ canon_path residual))
+  pub keeps_replica : (choice : Choice) (client residual : Labels) (fresh : Option Binding)
+      (texts : Texts) → p ≡ picked.Replica choice client residual fresh
+      → ReturnsSome settings old new fresh
+      → ((names : Names) → (client_in names texts ≡ canon_path client)
+      × (residual_in names texts ≡ canon_path residual))
       → ReturnsSome settings old new (fresh_in p) × SaysAny (said_in p) (found.Replica choice texts)
   keeps_replica choice client residual fresh texts is returns named =
-      subst (λ (q : Picked). ReturnsSome settings old new (fresh_in q) × SaysAny (said_in q) (found.Replica choice texts)) (sym is)
-      (returns, λ names. record { addr = refl; slot = refl; client_is = (named names).0; residual_is = (named names).1 })
+      subst (λ (q : Picked). ReturnsSome settings old new (fresh_in q)
+      × SaysAny (said_in q) (found.Replica choice texts)) (sym is) (
+        returns,
+        λ names. record {
+          addr = refl;
+          slot = refl;
+          client_is = (named names).0;
+          residual_is
+              = (named names).1;
+        },
+      )
 
-  pub keeps_none : (why : Why) (fresh : Option Binding) → p ≡ picked.None why fresh → ReturnsSome settings old new fresh
+  pub keeps_none : (why : Why) (fresh : Option Binding) → p ≡ picked.None why fresh
+      → ReturnsSome settings old new fresh
       → ReturnsSome settings old new (fresh_in p) × SaysAny (said_in p) (found.None why)
   keeps_none why fresh is returns =
-      subst (λ (q : Picked). ReturnsSome settings old new (fresh_in q) × SaysAny (said_in q) (found.None why)) (sym is) (returns, λ names. refl)
+      subst (λ (q : Picked). ReturnsSome settings old new (fresh_in q)
+      × SaysAny (said_in q) (found.None why)) (sym is) (returns, λ names. refl)

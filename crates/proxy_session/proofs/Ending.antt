@@ -2,7 +2,6 @@
 use Rattle.std.proofs.Common.{◌≡◌, ◌≢◌, ℕ, zero, suc, ◌+◌, ◌≤◌, eqb, Bool, true, false, List, refl, sym, subst, ap, ◌∙◌, inl, inr, Option, Some, None, Result, Ok, Err, arith}
 use Rattle.std.proofs.lemmas.Bool.Decides.{nat_tests}
 use Rattle.line_base.specs.Counts.{Rose}
-use Rattle.rand_pcg.specs.Lcg.{Lcg}
 use Rattle.http_wire.specs.declared.ended.Ended.{Ended}
 use Rattle.http_wire.specs.declared.ended.Ended.TheVariants as ended
 use Rattle.http_wire.specs.declared.head.Head.{Head}
@@ -13,8 +12,9 @@ use Rattle.proxy_session.specs.Answering.{Writes, end_behind}
 use Rattle.proxy_session.specs.Callers.{Caller}
 use Rattle.proxy_session.specs.Causes.{CauseOf, FitsLast, HasCauseOf, IsNoFault, NoneFailed, NoneFell}
 use Rattle.proxy_session.specs.Exchange.{Exchanges, Standing}
-use Rattle.proxy_session.specs.Outside.{Line, Rests, Upstream}
-use Rattle.proxy_session.specs.Session.{AnswersEnd, EndsWithout, Reads, Served, Serves, ServesNext, SessionsTo, Spends, most_requests, ended_of_end, own_of_end}
+use Rattle.line_base.specs.Dials.{Upstream}
+use Rattle.line_base.specs.Lines.{Line, Rests}
+use Rattle.proxy_session.specs.Session.{AnswersEnd, EndsWithout, Reads, Served, Serves, ServesNext, Sessions, SessionsTo, Spends, begun, most_requests, ended_of_end, own_of_end}
 use Rattle.proxy_session.proofs.Fitting.{exchange_fits}
 use Rattle.proxy_session.proofs.Lasting.{exchange_closed, exchange_number}
 use Rattle.proxy_session.proofs.Resting.{rests_same}
@@ -27,10 +27,18 @@ pub record Lasts (old new : Standing) : Type 0 where
   pub number : new.caller.number ≡ old.caller.number
 
 lasts_same : (a : Standing) → Lasts a a
-lasts_same a = record { fell = rests_fell a.line a.line (rests_same a.line); closed = λ is. is; number = refl }
+lasts_same a = record {
+  fell = rests_fell a.line a.line (rests_same a.line);
+  closed = λ is. is;
+  number = refl;
+}
 
 lasts_on : (a b c : Standing) → Lasts a b → Lasts b c → Lasts a c
-lasts_on a b c p q = record { fell = none_fell_on a.line b.line c.line p.fell q.fell; closed = λ is. q.closed (p.closed is); number = q.number ∙ p.number }
+lasts_on a b c p q = record {
+  fell = none_fell_on a.line b.line c.line p.fell q.fell;
+  closed = λ is. q.closed (p.closed is);
+  number = q.number ∙ p.number;
+}
 
 reads_last : (old new : Standing) (r : Result Head HeadEnd) → Reads old new r → Lasts old new
 reads_last old new r x = record {
@@ -44,23 +52,30 @@ reads_last old new r x = record {
 }
 
 module _ (settings : SettingsValue) (rule : Rule) where
-  exchange_lasts : (head : Head) (last : Bool) (old new : Standing) (r : Option Ended) → Exchanges settings rule head last old new r → Lasts old new
+  exchange_lasts : (head : Head) (last : Bool) (old new : Standing) (r : Option Ended)
+      → Exchanges settings rule head last old new r → Lasts old new
   exchange_lasts head last old new r x = record {
     fell = (exchange_done settings rule head last old new r x).0;
     closed = exchange_closed settings rule head last old new r x;
     number = exchange_number settings rule head last old new r x;
   }
 
-  serves_last : (last : Bool) (old new : Standing) (r : Option Ended) → Serves settings rule last old new r → Lasts old new
-  serves_last last old new r (mid, head, reads, exchanges) = lasts_on old mid new (reads_last old mid (Ok head) reads) (exchange_lasts head last mid new r exchanges)
+  serves_last : (last : Bool) (old new : Standing) (r : Option Ended)
+      → Serves settings rule last old new r → Lasts old new
+  serves_last last old new r (mid, head, reads, exchanges) =
+      lasts_on old mid new (reads_last old mid (Ok head) reads)
+      (exchange_lasts head last mid new r exchanges)
 
-  serves_cause : (last : Bool) (old new : Standing) (r : Option Ended) → Serves settings rule last old new r → HasCauseOf r old.line new.line
+  serves_cause : (last : Bool) (old new : Standing) (r : Option Ended)
+      → Serves settings rule last old new r → HasCauseOf r old.line new.line
   serves_cause last old new r (mid, head, reads, exchanges) =
-      cause_on old.line mid.line new.line r (reads_last old mid (Ok head) reads).fell (exchange_done settings rule head last mid new r exchanges).1
+      cause_on old.line mid.line new.line r (reads_last old mid (Ok head) reads).fell
+      (exchange_done settings rule head last mid new r exchanges).1
 
   served_lasts : (n : ℕ) (old new : Standing) → Served settings rule n old new → Lasts old new
   served_lasts zero old new served = subst (Lasts old) (sym served) (lasts_same old)
-  served_lasts (suc n) old new (mid, before, next) = lasts_on old mid new (served_lasts n old mid before) (serves_last _ mid new None next)
+  served_lasts (suc n) old new (mid, before, next) =
+      lasts_on old mid new (served_lasts n old mid before) (serves_last _ mid new None next)
 
 -- ---- the end
 
@@ -78,11 +93,18 @@ some_same : {a b : Ended} → Some a ≡ Some b → a ≡ b
 some_same is = cc
 
 -- a cause stands where no count fell before it or behind it
-cause_within : (e : Ended) (a b c d : Line) → NoneFell a b → NoneFell c d → CauseOf e b c → CauseOf e a d
-cause_within ended.PeerEnded a b c d p q x = rose_before a.ends c.ends d.ends (rose_behind a.ends b.ends c.ends p.ends x) q.ends
-cause_within ended.Cut a b c d p q x = rose_before a.ends c.ends d.ends (rose_behind a.ends b.ends c.ends p.ends x) q.ends
-cause_within ended.ReadFault a b c d p q x = rose_before a.read_faults c.read_faults d.read_faults (rose_behind a.read_faults b.read_faults c.read_faults p.reads x) q.reads
-cause_within ended.WriteFault a b c d p q x = rose_before a.write_faults c.write_faults d.write_faults (rose_behind a.write_faults b.write_faults c.write_faults p.writes x) q.writes
+cause_within : (e : Ended) (a b c d : Line) → NoneFell a b → NoneFell c d → CauseOf e b c
+    → CauseOf e a d
+cause_within ended.PeerEnded a b c d p q x =
+    rose_before a.ends c.ends d.ends (rose_behind a.ends b.ends c.ends p.ends x) q.ends
+cause_within ended.Cut a b c d p q x =
+    rose_before a.ends c.ends d.ends (rose_behind a.ends b.ends c.ends p.ends x) q.ends
+cause_within ended.ReadFault a b c d p q x =
+    rose_before a.read_faults c.read_faults d.read_faults
+    (rose_behind a.read_faults b.read_faults c.read_faults p.reads x) q.reads
+cause_within ended.WriteFault a b c d p q x =
+    rose_before a.write_faults c.write_faults d.write_faults
+    (rose_behind a.write_faults b.write_faults c.write_faults p.writes x) q.writes
 cause_within ended.Closed a b c d p q x = tt
 cause_within ended.Spent a b c d p q x = tt
 cause_within ended.UpstreamCut a b c d p q x = tt
@@ -92,20 +114,33 @@ cause_within ended.OutOfMemory a b c d p q x = tt
 abbrev Without : Ended → Line → Line → Line → Type 0
 Without result old mid new = CauseOf result old new × NoneFell mid new × (result ≢ ended.Spent)
 
-quietly : (quiet result : Ended) (old mid new : Line) → NoneFell old mid → Rests mid new → result ≡ quiet → CauseOf quiet old mid → quiet ≢ ended.Spent → Without result old mid new
+quietly : (quiet result : Ended) (old mid new : Line) → NoneFell old mid → Rests mid new → result
+    ≡ quiet → CauseOf quiet old mid → quiet ≢ ended.Spent → Without result old mid new
 quietly quiet result old mid new fell rests is cause other =
-    subst (λ (e : Ended). Without e old mid new) (sym is)
-    (cause_within quiet old old mid new (rests_fell old old (rests_same old)) (rests_fell mid new rests) cause, rests_fell mid new rests, other)
+    subst (λ (e : Ended). Without e old mid new) (sym is) (
+      cause_within quiet old old mid new (rests_fell old old (rests_same old))
+          (rests_fell mid new rests) cause,
+      rests_fell mid new rests,
+      other,
+    )
 
-refusing : (reply : List ℕ) (result : Ended) (old mid new : Line) → NoneFell old mid → (told : Result (Unit {0}) Ended) → Writes mid new reply told
+refusing : (reply : List ℕ) (result : Ended) (old mid new : Line) → NoneFell old mid
+    → (told : Result (Unit {0}) Ended) → Writes mid new reply told
     → Some result ≡ end_behind (Some ended.Closed) told → Without result old mid new
 refusing reply result old mid new fell (Ok x) w is =
-    subst (λ (e : Ended). Without e old mid new) (sym (some_same is)) (tt, writes_fell mid new reply (Ok x) w, λ no. cc)
-refusing reply result old mid new fell (Err ended.WriteFault) w is =
     subst (λ (e : Ended). Without e old mid new) (sym (some_same is))
-    (rose_behind old.write_faults mid.write_faults new.write_faults fell.writes (rose_by mid.write_faults new.write_faults w.3), writes_fell mid new reply (Err ended.WriteFault) w, λ no. cc)
+    (tt, writes_fell mid new reply (Ok x) w, λ no. cc)
+refusing reply result old mid new fell (Err ended.WriteFault) w is =
+    subst (λ (e : Ended). Without e old mid new) (sym (some_same is)) (
+      rose_behind old.write_faults mid.write_faults new.write_faults fell.writes
+          (rose_by mid.write_faults new.write_faults w.3),
+      writes_fell mid new reply
+          (Err ended.WriteFault) w,
+      λ no. cc,
+    )
 refusing reply result old mid new fell (Err ended.OutOfMemory) w is =
-    subst (λ (e : Ended). Without e old mid new) (sym (some_same is)) (tt, rests_fell mid new w, λ no. cc)
+    subst (λ (e : Ended). Without e old mid new) (sym (some_same is))
+    (tt, rests_fell mid new w, λ no. cc)
 refusing reply result old mid new fell (Err ended.PeerEnded) w is = absurd w
 refusing reply result old mid new fell (Err ended.Cut) w is = absurd w
 refusing reply result old mid new fell (Err ended.Closed) w is = absurd w
@@ -113,15 +148,27 @@ refusing reply result old mid new fell (Err ended.Spent) w is = absurd w
 refusing reply result old mid new fell (Err ended.ReadFault) w is = absurd w
 refusing reply result old mid new fell (Err ended.UpstreamCut) w is = absurd w
 
-ends_without : (end : HeadEnd) (old mid new : Standing) (result : Ended) → Reads old mid (Err end) → AnswersEnd (own_of_end end) mid.line new.line (ended_of_end end) result
+ends_without : (end : HeadEnd) (old mid new : Standing) (result : Ended) → Reads old mid (Err end)
+    → AnswersEnd (own_of_end end) mid.line new.line (ended_of_end end) result
     → Without result old.line mid.line new.line
-ends_without HeadEnd.Ended old mid new result x a = quietly ended.PeerEnded result old.line mid.line new.line (reads_last old mid _ x).fell a.0 a.1 (rose_by old.line.ends mid.line.ends x.causes.ends) (λ no. cc)
-ends_without HeadEnd.Cut old mid new result x a = quietly ended.Cut result old.line mid.line new.line (reads_last old mid _ x).fell a.0 a.1 (rose_by old.line.ends mid.line.ends x.causes.ends) (λ no. cc)
-ends_without HeadEnd.ReadFault old mid new result x a = quietly ended.ReadFault result old.line mid.line new.line (reads_last old mid _ x).fell a.0 a.1 (rose_by old.line.read_faults mid.line.read_faults x.causes.faults) (λ no. cc)
-ends_without HeadEnd.OutOfMemory old mid new result x a = quietly ended.OutOfMemory result old.line mid.line new.line (reads_last old mid _ x).fell a.0 a.1 tt (λ no. cc)
-ends_without HeadEnd.Bad old mid new result x a = refusing _ result old.line mid.line new.line (reads_last old mid _ x).fell a.0 a.1 a.2
-ends_without HeadEnd.Version old mid new result x a = refusing _ result old.line mid.line new.line (reads_last old mid _ x).fell a.0 a.1 a.2
-ends_without HeadEnd.TooLarge old mid new result x a = refusing _ result old.line mid.line new.line (reads_last old mid _ x).fell a.0 a.1 a.2
+ends_without HeadEnd.Ended old mid new result x a =
+    quietly ended.PeerEnded result old.line mid.line new.line (reads_last old mid _ x).fell a.0 a.1
+    (rose_by old.line.ends mid.line.ends x.causes.ends) (λ no. cc)
+ends_without HeadEnd.Cut old mid new result x a =
+    quietly ended.Cut result old.line mid.line new.line (reads_last old mid _ x).fell a.0 a.1
+    (rose_by old.line.ends mid.line.ends x.causes.ends) (λ no. cc)
+ends_without HeadEnd.ReadFault old mid new result x a =
+    quietly ended.ReadFault result old.line mid.line new.line (reads_last old mid _ x).fell a.0 a.1
+    (rose_by old.line.read_faults mid.line.read_faults x.causes.faults) (λ no. cc)
+ends_without HeadEnd.OutOfMemory old mid new result x a =
+    quietly ended.OutOfMemory result old.line mid.line new.line (reads_last old mid _ x).fell a.0
+    a.1 tt (λ no. cc)
+ends_without HeadEnd.Bad old mid new result x a =
+    refusing _ result old.line mid.line new.line (reads_last old mid _ x).fell a.0 a.1 a.2
+ends_without HeadEnd.Version old mid new result x a =
+    refusing _ result old.line mid.line new.line (reads_last old mid _ x).fell a.0 a.1 a.2
+ends_without HeadEnd.TooLarge old mid new result x a =
+    refusing _ result old.line mid.line new.line (reads_last old mid _ x).fell a.0 a.1 a.2
 
 without_lasts : (old new : Standing) (result : Ended) → EndsWithout old new result → Lasts old new
 without_lasts old new result x =
@@ -135,33 +182,40 @@ without_lasts old new result x =
 -- ---- the session
 
 -- how a session ended, and what it left as it was
-pub record Ending (old : Standing) (line : Line) (upstream : Upstream) (caller : Caller) (result : Ended) : Type 0 where
+pub record Ending
+    (old : Standing) (line : Line) (upstream : Upstream) (caller : Caller) (result : Ended)
+    : Type 0 where
   pub cause : CauseOf result old.line line
   pub closed : old.upstream.is_open ≡ false → upstream.is_open ≡ false
   pub number : caller.number ≡ old.caller.number
 
-ending_by : (old mid new : Standing) (result : Ended) → Lasts old mid → Lasts mid new → CauseOf result mid.line new.line → Ending old new.line new.upstream new.caller result
+ending_by : (old mid new : Standing) (result : Ended) → Lasts old mid → Lasts mid new
+    → CauseOf result mid.line new.line → Ending old new.line new.upstream new.caller result
 ending_by old mid new result first second cause =
     let all = lasts_on old mid new first second in
     let here = rests_fell new.line new.line (rests_same new.line) in
-    record { cause = cause_within result old.line mid.line new.line new.line first.fell here cause; closed = all.closed; number = all.number }
+    record {
+      cause = cause_within result old.line mid.line new.line new.line first.fell here cause;
+      closed = all.closed;
+      number = all.number;
+    }
 
-module _ (settings : SettingsValue) (rule : Rule) (old : Standing) (line : Line) (upstream : Upstream) (caller : Caller) (moments : Option (List ℕ)) (words : Lcg) (result : Ended) where
-  abbrev behind : List ℕ → Standing
-  behind rest = record { line = line; kept = rest; upstream = upstream; caller = caller; moments = moments; words = words }
+ending_of : (settings : SettingsValue) (rule : Rule) (old new : Standing) (result : Ended)
+    → Sessions settings rule old new result → Ending old new.line new.upstream new.caller result
+ending_of settings rule old new result (n, mid, served, inl x) =
+    ending_by old mid new result (served_lasts settings rule n old mid served)
+    (without_lasts mid new result x)
+    (ends_without x.end mid x.mid new result x.reads x.answers).0
+ending_of settings rule old new result (n, mid, served, inr x) =
+    ending_by old mid new result (served_lasts settings rule n old mid served)
+    (serves_last settings rule _ mid new (Some result) x)
+    (cause_some result mid.line new.line (serves_cause settings rule _ mid new (Some result) x))
 
-  pub session_ending : SessionsTo settings rule old line upstream caller moments words result → Ending old line upstream caller result
-  session_ending (inl (rest, (n, mid, served, inl x))) =
-      ending_by old mid (behind rest) result (served_lasts settings rule n old mid served) (without_lasts mid (behind rest) result x)
-      (ends_without x.end mid x.mid (behind rest) result x.reads x.answers).0
-  session_ending (inl (rest, (n, mid, served, inr x))) =
-      ending_by old mid (behind rest) result (served_lasts settings rule n old mid served) (serves_last settings rule _ mid (behind rest) (Some result) x)
-      (cause_some result mid.line line (serves_cause settings rule _ mid (behind rest) (Some result) x))
-  session_ending (inr x) = record {
-    cause = subst (λ (e : Ended). CauseOf e old.line line) (sym x.5) tt;
-    closed = λ is. x.1.is_open ∙ is;
-    number = ap (λ (c : Caller). c.number) x.2;
-  }
+pub session_ending : (settings : SettingsValue) (rule : Rule) (old new : Standing) (result : Ended)
+    → SessionsTo settings rule old new result → Ending old new.line new.upstream new.caller result
+session_ending settings rule old new result (n, mid, served, next) =
+    let e = ending_of settings rule (begun old) new result (n, mid, served, next) in
+    record { cause = e.cause; closed = e.closed; number = e.number }
 
 all_of : (n : ℕ) → eqb (n + 1) 10000 ≡ true → n + 1 ≡ 10000
 all_of n is = grind (arith, nat_tests)
@@ -169,24 +223,24 @@ all_of n is = grind (arith, nat_tests)
 spent_last : (last : Bool) (e : Ended) → e ≡ ended.Spent → FitsLast last (Some e) → last ≡ true
 spent_last last e is fits = subst (λ (x : Ended). FitsLast last (Some x)) is fits
 
-module _ (settings : SettingsValue) (rule : Rule) (old : Standing) (line : Line) (upstream : Upstream) (caller : Caller) (moments : Option (List ℕ)) (words : Lcg) (result : Ended) where
-  pub session_spent : SessionsTo settings rule old line upstream caller moments words result → result ≡ ended.Spent → Spends settings rule old line upstream caller moments words
-  session_spent (inl (rest, (n, mid, served, inl x))) is =
-      absurd ((ends_without x.end mid x.mid (record { line = line; kept = rest; upstream = upstream; caller = caller; moments = moments; words = words }) result x.reads x.answers).2 is)
-  session_spent (inl (rest, (n, mid, served, inr x))) is =
-      let new : Standing = record { line = line; kept = rest; upstream = upstream; caller = caller; moments = moments; words = words } in
-      let last : eqb (n + 1) 10000 ≡ true = spent_last _ result is (exchange_fits settings rule x.1 _ x.0 new (Some result) x.3) in (
-        rest,
-        n,
-        mid,
-        all_of n last,
-        served,
-        subst (λ (e : Ended). Serves settings rule true mid new (Some e)) is (subst (λ (b : Bool). Serves settings rule b mid new (Some result)) last x),
-      )
-  session_spent (inr x) is = absurd (cc)
+pub session_spent : (settings : SettingsValue) (rule : Rule) (old new : Standing) (result : Ended)
+    → SessionsTo settings rule old new result → result ≡ ended.Spent → Spends settings rule old new
+session_spent settings rule old new result (n, mid, served, inl x) is =
+    absurd ((ends_without x.end mid x.mid new result x.reads x.answers).2 is)
+session_spent settings rule old new result (n, mid, served, inr x) is =
+    let last : eqb (n + 1) 10000 ≡ true = spent_last _ result is
+    (exchange_fits settings rule x.1 _ x.0 new (Some result) x.3) in (
+      n,
+      mid,
+      all_of n last,
+      served,
+      subst (λ (e : Ended). Serves settings rule true mid new (Some e)) is
+          (subst (λ (b : Bool). Serves settings rule b mid new (Some result)) last x),
+    )
 
 -- where no call failed, none is the end
-pub no_fault : (result : Ended) (old new : Line) → CauseOf result old new → NoneFailed old new → IsNoFault result
+pub no_fault : (result : Ended) (old new : Line) → CauseOf result old new → NoneFailed old new
+    → IsNoFault result
 no_fault ended.PeerEnded old new cause none = tt
 no_fault ended.Cut old new cause none = tt
 no_fault ended.Closed old new cause none = tt

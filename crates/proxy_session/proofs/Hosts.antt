@@ -13,8 +13,10 @@ use Rattle.std.specs.declared.alloc.AllocError.{AllocError}
 use Rattle.proxy_session.specs.Onward.{IsHeadTo, host_for}
 
 -- the head that was written for a way
-pub heads_to : (head : Head) (to : Going) (bytes : List ℕ) (r : Result (Unit {0}) AllocError) → OnOk r (bytes ≡ forwarded head to)
-    → OnOk r (IsHeadTo head to.host.now to.target.now to.framing (rules_of to.local.now) to.service.now to.client.now to.residual.now bytes)
+pub heads_to : (head : Head) (to : Going) (bytes : List ℕ) (r : Result (Unit {0}) AllocError)
+    → OnOk r (bytes ≡ forwarded head to)
+    → OnOk r (IsHeadTo head to.host.now to.target.now to.framing (rules_of to.local.now)
+    to.service.now to.client.now to.residual.now bytes)
 heads_to head to bytes (Ok x) is = record {
   to = to;
   host_is = refl;

@@ -11,7 +11,6 @@ pub mod Settling
 pub mod Slots
 pub mod Holding
 pub mod Exchanging
-pub mod Sending
 pub mod Serving
 pub mod Rising
 pub mod Lasting
@@ -27,3 +26,4 @@ pub mod Bodies
 pub mod ReadingBack
 pub mod Supplying
 pub mod Visiting
+pub mod Crossing

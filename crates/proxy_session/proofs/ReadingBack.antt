@@ -34,7 +34,8 @@ use Rattle.proxy_session.specs.declared.tried.Tried.{Tried}
 use Rattle.proxy_session.specs.Exchange.{Routes, Standing}
 use Rattle.proxy_session.specs.Laws.{ExchangesReadBack, HeadsReadBack, SendsHead, IsByteReplica, IsByteRule, ReadsAs, WasRead}
 use Rattle.proxy_session.specs.Onward.{IsForwarded, host_for}
-use Rattle.proxy_session.specs.Outside.{Grows, Line, Upstream}
+use Rattle.line_base.specs.Dials.{Grows, Upstream}
+use Rattle.line_base.specs.Lines.{Line}
 use Rattle.proxy_session.specs.Trying.{Converses, GoesOn, Tries}
 use Rattle.proxy_session.specs.Seeking.{by_framing, by_host, by_path, by_table, Seeks, Sought}
 use Rattle.proxy_session.proofs.Addresses.{addr_field}
@@ -55,24 +56,43 @@ record MayGoOn (sought : Sought) : Type 0 where
   host : IsFieldText sought.host
   line : IsByteTarget sought.line
 
-by_tested_table : (framing : Framing) (host line : List ℕ) (path : Labels) (own : Option (List DtabRule)) (sought : Sought)
-    → IsRequestFraming framing → IsFieldText host → IsByteTarget line → AreByteLabels path → ((rules : List DtabRule) → own ≡ Some rules → AreSoundRules rules)
+by_tested_table : (framing : Framing) (host line : List ℕ) (path : Labels)
+    (own : Option (List DtabRule)) (sought : Sought)
+    → IsRequestFraming framing → IsFieldText host → IsByteTarget line → AreByteLabels path
+    → ((rules : List DtabRule) → own ≡ Some rules → AreSoundRules rules)
     → by_table framing host line path own ≡ Ok sought → MayGoOn sought
 by_tested_table framing host line path None sought framed text target labels sound is = absurd (cc)
 by_tested_table framing host line path (Some rules) sought framed text target labels sound is =
-    let all : Sought = record { path = path; rules = rules; framing = framing; host = host; line = line } in
+    let all : Sought = record {
+      path = path;
+      rules = rules;
+      framing = framing;
+      host = host;
+      line = line;
+    } in
     let same : all ≡ sought = cc in
-    subst MayGoOn same (record { path = labels; rules = sound rules refl; framing = framed; host = text; line = target })
+    subst MayGoOn same (record {
+      path = labels;
+      rules = sound rules refl;
+      framing = framed;
+      host = text;
+      line = target;
+    })
 
-by_tested_path : (head : Head) (framing : Framing) (host line : List ℕ) (named : Option Labels) (sought : Sought)
-    → IsRequestFraming framing → IsFieldText host → IsByteTarget line → ((path : Labels) → named ≡ Some path → AreByteLabels path)
+by_tested_path : (head : Head) (framing : Framing) (host line : List ℕ) (named : Option Labels)
+    (sought : Sought)
+    → IsRequestFraming framing → IsFieldText host → IsByteTarget line
+    → ((path : Labels) → named ≡ Some path → AreByteLabels path)
     → by_path head framing host line named ≡ Ok sought → MayGoOn sought
 by_tested_path head framing host line None sought framed text target labels is = absurd (cc)
 by_tested_path head framing host line (Some path) sought framed text target labels is =
-    by_tested_table framing host line path (local_rules head.fields) sought framed text target (labels path refl) (λ rules own. sound_local head.fields rules own) is
+    by_tested_table framing host line path (local_rules head.fields) sought framed text target
+    (labels path refl) (λ rules own. sound_local head.fields rules own) is
 
-by_tested_host : (rule : Rule) (head : Head) (framing : Framing) (line : List ℕ) (asked : Option (List ℕ)) (sought : Sought)
-    → IsByteRule rule → IsReceived head → IsRequestFraming framing → IsByteTarget line → ((host : List ℕ) → asked ≡ Some host → IsFieldText host)
+by_tested_host : (rule : Rule) (head : Head) (framing : Framing) (line : List ℕ)
+    (asked : Option (List ℕ)) (sought : Sought)
+    → IsByteRule rule → IsReceived head → IsRequestFraming framing → IsByteTarget line
+    → ((host : List ℕ) → asked ≡ Some host → IsFieldText host)
     → by_host rule head framing line asked ≡ Ok sought → MayGoOn sought
 by_tested_host rule head framing line None sought bytes read framed target texts is = absurd (cc)
 by_tested_host rule head framing line (Some host) sought bytes read framed target texts is =
@@ -80,33 +100,49 @@ by_tested_host rule head framing line (Some host) sought bytes read framed targe
     by_tested_path head framing host line (identified rule head host line) sought framed text target
     (λ path named. named_labels rule head host line path bytes read text target named) is
 
-by_tested_framing : (rule : Rule) (head : Head) (form : Form) (framed : Result Framing FramingFault) (sought : Sought)
-    → IsByteRule rule → IsReceived head → IsServed head.method head.target form → framing_of head.version head.fields ≡ framed
+by_tested_framing : (rule : Rule) (head : Head) (form : Form) (framed : Result Framing FramingFault)
+    (sought : Sought)
+    → IsByteRule rule → IsReceived head → IsServed head.method head.target form
+    → framing_of head.version head.fields ≡ framed
     → by_framing rule head form framed ≡ Ok sought → MayGoOn sought
-by_tested_framing rule head form (Err FramingFault.Length) sought bytes read served framed is = absurd (cc)
-by_tested_framing rule head form (Err FramingFault.Coding) sought bytes read served framed is = absurd (cc)
+by_tested_framing rule head form (Err FramingFault.Length) sought bytes read served framed is =
+    absurd (cc)
+by_tested_framing rule head form (Err FramingFault.Coding) sought bytes read served framed is =
+    absurd (cc)
 by_tested_framing rule head form (Ok framing) sought bytes read served framed is =
     let target : IsByteTarget head.target =
-    record { some = read.sound.target.some; bytes = both_pass is_uri_byte is_byte head.target read.sound.target.bytes read.target; utf8 = read.sound.target.utf8 } in
+    record {
+      some = read.sound.target.some;
+      bytes = both_pass is_uri_byte is_byte head.target
+          read.sound.target.bytes read.target;
+      utf8 = read.sound.target.utf8;
+    } in
     let asked = asked_form head.method head.target form target served in
-    by_tested_host rule head framing form.line (host_of head.version head.fields form.authority) sought bytes read (request_framing head.version head.fields framing framed) asked.0
-    (λ host given. asked_host head.version head.fields form.authority host read.fields asked.1 given) is
+    by_tested_host rule head framing form.line (host_of head.version head.fields form.authority)
+    sought bytes read (request_framing head.version head.fields framing framed) asked.0
+    (λ host given. asked_host head.version head.fields form.authority host read.fields asked.1
+    given) is
 
-seeks_well : (rule : Rule) (head : Head) (sought : Sought) → IsByteRule rule → IsReceived head → Seeks rule head (Ok sought) → MayGoOn sought
+seeks_well : (rule : Rule) (head : Head) (sought : Sought) → IsByteRule rule → IsReceived head
+    → Seeks rule head (Ok sought) → MayGoOn sought
 seeks_well rule head sought bytes read (inl (connect, is)) = absurd (cc)
 seeks_well rule head sought bytes read (inr (inl (other, refused, is))) = absurd (cc)
 seeks_well rule head sought bytes read (inr (inr tested)) =
-    by_tested_framing rule head tested.form (framing_of head.version head.fields) sought bytes read tested.served refl (sym tested.tested)
+    by_tested_framing rule head tested.form (framing_of head.version head.fields) sought bytes read
+    tested.served refl (sym tested.tested)
 
 -- ---- the way that it takes
 
-asks_well : (host : List ℕ) (addr : Addr) → IsFieldText host → addr.ip < 2 ^ 32 → addr.port < 2 ^ 16 → IsFieldText (host_for host addr)
+asks_well : (host : List ℕ) (addr : Addr) → IsFieldText host → addr.ip < 2 ^ 32 → addr.port < 2 ^ 16
+    → IsFieldText (host_for host addr)
 asks_well [] addr text ip port = addr_field addr ip port
 asks_well (b ∷ host) addr text ip port = text
 
 -- what is read, by what was meant
-reads_so : (head : Head) (sought : Sought) (to : Replica) (bytes : List ℕ) (way : Going) (read : Head)
-    → bytes ≡ forwarded head way → way.target.now ≡ sought.line → way.framing ≡ sought.framing → way.host.now ≡ host_for sought.host to.addr → rules_of way.local.now ≡ sought.rules
+reads_so : (head : Head) (sought : Sought) (to : Replica) (bytes : List ℕ) (way : Going)
+    (read : Head)
+    → bytes ≡ forwarded head way → way.target.now ≡ sought.line → way.framing ≡ sought.framing
+    → way.host.now ≡ host_for sought.host to.addr → rules_of way.local.now ≡ sought.rules
     → ReadsBack head way read → ReadsAs head sought to bytes read
 reads_so head sought to bytes way read is line framing host rules back = record {
   whole = subst (λ (all : List ℕ). BeginsWith all read (length all)) (sym is) back.whole;
@@ -119,39 +155,54 @@ reads_so head sought to bytes way read is line framing host rules back = record 
   table = back.table ∙ ap (λ (all : List DtabRule). map trim_ows (table_texts all)) rules;
 }
 
-reads_back : (head : Head) (sought : Sought) (to : Replica) (bytes : List ℕ) → IsReceived head → MayGoOn sought → IsByteReplica to → IsForwarded head sought to bytes
+reads_back : (head : Head) (sought : Sought) (to : Replica) (bytes : List ℕ) → IsReceived head
+    → MayGoOn sought → IsByteReplica to → IsForwarded head sought to bytes
     → length bytes ≤ most → (read : Head) × ReadsAs head sought to bytes read
 reads_back head sought to bytes received well replica goes short =
     let way = goes.to in
-    let host : IsFieldText (host_for sought.host to.addr) = asks_well sought.host to.addr well.host replica.ip replica.port in
+    let host : IsFieldText (host_for sought.host to.addr) = asks_well sought.host to.addr well.host
+    replica.ip replica.port in
     let plain : IsPlainWay way = record {
-      host_bytes = subst (AllPass is_value_byte) (sym goes.host_is) (value_bytes (host_for sought.host to.addr) host.bytes);
+      host_bytes =
+          subst (AllPass is_value_byte) (sym goes.host_is)
+          (value_bytes (host_for sought.host to.addr) host.bytes);
       host = subst (λ (text : List ℕ). trim_ows text ≡ text) (sym goes.host_is) host.trimmed;
       target = record {
         some = subst (λ (text : List ℕ). 0 < length text) (sym goes.line_is) well.line.some;
-        bytes = subst (AllPass is_uri_byte) (sym goes.line_is) (uri_bytes sought.line well.line.bytes);
+        bytes =
+            subst (AllPass is_uri_byte) (sym goes.line_is) (uri_bytes sought.line well.line.bytes);
         utf8 = subst IsUtf8 (sym goes.line_is) well.line.utf8;
       };
       framing = subst IsRequestFraming (sym goes.framing_is) well.framing;
       local = subst AreSoundRules (sym goes.rules_are) well.rules;
       service = subst AreByteLabels (sym goes.service_is) well.path;
-      client = subst (AllPass is_value_byte) (sym goes.client_is) (path_text to.client replica.client);
-      residual = subst (AllPass is_value_byte) (sym goes.residual_is) (path_text to.residual replica.residual);
+      client =
+          subst (AllPass is_value_byte) (sym goes.client_is) (path_text to.client replica.client);
+      residual =
+          subst (AllPass is_value_byte) (sym goes.residual_is)
+          (path_text to.residual replica.residual);
     } in
-    let found = written_reads_back head way received.sound plain (subst (λ (all : List ℕ). length all ≤ most) goes.bytes_are short) in
-    (found.0, reads_so head sought to bytes way found.0 goes.bytes_are goes.line_is goes.framing_is goes.host_is goes.rules_are found.1)
+    let found = written_reads_back head way received.sound plain
+    (subst (λ (all : List ℕ). length all ≤ most) goes.bytes_are short) in (
+      found.0,
+      reads_so head sought to bytes way found.0 goes.bytes_are goes.line_is goes.framing_is
+          goes.host_is goes.rules_are found.1,
+    )
 
 -- a head that was read
 pub was_received : (head : Head) → WasRead head → IsReceived head
-was_received head was = received was.received head was.len (are_bytes was.received was.bytes) was.begins
+was_received head was =
+    received was.received head was.len (are_bytes was.received was.bytes) was.begins
 
 pub heads_read_back : HeadsReadBack
 heads_read_back rule head sought to bytes of_bytes was seeks replica goes short =
-    let read = was_received head was in reads_back head sought to bytes read (seeks_well rule head sought of_bytes read seeks) replica goes short
+    let read = was_received head was in reads_back head sought to bytes read
+    (seeks_well rule head sought of_bytes read seeks) replica goes short
 
 -- ---- exchanges
 
-front_of : (all sent : List ℕ) (result : Result ℕ BodyEnd) → WasSent all sent result → IsFrontOf all sent
+front_of : (all sent : List ℕ) (result : Result ℕ BodyEnd) → WasSent all sent result
+    → IsFrontOf all sent
 front_of all sent (Ok n) is = ([], append-nil sent ∙ is)
 front_of all sent (Err (BadChunk n)) is = ([], append-nil sent ∙ is)
 front_of all sent (Err Cut) is = ([], append-nil sent ∙ is)
@@ -170,32 +221,46 @@ record GoesBehind (onward : List ℕ) (framing : Framing) (sent : List ℕ) : Ty
   body : IsFrontBody framing (form_of true) most_passed taken behind count
   front : IsFrontOf (onward ++ behind) sent
 
-goes_behind : (onward : List ℕ) (framing : Framing) (old new : Line) (kept kept_after : List ℕ) (faults faults_now : ℕ) (sent : List ℕ) (result : Result ℕ BodyEnd)
-    → GoesOn onward framing old new kept kept_after faults faults_now sent result → GoesBehind onward framing sent
+goes_behind : (onward : List ℕ) (framing : Framing) (old new : Line) (kept kept_after : List ℕ)
+    (faults faults_now : ℕ) (sent : List ℕ) (result : Result ℕ BodyEnd)
+    → GoesOn onward framing old new kept kept_after faults faults_now sent result
+    → GoesBehind onward framing sent
 goes_behind onward framing old new kept kept_after faults faults_now sent result goes =
     let p = goes.passes in
     record {
       taken = p.taken;
       behind = p.passed;
       count = p.count;
-      body = front_of_body true most_passed p.taken p.passed p.count p.within kept_after framing result p.ends;
+      body =
+          front_of_body true most_passed p.taken p.passed p.count p.within kept_after framing result
+          p.ends;
       front = front_of (onward ++ p.passed) sent result p.sends;
     }
 
-conversed : (head : Head) (onward : List ℕ) (framing : Framing) (last : Bool) (old new : Line) (kept kept_after : List ℕ) (faults faults_now : ℕ) (sent : List ℕ) (got : List (List ℕ)) (how : Tried)
-    → Converses head onward framing last old new kept kept_after faults faults_now sent got how → GoesBehind onward framing sent
-conversed head onward framing last old new kept kept_after faults faults_now sent got how (inl (end, goes, nothing, is)) =
+conversed : (head : Head) (onward : List ℕ) (framing : Framing) (last : Bool) (old new : Line)
+    (kept kept_after : List ℕ) (faults faults_now : ℕ) (sent : List ℕ) (got : List (List ℕ))
+    (how : Tried)
+    → Converses head onward framing last old new kept kept_after faults faults_now sent got how
+    → GoesBehind onward framing sent
+conversed head onward framing last old new kept kept_after faults faults_now sent got how
+    (inl (end, goes, nothing, is)) =
     goes_behind onward framing old new kept kept_after faults faults_now sent (Err end) goes
-conversed head onward framing last old new kept kept_after faults faults_now sent got how (inr (n, mid, between, goes, replies)) =
+conversed head onward framing last old new kept kept_after faults faults_now sent got how
+    (inr (n, mid, between, goes, replies)) =
     goes_behind onward framing old mid kept kept_after faults between sent (Ok n) goes
 
-tried : (rule : Rule) (head : Head) (sought : Sought) (to : Replica) (onward : List ℕ) (last : Bool) (old new : Line) (kept kept_after : List ℕ) (before now : Upstream) (how : Tried)
-    → IsReceived head → MayGoOn sought → Seeks rule head (Ok sought) → IsForwarded head sought to onward
+tried : (rule : Rule) (head : Head) (sought : Sought) (to : Replica) (onward : List ℕ) (last : Bool)
+    (old new : Line) (kept kept_after : List ℕ) (before now : Upstream) (how : Tried)
+    → IsReceived head → MayGoOn sought → Seeks rule head (Ok sought)
+    → IsForwarded head sought to onward
     → Tries head onward sought.framing last to.addr old new kept kept_after before now how
     → Grows before.log now.log [] ⊎ SendsHead rule head before now
-tried rule head sought to onward last old new kept kept_after before now how read well seeks goes (inl not_dialed, closed) = inl not_dialed.log
-tried rule head sought to onward last old new kept kept_after before now how read well seeks goes (inr spoken, closed) =
-    let goes_on = conversed head onward sought.framing last old new kept kept_after before.faults now.faults (concat spoken.sent) spoken.got how spoken.spoke in
+tried rule head sought to onward last old new kept kept_after before now how read well seeks goes (inl not_dialed, closed) =
+    inl not_dialed.log
+tried rule head sought to onward last old new kept kept_after before now how read well seeks goes
+    (inr spoken, closed) =
+    let goes_on = conversed head onward sought.framing last old new kept kept_after before.faults
+    now.faults (concat spoken.sent) spoken.got how spoken.spoke in
     inr (record {
       sought = sought;
       seeks = seeks;
@@ -212,17 +277,27 @@ tried rule head sought to onward last old new kept kept_after before now how rea
       front = goes_on.front;
     })
 
-routed : (settings : SettingsValue) (rule : Rule) (head : Head) (last : Bool) (sought : Sought) (old new : Standing) (result : Option Ended)
-    → IsReceived head → MayGoOn sought → Seeks rule head (Ok sought) → Routes settings head last sought old new result
+routed : (settings : SettingsValue) (rule : Rule) (head : Head) (last : Bool) (sought : Sought)
+    (old new : Standing) (result : Option Ended)
+    → IsReceived head → MayGoOn sought → Seeks rule head (Ok sought)
+    → Routes settings head last sought old new result
     → Grows old.upstream.log new.upstream.log [] ⊎ SendsHead rule head old.upstream new.upstream
-routed settings rule head last sought old new result read well seeks (moment, moments, draws, inl stops) = inl stops.away.upstream.log
-routed settings rule head last sought old new result read well seeks (moment, moments, draws, inr (inl unbound)) = inl unbound.away.upstream.log
-routed settings rule head last sought old new result read well seeks (moment, moments, draws, inr (inr found)) =
-    tried rule head sought found.to found.sent.onward last old.line found.sent.between old.kept new.kept old.upstream new.upstream found.sent.how read well seeks found.sent.is_head
+routed settings rule head last sought old new result read well seeks (moment, moments, draws, inl stops) =
+    inl stops.away.upstream.log
+routed settings rule head last sought old new result read well seeks (moment, moments, draws, inr (inl unbound)) =
+    inl unbound.away.upstream.log
+routed settings rule head last sought old new result read well seeks
+    (moment, moments, draws, inr (inr found)) =
+    tried rule head sought found.to found.sent.onward last old.line found.sent.between old.kept
+    new.kept old.upstream new.upstream found.sent.how read well seeks found.sent.is_head
     found.sent.tries
 
 pub exchanges_read_back : ExchangesReadBack
-exchanges_read_back settings rule head last old new result of_bytes was (inl refused) = inl refused.nothing.away.upstream.log
-exchanges_read_back settings rule head last old new result of_bytes was (inr (inl stops)) = inl stops.nothing.away.upstream.log
-exchanges_read_back settings rule head last old new result of_bytes was (inr (inr (sought, seeks, routes))) =
-    let read = was_received head was in routed settings rule head last sought old new result read (seeks_well rule head sought of_bytes read seeks) seeks routes
+exchanges_read_back settings rule head last old new result of_bytes was (inl refused) =
+    inl refused.nothing.away.upstream.log
+exchanges_read_back settings rule head last old new result of_bytes was (inr (inl stops)) =
+    inl stops.nothing.away.upstream.log
+exchanges_read_back settings rule head last old new result of_bytes was
+    (inr (inr (sought, seeks, routes))) =
+    let read = was_received head was in routed settings rule head last sought old new result read
+    (seeks_well rule head sought of_bytes read seeks) seeks routes

@@ -34,20 +34,24 @@ pub record IsReceived (head : Head) : Type 0 where
 lines_bytes : (lines : List Line) → All IsByte (flat_map print_field lines) → All HasBytes lines
 lines_bytes [] all = All-nil HasBytes
 lines_bytes (l ∷ ls) all =
-    let whole : All IsByte (print_field l ++ flat_map print_field ls) = subst (All IsByte) (flat_map-cons print_field l ls) all in
+    let whole : All IsByte (print_field l ++ flat_map print_field ls) = subst (All IsByte)
+    (flat_map-cons print_field l ls) all in
     let named : All IsByte (l.name ++ colon ∷ l.raw) =
-    front IsByte (l.name ++ colon ∷ l.raw) (print_end l.end) (front IsByte (print_field l) (flat_map print_field ls) whole) in
+    front IsByte (l.name ++ colon ∷ l.raw) (print_end l.end)
+    (front IsByte (print_field l) (flat_map print_field ls) whole) in
     All-cons HasBytes l ls (All-tail IsByte colon l.raw (back IsByte l.name (colon ∷ l.raw) named))
     (lines_bytes ls (back IsByte (print_field l) (flat_map print_field ls) whole))
 
-field_texts : (fields : List Field) (lines : List Line) → map pair_of fields ≡ map name_and_value lines → All IsField lines → All HasBytes lines → All HasText fields
+field_texts : (fields : List Field) (lines : List Line) → map pair_of fields
+    ≡ map name_and_value lines → All IsField lines → All HasBytes lines → All HasText fields
 field_texts [] lines same all bytes = All-nil HasText
 field_texts (f ∷ fs) [] same all bytes = absurd (cc)
 field_texts (f ∷ fs) (l ∷ ls) same all bytes =
     let first : pair_of f ≡ name_and_value l = cc in
     let others : map pair_of fs ≡ map name_and_value ls = cc in
     let value : trim_ows l.raw ≡ f.value = sym (ap (λ (p : List ℕ × List ℕ). p.1) first) in
-    let text = both_pass is_value_byte is_byte l.raw (All-head IsField l ls all).raw (All-head HasBytes l ls bytes) in
+    let text = both_pass is_value_byte is_byte l.raw (All-head IsField l ls all).raw
+    (All-head HasBytes l ls bytes) in
     All-cons HasText f fs (subst IsFieldText value (trimmed_text l.raw text))
     (field_texts fs ls others (All-tail IsField l ls all) (All-tail HasBytes l ls bytes))
 
@@ -66,25 +70,34 @@ printed h all =
     let versioned = aimed ++ space ∷ print_version h.minor in
     let line = versioned ++ print_end h.line_end in
     let of_line : All IsByte line = front IsByte line section all in
-    let of_aimed : All IsByte aimed = front IsByte aimed (space ∷ print_version h.minor) (front IsByte versioned (print_end h.line_end) of_line) in
+    let of_aimed : All IsByte aimed = front IsByte aimed (space ∷ print_version h.minor)
+    (front IsByte versioned (print_end h.line_end) of_line) in
     let of_asked : All IsByte asked = front IsByte asked (space ∷ h.target) of_aimed in
     record {
       method = back IsByte (print_blank h.blank) h.method of_asked;
       target = All-tail IsByte space h.target (back IsByte asked (space ∷ h.target) of_aimed);
-      lines = lines_bytes h.fields (front IsByte (flat_map print_field h.fields) (print_end h.last) (back IsByte line section all));
+      lines =
+          lines_bytes h.fields (front IsByte (flat_map print_field h.fields) (print_end h.last)
+          (back IsByte line section all));
     }
 
-pub received : (bytes : List ℕ) (head : Head) (len : ℕ) → AllPass is_byte bytes → BeginsWith bytes head len → IsReceived head
+pub received : (bytes : List ℕ) (head : Head) (len : ℕ) → AllPass is_byte bytes
+    → BeginsWith bytes head len → IsReceived head
 unfolding window
 received bytes head len all begins =
     let good = begins.reads.0 in
     let parts = begins.parts in
-    let whole : All IsByte (print_request parts ++ drop len (window bytes)) = subst (All IsByte) begins.reads.1 (All-take IsByte most bytes all) in
+    let whole : All IsByte (print_request parts ++ drop len (window bytes)) = subst (All IsByte)
+    begins.reads.1 (All-take IsByte most bytes all) in
     let own = printed parts (front IsByte (print_request parts) (drop len (window bytes)) whole) in
     record {
       sound = record {
         method = subst IsToken (sym begins.is.method) good.method;
-        target = subst IsSoundTarget (sym begins.is.target) (record { some = good.target.0; bytes = good.target.1; utf8 = good.target_text });
+        target = subst IsSoundTarget (sym begins.is.target) (record {
+          some = good.target.0;
+          bytes = good.target.1;
+          utf8 = good.target_text;
+        });
         version = subst (λ (v : ℕ). v ≤ 1) (sym begins.is.version) good.minor;
         fields = sound_fields head.fields parts.fields begins.is.fields good.fields;
       };

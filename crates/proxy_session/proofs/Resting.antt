@@ -1,11 +1,18 @@
 -- Where nothing moves.
 use Rattle.std.proofs.Common.{refl}
 use Rattle.std.proofs.KnownBytes.{Keeps-refl}
-use Rattle.proxy_session.specs.Outside.{IsIdle, Line, Rests, Upstream}
+use Rattle.line_base.specs.Dials.{IsIdle, Upstream}
+use Rattle.line_base.specs.Lines.{Line, Rests}
 use Rattle.proxy_session.proofs.Growing.{grows_nothing}
 
 pub rests_same : (a : Line) → Rests a a
-rests_same a = record { left = Keeps-refl a.left; given = Keeps-refl a.given; read_faults = refl; write_faults = refl; ends = refl }
+rests_same a = record {
+  left = Keeps-refl a.left;
+  given = Keeps-refl a.given;
+  read_faults = refl;
+  write_faults = refl;
+  ends = refl;
+}
 
 pub idle_same : (a : Upstream) → IsIdle a a
 idle_same a = record { log = grows_nothing a.log; is_open = refl; faults = refl }

@@ -20,7 +20,8 @@ use Rattle.proxy_session.specs.Answering.{Ends, Refuses, Writes, end_behind, end
 use Rattle.proxy_session.specs.Callers.{Caller}
 use Rattle.proxy_session.specs.Causes.{CauseOf, HasCauseOf, Later, NoneFell}
 use Rattle.proxy_session.specs.Exchange.{Exchanges, Settles, Standing}
-use Rattle.proxy_session.specs.Outside.{Gives, Line, Rests, Upstream}
+use Rattle.line_base.specs.Dials.{Upstream}
+use Rattle.line_base.specs.Lines.{Gives, Line, Rests}
 use Rattle.proxy_session.specs.Trying.{Backs, Converses, GoesBack, GoesOn, Replies, Tries, tried_of_back, tried_of_body, tried_of_head}
 
 pub later_same : (a b : ℕ) → b ≡ a → Later a b
@@ -52,7 +53,11 @@ none_fell_on a b c p q = record {
 }
 
 pub rests_fell : (a b : Line) → Rests a b → NoneFell a b
-rests_fell a b r = record { reads = later_same _ _ r.read_faults; writes = later_same _ _ r.write_faults; ends = later_same _ _ r.ends }
+rests_fell a b r = record {
+  reads = later_same _ _ r.read_faults;
+  writes = later_same _ _ r.write_faults;
+  ends = later_same _ _ r.ends;
+}
 
 -- ---- bodies
 
@@ -79,24 +84,28 @@ raised_writes a b (Err SendFault) x = later_same a b (x.others (λ is. cc))
 raised_writes a b (Err RecvFault) x = later_same a b (x.others (λ is. cc))
 raised_writes a b (Err OutOfMemory) x = later_same a b (x.others (λ is. cc))
 
-counts_end : (t : Bool) (framing : Framing) (a b : ℕ) (r : Result ℕ BodyEnd) → is_at_end framing r ≡ t → CountsEnd framing a b r → Later a b
+counts_end : (t : Bool) (framing : Framing) (a b : ℕ) (r : Result ℕ BodyEnd) → is_at_end framing r
+    ≡ t → CountsEnd framing a b r → Later a b
 counts_end true framing a b r at x = later_raised a b (x.ended at)
 counts_end false framing a b r at x = later_same a b (x.others at)
 
-module _ (head : List ℕ) (framing : Framing) (old new : Line) (kept kept_after : List ℕ) (f0 f1 : ℕ) where
-  on_fell : (sent : List ℕ) (r : Result ℕ BodyEnd) → GoesOn head framing old new kept kept_after f0 f1 sent r → NoneFell old new
-  on_fell sent r x = record {
-    reads = raised_reads old.read_faults new.read_faults r x.reads;
-    writes = later_same old.write_faults new.write_faults x.writes;
-    ends = counts_end (is_at_end framing r) framing old.ends new.ends r refl x.ends;
-  }
+module _ (head : List ℕ) (framing : Framing) (old new : Line) (kept kept_after : List ℕ) (f0 f1 : ℕ)
+  where
+    on_fell : (sent : List ℕ) (r : Result ℕ BodyEnd)
+        → GoesOn head framing old new kept kept_after f0 f1 sent r → NoneFell old new
+    on_fell sent r x = record {
+      reads = raised_reads old.read_faults new.read_faults r x.reads;
+      writes = later_same old.write_faults new.write_faults x.writes;
+      ends = counts_end (is_at_end framing r) framing old.ends new.ends r refl x.ends;
+    }
 
-  back_fell : (chunked : Bool) (got : List (List ℕ)) (r : Result ℕ BodyEnd) → GoesBack head framing chunked old new kept kept_after f0 f1 got r → NoneFell old new
-  back_fell chunked got r x = record {
-    reads = later_same old.read_faults new.read_faults x.reads;
-    writes = raised_writes old.write_faults new.write_faults r x.writes;
-    ends = later_same old.ends new.ends x.ends;
-  }
+    back_fell : (chunked : Bool) (got : List (List ℕ)) (r : Result ℕ BodyEnd)
+        → GoesBack head framing chunked old new kept kept_after f0 f1 got r → NoneFell old new
+    back_fell chunked got r x = record {
+      reads = later_same old.read_faults new.read_faults x.reads;
+      writes = raised_writes old.write_faults new.write_faults r x.writes;
+      ends = later_same old.ends new.ends x.ends;
+    }
 
 -- ---- tries
 
@@ -114,18 +123,22 @@ WayCause tried.ReplyCut old new = Unit {0}
 WayCause tried.OutOfMemory old new = Unit {0}
 WayCause (tried.Whole status closes) old new = Unit {0}
 
-body_cause : (head : List ℕ) (framing : Framing) (old new : Line) (kept kept_after : List ℕ) (f0 f1 : ℕ) (sent : List ℕ) (e : BodyEnd)
-    → GoesOn head framing old new kept kept_after f0 f1 sent (Err e) → WayCause (tried_of_body e) old new
+body_cause : (head : List ℕ) (framing : Framing) (old new : Line) (kept kept_after : List ℕ)
+    (f0 f1 : ℕ) (sent : List ℕ) (e : BodyEnd)
+    → GoesOn head framing old new kept kept_after f0 f1 sent (Err e)
+    → WayCause (tried_of_body e) old new
 body_cause head framing old new kept kept_after f0 f1 sent (BadChunk n) x = tt
 body_cause head framing old new kept kept_after f0 f1 sent Cut x = rose_by _ _ (x.ends.ended refl)
 body_cause head framing old new kept kept_after f0 f1 sent TooLong x = tt
-body_cause head framing old new kept kept_after f0 f1 sent ReadFault x = rose_by _ _ (x.reads.here refl)
+body_cause head framing old new kept kept_after f0 f1 sent ReadFault x =
+    rose_by _ _ (x.reads.here refl)
 body_cause head framing old new kept kept_after f0 f1 sent WriteFault x = tt
 body_cause head framing old new kept kept_after f0 f1 sent SendFault x = tt
 body_cause head framing old new kept kept_after f0 f1 sent RecvFault x = tt
 body_cause head framing old new kept kept_after f0 f1 sent OutOfMemory x = tt
 
-back_cause : (status : ℕ) (closes : Bool) (old new : Line) (r : Result ℕ BodyEnd) → RaisedAt (Err WriteFault) old.write_faults new.write_faults r
+back_cause : (status : ℕ) (closes : Bool) (old new : Line) (r : Result ℕ BodyEnd)
+    → RaisedAt (Err WriteFault) old.write_faults new.write_faults r
     → WayCause (tried_of_back status closes r) old new
 back_cause status closes old new (Ok n) x = tt
 back_cause status closes old new (Err (BadChunk n)) x = tt
@@ -146,8 +159,10 @@ Went how old new = NoneFell old new × WayCause how old new
 
 cause_behind : (how : Tried) (a b c : Line) → NoneFell a b → WayCause how b c → WayCause how a c
 cause_behind tried.BodyCut a b c fell cause = rose_behind a.ends b.ends c.ends fell.ends cause
-cause_behind tried.BodyFault a b c fell cause = rose_behind a.read_faults b.read_faults c.read_faults fell.reads cause
-cause_behind tried.WrittenShort a b c fell cause = rose_behind a.write_faults b.write_faults c.write_faults fell.writes cause
+cause_behind tried.BodyFault a b c fell cause =
+    rose_behind a.read_faults b.read_faults c.read_faults fell.reads cause
+cause_behind tried.WrittenShort a b c fell cause =
+    rose_behind a.write_faults b.write_faults c.write_faults fell.writes cause
 cause_behind tried.NotDialed a b c fell cause = tt
 cause_behind tried.NotSent a b c fell cause = tt
 cause_behind tried.BadBody a b c fell cause = tt
@@ -157,34 +172,62 @@ cause_behind tried.ReplyCut a b c fell cause = tt
 cause_behind tried.OutOfMemory a b c fell cause = tt
 cause_behind (tried.Whole status closes) a b c fell cause = tt
 
-backs_went : (head : Head) (last : Bool) (reply : ReplyHead) (framing : Framing) (old new : Line) (kept : List ℕ) (f0 f1 : ℕ) (got : List (List ℕ)) (how : Tried)
+backs_went : (head : Head) (last : Bool) (reply : ReplyHead) (framing : Framing) (old new : Line)
+    (kept : List ℕ) (f0 f1 : ℕ) (got : List (List ℕ)) (how : Tried)
     → Backs head last reply framing old new kept f0 f1 got how → Went how old new
 backs_went head last reply framing old new kept f0 f1 got how (inl none) =
     (rests_fell old new none.0, subst (λ (h : Tried). WayCause h old new) (sym none.3) tt)
-backs_went head last reply framing old new kept f0 f1 got how (inr (kept_after, r, back, is)) =
-    (back_fell _ _ old new _ _ _ _ _ _ r back, subst (λ (h : Tried). WayCause h old new) (sym is) (back_cause reply.status _ old new r back.writes))
+backs_went head last reply framing old new kept f0 f1 got how (inr (kept_after, r, back, is)) = (
+  back_fell _ _ old new _ _ _ _ _ _ r back,
+  subst (λ (h : Tried). WayCause h old new) (sym is)
+      (back_cause reply.status _ old new r back.writes),
+)
 
-replies_went : (head : Head) (last : Bool) (old new : Line) (f0 f1 : ℕ) (got : List (List ℕ)) (how : Tried) → Replies head last old new f0 f1 got how → Went how old new
-replies_went head last old new f0 f1 got how (inl (fault, kept, hears, rests, is)) =
-    (rests_fell old new rests, subst (λ (h : Tried). WayCause h old new) (sym is) (head_cause fault old new))
-replies_went head last old new f0 f1 got how (inr (reply, framing, kept, between, before, behind, hears, backs, is)) =
+replies_went : (head : Head) (last : Bool) (old new : Line) (f0 f1 : ℕ) (got : List (List ℕ))
+    (how : Tried) → Replies head last old new f0 f1 got how → Went how old new
+replies_went head last old new f0 f1 got how (inl (fault, kept, hears, rests, is)) = (
+  rests_fell old new rests,
+  subst (λ (h : Tried). WayCause h old new) (sym is)
+      (head_cause fault old new),
+)
+replies_went head last old new f0 f1 got how (inr (
+  reply,
+  framing,
+  kept,
+  between,
+  before,
+  behind,
+  hears,
+  backs,
+  is,
+)) =
     backs_went head last reply framing old new kept between f1 behind how backs
 
-converses_went : (head : Head) (onward : List ℕ) (framing : Framing) (last : Bool) (old new : Line) (kept kept_after : List ℕ) (f0 f1 : ℕ) (sent : List ℕ) (got : List (List ℕ)) (how : Tried)
-    → Converses head onward framing last old new kept kept_after f0 f1 sent got how → Went how old new
-converses_went head onward framing last old new kept kept_after f0 f1 sent got how (inl (end, goes, none, is)) =
-    (on_fell _ _ old new _ _ _ _ _ _ goes, subst (λ (h : Tried). WayCause h old new) (sym is) (body_cause onward framing old new kept kept_after f0 f1 sent end goes))
-converses_went head onward framing last old new kept kept_after f0 f1 sent got how (inr (n, mid, between, goes, replies)) =
+converses_went : (head : Head) (onward : List ℕ) (framing : Framing) (last : Bool) (old new : Line)
+    (kept kept_after : List ℕ) (f0 f1 : ℕ) (sent : List ℕ) (got : List (List ℕ)) (how : Tried)
+    → Converses head onward framing last old new kept kept_after f0 f1 sent got how
+    → Went how old new
+converses_went head onward framing last old new kept kept_after f0 f1 sent got how
+    (inl (end, goes, none, is)) = (
+      on_fell _ _ old new _ _ _ _ _ _ goes,
+      subst (λ (h : Tried). WayCause h old new) (sym is)
+          (body_cause onward framing old new kept kept_after f0 f1 sent end goes),
+    )
+converses_went head onward framing last old new kept kept_after f0 f1 sent got how
+    (inr (n, mid, between, goes, replies)) =
     let first = on_fell onward framing old mid kept kept_after f0 between sent (Ok n) goes in
     let then' = replies_went head last mid new between f1 got how replies in
     (none_fell_on old mid new first then'.0, cause_behind how old mid new first then'.1)
 
-tries_went : (head : Head) (onward : List ℕ) (framing : Framing) (last : Bool) (addr : Addr) (old new : Line) (kept kept_after : List ℕ) (before now : Upstream) (how : Tried)
+tries_went : (head : Head) (onward : List ℕ) (framing : Framing) (last : Bool) (addr : Addr)
+    (old new : Line) (kept kept_after : List ℕ) (before now : Upstream) (how : Tried)
     → Tries head onward framing last addr old new kept kept_after before now how → Went how old new
 tries_went head onward framing last addr old new kept kept_after before now how (inl none, closed) =
     (rests_fell old new none.line, subst (λ (h : Tried). WayCause h old new) (sym none.how_is) tt)
-tries_went head onward framing last addr old new kept kept_after before now how (inr spoken, closed) =
-    converses_went head onward framing last old new kept kept_after before.faults now.faults _ spoken.got how spoken.spoke
+tries_went head onward framing last addr old new kept kept_after before now how (inr spoken, closed)
+    =
+    converses_went head onward framing last old new kept kept_after before.faults now.faults _
+    spoken.got how spoken.spoke
 
 -- ---- answers
 
@@ -196,11 +239,25 @@ done_of true last old new = tt
 done_of false true old new = tt
 done_of false false old new = tt
 
-writes_done : (old new : Line) (reply : List ℕ) (closes last : Bool) (told : Result (Unit {0}) Ended) → Writes old new reply told → Done (end_behind (end_of closes last) told) old new
-writes_done old new reply closes last (Ok x) w =
-    (record { reads = later_same _ _ w.0.read_faults; writes = later_same _ _ w.1; ends = later_same _ _ w.0.ends }, done_of closes last old new)
-writes_done old new reply closes last (Err ended.WriteFault) w =
-    (record { reads = later_same _ _ w.1.read_faults; writes = later_raised _ _ w.3; ends = later_same _ _ w.1.ends }, rose_by _ _ w.3)
+writes_done : (old new : Line) (reply : List ℕ) (closes last : Bool)
+    (told : Result (Unit {0}) Ended) → Writes old new reply told
+    → Done (end_behind (end_of closes last) told) old new
+writes_done old new reply closes last (Ok x) w = (
+  record {
+    reads = later_same _ _ w.0.read_faults;
+    writes = later_same _ _ w.1;
+    ends = later_same _ _ w.0.ends;
+  },
+  done_of closes last old new,
+)
+writes_done old new reply closes last (Err ended.WriteFault) w = (
+  record {
+    reads = later_same _ _ w.1.read_faults;
+    writes = later_raised _ _ w.3;
+    ends = later_same _ _ w.1.ends;
+  },
+  rose_by _ _ w.3,
+)
 writes_done old new reply closes last (Err ended.OutOfMemory) w = (rests_fell old new w, tt)
 writes_done old new reply closes last (Err ended.PeerEnded) w = absurd w
 writes_done old new reply closes last (Err ended.Cut) w = absurd w
@@ -209,24 +266,38 @@ writes_done old new reply closes last (Err ended.Spent) w = absurd w
 writes_done old new reply closes last (Err ended.ReadFault) w = absurd w
 writes_done old new reply closes last (Err ended.UpstreamCut) w = absurd w
 
-pub writes_fell : (old new : Line) (reply : List ℕ) (told : Result (Unit {0}) Ended) → Writes old new reply told → NoneFell old new
+pub writes_fell : (old new : Line) (reply : List ℕ) (told : Result (Unit {0}) Ended)
+    → Writes old new reply told → NoneFell old new
 writes_fell old new reply told w = (writes_done old new reply true true told w).0
 
-refuses_done : (err : OwnError) (head : Head) (last : Bool) (old new : Line) (r : Option Ended) → Refuses err head last old new r → Done r old new
-refuses_done err head last old new r x = subst (λ (o : Option Ended). Done o old new) (sym x.2) (writes_done old new _ _ last x.0 x.1)
+refuses_done : (err : OwnError) (head : Head) (last : Bool) (old new : Line) (r : Option Ended)
+    → Refuses err head last old new r → Done r old new
+refuses_done err head last old new r x =
+    subst (λ (o : Option Ended). Done o old new) (sym x.2) (writes_done old new _ _ last x.0 x.1)
 
-rests_done : (e : Option Ended) (old new : Line) (r : Option Ended) → Rests old new → r ≡ e → HasCauseOf e old new → Done r old new
-rests_done e old new r rests is cause = subst (λ (o : Option Ended). Done o old new) (sym is) (rests_fell old new rests, cause)
+rests_done : (e : Option Ended) (old new : Line) (r : Option Ended) → Rests old new → r ≡ e
+    → HasCauseOf e old new → Done r old new
+rests_done e old new r rests is cause =
+    subst (λ (o : Option Ended). Done o old new) (sym is) (rests_fell old new rests, cause)
 
-behind_try : (a b c : Line) (e : Option Ended) (r : Option Ended) → NoneFell a b → Rests b c → r ≡ e → HasCauseOf e a c → Done r a c
-behind_try a b c e r fell rests is cause = subst (λ (o : Option Ended). Done o a c) (sym is) (none_fell_on a b c fell (rests_fell b c rests), cause)
+behind_try : (a b c : Line) (e : Option Ended) (r : Option Ended) → NoneFell a b → Rests b c → r ≡ e
+    → HasCauseOf e a c → Done r a c
+behind_try a b c e r fell rests is cause =
+    subst (λ (o : Option Ended). Done o a c) (sym is) (
+      none_fell_on a b c fell
+          (rests_fell b c rests),
+      cause,
+    )
 
-pub cause_on : (a b c : Line) (r : Option Ended) → NoneFell a b → HasCauseOf r b c → HasCauseOf r a c
+pub cause_on : (a b c : Line) (r : Option Ended) → NoneFell a b → HasCauseOf r b c
+    → HasCauseOf r a c
 cause_on a b c None fell cause = tt
 cause_on a b c (Some ended.PeerEnded) fell cause = cause
 cause_on a b c (Some ended.Cut) fell cause = rose_behind a.ends b.ends c.ends fell.ends cause
-cause_on a b c (Some ended.ReadFault) fell cause = rose_behind a.read_faults b.read_faults c.read_faults fell.reads cause
-cause_on a b c (Some ended.WriteFault) fell cause = rose_behind a.write_faults b.write_faults c.write_faults fell.writes cause
+cause_on a b c (Some ended.ReadFault) fell cause =
+    rose_behind a.read_faults b.read_faults c.read_faults fell.reads cause
+cause_on a b c (Some ended.WriteFault) fell cause =
+    rose_behind a.write_faults b.write_faults c.write_faults fell.writes cause
 cause_on a b c (Some ended.Closed) fell cause = tt
 cause_on a b c (Some ended.Spent) fell cause = tt
 cause_on a b c (Some ended.UpstreamCut) fell cause = tt
@@ -235,34 +306,57 @@ cause_on a b c (Some ended.OutOfMemory) fell cause = tt
 done_on : (a b c : Line) (r : Option Ended) → NoneFell a b → Done r b c → Done r a c
 done_on a b c r fell done = (none_fell_on a b c fell done.0, cause_on a b c r fell done.1)
 
-ends_done : (how : Tried) (head : Head) (last : Bool) (a b c : Line) (r : Option Ended) → Went how a b → Ends how head last b c r → Done r a c
-ends_done tried.NotDialed head last a b c r went ends = done_on a b c r went.0 (refuses_done _ head last b c r ends)
-ends_done tried.NotSent head last a b c r went ends = done_on a b c r went.0 (refuses_done _ head last b c r ends)
-ends_done tried.NoReply head last a b c r went ends = done_on a b c r went.0 (refuses_done _ head last b c r ends)
-ends_done tried.BadBody head last a b c r went ends = done_on a b c r went.0 (refuses_done _ head last b c r ends)
-ends_done tried.LongBody head last a b c r went ends = done_on a b c r went.0 (refuses_done _ head last b c r ends)
-ends_done tried.BodyCut head last a b c r went ends = behind_try a b c _ r went.0 ends.0 ends.1 (rose_before a.ends b.ends c.ends went.1 (later_same b.ends c.ends ends.0.ends))
+ends_done : (how : Tried) (head : Head) (last : Bool) (a b c : Line) (r : Option Ended)
+    → Went how a b → Ends how head last b c r → Done r a c
+ends_done tried.NotDialed head last a b c r went ends =
+    done_on a b c r went.0 (refuses_done _ head last b c r ends)
+ends_done tried.NotSent head last a b c r went ends =
+    done_on a b c r went.0 (refuses_done _ head last b c r ends)
+ends_done tried.NoReply head last a b c r went ends =
+    done_on a b c r went.0 (refuses_done _ head last b c r ends)
+ends_done tried.BadBody head last a b c r went ends =
+    done_on a b c r went.0 (refuses_done _ head last b c r ends)
+ends_done tried.LongBody head last a b c r went ends =
+    done_on a b c r went.0 (refuses_done _ head last b c r ends)
+ends_done tried.BodyCut head last a b c r went ends =
+    behind_try a b c _ r went.0 ends.0 ends.1 (rose_before a.ends b.ends c.ends went.1
+    (later_same b.ends c.ends ends.0.ends))
 ends_done tried.BodyFault head last a b c r went ends =
-    behind_try a b c _ r went.0 ends.0 ends.1 (rose_before a.read_faults b.read_faults c.read_faults went.1 (later_same b.read_faults c.read_faults ends.0.read_faults))
+    behind_try a b c _ r went.0 ends.0 ends.1 (rose_before a.read_faults b.read_faults c.read_faults
+    went.1 (later_same b.read_faults c.read_faults ends.0.read_faults))
 ends_done tried.WrittenShort head last a b c r went ends =
-    behind_try a b c _ r went.0 ends.0 ends.1 (rose_before a.write_faults b.write_faults c.write_faults went.1 (later_same b.write_faults c.write_faults ends.0.write_faults))
+    behind_try a b c _ r went.0 ends.0 ends.1 (rose_before a.write_faults b.write_faults
+    c.write_faults went.1 (later_same b.write_faults c.write_faults ends.0.write_faults))
 ends_done tried.ReplyCut head last a b c r went ends = behind_try a b c _ r went.0 ends.0 ends.1 tt
-ends_done tried.OutOfMemory head last a b c r went ends = behind_try a b c _ r went.0 ends.0 ends.1 tt
-ends_done (tried.Whole status closes) head last a b c r went ends = behind_try a b c _ r went.0 ends.0 ends.1 (done_of closes last a c)
+ends_done tried.OutOfMemory head last a b c r went ends =
+    behind_try a b c _ r went.0 ends.0 ends.1 tt
+ends_done (tried.Whole status closes) head last a b c r went ends =
+    behind_try a b c _ r went.0 ends.0 ends.1 (done_of closes last a c)
 
-settles_done : (settings : SettingsValue) (head : Head) (last : Bool) (addr : Addr) (how : Tried) (old new : Caller) (m n : Option (List ℕ)) (a b c : Line) (r : Option Ended) → Went how a b
+settles_done : (settings : SettingsValue) (head : Head) (last : Bool) (addr : Addr) (how : Tried)
+    (old new : Caller) (m n : Option (List ℕ)) (a b c : Line) (r : Option Ended) → Went how a b
     → Settles settings head last addr how old new m n b c r → Done r a c
-settles_done settings head last addr how old new m n a b c r went (inl done) = ends_done how head last a b c r went done.1
-settles_done settings head last addr how old new m n a b c r went (inr fails) = behind_try a b c _ r went.0 fails.1 fails.2 tt
+settles_done settings head last addr how old new m n a b c r went (inl done) =
+    ends_done how head last a b c r went done.1
+settles_done settings head last addr how old new m n a b c r went (inr fails) =
+    behind_try a b c _ r went.0 fails.1 fails.2 tt
 
 -- each end of an exchange has its cause
-pub exchange_done : (settings : SettingsValue) (rule : Rule) (head : Head) (last : Bool) (old new : Standing) (r : Option Ended) → Exchanges settings rule head last old new r
+pub exchange_done : (settings : SettingsValue) (rule : Rule) (head : Head) (last : Bool)
+    (old new : Standing) (r : Option Ended) → Exchanges settings rule head last old new r
     → Done r old.line new.line
-exchange_done settings rule head last old new r (inl x) = refuses_done x.err head last old.line new.line r x.refuses
-exchange_done settings rule head last old new r (inr (inl x)) = rests_done _ old.line new.line r x.line x.ends tt
-exchange_done settings rule head last old new r (inr (inr (sought, seeks, (moment, moments, draws, inl x)))) = rests_done _ old.line new.line r x.line x.ends tt
-exchange_done settings rule head last old new r (inr (inr (sought, seeks, (moment, moments, draws, inr (inl x))))) = refuses_done _ head last old.line new.line r x.refuses
-exchange_done settings rule head last old new r (inr (inr (sought, seeks, (moment, moments, draws, inr (inr x))))) =
+exchange_done settings rule head last old new r (inl x) =
+    refuses_done x.err head last old.line new.line r x.refuses
+exchange_done settings rule head last old new r (inr (inl x)) =
+    rests_done _ old.line new.line r x.line x.ends tt
+exchange_done settings rule head last old new r (inr (inr (sought, seeks, (moment, moments, draws, inl x)))) =
+    rests_done _ old.line new.line r x.line x.ends tt
+exchange_done settings rule head last old new r (inr (inr (sought, seeks, (moment, moments, draws, inr (inl x))))) =
+    refuses_done _ head last old.line new.line r x.refuses
+exchange_done settings rule head last old new r (inr (inr
+    (sought, seeks, (moment, moments, draws, inr (inr x))))) =
     let s = x.sent in
-    settles_done settings head last x.to.addr s.how s.held new.caller moments new.moments old.line s.between new.line r
-    (tries_went head s.onward sought.framing last x.to.addr old.line s.between old.kept new.kept old.upstream new.upstream s.how s.tries) s.settles
+    settles_done settings head last x.to.addr s.how s.held new.caller moments new.moments old.line
+    s.between new.line r
+    (tries_went head s.onward sought.framing last x.to.addr old.line s.between old.kept new.kept
+    old.upstream new.upstream s.how s.tries) s.settles

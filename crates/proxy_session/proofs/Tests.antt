@@ -14,13 +14,19 @@ use Rattle.proxy_session.specs.Seeking.{by_path, by_table}
 use Rattle.proxy_session.specs.Sought.{TestedAs}
 
 -- a request that names this path is tested on
-pub named_so : (head : Head) (framing : Framing) (host line : List ℕ) (labels : Option Labels) (path : Labels) (result : Result Request Refusal)
-    → Answers labels (Ok path) → TestedAs (by_table framing host line path (local_rules head.fields)) result → TestedAs (by_path head framing host line labels) result
+pub named_so :
+    (head : Head) (framing : Framing) (host line : List ℕ) (labels : Option Labels) (path : Labels)
+    (result : Result Request Refusal)
+    → Answers labels (Ok path) → TestedAs (by_table framing host line path
+    (local_rules head.fields)) result → TestedAs (by_path head framing host line labels) result
 named_so head framing host line labels path result named tested =
-    subst (λ (l : Option Labels). TestedAs (by_path head framing host line l) result) (sym named) tested
+    subst (λ (l : Option Labels). TestedAs (by_path head framing host line l) result) (sym named)
+    tested
 
 -- one that names none is refused
-pub named_nothing : (head : Head) (framing : Framing) (host line : List ℕ) (labels : Option Labels) (e : IdentifyFault) → e ≡ Unidentified → Answers labels (Err e)
+pub named_nothing : (head : Head) (framing : Framing) (host line : List ℕ) (labels : Option Labels)
+    (e : IdentifyFault) → e ≡ Unidentified → Answers labels (Err e)
     → by_path head framing host line labels ≡ Err own.Unidentified
-named_nothing head framing host line labels Unidentified is named = ap (λ l. by_path head framing host line l) named
+named_nothing head framing host line labels Unidentified is named =
+    ap (λ l. by_path head framing host line l) named
 named_nothing head framing host line labels OutOfMemory is named = absurd (cc)

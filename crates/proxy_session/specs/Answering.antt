@@ -15,12 +15,13 @@ use Rattle.own_reply.specs.declared.error.OwnError.TheVariants as own
 use Rattle.own_reply.specs.Reply.{reply_of}
 use Rattle.proxy_session.specs.declared.tried.Tried.{Tried}
 use Rattle.proxy_session.specs.declared.tried.Tried.TheVariants as tried
-use Rattle.proxy_session.specs.Outside.{Line, Gives, Rests}
+use Rattle.line_base.specs.Lines.{Line, Gives, Rests}
 use Rattle.proxy_session.specs.Trying.{asks_to_close}
 
 -- ---- which replies close
 
--- a refusal behind which the connection can't go on: where its next request begins is in doubt, or nobody knows
+-- a refusal behind which the connection can't go on: where its next request begins is in doubt, or
+-- nobody knows
 abbrev pub is_early : OwnError → Bool
 is_early own.Version = true
 is_early own.BadHead = true
@@ -50,9 +51,11 @@ has_body (Ok Framing.Chunked) = true
 has_body (Ok Framing.ToEnd) = false
 has_body (Err fault) = false
 
--- an own reply closes where it is early, where the request asks for it, and where the request has a body, which may not have been read
+-- an own reply closes where it is early, where the request asks for it, and where the request has a
+-- body, which may not have been read
 abbrev pub own_closes : OwnError → Head → Bool
-own_closes err head = is_early err || (asks_to_close head || has_body (framing_of head.version head.fields))
+own_closes err head =
+    is_early err || (asks_to_close head || has_body (framing_of head.version head.fields))
 
 -- a reply to HEAD has no body
 abbrev pub has_reply_body : Head → Bool
@@ -66,11 +69,13 @@ end_of false false = None
 
 -- ---- the replies that the router makes
 
--- a reply was written whole, or a front of it, which the count of failed writes shows; or there was no memory for it
+-- a reply was written whole, or a front of it, which the count of failed writes shows; or there was
+-- no memory for it
 abbrev pub Writes : Line → Line → List ℕ → Result (Unit {0}) Ended → Type 0
 Writes old new reply (Ok x) = Gives old new reply × (new.write_faults ≡ old.write_faults)
 Writes old new reply (Err ended.WriteFault) =
-    (sent : List ℕ) × Gives old new sent × IsFrontOf reply sent × (new.write_faults ≡ raised old.write_faults)
+    (sent : List ℕ) × Gives old new sent × IsFrontOf reply sent
+    × (new.write_faults ≡ raised old.write_faults)
 Writes old new reply (Err ended.OutOfMemory) = Rests old new
 Writes old new reply (Err ended.PeerEnded) = ⊥
 Writes old new reply (Err ended.Cut) = ⊥
@@ -87,7 +92,8 @@ end_behind end (Err e) = Some e
 -- the router answered a request with a refusal
 abbrev pub Refuses : OwnError → Head → Bool → Line → Line → Option Ended → Type 0
 Refuses err head last old new result =
-    (told : Result (Unit {0}) Ended) × Writes old new (reply_of err (own_closes err head || last) (has_reply_body head)) told
+    (told : Result (Unit {0}) Ended) × Writes old new (reply_of err (own_closes err head || last)
+    (has_reply_body head)) told
     × (result ≡ end_behind (end_of (own_closes err head) last) told)
 
 -- the refusal where there is no replica
@@ -114,7 +120,8 @@ report_of tried.BodyFault = None
 report_of tried.WrittenShort = None
 report_of tried.OutOfMemory = None
 
--- what each way is answered behind the report: a refusal, an end, or nothing more, where the reply went back
+-- what each way is answered behind the report: a refusal, an end, or nothing more, where the reply
+-- went back
 abbrev pub Ends : Tried → Head → Bool → Line → Line → Option Ended → Type 0
 Ends tried.NotDialed head last old new result = Refuses own.Dial head last old new result
 Ends tried.NotSent head last old new result = Refuses own.Upstream head last old new result
@@ -126,4 +133,5 @@ Ends tried.BodyFault head last old new result = Rests old new × (result ≡ Som
 Ends tried.ReplyCut head last old new result = Rests old new × (result ≡ Some ended.UpstreamCut)
 Ends tried.WrittenShort head last old new result = Rests old new × (result ≡ Some ended.WriteFault)
 Ends tried.OutOfMemory head last old new result = Rests old new × (result ≡ Some ended.OutOfMemory)
-Ends (tried.Whole status closes) head last old new result = Rests old new × (result ≡ end_of closes last)
+Ends (tried.Whole status closes) head last old new result =
+    Rests old new × (result ≡ end_of closes last)

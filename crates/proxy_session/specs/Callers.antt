@@ -15,8 +15,9 @@ use Rattle.router.specs.declared.naming.Naming.{Ghosts}
 use Rattle.router.specs.declared.pass.Pass.{Pass}
 use Rattle.router.specs.Passes.{number_in, seen_in, items_in, reads_in, taken_in, slot_in}
 
--- a pass, but for how often it was not let in: its number, what it has seen of the list of all operations, its calls with their points in that list, what it read
--- of the loads, the slots that it took, and the one that it holds
+-- a pass, but for how often it was not let in: its number, what it has seen of the list of all
+-- operations, its calls with their points in that list, what it read of the loads, the slots that
+-- it took, and the one that it holds
 pub record Caller : Type 0 where
   pub number : ℕ
   pub seen : List Operation
@@ -27,12 +28,20 @@ pub record Caller : Type 0 where
 
 module _ {J : Type 0} {g : Ghosts J} where
   abbrev pub caller_of : Pass J g → Caller
-  caller_of p = record { number = number_in p; seen = seen_in p; items = items_in p; reads = reads_in p; taken = taken_in p; slot = slot_in p }
+  caller_of p = record {
+    number = number_in p;
+    seen = seen_in p;
+    items = items_in p;
+    reads = reads_in p;
+    taken = taken_in p;
+    slot = slot_in p;
+  }
 
--- One call: what had been seen begins what is seen then; the call is one item more, at a point no earlier than what had been seen; and what it published
--- stands there
+-- One call: what had been seen begins what is seen then; the call is one item more, at a point no
+-- earlier than what had been seen; and what it published stands there
 abbrev pub Makes : SettingsValue → Caller → Caller → Call → ℕ → Type 0
-Makes settings old new call at = Called is_change (publishes settings) old.number old.seen new.seen old.items new.items call at
+Makes settings old new call at =
+    Called is_change (publishes settings) old.number old.seen new.seen old.items new.items call at
 
 -- the slots stay
 pub record SameSlots (old new : Caller) : Type 0 where
@@ -51,12 +60,16 @@ pub record Misses (settings : SettingsValue) (old new : Caller) (ask : AskValue)
   pub nothing : is_kept_for (value_of settings new.seen) ask ≡ false
   pub reads : new.reads ≡ old.reads
 
--- an ask at whose point something is kept for it or not, with the one answer that full delegation in the state there permits for the loads that were read
-pub record Finds (settings : SettingsValue) (old new : Caller) (ask : AskValue) (kept : Bool) (said : PickValue) : Type 0 where
+-- an ask at whose point something is kept for it or not, with the one answer that full delegation
+-- in the state there permits for the loads that were read
+pub record Finds
+    (settings : SettingsValue) (old new : Caller) (ask : AskValue) (kept : Bool) (said : PickValue)
+    : Type 0 where
   pub asks : Asks settings old new ask
   pub is_kept : is_kept_for (value_of settings new.seen) ask ≡ kept
   pub loads : ℕ × ℕ
-  pub permitted : IsPermitted settings (value_of settings new.seen).state ask old.reads new.reads loads said
+  pub permitted :
+      IsPermitted settings (value_of settings new.seen).state ask old.reads new.reads loads said
 
 -- a delegation was given back, to be kept
 pub record Returns (settings : SettingsValue) (old new : Caller) (binding : Kept) : Type 0 where
@@ -67,7 +80,9 @@ pub record Returns (settings : SettingsValue) (old new : Caller) (binding : Kept
   pub slots : SameSlots old new
 
 -- it is the one that was worked out for an ask in a state
-pub record Remembers (settings : SettingsValue) (state : StateValue) (old new : Caller) (ask : AskValue) : Type 0 where
+pub record Remembers
+    (settings : SettingsValue) (state : StateValue) (old new : Caller) (ask : AskValue)
+    : Type 0 where
   pub binding : Kept
   pub is_asked : IsAsked ask binding
   pub worked_out : IsWorkedOut settings state binding
@@ -82,7 +97,9 @@ pub record SeesMore (old new : Caller) : Type 0 where
   pub slots : SameSlots old new
 
 -- a report on an address
-pub record Reports (settings : SettingsValue) (old new : Caller) (addr : Addr) (good : Bool) (moment : ℕ) : Type 0 where
+pub record Reports
+    (settings : SettingsValue) (old new : Caller) (addr : Addr) (good : Bool) (moment : ℕ)
+    : Type 0 where
   pub at : ℕ
   pub number : new.number ≡ old.number
   pub called : Makes settings old new (changing (report addr good moment)) at

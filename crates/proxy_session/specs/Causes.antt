@@ -3,7 +3,7 @@ use Rattle.std.specs.Prelude.{◌≡◌, ℕ, ◌-◌, ◌^◌, ◌≤◌, min, 
 use Rattle.line_base.specs.Counts.{Rose}
 use Rattle.http_wire.specs.declared.ended.Ended.{Ended}
 use Rattle.http_wire.specs.declared.ended.Ended.TheVariants as ended
-use Rattle.proxy_session.specs.Outside.{Line}
+use Rattle.line_base.specs.Lines.{Line}
 
 -- a count did not fall, up to the last value of a `u64`
 abbrev pub Later : ℕ → ℕ → Type 0

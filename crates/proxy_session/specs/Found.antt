@@ -41,25 +41,33 @@ pub record IsReplica (r : Replica) (choice : Choice) (client residual : List ℕ
   pub residual_is : residual ≡ canon_path r.residual
 
 abbrev pub Says : PickValue → Names → Found → Type 0
-Says (replica r) names (found.Replica choice texts) = IsReplica r choice (client_in names texts) (residual_in names texts)
+Says (replica r) names (found.Replica choice texts) =
+    IsReplica r choice (client_in names texts) (residual_in names texts)
 Says (none why) names (found.None other) = other ≡ why
 Says _ names _ = ⊥
 
 -- what one ask saw of what is kept
 abbrev pub Sees : SettingsValue → Caller → Caller → AskValue → Names → Seen → Type 0
 Sees settings old new ask names (seen.Hit choice) =
-    (r : Replica) × Finds settings old new ask true (replica r) × IsReplica r choice (client_text names) (residual_text names)
+    (r : Replica) × Finds settings old new ask true (replica r)
+    × IsReplica r choice (client_text names) (residual_text names)
 Sees settings old new ask names (seen.None why) = Finds settings old new ask true (none why)
 Sees settings old new ask names seen.Miss = Misses settings old new ask
 
 -- what an answer says, where the pass was let in
 abbrev pub picked_of : Answer → Option Picked
-picked_of (answer.Picked choice client residual fresh) = Some (picked.Replica choice client residual fresh)
+picked_of (answer.Picked choice client residual fresh) =
+    Some (picked.Replica choice client residual fresh)
 picked_of (answer.None why place fresh) = Some (picked.None why fresh)
 picked_of answer.NoEntry = None
 
 abbrev pub said_in : Picked → PickValue
-said_in (picked.Replica choice client residual fresh) = replica (record { addr = choice.addr; slot = choice.slot; client = client; residual = residual })
+said_in (picked.Replica choice client residual fresh) = replica (record {
+  addr = choice.addr;
+  slot = choice.slot;
+  client = client;
+  residual = residual;
+})
 said_in (picked.None why fresh) = none why
 
 abbrev pub fresh_in : Picked → Option Binding
@@ -67,20 +75,26 @@ fresh_in (picked.Replica choice client residual fresh) = fresh
 fresh_in (picked.None why fresh) = fresh
 
 -- what a second ask was answered
-pub record Picks (settings : SettingsValue) (old new : Caller) (ask : AskValue) (p : Picked) : Type 0 where
+pub record Picks
+    (settings : SettingsValue) (old new : Caller) (ask : AskValue) (p : Picked)
+    : Type 0 where
   pub asks : Asks settings old new ask
   pub loads : ℕ × ℕ
-  pub permitted : IsPermitted settings (value_of settings new.seen).state ask old.reads new.reads loads (said_in p)
+  pub permitted :
+      IsPermitted settings (value_of settings new.seen).state ask old.reads new.reads loads
+      (said_in p)
   pub fresh : IsFresh settings (value_of settings new.seen) ask (fresh_in p)
 
 abbrev pub PicksOnce : SettingsValue → Caller → Caller → AskValue → Option Picked → Type 0
 PicksOnce settings old new ask None = new ≡ old
 PicksOnce settings old new ask (Some p) = Picks settings old new ask p
 
--- there was no memory for the answer: no load was read, or just those that the ask reads at its point
+-- there was no memory for the answer: no load was read, or just those that the ask reads at its
+-- point
 abbrev pub StopsPick : SettingsValue → Caller → Caller → AskValue → Type 0
 StopsPick settings old new ask =
-    Asks settings old new ask × MayHaveRead (offer_of settings (value_of settings new.seen).state ask) old.reads new.reads
+    Asks settings old new ask
+    × MayHaveRead (offer_of settings (value_of settings new.seen).state ask) old.reads new.reads
 
 -- a delegation was given back, if there is one
 abbrev pub ReturnsSome : SettingsValue → Caller → Caller → Option Binding → Type 0

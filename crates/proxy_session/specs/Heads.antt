@@ -1,10 +1,10 @@
 -- The final head of a reply, behind those of interim replies (RFC 9110 section 15.2).
 use Rattle.std.specs.Prelude.{◌≡◌, ◌⊎◌, ℕ, zero, suc, ◌≤◌, ◌==◌, nat_le, ◌&&◌, ◌||◌, Bool, true, false, List, [], ◌++◌, Result, Ok, Err, IsErr}
-use Rattle.line_base.specs.Counts.{Rose}
 use Rattle.http_wire.specs.declared.frames.Framing.{Framing}
 use Rattle.http_wire.specs.declared.head.ReplyHead.{ReplyHead}
 use Rattle.http_wire.specs.declared.reading.HeadEnd.{HeadEnd}
 use Rattle.http_wire.specs.Framing.{framing_of, reply_framing_of}
+use Rattle.http_wire.specs.Reading.{is_fault, raised_at}
 use Rattle.http_wire.specs.ReplyReading.{AnswersReply, EndsAtEnd, IsPromptReply, joined}
 use Rattle.proxy_session.specs.declared.final_head.HeadFault.{HeadFault}
 
@@ -23,8 +23,11 @@ EndsPieces pieces (Err HeadEnd.TooLarge) = Unit {0}
 EndsPieces pieces (Err HeadEnd.ReadFault) = Unit {0}
 EndsPieces pieces (Err HeadEnd.OutOfMemory) = Unit {0}
 
--- these pieces were got behind the bytes that were kept, and show this; no more was received than was needed
-pub record Shows (kept kept_after : List ℕ) (pieces : List (List ℕ)) (result : Result ReplyHead HeadEnd) : Type 0 where
+-- these pieces were got behind the bytes that were kept, and show this; no more was received than
+-- was needed
+pub record Shows
+    (kept kept_after : List ℕ) (pieces : List (List ℕ)) (result : Result ReplyHead HeadEnd)
+    : Type 0 where
   pub prompt : IsPromptReply kept pieces
   pub answers : AnswersReply (kept ++ joined pieces) kept_after result
   pub end : EndsPieces pieces result
@@ -34,14 +37,16 @@ abbrev pub Interims : ℕ → List ℕ → List ℕ → List (List ℕ) → Type
 Interims zero kept kept_after pieces = (kept_after ≡ kept) × (pieces ≡ [])
 Interims (suc n) kept kept_after pieces =
     (mid : List ℕ) × (before : List (List ℕ)) × (last : List (List ℕ)) × (head : ReplyHead)
-    × Interims n kept mid before × Shows mid kept_after last (Ok head) × (is_interim head.status ≡ true) × (pieces ≡ before ++ last)
+    × Interims n kept mid before × Shows mid kept_after last (Ok head)
+    × (is_interim head.status ≡ true) × (pieces ≡ before ++ last)
 
 -- the most heads that are dropped
 abbrev pub most_interims : ℕ
 most_interims = 8
 
--- what a head behind so many interim ones is: the final one, unless it asks for another protocol, is one interim head too many, or is that of no interim reply and
--- frames no body. How an interim head would frame a body is not looked at
+-- what a head behind so many interim ones is: the final one, unless it asks for another protocol,
+-- is one interim head too many, or is that of no interim reply and frames no body. How an interim
+-- head would frame a body is not looked at
 abbrev pub HeadDecides : List ℕ → ℕ → ReplyHead → Result (ReplyHead × Framing) HeadFault → Type 0
 HeadDecides method n head (Ok final) =
     (final.0 ≡ head) × (is_interim head.status ≡ false) × ((head.status == 101) ≡ false)
@@ -49,7 +54,8 @@ HeadDecides method n head (Ok final) =
 HeadDecides method n head (Err HeadFault.NoReply) =
     ((head.status == 101) ≡ true)
     ⊎ (((is_interim head.status ≡ true) × (n ≡ most_interims))
-    ⊎ ((is_interim head.status ≡ false) × IsErr (reply_framing_of method head.status (framing_of head.version head.fields))))
+    ⊎ ((is_interim head.status ≡ false) × IsErr
+    (reply_framing_of method head.status (framing_of head.version head.fields))))
 HeadDecides method n head (Err HeadFault.OutOfMemory) = ⊥
 
 -- bytes that begin no head, a head that is too long, an early end and a failed receive are no reply
@@ -62,24 +68,18 @@ fault_of HeadEnd.TooLarge = HeadFault.NoReply
 fault_of HeadEnd.ReadFault = HeadFault.NoReply
 fault_of HeadEnd.OutOfMemory = HeadFault.OutOfMemory
 
--- a receive fails only where the dialer's count rose
-abbrev pub HasCause : HeadEnd → ℕ → ℕ → Type 0
-HasCause HeadEnd.Ended faults faults_now = Unit {0}
-HasCause HeadEnd.Cut faults faults_now = Unit {0}
-HasCause HeadEnd.Bad faults faults_now = Unit {0}
-HasCause HeadEnd.Version faults faults_now = Unit {0}
-HasCause HeadEnd.TooLarge faults faults_now = Unit {0}
-HasCause HeadEnd.ReadFault faults faults_now = Rose faults faults_now
-HasCause HeadEnd.OutOfMemory faults faults_now = Unit {0}
-
 -- what the last head that was received decides
-abbrev pub Decides : List ℕ → ℕ → ℕ → ℕ → Result ReplyHead HeadEnd → Result (ReplyHead × Framing) HeadFault → Type 0
-Decides method n faults faults_now (Ok head) result = HeadDecides method n head result
-Decides method n faults faults_now (Err end) result = (result ≡ Err (fault_of end)) × HasCause end faults faults_now
+abbrev pub Decides : List ℕ → ℕ → Result ReplyHead HeadEnd → Result (ReplyHead × Framing) HeadFault
+    → Type 0
+Decides method n (Ok head) result = HeadDecides method n head result
+Decides method n (Err end) result = result ≡ Err (fault_of end)
 
--- the pieces that were got for a final head: those of at most eight interim heads, and those behind that decide
+-- the pieces that were got for a final head: those of at most eight interim heads, and those behind
+-- that decide. The dialer's count of faults rose by one where the last receive failed, and no
+-- receive is tried again
 pub record Hears
-    (method kept kept_after : List ℕ) (pieces : List (List ℕ)) (faults faults_now : ℕ) (result : Result (ReplyHead × Framing) HeadFault)
+    (method kept kept_after : List ℕ) (pieces : List (List ℕ)) (faults faults_now : ℕ)
+    (result : Result (ReplyHead × Framing) HeadFault)
     : Type 0 where
   pub interims : ℕ
   pub few : interims ≤ most_interims
@@ -89,6 +89,7 @@ pub record Hears
   pub shown : Result ReplyHead HeadEnd
   pub dropped : Interims interims kept mid before
   pub shows : Shows mid kept_after last shown
-  pub decides : Decides method interims faults faults_now shown result
+  pub decides : Decides method interims shown result
+  pub causes : faults_now ≡ raised_at (is_fault shown) faults
   pub whole : pieces ≡ before ++ last
   pub later : faults ≤ faults_now

@@ -18,7 +18,7 @@ use Rattle.body_wire.specs.Passing.{IsFrontOf, form_of, most_passed}
 use Rattle.forward.specs.Laws.{table_texts}
 use Rattle.proxy_session.specs.Exchange.{Exchanges, Standing}
 use Rattle.proxy_session.specs.Onward.{IsForwarded, host_for}
-use Rattle.proxy_session.specs.Outside.{Grows, Upstream}
+use Rattle.line_base.specs.Dials.{Grows, Upstream}
 use Rattle.proxy_session.specs.Seeking.{Seeks, Sought}
 use Rattle.proxy_session.specs.Session.{Sessions}
 
@@ -48,9 +48,12 @@ pub record IsByteReplica (to : Replica) : Type 0 where
   pub client : AreByteLabels to.client
   pub residual : AreByteLabels to.residual
 
--- The bytes are one head and nothing behind it. It has the method of the request, the target, the framing and the host of what the request seeks, no table of a
--- client, and of the routers' tables none but the request's own
-pub record ReadsAs (head : Head) (sought : Sought) (to : Replica) (bytes : List ℕ) (read : Head) : Type 0 where
+-- The bytes are one head and nothing behind it. It has the method of the request, the target, the
+-- framing and the host of what the request seeks, no table of a client, and of the routers' tables
+-- none but the request's own
+pub record ReadsAs
+    (head : Head) (sought : Sought) (to : Replica) (bytes : List ℕ) (read : Head)
+    : Type 0 where
   pub whole : BeginsWith bytes read (length bytes)
   pub method : read.method ≡ head.method
   pub target : read.target ≡ sought.line
@@ -60,23 +63,29 @@ pub record ReadsAs (head : Head) (sought : Sought) (to : Replica) (bytes : List 
   pub no_table : values_of (codes "l5d-dtab") read.fields ≡ []
   pub table : values_of (codes "l5d-ctx-dtab") read.fields ≡ map trim_ows (table_texts sought.rules)
 
--- the head with which a request that was read goes on is read so, where it is no longer than a head may be
+-- the head with which a request that was read goes on is read so, where it is no longer than a head
+-- may be
 abbrev pub HeadsReadBack : Type 0
 HeadsReadBack =
     (rule : Rule) (head : Head) (sought : Sought) (to : Replica) (bytes : List ℕ)
-    → IsByteRule rule → WasRead head → Seeks rule head (Ok sought) → IsByteReplica to → IsForwarded head sought to bytes → length bytes ≤ most
+    → IsByteRule rule → WasRead head → Seeks rule head (Ok sought) → IsByteReplica to
+    → IsForwarded head sought to bytes → length bytes ≤ most
     → (read : Head) × ReadsAs head sought to bytes read
 
--- A replica was dialled, and what was sent to it is a head that is read so and what goes on behind it for a front of a body that is framed so, or a front of these
+-- A replica was dialled, and what was sent to it is a head that is read so and what goes on behind
+-- it for a front of a body that is framed so, or a front of these
 pub record SendsHead (rule : Rule) (head : Head) (old new : Upstream) : Type 0 where
   pub sought : Sought
   pub seeks : Seeks rule head (Ok sought)
   pub to : Replica
   pub onward : List ℕ
-  pub reads : IsByteReplica to → length onward ≤ most → (read : Head) × ReadsAs head sought to onward read
+  pub reads : IsByteReplica to → length onward ≤ most → (read : Head)
+      × ReadsAs head sought to onward read
   pub sent : List (List ℕ)
   pub got : List (List ℕ)
-  pub log : Grows old.log new.log (Dialed to.addr.ip to.addr.port ∷ (map Sent sent ++ (map Got got ++ Hung ∷ [])))
+  pub log :
+      Grows old.log new.log (Dialed to.addr.ip to.addr.port ∷
+      (map Sent sent ++ (map Got got ++ Hung ∷ [])))
   pub taken : List ℕ
   pub behind : List ℕ
   pub count : ℕ
@@ -86,18 +95,21 @@ pub record SendsHead (rule : Rule) (head : Head) (old new : Upstream) : Type 0 w
 -- in an exchange of a head that was read the dialer did nothing that its log shows, or just this
 abbrev pub ExchangesReadBack : Type 0
 ExchangesReadBack =
-    (settings : SettingsValue) (rule : Rule) (head : Head) (last : Bool) (old new : Standing) (result : Option Ended)
+    (settings : SettingsValue) (rule : Rule) (head : Head) (last : Bool) (old new : Standing)
+    (result : Option Ended)
     → IsByteRule rule → WasRead head → Exchanges settings rule head last old new result
     → Grows old.upstream.log new.upstream.log [] ⊎ SendsHead rule head old.upstream new.upstream
 
--- the bytes of a client that were read and not used yet, and those that it has yet to give, which are known
+-- the bytes of a client that were read and not used yet, and those that it has yet to give, which
+-- are known
 pub record GivesBytes (s : Standing) : Type 0 where
   pub kept : All (λ b. b < 256) s.kept
   pub left : IsSomeAnd s.line.left (All (λ b. b < 256))
 
 -- the dialer did nothing that its log shows, or just this for some request that was read
 abbrev pub Visits : Rule → Upstream → Upstream → Type 0
-Visits rule old new = Grows old.log new.log [] ⊎ ((head : Head) × WasRead head × SendsHead rule head old new)
+Visits rule old new =
+    Grows old.log new.log [] ⊎ ((head : Head) × WasRead head × SendsHead rule head old new)
 
 -- so often
 abbrev pub SendsHeads : Rule → ℕ → Upstream → Upstream → Type 0

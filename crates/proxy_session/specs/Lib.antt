@@ -1,4 +1,3 @@
-pub mod Outside
 pub mod Callers
 pub mod Asking
 pub mod Found
@@ -9,6 +8,7 @@ pub mod Heads
 pub mod Trying
 pub mod Answering
 pub mod Exchange
+pub mod Standing
 pub mod Sending
 pub mod Session
 pub mod Causes

@@ -18,7 +18,10 @@ host_for [] addr = addr_text addr
 host_for (b ∷ host) addr = b ∷ host
 
 -- these are the bytes of a request's head on this way
-pub record IsHeadTo (head : Head) (host line : List ℕ) (framing : Framing) (rules : List Rule) (service : Labels) (client residual bytes : List ℕ) : Type 0 where
+pub record IsHeadTo
+    (head : Head) (host line : List ℕ) (framing : Framing) (rules : List Rule) (service : Labels)
+    (client residual bytes : List ℕ)
+    : Type 0 where
   pub to : Going
   pub host_is : to.host.now ≡ host
   pub line_is : to.target.now ≡ line
@@ -32,4 +35,5 @@ pub record IsHeadTo (head : Head) (host line : List ℕ) (framing : Framing) (ru
 -- those of its head to a replica, for what it seeks
 abbrev pub IsForwarded : Head → Sought → Replica → List ℕ → Type 0
 IsForwarded head sought to bytes =
-    IsHeadTo head (host_for sought.host to.addr) sought.line sought.framing sought.rules sought.path (canon_path to.client) (canon_path to.residual) bytes
+    IsHeadTo head (host_for sought.host to.addr) sought.line sought.framing sought.rules sought.path
+    (canon_path to.client) (canon_path to.residual) bytes

@@ -1,7 +1,6 @@
 -- The requests of a connection, one after another.
-use Rattle.std.specs.Prelude.{◌≡◌, ◌⊎◌, ℕ, zero, suc, ◌+◌, ◌==◌, Bool, true, List, ◌++◌, Option, Some, None, Result, Ok, Err}
+use Rattle.std.specs.Prelude.{◌≡◌, ◌⊎◌, ℕ, zero, suc, ◌+◌, ◌==◌, Bool, true, List, [], Option, Some, None, Result, Ok, Err}
 use Rattle.std.specs.Io.KnownBytes.{Consumes, Keeps}
-use Rattle.rand_pcg.specs.Lcg.{Lcg}
 use Rattle.http_wire.specs.declared.ended.Ended.{Ended}
 use Rattle.http_wire.specs.declared.ended.Ended.TheVariants as ended
 use Rattle.http_wire.specs.declared.head.Head.{Head}
@@ -14,17 +13,30 @@ use Rattle.own_reply.specs.declared.error.OwnError.TheVariants as own
 use Rattle.own_reply.specs.Reply.{reply_of}
 use Rattle.proxy_session.specs.Answering.{Writes, end_behind}
 use Rattle.proxy_session.specs.Exchange.{AsksNothing, Exchanges, Standing}
-use Rattle.proxy_session.specs.Callers.{Caller}
-use Rattle.proxy_session.specs.Outside.{IsIdle, Line, Rests, Upstream}
+use Rattle.line_base.specs.Dials.{IsIdle}
+use Rattle.line_base.specs.Lines.{Line, Rests}
 
 -- the most requests of one connection
 abbrev pub most_requests : ℕ
 most_requests = 10000
 
--- a head was read, or it was seen that there is none: of the bytes that were kept and those that the client gave behind them
+-- a connection of which nothing was read yet
+abbrev pub begun : Standing → Standing
+begun s = record {
+  line = s.line;
+  kept = [];
+  upstream = s.upstream;
+  caller = s.caller;
+  moments = s.moments;
+  words = s.words;
+}
+
+-- a head was read, or it was seen that there is none: of the bytes that were kept and those that
+-- the client gave behind them
 pub record Reads (old new : Standing) (result : Result Head HeadEnd) : Type 0 where
   pub head : ReadsHead old.line.left new.line.left old.kept new.kept result
-  pub causes : HasCauses old.line.ends new.line.ends old.line.read_faults new.line.read_faults result
+  pub causes :
+      HasCauses old.line.ends new.line.ends old.line.read_faults new.line.read_faults result
   pub given : Keeps old.line.given new.line.given
   pub writes : new.line.write_faults ≡ old.line.write_faults
   pub upstream : IsIdle old.upstream new.upstream
@@ -35,7 +47,8 @@ pub record Reads (old new : Standing) (result : Result Head HeadEnd) : Type 0 wh
 -- a request: its head was read, and then it had its exchange
 abbrev pub Serves : SettingsValue → Rule → Bool → Standing → Standing → Option Ended → Type 0
 Serves settings rule last old new result =
-    (mid : Standing) × (head : Head) × Reads old mid (Ok head) × Exchanges settings rule head last mid new result
+    (mid : Standing) × (head : Head) × Reads old mid (Ok head)
+    × Exchanges settings rule head last mid new result
 
 -- a session ended with no head: the bytes of the client ended, or are none, or could not be read
 abbrev pub own_of_end : HeadEnd → Option OwnError
@@ -61,7 +74,8 @@ ended_of_end HeadEnd.TooLarge = ended.Closed
 abbrev pub AnswersEnd : Option OwnError → Line → Line → Ended → Ended → Type 0
 AnswersEnd None old new quiet result = Rests old new × (result ≡ quiet)
 AnswersEnd (Some err) old new quiet result =
-    (told : Result (Unit {0}) Ended) × Writes old new (reply_of err true true) told × (Some result ≡ end_behind (Some quiet) told)
+    (told : Result (Unit {0}) Ended) × Writes old new (reply_of err true true) told
+    × (Some result ≡ end_behind (Some quiet) told)
 
 -- no further request
 pub record EndsWithout (old new : Standing) (result : Ended) : Type 0 where
@@ -74,26 +88,31 @@ pub record EndsWithout (old new : Standing) (result : Ended) : Type 0 where
 -- so many requests were served, behind none of which the connection closed
 abbrev pub Served : SettingsValue → Rule → ℕ → Standing → Standing → Type 0
 Served settings rule zero old new = new ≡ old
-Served settings rule (suc n) old new = (mid : Standing) × Served settings rule n old mid × Serves settings rule (n + 1 == most_requests) mid new None
+Served settings rule (suc n) old new =
+    (mid : Standing) × Served settings rule n old mid
+    × Serves settings rule (n + 1 == most_requests) mid new None
 
 -- a further request, or that there is none
 abbrev pub ServesNext : SettingsValue → Rule → Bool → Standing → Standing → Option Ended → Type 0
 ServesNext settings rule last old new None = Serves settings rule last old new None
-ServesNext settings rule last old new (Some end) = EndsWithout old new end ⊎ Serves settings rule last old new (Some end)
+ServesNext settings rule last old new (Some end) =
+    EndsWithout old new end ⊎ Serves settings rule last old new (Some end)
 
--- the connection's first requests, each with its exchange, and then the one that ends the session, or that there is none
+-- the connection's first requests, each with its exchange, and then the one that ends the session,
+-- or that there is none
 abbrev pub Sessions : SettingsValue → Rule → Standing → Standing → Ended → Type 0
 Sessions settings rule old new result =
-    (n : ℕ) × (mid : Standing) × Served settings rule n old mid × ServesNext settings rule (n + 1 == most_requests) mid new (Some result)
+    (n : ℕ) × (mid : Standing) × Served settings rule n old mid
+    × ServesNext settings rule (n + 1 == most_requests) mid new (Some result)
 
--- a session: it leaves bytes that were read and not used, which are the rest; or memory was wanting before it began
-abbrev pub SessionsTo : SettingsValue → Rule → Standing → Line → Upstream → Caller → Option (List ℕ) → Lcg → Ended → Type 0
-SessionsTo settings rule old line upstream caller moments words result =
-    ((rest : List ℕ) × Sessions settings rule old (record { line = line; kept = rest; upstream = upstream; caller = caller; moments = moments; words = words }) result)
-    ⊎ (Rests old.line line × IsIdle old.upstream upstream × (caller ≡ old.caller) × (moments ≡ old.moments) × (words ≡ old.words) × (result ≡ ended.OutOfMemory))
+-- a session: it begins with no byte of its client read, whatever is kept of the connection before
+-- it
+abbrev pub SessionsTo : SettingsValue → Rule → Standing → Standing → Ended → Type 0
+SessionsTo settings rule old new result = Sessions settings rule (begun old) new result
 
--- as many requests as a connection may carry had their exchanges, and the last one closed it by being the last alone
-abbrev pub Spends : SettingsValue → Rule → Standing → Line → Upstream → Caller → Option (List ℕ) → Lcg → Type 0
-Spends settings rule old line upstream caller moments words =
-    (rest : List ℕ) × (n : ℕ) × (mid : Standing) × (n + 1 ≡ most_requests) × Served settings rule n old mid
-    × Serves settings rule true mid (record { line = line; kept = rest; upstream = upstream; caller = caller; moments = moments; words = words }) (Some ended.Spent)
+-- as many requests as a connection may carry had their exchanges, and the last one closed it by
+-- being the last alone
+abbrev pub Spends : SettingsValue → Rule → Standing → Standing → Type 0
+Spends settings rule old new =
+    (n : ℕ) × (mid : Standing) × (n + 1 ≡ most_requests) × Served settings rule n (begun old) mid
+    × Serves settings rule true mid new (Some ended.Spent)

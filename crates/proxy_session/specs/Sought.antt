@@ -10,7 +10,13 @@ use Rattle.proxy_session.specs.declared.seeking.Refusal.TheVariants.{Own, OutOfM
 use Rattle.proxy_session.specs.Seeking.{Seeks, Sought}
 
 abbrev pub sought_of : Request → Sought
-sought_of r = record { path = r.path; rules = rules_of r.local; framing = r.framing; host = r.host.items; line = r.target.line.items }
+sought_of r = record {
+  path = r.path;
+  rules = rules_of r.local;
+  framing = r.framing;
+  host = r.host.items;
+  line = r.target.line.items;
+}
 
 -- an answer that gives what is expected, but for want of memory
 abbrev pub TestedAs : Result Sought OwnError → Result Request Refusal → Type 0

@@ -13,10 +13,11 @@ ghost use Rattle.proxy_session.specs.Asking.{Finding, FindingAnew, StopsAnew, St
 ghost use Rattle.proxy_session.specs.Callers.{SeesMore, caller_of};
 ghost use Rattle.proxy_session.specs.Found.{Picks, PicksOnce, ReturnsSome, Says, Sees, StopsPick, client_in, fresh_in, picked_of, residual_in, said_in};
 
+use crate::context::Context;
 use crate::{Bytes, Mem};
 use bind_cache::Binding;
 use dtab_table::Dtab;
-use line_base::{Clock, Steps};
+use line_base::Clock;
 use machine::{Ask, Why};
 use name_tree::{Path, write_path};
 use rand_core::utils::NextWord;
@@ -26,6 +27,7 @@ use std::alloc::Global;
 use std::marker::Brand;
 use std::sync::Wait;
 use std::sync::ledger::{Blank, Ledger};
+use step_count::Steps;
 
 /// Where the texts of a replica's names are.
 #[derive(Drop)]
@@ -134,40 +136,41 @@ pub(crate) fn draw<C: Clock>(path: Path, local: Dtab, clock: &mut C, words: &mut
     }
 }
 
-/// Finds a replica: by what is kept for the ask, and else by a second ask, which works it out. What that worked out is given back, to be kept.
+/// Finds a replica: by what is kept for the ask, and else by a second ask, which works it out. What
+/// that worked out is given back, to be kept.
 pub(crate) fn find<J: Naming, R: Wait>(
-    rt: &R,
-    alloc: Global,
-    router: &Router<J>,
+    context: &Context<'_, J, R>,
     pass: &mut Pass<J>,
     ask: &Ask,
     names: &mut Names,
 ) -> Mem<Found>
-    ensures ok { IfOk result (λ f. (said : PickValue) × Finding J.settings (caller_of pass.old) (caller_of pass.new) (ask_of ask.now) said × Says said names.new f) }
-    ensures err { OnErr result (StopsAsking J.settings (caller_of pass.old) (caller_of pass.new) (ask_of ask.now)) }
+    ensures ok { IfOk result (λ f. (said : PickValue) × Finding J.settings (caller_of pass.old)
+        (caller_of pass.new) (ask_of ask.now) said × Says said names.new f) }
+    ensures err { OnErr result (StopsAsking J.settings (caller_of pass.old) (caller_of pass.new)
+        (ask_of ask.now)) }
 {
-    match peek(rt, router, pass, ask, names) {
+    match peek(context, pass, ask, names) {
         Seen::Hit(choice) => Ok(Found::Replica {
             choice,
             texts: Texts::Kept,
         }),
         Seen::None(why) => Ok(Found::None(why)),
-        Seen::Miss => find_anew(rt, alloc, router, pass, ask),
+        Seen::Miss => find_anew(context, pass, ask),
     }
 }
 
 /// Asks for what is kept, as often as it takes to be let in.
 fn peek<J: Naming, R: Wait>(
-    rt: &R,
-    router: &Router<J>,
+    context: &Context<'_, J, R>,
     pass: &mut Pass<J>,
     ask: &Ask,
     names: &mut Names,
 ) -> Seen
-    ensures { Sees J.settings (caller_of pass.old) (caller_of pass.new) (ask_of ask.now) names.new result }
+    ensures { Sees J.settings (caller_of pass.old) (caller_of pass.new) (ask_of ask.now) names.new
+        result }
 {
-    'asking: for _ in rt.forever() {
-        match router.peek(pass, ask, names) {
+    'asking: for _ in context.rt.forever() {
+        match context.router.peek(pass, ask, names) {
             Peek::Hit(choice) => return Seen::Hit(choice),
             Peek::HitNone { why, place: _ } => return Seen::None(why),
             Peek::Miss(_) => return Seen::Miss,
@@ -179,33 +182,30 @@ fn peek<J: Naming, R: Wait>(
 
 /// Finds a replica by a second ask. The names that were handed in stay as they are.
 fn find_anew<J: Naming, R: Wait>(
-    rt: &R,
-    alloc: Global,
-    router: &Router<J>,
+    context: &Context<'_, J, R>,
     pass: &mut Pass<J>,
     ask: &Ask,
 ) -> Mem<Found>
-    ensures ok { IfOk result
-        (λ f. (said : PickValue) × FindingAnew J.settings (caller_of pass.old) (caller_of pass.new) (ask_of ask.now) said ×
-        ((names : NamesOf) → Says said names f)) }
-    ensures err { OnErr result (StopsAnew J.settings (caller_of pass.old) (caller_of pass.new) (ask_of ask.now)) }
+    ensures ok { IfOk result (λ f. (said : PickValue) × FindingAnew J.settings (caller_of pass.old)
+        (caller_of pass.new) (ask_of ask.now) said × ((names : NamesOf) → Says said names f)) }
+    ensures err { OnErr result (StopsAnew J.settings (caller_of pass.old) (caller_of pass.new)
+        (ask_of ask.now)) }
 {
-    match pick(rt, alloc, router, pass, ask) {
-        Ok(picked) => keep(rt, alloc, router, pass, picked),
+    match pick(context, pass, ask) {
+        Ok(picked) => keep(context, pass, picked),
         Err(want) => Err(want),
     }
 }
 
 /// Gives back what a second ask worked out, and writes the names of the replica that it found.
 fn keep<J: Naming, R: Wait>(
-    rt: &R,
-    alloc: Global,
-    router: &Router<J>,
+    context: &Context<'_, J, R>,
     pass: &mut Pass<J>,
     picked: Picked,
 ) -> Mem<Found>
     requires { IfSome (fresh_in picked) (λ b. WasWorkedOut pass.old (kept_of b)) }
-    ensures ok { IfOk result (λ f. ReturnsSome J.settings (caller_of pass.old) (caller_of pass.new) (fresh_in picked) × ((names : NamesOf) → Says (said_in picked) names f)) }
+    ensures ok { IfOk result (λ f. ReturnsSome J.settings (caller_of pass.old) (caller_of pass.new)
+        (fresh_in picked) × ((names : NamesOf) → Says (said_in picked) names f)) }
     ensures err { OnErr result (SeesMore (caller_of pass.old) (caller_of pass.new)) }
 {
     match picked {
@@ -214,14 +214,14 @@ fn keep<J: Naming, R: Wait>(
             client,
             residual,
             fresh,
-        } => match texts_of(alloc, &client, &residual) {
-            Ok(texts) => match give_back(rt, alloc, router, pass, fresh) {
+        } => match texts_of(context.alloc, &client, &residual) {
+            Ok(texts) => match give_back(context, pass, fresh) {
                 Ok(()) => Ok(Found::Replica { choice, texts }),
                 Err(want) => Err(want),
             },
             Err(want) => Err(want),
         },
-        Picked::None { why, fresh } => match give_back(rt, alloc, router, pass, fresh) {
+        Picked::None { why, fresh } => match give_back(context, pass, fresh) {
             Ok(()) => Ok(Found::None(why)),
             Err(want) => Err(want),
         },
@@ -230,7 +230,8 @@ fn keep<J: Naming, R: Wait>(
 
 /// The texts of a replica's names.
 fn texts_of(alloc: Global, client: &Path, residual: &Path) -> Mem<Texts>
-    ensures { IfOk result (λ t. (names : NamesOf) → (client_in names t ≡ canon_path client.now) × (residual_in names t ≡ canon_path residual.now)) }
+    ensures { IfOk result (λ t. (names : NamesOf) → (client_in names t ≡ canon_path client.now)
+        × (residual_in names t ≡ canon_path residual.now)) }
 {
     Ok(Texts::Own {
         client: write_path(alloc, client)?,
@@ -240,18 +241,18 @@ fn texts_of(alloc: Global, client: &Path, residual: &Path) -> Mem<Texts>
 
 /// Asks for a replica, as often as it takes to be let in.
 fn pick<J: Naming, R: Wait>(
-    rt: &R,
-    alloc: Global,
-    router: &Router<J>,
+    context: &Context<'_, J, R>,
     pass: &mut Pass<J>,
     ask: &Ask,
 ) -> Mem<Picked>
-    ensures said { IfOk result (Picks J.settings (caller_of pass.old) (caller_of pass.new) (ask_of ask.now)) }
+    ensures said { IfOk result (Picks J.settings (caller_of pass.old) (caller_of pass.new)
+        (ask_of ask.now)) }
     ensures fresh { IfOk result (λ a. IfSome (fresh_in a) (λ b. WasWorkedOut pass.new (kept_of b))) }
-    ensures want { OnErr result (StopsPick J.settings (caller_of pass.old) (caller_of pass.new) (ask_of ask.now)) }
+    ensures want { OnErr result (StopsPick J.settings (caller_of pass.old) (caller_of pass.new)
+        (ask_of ask.now)) }
 {
-    'asking: for _ in rt.forever() {
-        match pick_once::<J, Brand>(alloc, router, pass, ask, Blank::new(1)) {
+    'asking: for _ in context.rt.forever() {
+        match pick_once::<J, Brand>(context.alloc, context.router, pass, ask, Blank::new(1)) {
             Ok(Some(picked)) => return Ok(picked),
             Ok(None) => {}
             Err(want) => return Err(want),
@@ -271,9 +272,12 @@ fn pick_once<J: Naming, L: Ledger>(
     requires name { blank.name ≡ L.name }
     requires parts { blank.parts ≡ L.parts }
     requires some { 0 < blank.parts }
-    ensures said { IfOk result (PicksOnce J.settings (caller_of pass.old) (caller_of pass.new) (ask_of ask.now)) }
-    ensures fresh { IfOk result (λ p. IfSome p (λ a. IfSome (fresh_in a) (λ b. WasWorkedOut pass.new (kept_of b)))) }
-    ensures want { OnErr result (StopsPick J.settings (caller_of pass.old) (caller_of pass.new) (ask_of ask.now)) }
+    ensures said { IfOk result (PicksOnce J.settings (caller_of pass.old) (caller_of pass.new)
+        (ask_of ask.now)) }
+    ensures fresh { IfOk result (λ p. IfSome p (λ a. IfSome (fresh_in a)
+        (λ b. WasWorkedOut pass.new (kept_of b)))) }
+    ensures want { OnErr result (StopsPick J.settings (caller_of pass.old) (caller_of pass.new)
+        (ask_of ask.now)) }
 {
     let mut steps = Steps::<L>::start(blank);
     match router.pick(alloc, pass, ask, &mut steps) {
@@ -284,20 +288,22 @@ fn pick_once<J: Naming, L: Ledger>(
 
 /// Gives back a delegation that was worked out, to be kept, if there is one.
 fn give_back<J: Naming, R: Wait>(
-    rt: &R,
-    alloc: Global,
-    router: &Router<J>,
+    context: &Context<'_, J, R>,
     pass: &mut Pass<J>,
     fresh: Option<Binding>,
 ) -> Mem<()>
     requires { IfSome fresh (λ b. WasWorkedOut pass.old (kept_of b)) }
-    ensures ok { OnOk result (ReturnsSome J.settings (caller_of pass.old) (caller_of pass.new) fresh) }
+    ensures ok { OnOk result (ReturnsSome J.settings (caller_of pass.old) (caller_of pass.new)
+        fresh) }
     ensures err { OnErr result (SeesMore (caller_of pass.old) (caller_of pass.new)) }
 {
     let Some(binding) = fresh else {
         return Ok(());
     };
-    match router.remember(rt, alloc, pass, binding) {
+    match context
+        .router
+        .remember(context.rt, context.alloc, pass, binding)
+    {
         Ok(_) => Ok(()),
         Err(want) => Err(want),
     }

@@ -45,7 +45,8 @@ fn runs_to_end(framing: Framing) -> bool
     }
 }
 
-/// Whether the connection closes behind a refusal of a request, however many requests it has carried.
+/// Whether the connection closes behind a refusal of a request, however many requests it has
+/// carried.
 pub(crate) fn own_closes(err: OwnError, head: &Head) -> bool
     ensures { result ≡ own_closes err head.now }
 {

@@ -8,7 +8,8 @@ use http_wire::{Framing, HeadEnd, ReplyHead, Rest, read_reply_head, reply_framin
 use line_base::Dialer;
 use std::alloc::Global;
 
-/// The most heads that are received for one reply: eight interim ones, which are dropped, and the final one.
+/// The most heads that are received for one reply: eight interim ones, which are dropped, and the
+/// final one.
 const MOST_HEADS: u32 = 9;
 
 /// Why no final head came.
@@ -37,24 +38,27 @@ impl HeadFault {
     }
 }
 
-/// Whether a head is one of an interim reply, which is dropped: 100, and 102 to 199. 101 would switch to another protocol.
+/// Whether a head is one of an interim reply, which is dropped: 100, and 102 to 199. 101 would
+/// switch to another protocol.
 fn is_interim(status: u16) -> bool
     ensures { result ≡ is_interim status }
 {
     status == 100 || (102 <= status && status <= 199)
 }
 
-/// Receives the final head of a reply to a request with this method, behind up to eight interim ones, and says how its body is framed.
+/// Receives the final head of a reply to a request with this method, behind up to eight interim
+/// ones, and says how its body is framed.
 pub(crate) fn receive_final<D: Dialer>(
     alloc: Global,
     method: &Method,
     dialer: &mut D,
     rest: &mut Rest,
 ) -> Result<(ReplyHead, Framing), HeadFault>
-    requires { IsTrue (D.is_open dialer.old) }
-    ensures hears { (pieces : List (List ℕ)) × LogsGot (D.log dialer.old) (D.log dialer.new) pieces
-        × Hears method.now rest.old rest.new pieces (D.faults dialer.old) (D.faults dialer.new) result }
-    ensures stays { D.is_open dialer.new ≡ D.is_open dialer.old }
+    requires { IsTrue (D.upstream dialer.old).is_open }
+    ensures hears { (pieces : List (List ℕ)) × LogsGot (D.upstream dialer.old).log
+        (D.upstream dialer.new).log pieces × Hears method.now rest.old rest.new pieces
+        (D.upstream dialer.old).faults (D.upstream dialer.new).faults result }
+    ensures stays { (D.upstream dialer.new).is_open ≡ (D.upstream dialer.old).is_open }
 {
     'heads: for dropped in 0..MOST_HEADS {
         match read_reply_head(alloc, dialer, rest) {
@@ -68,7 +72,8 @@ pub(crate) fn receive_final<D: Dialer>(
     unreachable!()
 }
 
-/// What a head is behind so many that were dropped: the final one, none that can be passed on, or one more to drop.
+/// What a head is behind so many that were dropped: the final one, none that can be passed on, or
+/// one more to drop.
 fn decide(
     method: &Method,
     dropped: u32,

@@ -1,22 +1,33 @@
 //! The requests of one connection: each goes on to a replica, and the reply goes back.
 //!
-//! [`proxy_once`] serves one request from its head on: it finds a replica for what the request seeks, by what a [`Router`](router::Router) keeps or by a delegation, holds its
-//! slot, dials it, sends the request on and passes the reply back, and reports how that went; or the router answers itself. [`serve_session`] serves all requests of a
-//! connection, one after another, up to 10,000. `docs/HTTP.md` has a table of what a client sees.
+//! A worker has a [`Server`] for all its connections: its pass to the [`Router`](router::Router), a
+//! dialer, a clock, a generator of words, and some 38 KB of [`Room`]. [`Server::proxy_once`] serves
+//! one request from its head on: it finds a replica for what the request seeks, by what the router
+//! keeps or by a delegation, holds its slot, dials it, sends the request on and passes the reply
+//! back, and reports how that went; or the router answers itself. [`Server::serve_session`] serves
+//! all requests of a [`Connection`], one after another, up to 10,000. What does not change in these
+//! calls is one [`Context`]. `docs/HTTP.md` has a table of what a client sees.
 //!
 //! # What is proved
-//! One exchange is a relation over plain lists (`Exchanges` of `specs/Exchange.antt`): what a request seeks or why it is refused (`Seeks`), how a replica is asked for
-//! (`Finding`), how it is tried (`Tries`, whose ways have a variant of `Tried` each), and how that is settled (`Settles`). A session is a list of exchanges, each with its head
-//! read off the bytes that the one before it left, and then an end (`Sessions` of `specs/Session.antt`). Both hold over any cutting of the bytes and every failing call; where
-//! memory is wanting, or a call of the client's connection fails, what was moved until then is a front of what would have been. Behind each no slot is held, and behind each try
-//! the connection to the replica is ended.
+//! One exchange is a relation over plain lists (`Exchanges` of `specs/Exchange.antt`): what a
+//! request seeks or why it is refused (`Seeks`), how a replica is asked for (`Finding`), how it is
+//! tried (`Tries`, whose ways have a variant of `Tried` each), and how that is settled (`Settles`).
+//! A session is a list of exchanges, each with its head read off the bytes that the one before it
+//! left, and then an end (`Sessions` of `specs/Session.antt`). Both hold over any cutting of the
+//! bytes and every failing call; where memory is wanting, or a call of the client's connection
+//! fails, what was moved until then is a front of what would have been. Behind each no slot is
+//! held, and behind each try the connection to the replica is ended.
 //!
-//! [`heads_that_go_on_are_read_back`] is the law that what these send of a head that was read is itself read as it was meant.
+//! [`heads_that_go_on_are_read_back`] is the law that what these send of a head that was read is
+//! itself read as it was meant.
 //!
 //! # Example
 //! ```text
 //! let rule = Rule { kind: Kind::Token(FieldName::of(..)), prefix: read_path(alloc, b"/svc")? };
-//! match serve_session(rt, alloc, &router, &mut pass, &rule, &mut peer, &mut dialer, &mut clock, &mut words, &gate, 0) {
+//! let context = Context { rt, alloc, router: &router, rule: &rule };
+//! let mut server = Server::of(Room::new(alloc)?, Parts { pass, dialer, clock, words });
+//! let mut connection = Connection::of(peer);
+//! match server.serve_session(&context, &mut connection, &gate, 0) {
 //!     Ended::PeerEnded | Ended::Closed => { /* the connection is done */ }
 //!     ..
 //! }
@@ -25,22 +36,27 @@
 
 mod answering;
 mod asking;
-mod buffers;
 mod closing;
+mod connection;
+mod context;
 mod exchange;
 mod final_head;
 mod laws;
 mod onward;
 mod refusing;
 mod reporting;
+mod room;
 mod seeking;
+mod server;
 mod session;
 mod tried;
 mod trying;
 
-pub use exchange::proxy_once;
+pub use connection::Connection;
+pub use context::Context;
 pub use laws::heads_that_go_on_are_read_back;
-pub use session::serve_session;
+pub use room::Room;
+pub use server::{Parts, Server};
 use std::alloc::AllocError;
 
 /// A value, unless there was no memory for it.

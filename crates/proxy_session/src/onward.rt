@@ -2,49 +2,103 @@
 ghost use Rattle.std.specs.Prelude.{◌≡◌, IfOk, OnOk};
 ghost use Rattle.addr_book.specs.Addr.{addr_text};
 ghost use Rattle.dtab_table.specs.Dtab.{rules_of};
+ghost use Rattle.proxy_session.specs.Found.{client_in, residual_in};
 ghost use Rattle.proxy_session.specs.Onward.{IsHeadTo, host_for};
 
+use crate::asking::Texts;
 use crate::{Bytes, Mem};
 use addr_book::{Addr, append_addr};
 use forward::{Going, forward_head_into};
 use http_wire::{Framing, Head};
 use machine::Ask;
+use router::Names;
 use std::alloc::Global;
 
-/// Puts the head of a request as it goes on to the replica at an address, whose names have these canonical texts, into `out`. Where the request names no host, it asks
-/// the address.
-pub(crate) fn onward_head(
-    alloc: Global,
-    head: &Head,
-    framing: Framing,
-    target: &[u8],
-    host: &[u8],
-    ask: &Ask,
-    addr: Addr,
-    client: &[u8],
-    residual: &[u8],
-    out: &mut Bytes,
-) -> Mem<()>
-    ensures { OnOk result (IsHeadTo head.now (host_for host.now addr) target.now framing (rules_of ask.now.local) ask.now.path client.now residual.now out.new.items) }
-{
-    if !host.is_empty() {
-        return head_to(
-            alloc, head, framing, target, host, ask, client, residual, out,
-        );
+/// A request on its way to a replica.
+#[derive(Clone, Copy)]
+pub(crate) struct Onward<'a> {
+    /// Its head.
+    pub(crate) head: &'a Head,
+    /// How its body is framed.
+    pub(crate) framing: Framing,
+    /// Its target, in the form in which it goes on.
+    pub(crate) target: &'a [u8],
+    /// Whom it asks. Empty where it names nobody.
+    pub(crate) host: &'a [u8],
+    /// What was asked for it.
+    pub(crate) ask: &'a Ask,
+}
+
+impl Onward<'_> {
+    /// Puts its head as it goes on to the replica at an address, with the texts of the replica's
+    /// names, into `out`.
+    pub(crate) fn write(
+        &self,
+        alloc: Global,
+        addr: Addr,
+        texts: &Texts,
+        names: &Names,
+        out: &mut Bytes,
+    ) -> Mem<()>
+        ensures { OnOk result (IsHeadTo self.now.head.now (host_for self.now.host.now addr)
+            self.now.target.now self.now.framing (rules_of self.now.ask.now.local)
+            self.now.ask.now.path (client_in names.now texts.now) (residual_in names.now texts.now)
+            out.new.items) }
+    {
+        match texts {
+            Texts::Kept => self.write_named(alloc, addr, names.client(), names.residual(), out),
+            Texts::Own { client, residual } => {
+                self.write_named(alloc, addr, client.as_slice(), residual.as_slice(), out)
+            }
+        }
     }
-    match address(alloc, addr.ip, addr.port) {
-        Ok(text) => head_to(
-            alloc,
-            head,
-            framing,
-            target,
-            text.as_slice(),
-            ask,
+
+    /// The same, for names of these canonical texts. Where the request names no host, it asks the
+    /// address.
+    fn write_named(
+        &self,
+        alloc: Global,
+        addr: Addr,
+        client: &[u8],
+        residual: &[u8],
+        out: &mut Bytes,
+    ) -> Mem<()>
+        ensures { OnOk result (IsHeadTo self.now.head.now (host_for self.now.host.now addr)
+            self.now.target.now self.now.framing (rules_of self.now.ask.now.local)
+            self.now.ask.now.path client.now residual.now out.new.items) }
+    {
+        if !self.host.is_empty() {
+            return self.write_to(alloc, self.host, client, residual, out);
+        }
+        match address(alloc, addr.ip, addr.port) {
+            Ok(text) => self.write_to(alloc, text.as_slice(), client, residual, out),
+            Err(want) => Err(want),
+        }
+    }
+
+    /// The same, for this host.
+    fn write_to(
+        &self,
+        alloc: Global,
+        host: &[u8],
+        client: &[u8],
+        residual: &[u8],
+        out: &mut Bytes,
+    ) -> Mem<()>
+        ensures { OnOk result (IsHeadTo self.now.head.now host.now self.now.target.now
+            self.now.framing (rules_of self.now.ask.now.local) self.now.ask.now.path client.now
+            residual.now out.new.items) }
+    {
+        let to = Going {
+            host,
+            target: self.target,
+            framing: self.framing,
+            local: &self.ask.local,
+            service: &self.ask.path,
             client,
             residual,
-            out,
-        ),
-        Err(want) => Err(want),
+        };
+        forward_head_into(alloc, self.head, &to, out)
     }
 }
 
@@ -57,30 +111,4 @@ fn address(alloc: Global, ip: u32, port: u16) -> Mem<Bytes>
         Ok(()) => Ok(text),
         Err(want) => Err(want),
     }
-}
-
-/// The same, for this host.
-fn head_to(
-    alloc: Global,
-    head: &Head,
-    framing: Framing,
-    target: &[u8],
-    host: &[u8],
-    ask: &Ask,
-    client: &[u8],
-    residual: &[u8],
-    out: &mut Bytes,
-) -> Mem<()>
-    ensures { OnOk result (IsHeadTo head.now host.now target.now framing (rules_of ask.now.local) ask.now.path client.now residual.now out.new.items) }
-{
-    let to = Going {
-        host,
-        target,
-        framing,
-        local: &ask.local,
-        service: &ask.path,
-        client,
-        residual,
-    };
-    forward_head_into(alloc, head, &to, out)
 }

@@ -18,20 +18,7 @@ pub(crate) fn write_own<P: Peer>(
     closing: bool,
     with_body: bool,
 ) -> Result<(), Ended>
-    ensures { Writes (record {
-      left = P.left peer.old;
-      given = P.given peer.old;
-      read_faults = P.read_faults peer.old;
-      write_faults = P.write_faults peer.old;
-      ends = P.ends peer.old;
-    })
-        (record {
-          left = P.left peer.new;
-          given = P.given peer.new;
-          read_faults = P.read_faults peer.new;
-          write_faults = P.write_faults peer.new;
-          ends = P.ends peer.new;
-        }) (reply_of err closing with_body) result }
+    ensures { Writes (P.line peer.old) (P.line peer.new) (reply_of err closing with_body) result }
 {
     let Ok(reply) = own_reply(alloc, err, closing, with_body) else {
         return Err(Ended::OutOfMemory);
@@ -50,21 +37,7 @@ pub(crate) fn refuse<P: Peer>(
     err: OwnError,
     peer: &mut P,
 ) -> Option<Ended>
-    ensures { Refuses err head.now last
-        (record {
-          left = P.left peer.old;
-          given = P.given peer.old;
-          read_faults = P.read_faults peer.old;
-          write_faults = P.write_faults peer.old;
-          ends = P.ends peer.old;
-        })
-        (record {
-          left = P.left peer.new;
-          given = P.given peer.new;
-          read_faults = P.read_faults peer.new;
-          write_faults = P.write_faults peer.new;
-          ends = P.ends peer.new;
-        }) result }
+    ensures { Refuses err head.now last (P.line peer.old) (P.line peer.new) result }
 {
     let closes = own_closes(err, head);
     match write_own(

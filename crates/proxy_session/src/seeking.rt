@@ -44,8 +44,8 @@ pub(crate) enum Refusal {
     OutOfMemory,
 }
 
-/// Reads what a request seeks. The tests come in this order: its target, the framing of its body, its host, the path that it names, and the table that it brings
-/// along.
+/// Reads what a request seeks. The tests come in this order: its target, the framing of its body,
+/// its host, the path that it names, and the table that it brings along.
 pub(crate) fn seek(alloc: Global, rule: &Rule, head: &Head) -> Result<Request, Refusal>
     ensures seeks { SeeksAs rule.now head.now result }
     ensures sound { IfOk result (λ r. AreSoundRules (rules_of r.local)) }
@@ -82,7 +82,8 @@ fn hosted(
 ) -> Result<Request, Refusal>
     requires other { head.now.method ≢ codes "CONNECT" }
     requires served { IsServed head.now.method head.now.target (form_of target) }
-    ensures tested { TestedAs (by_host rule.now head.now framing target.line.items (host_of head.now.version head.now.fields (form_of target).authority)) result }
+    ensures tested { TestedAs (by_host rule.now head.now framing target.line.items
+        (host_of head.now.version head.now.fields (form_of target).authority)) result }
     ensures sound { IfOk result (λ r. AreSoundRules (rules_of r.local)) }
 {
     match read_host(alloc, head, &target) {
@@ -103,7 +104,8 @@ fn identified_by(
 ) -> Result<Request, Refusal>
     requires other { head.now.method ≢ codes "CONNECT" }
     requires served { IsServed head.now.method head.now.target (form_of target) }
-    ensures tested { TestedAs (by_path head.now framing host.items target.line.items (identified rule.now head.now host.items target.line.items)) result }
+    ensures tested { TestedAs (by_path head.now framing host.items target.line.items
+        (identified rule.now head.now host.items target.line.items)) result }
     ensures sound { IfOk result (λ r. AreSoundRules (rules_of r.local)) }
 {
     match identify(alloc, rule, head, host.as_slice()) {
@@ -122,7 +124,8 @@ fn with_table(
     host: Bytes,
     path: Path,
 ) -> Result<Request, Refusal>
-    ensures tested { TestedAs (by_table framing host.items target.line.items path (local_rules head.now.fields)) result }
+    ensures tested { TestedAs (by_table framing host.items target.line.items path
+        (local_rules head.now.fields)) result }
     ensures sound { IfOk result (λ r. AreSoundRules (rules_of r.local)) }
 {
     match local_dtab(alloc, head) {

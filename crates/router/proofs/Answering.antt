@@ -1,15 +1,24 @@
--- The delegation that a pick brings along.
-use Rattle.std.proofs.Common.{◌≡◌, ℕ, List, [], Option, Some, None, Result, Ok, Err, subst}
-use Rattle.std.specs.Prelude.{IfOk, IfSome}
+-- The delegation that a pick brings along, and how a pick that had no memory leaves its pass.
+use Rattle.std.proofs.Common.{◌≡◌, ℕ, List, [], Option, Some, None, Result, Ok, Err, subst, sym, ◌∙◌, arith}
+use Rattle.std.specs.Prelude.{IfOk, OnErr, IfSome}
 use Rattle.std.proofs.lemmas.List.{append-nil}
 use mathlib.Core.List.{IsPrefix}
 use Rattle.bind_cache.specs.Stored.{kept_of}
 use Rattle.bind_cache.specs.declared.binding.Binding.{Binding}
+use Rattle.machine.specs.Choosing.{offer_of}
 use Rattle.machine.specs.Values.{SettingsValue, AskValue}
+use Rattle.router_log.specs.Call.{asked}
 use Rattle.router_log.specs.Operation.{Operation}
 use Rattle.router_log.specs.Value.{value_of}
 use Rattle.router.specs.declared.answer.Answer.{Answer}
+use Rattle.router.specs.declared.naming.Naming.{Ghosts}
+use Rattle.router.specs.declared.pass.Pass.{Pass}
+use Rattle.router.specs.Loads.{MayHaveRead}
+use Rattle.router.specs.Passes.{seen_in, taken_in, slot_in, Entered}
 use Rattle.router.specs.Picked.{IsAnswer, IsFresh, IsWorkedOut, fresh_by}
+use Rattle.router.specs.Views.{settings_by, seen_by}
+use Rattle.router.specs.Views as views
+use Rattle.router.proofs.Readers.{prefix_length}
 
 -- it was worked out in a state that is seen
 abbrev WorkedOutIn : SettingsValue → List Operation → Binding → Type 0
@@ -28,3 +37,32 @@ pub fresh_worked_out : {E : Type 0} (told settings : SettingsValue) (seen : List
     → IfOk r (IsAnswer told (value_of told seen) place ask before after) → IfOk r (λ a. IfSome (fresh_by a) (WorkedOutIn settings seen))
 fresh_worked_out told settings seen r place ask before after same is =
     answer_case settings seen r place ask before after (subst (λ (s : SettingsValue). IfOk r (IsAnswer s (value_of s seen) place ask before after)) same is)
+
+-- what stands at a fault
+pub both_err : {A E : Type 0} (r : Result A E) (X Y : Type 0) → X → OnErr r Y → OnErr r (X × Y)
+both_err (Ok a) X Y x y = tt
+both_err (Err e) X Y x y = (x, y)
+
+pub read_by_name : {A E : Type 0} (told settings : SettingsValue) (seen : List Operation) (r : Result A E) (ask : AskValue) (before after : List (ℕ × ℕ)) → told ≡ settings
+    → OnErr r (MayHaveRead (offer_of told (value_of told seen).state ask) before after) → OnErr r (MayHaveRead (offer_of settings (value_of settings seen).state ask) before after)
+read_by_name told settings seen r ask before after same is =
+    subst (λ (s : SettingsValue). OnErr r (MayHaveRead (offer_of s (value_of s seen).state ask) before after)) same is
+
+-- a pass whose reader entered for an ask
+module _ {J : Type 0} {g : Ghosts J} where
+  pub asked_entered : (old new : Pass J g) (ask : AskValue) → views.Entered old.reader new.reader (asked ask) → new.made ≡ old.made → new.kept ≡ old.kept → taken_in new ≡ taken_in old → slot_in new ≡ slot_in old
+      → Entered old new (asked ask)
+  asked_entered old new ask e made kept taken slot = record {
+    called = record {
+      before = e.before;
+      item = e.item;
+      late = prefix_length (seen_in old) (seen_in new) e.before;
+      within = omega arith;
+      stands = λ op found. absurd cc;
+    };
+    made = sym new.stands.made_is ∙ (made ∙ old.stands.made_is);
+    kept = sym new.stands.kept_is ∙ (kept ∙ old.stands.kept_is);
+    refusals = e.refused;
+    taken = taken;
+    slot = slot;
+  }

@@ -7,11 +7,10 @@ use Rattle.std.proofs.lemmas.List.Sums.{fold-append}
 use Rattle.snap_cell.specs.Legal.{AllFit as Legal}
 use Rattle.machine.specs.Code.{settings_of, change_of, ready_of}
 use Rattle.machine.specs.Values.{SettingsValue, StateValue}
-use Rattle.machine.specs.Values.{AskValue, LookValue}
+use Rattle.machine.specs.Values.{AskValue}
 use Rattle.machine.specs.declared.settings.Settings.{Settings}
 use Rattle.machine.specs.declared.reply.Reply.{Reply}
 use Rattle.machine.specs.Code.{reply_value}
-use Rattle.machine.specs.Looking.{look_of}
 use Rattle.machine.specs.Choosing.{offer_of}
 use Rattle.machine.specs.State.{report_refusal}
 use Rattle.addr_book.specs.declared.addr.Addr.{Addr}
@@ -27,13 +26,14 @@ use Rattle.router_log.proofs.Places.{place_is}
 use Rattle.router_log.proofs.Taking.{change_taken, kept_taken}
 use Rattle.router.specs.declared.update.Update.{Update}
 use Rattle.router.specs.declared.update.Update.TheVariants as update
-use Rattle.router.specs.declared.answer.Answer.{Answer}
+use Rattle.router.specs.declared.detached.Detached.{Detached}
+use Rattle.router.specs.declared.picking.Found.{Found}
+use Rattle.router.specs.Detached.{IsOut, IsFound}
 use Rattle.router.specs.declared.answer.Peek.{Peek}
 use Rattle.router.specs.declared.names.Names.{Names}
 use Rattle.router.specs.Peeked.{IsPeek}
 use Rattle.router.specs.declared.current.Current.{Current}
 use Rattle.router.specs.Loads.{MayHaveRead}
-use Rattle.router.specs.Picked.{IsAnswer, is_kept_for}
 use Rattle.router.specs.Update.{operation_of, operations_of, taking, taken_in, UpdateFits, AllUpdatesFit}
 use Rattle.router.specs.Values.{settings_in, value_in, IsEmpty}
 use Rattle.router.specs.Whole.{Shown, with_update, shown_by, value_shown, whole_of}
@@ -147,27 +147,24 @@ module _ (v o : Current) (seen : List Update) (empty : IsEmpty o) (is : shown_by
         (subst (λ (s : SettingsValue). P s (value_in v)) entered_settings
         (subst (λ (x : Current). P (settings_in x) (value_in x)) same p)))
 
-    pub told_reply : {E : Type 0} (r : Result Reply E) (asks : LookValue) → IfOk r (λ reply. reply_value reply ≡ look_of (settings_in c) (value_in c).state asks)
-        → IfOk r (λ reply. reply_value reply ≡ look_of (settings_in o) (value_of (settings_in o) (operations_of seen')).state asks)
-    told_reply r asks told = told_of (λ s w. IfOk r (λ reply. reply_value reply ≡ look_of s w.state asks)) told
+    pub told_out : {E : Type 0} (r : Result Detached E) → IfOk r (IsOut (settings_in c) (value_in c).state)
+        → IfOk r (IsOut (settings_in o) (value_of (settings_in o) (operations_of seen')).state)
+    told_out r told = told_of (λ s w. IfOk r (IsOut s w.state)) told
 
-    pub told_answer : {E : Type 0} (r : Result Answer E) (place : ℕ) (ask : AskValue) (before after : List (ℕ × ℕ)) → place ≡ (value_in c).state.place
-        → IfOk r (IsAnswer (settings_in c) (value_in c) (value_in c).state.place ask before after)
-        → IfOk r (IsAnswer (settings_in o) (value_of (settings_in o) (operations_of seen')) place ask before after)
-    told_answer r place ask before after at told =
-        told_of (λ s w. IfOk r (IsAnswer s w place ask before after))
-        (subst (λ (n : ℕ). IfOk r (IsAnswer (settings_in c) (value_in c) n ask before after)) (sym at) told)
+    pub told_found : {E : Type 0} (r : Result Found E) (place : ℕ) (ask : AskValue) (before after : List (ℕ × ℕ)) → place ≡ (value_in c).state.place
+        → IfOk r (IsFound (settings_in c) (value_in c) (value_in c).state.place ask before after)
+        → IfOk r (IsFound (settings_in o) (value_of (settings_in o) (operations_of seen')) place ask before after)
+    told_found r place ask before after at told =
+        told_of (λ s w. IfOk r (IsFound s w place ask before after))
+        (subst (λ (n : ℕ). IfOk r (IsFound (settings_in c) (value_in c) n ask before after)) (sym at) told)
 
-    pub told_read : {E : Type 0} (r : Result Answer E) (ask : AskValue) (before after : List (ℕ × ℕ)) → OnErr r (MayHaveRead (offer_of (settings_in c) (value_in c).state ask) before after)
+    pub told_read : {A E : Type 0} (r : Result A E) (ask : AskValue) (before after : List (ℕ × ℕ)) → OnErr r (MayHaveRead (offer_of (settings_in c) (value_in c).state ask) before after)
         → OnErr r (MayHaveRead (offer_of (settings_in o) (value_of (settings_in o) (operations_of seen')).state ask) before after)
     told_read r ask before after told = told_of (λ s w. OnErr r (MayHaveRead (offer_of s w.state ask) before after)) told
 
     pub told_success : (r : Option Reply) (addr : Addr) → option_map reply_value r ≡ report_refusal (value_in c).state addr true
         → option_map reply_value r ≡ report_refusal (value_of (settings_in o) (operations_of seen')).state addr true
     told_success r addr told = told_of (λ s w. option_map reply_value r ≡ report_refusal w.state addr true) told
-
-    pub told_steps : (ask : AskValue) (old new : ℕ) → (is_kept_for (value_in c) ask ≡ true → new ≡ old) → is_kept_for (value_of (settings_in o) (operations_of seen')) ask ≡ true → new ≡ old
-    told_steps ask old new told = told_of (λ s w. is_kept_for w ask ≡ true → new ≡ old) told
 
     pub told_peek : (p : Peek) (place : ℕ) (ask : AskValue) (before after : List (ℕ × ℕ)) (names : Names) → place ≡ (value_in c).state.place
         → IsPeek (settings_in c) (value_in c) (value_in c).state.place ask before after names p

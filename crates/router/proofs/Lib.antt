@@ -4,6 +4,7 @@ pub mod BytesRoom
 pub mod Calling
 pub mod Closing
 pub mod Crossing
+pub mod Detaching
 pub mod Entering
 pub mod Finding
 pub mod LoadsRead

@@ -1,6 +1,6 @@
 -- Trees, tables of rules, and what paths come to may go to other threads, and be shared by them. Trees and bound branches lead back to themselves: each layer of them is shown so
 -- where what lies in it is.
-use denote.Param.Send.{IsSend, IsSync, sendable}
+use denote.Param.Send.{IsSend, IsSync, sendable, view_send, view_sync}
 use denote.Param.SendFields.{as_row_send, as_row_sync, declared_send, declared_sync, variants_send, variants_sync}
 use denote.Hole.FixSend.{Sends, Syncs, fix_send, fix_sync}
 use Rattle.std.proofs.Crossing.{crosses}
@@ -18,6 +18,8 @@ use Rattle.addr_book.proofs.leaf.Leaf.TheSendSync as leaf
 use Rattle.dtab_table.below.dtab_index.proofs.index.Index.TheSendSync as index
 use Rattle.dtab_table.specs.contracts.dtab.Dtab as Dtab
 use Rattle.dtab_table.specs.contracts.entry.Entry as Entry
+use Rattle.dtab_table.specs.contracts.parts.Parts as Parts
+use Rattle.dtab_table.specs.contracts.parts.Parts.TheInside as Inside
 use Rattle.dtab_table.proofs.prefix.Prefix.TheSendSync as prefix
 use Rattle.bind_core.specs.contracts.outcome.Outcome as Outcome
 
@@ -71,11 +73,19 @@ entry_send = declared_send Entry.the_type (prefix.the_send, (tree_send, tt))
 entry_sync : IsSync Entry.the_row
 entry_sync = declared_sync Entry.the_type (prefix.the_sync, (tree_sync, tt))
 
+parts_send : IsSend Parts.the_row
+parts_send = view_send Inside.the_row _ _ _ _
+    (declared_send Inside.the_type (search (as_row_send, entry_send, crosses) depth 40, (search (as_row_send, tree_send, crosses, sendable) depth 40, (index.the_send, tt))))
+
+parts_sync : IsSync Parts.the_row
+parts_sync = view_sync Inside.the_row _ _ _ _
+    (declared_sync Inside.the_type (search (as_row_sync, entry_sync, crosses) depth 40, (search (as_row_sync, tree_sync, crosses, sendable) depth 40, (index.the_sync, tt))))
+
 pub dtab_send : IsSend Dtab.the_row
-dtab_send = declared_send Dtab.the_type (search (as_row_send, entry_send, crosses) depth 40, (index.the_send, tt))
+dtab_send = declared_send Dtab.the_type (search (as_row_send, parts_send, parts_sync, crosses, sendable) depth 40, tt)
 
 pub dtab_sync : IsSync Dtab.the_row
-dtab_sync = declared_sync Dtab.the_type (search (as_row_sync, entry_sync, crosses) depth 40, (index.the_sync, tt))
+dtab_sync = declared_sync Dtab.the_type (search (as_row_sync, parts_send, parts_sync, crosses, sendable) depth 40, tt)
 
 -- ---- outcomes
 bound_sends : (i : bound_members) → Sends bound.ring i

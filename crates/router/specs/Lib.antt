@@ -2,6 +2,7 @@ pub mod Asking
 pub mod Changing
 pub mod Chosen
 pub mod Closing
+pub mod Detached
 pub mod Loads
 pub mod Names
 pub mod Opening

@@ -8,6 +8,7 @@ ghost use Rattle.machine.specs.Looking.{look_of};
 ghost use Rattle.router_log.specs.Call.{looked, asked};
 ghost use Rattle.router_log.specs.Operation.{place_of};
 ghost use Rattle.router_log.specs.Value.{value_of};
+ghost use Rattle.router.specs.Detached.{IsFound, IsOut};
 ghost use Rattle.router.specs.Loads.{MayHaveRead};
 ghost use Rattle.router.specs.Peeked.{IsPeek};
 ghost use Rattle.router.specs.Picked.{IsAnswer, is_kept_for};
@@ -17,17 +18,42 @@ use crate::Mem;
 use crate::answer::{Answer, Peek};
 use crate::call::Call;
 use crate::current::Current;
+use crate::detached::Detached;
 use crate::names::Names;
+use crate::picking::Found;
 use crate::update::Update;
-use line_base::Steps;
 use load_words::{LoadSeat, Loads};
 use machine::{Ask, Look, Reply};
 use snap_cell::Reader;
 use std::alloc::Global;
 use std::snapshot::Snapshot;
 use std::sync::ledger::Ledger;
+use step_count::Steps;
 
-/// Enters, and answers a look at that point: the place there, and the reply. `None` where the reader is not let in.
+/// Enters for a look, and takes the state out of the value at that point: the place there, and the
+/// state. `None` where the reader is not let in.
+fn detach_through(
+    reader: &mut Reader<Current, Update, Call>,
+    alloc: Global,
+    look: &Look,
+) -> Option<(u64, Mem<Detached>)>
+    requires empty { BeganEmpty reader.old }
+    ensures entered { IfSome result (λ r. Entered reader.old reader.new (looked (look_value look.now))) }
+    ensures place { IfSome result (λ r. r.0 ≡ place_of (seen_by reader.new)) }
+    ensures detached { IfSome result (λ r. IfOk r.1 (IsOut (settings_by reader.old)
+        (value_of (settings_by reader.old) (seen_by reader.new)).state)) }
+    ensures there { IfSome result (λ r. IsThere reader.new) }
+    ensures none { IfNone result (Refused reader.old reader.new) }
+{
+    let call = Call::Looked(Snapshot::of(look));
+    let guard = reader.enter(Some(Snapshot::of(&call)))?;
+    let current = guard.get();
+    Some((current.place(), current.detach(alloc)))
+}
+
+/// Enters, and answers a look at that point: the place there, and the reply. `None` where the reader is
+/// not let in. The reply is worked out once the reader has left.
+#[tactic(auto, using(crate::proofs::Detaching::look_out))]
 pub(crate) fn look_through<L: Ledger>(
     reader: &mut Reader<Current, Update, Call>,
     alloc: Global,
@@ -41,12 +67,48 @@ pub(crate) fn look_through<L: Ledger>(
     ensures there { IfSome result (λ r. IsThere reader.new) }
     ensures none { IfNone result (Refused reader.old reader.new) }
 {
-    let call = Call::Looked(Snapshot::of(look));
-    let guard = reader.enter(Some(Snapshot::of(&call)))?;
-    Some(guard.get().look(alloc, look, steps))
+    let (place, detached) = detach_through(reader, alloc, look)?;
+    match detached {
+        Ok(detached) => Some((place, detached.look(alloc, look, steps))),
+        Err(want) => Some((place, Err(want))),
+    }
 }
 
-/// Enters, and answers a pick at that point: the place there, and the answer. `None` where the reader is not let in.
+/// Enters, and gives what a pick finds at that point: the place there, and the answer by what is kept, or
+/// the state. `None` where the reader is not let in.
+fn find_through(
+    reader: &mut Reader<Current, Update, Call>,
+    alloc: Global,
+    ask: &Ask,
+    loads: &Loads,
+    seat: &mut LoadSeat,
+) -> Option<(u64, Mem<Found>)>
+    requires empty { BeganEmpty reader.old }
+    requires seat { IsOf loads.now seat.old }
+    ensures entered { IfSome result (λ r. Entered reader.old reader.new (asked (ask_of ask.now))) }
+    ensures place { IfSome result (λ r. r.0 ≡ place_of (seen_by reader.new)) }
+    ensures found { IfSome result (λ r. IfOk r.1 (IsFound (settings_by reader.old)
+        (value_of (settings_by reader.old) (seen_by reader.new)) r.0 (ask_of ask.now)
+        (reads_of seat.old) (reads_of seat.new))) }
+    ensures err { IfSome result (λ r. OnErr r.1 (MayHaveRead (offer_of (settings_by reader.old)
+        (value_of (settings_by reader.old) (seen_by reader.new)).state (ask_of ask.now))
+        (reads_of seat.old) (reads_of seat.new))) }
+    ensures there { IfSome result (λ r. IsThere reader.new) }
+    ensures none { IfNone result (Refused reader.old reader.new) }
+    ensures unread { IfNone result (seat.new ≡ seat.old) }
+    ensures seat { IsOf loads.now seat.new }
+    ensures taken { taken_of seat.new ≡ taken_of seat.old }
+    ensures slot { slot_of seat.new ≡ slot_of seat.old }
+{
+    let call = Call::Asked(Snapshot::of(ask));
+    let guard = reader.enter(Some(Snapshot::of(&call)))?;
+    let current = guard.get();
+    Some((current.place(), current.pick(alloc, ask, loads, seat)))
+}
+
+/// Enters, and answers a pick at that point: the place there, and the answer. `None` where the reader is
+/// not let in. Where nothing is kept for the pick, it is delegated once the reader has left.
+#[tactic(auto, using(crate::proofs::Detaching::pick_out, crate::proofs::Detaching::read_out, crate::proofs::Detaching::steps_out))]
 pub(crate) fn pick_through<L: Ledger>(
     reader: &mut Reader<Current, Update, Call>,
     alloc: Global,
@@ -69,9 +131,14 @@ pub(crate) fn pick_through<L: Ledger>(
     ensures taken { taken_of seat.new ≡ taken_of seat.old }
     ensures slot { slot_of seat.new ≡ slot_of seat.old }
 {
-    let call = Call::Asked(Snapshot::of(ask));
-    let guard = reader.enter(Some(Snapshot::of(&call)))?;
-    Some(guard.get().pick(alloc, ask, loads, seat, steps))
+    let (place, found) = find_through(reader, alloc, ask, loads, seat)?;
+    match found {
+        Ok(Found::Kept(answer)) => Some((place, Ok(answer))),
+        Ok(Found::Nothing(detached)) => {
+            Some((place, detached.pick(alloc, ask, loads, seat, steps)))
+        }
+        Err(want) => Some((place, Err(want))),
+    }
 }
 
 /// Enters, and answers a pick at that point by what is kept there: the place, and the answer. `None` where the reader is not let in.

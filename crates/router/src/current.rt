@@ -4,13 +4,13 @@ ghost use Rattle.std.specs.Arc.{arc_value};
 ghost use Rattle.std.specs.Coded.{Coded-set};
 ghost use Rattle.bind_core.specs.Outcome.{ending_of};
 ghost use Rattle.dtab_table.specs.Dtab.{rules_of};
-ghost use Rattle.machine.specs.Code.{settings_of, state_of, change_of, ready_of, look_value, reply_value};
+ghost use Rattle.machine.specs.Code.{settings_of, state_of, change_of, ready_of};
 ghost use Rattle.machine.specs.Ready.{absorbed};
 ghost use Rattle.bind_cache.specs.Bindings.{bindings_of};
 ghost use Rattle.bind_cache.specs.Stored.{kept_of};
 ghost use Rattle.bind_cache.specs.Cache.{found_in, kept_in, after_service};
 ghost use Rattle.ns_store.specs.Store.{contents_of};
-ghost use Rattle.machine.specs.Looking.{space_rules, look_of};
+ghost use Rattle.machine.specs.Looking.{space_rules};
 ghost use Rattle.std.specs.FinMap.{get, contains_key};
 ghost use Rattle.router_log.specs.Codes.{coded_value};
 ghost use Rattle.router_log.specs.Value.{untouched_by, retold};
@@ -18,13 +18,13 @@ ghost use Rattle.router_log.specs.Taking.{may_stand};
 ghost use Rattle.router.specs.Update.{updates_in, taken_in, UpdateFits};
 
 use crate::Mem;
+use crate::detached::Detached;
 use crate::update::{Past, Update};
 use bind_cache::Cache;
 use bind_core::Outcome;
 use dtab_table::Dtab;
 use left_right::Absorb;
-use line_base::Steps;
-use machine::{Look, Reply, Settings, State};
+use machine::{Settings, State};
 use name_tree::Path;
 use router_log::{take_change, take_kept};
 use snap_cell::Published;
@@ -32,7 +32,6 @@ use std::alloc::{AllocError, Global};
 use std::mem;
 use std::snapshot::Snapshot;
 use std::sync::Arc;
-use std::sync::ledger::Ledger;
 
 /// One copy of the value. It is what the updates that it took in come to, from nothing.
 #[derive(Drop)]
@@ -48,6 +47,7 @@ pub struct Current {
 impl Current {
     ghost use Rattle.std.specs.FinMap as fin;
     ghost use Rattle.router_log.specs.Value.{opening_value};
+    ghost use Rattle.router.specs.Detached.{IsOut};
     ghost use Rattle.router.specs.Values.{settings_in, value_in};
 
     /// The value in which nothing was changed and nothing is kept.
@@ -78,18 +78,22 @@ impl Current {
         &self.state
     }
 
-    /// The place of this value, and the answer to a look at it.
-    pub(crate) fn look<L: Ledger>(
-        &self,
-        alloc: Global,
-        look: &Look,
-        steps: &mut Steps<L>,
-    ) -> (u64, Mem<Reply>)
-        ensures place { result.0 ≡ (value_in self.now).state.place }
-        ensures reply { IfOk result.1 (λ reply. reply_value reply ≡ look_of (settings_in self.now) (value_in self.now).state (look_value look.now)) }
+    /// The place of this value.
+    pub(crate) fn place(&self) -> u64
+        ensures { result ≡ (value_in self.now).state.place }
     {
-        let reply = self.state.answer(alloc, &self.settings, look, steps);
-        (self.state.place(), reply)
+        self.state.place()
+    }
+
+    /// The state and the settings, for what is to be worked out once the reader has left. It costs
+    /// three counts that go up by one, and a copy of the marks.
+    pub(crate) fn detach(&self, alloc: Global) -> Mem<Detached>
+        ensures { IfOk result (IsOut (settings_in self.now) (value_in self.now).state) }
+    {
+        Ok(Detached {
+            settings: Arc::try_clone(&self.settings)?,
+            state: self.state.shared(alloc)?,
+        })
     }
 
     /// What is kept for a path and a request's own table. It takes one hash of both.
@@ -110,7 +114,7 @@ impl Absorb<Update> for Current {
     fn absorb_first(&mut self, update: &Update, _other: &Current) -> Result<(), AllocError> {
         match update {
             Update::Changed { change, ready, .. } => take_change(
-                self.alloc,
+                &Dtab::empty(self.alloc),
                 &self.settings,
                 &mut self.state,
                 &mut self.cache,

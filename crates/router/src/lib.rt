@@ -36,6 +36,7 @@ mod changing;
 mod choosing;
 mod current;
 mod desk;
+mod detached;
 mod ending;
 mod loads;
 mod names;

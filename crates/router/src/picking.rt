@@ -6,6 +6,7 @@ ghost use Rattle.machine.specs.Code.{settings_of, state_of, ask_of};
 ghost use Rattle.machine.specs.Choosing.{ending_in, offer_of};
 ghost use Rattle.router_log.specs.Value.{IsRightValue};
 ghost use Rattle.router.specs.Chosen.{IsPermitted, decision_value, decision_loads};
+ghost use Rattle.router.specs.Detached.{IsFound};
 ghost use Rattle.router.specs.Loads.{MayHaveRead};
 ghost use Rattle.router.specs.Picked.{IsAnswer, IsFresh, is_kept_for, is_let_in, said_by, loads_by, place_by, fresh_by};
 ghost use Rattle.router.specs.Values.{settings_in, value_in};
@@ -14,16 +15,24 @@ use crate::Mem;
 use crate::answer::{Answer, Choice};
 use crate::choosing::{Decision, decide};
 use crate::current::Current;
+use crate::detached::Detached;
 use bind_cache::Binding;
-use bind_core::{Outcome, Wanted};
-use line_base::Steps;
+use bind_core::Outcome;
 use load_words::{LoadSeat, Loads};
 use machine::Ask;
 use std::alloc::Global;
-use std::sync::ledger::Ledger;
+
+/// What a pick finds in a value.
+#[derive(Drop)]
+pub(crate) enum Found {
+    /// A delegation is kept for it, and this is the answer.
+    Kept(Answer),
+    /// None is kept. This is the state to delegate in.
+    Nothing(Detached),
+}
 
 /// The answer that a decision stands for, without a delegation. It copies the names of the replica.
-fn answer_of(alloc: Global, decision: &Decision<'_>, place: u64) -> Mem<Answer>
+pub(crate) fn answer_of(alloc: Global, decision: &Decision<'_>, place: u64) -> Mem<Answer>
     ensures let_in { IfOk result (λ a. is_let_in a ≡ true) }
     ensures said { IfOk result (λ a. said_by a ≡ decision_value decision.now) }
     ensures loads { IfOk result (λ a. loads_by a ≡ decision_loads decision.now) }
@@ -57,7 +66,7 @@ fn answer_of(alloc: Global, decision: &Decision<'_>, place: u64) -> Mem<Answer>
 }
 
 /// The same answer, with a delegation.
-fn with_fresh(answer: Answer, binding: Binding) -> Answer
+pub(crate) fn with_fresh(answer: Answer, binding: Binding) -> Answer
     requires { is_let_in answer ≡ true }
     ensures let_in { is_let_in result ≡ true }
     ensures said { said_by result ≡ said_by answer }
@@ -88,30 +97,33 @@ fn with_fresh(answer: Answer, binding: Binding) -> Answer
 }
 
 impl Current {
-    /// The place of this value, and the answer to a pick in it. Where a delegation is kept for the ask's path and table, nothing is delegated.
-    pub(crate) fn pick<L: Ledger>(
+    /// What a pick finds in this value: the answer by what is kept for its path and table, or else the
+    /// state, to delegate in once the reader has left.
+    pub(crate) fn pick(
         &self,
         alloc: Global,
         ask: &Ask,
         loads: &Loads,
         seat: &mut LoadSeat,
-        steps: &mut Steps<L>,
-    ) -> (u64, Mem<Answer>)
+    ) -> Mem<Found>
         requires right { IsRightValue (settings_in self.now) (value_in self.now) }
         requires seat { IsOf loads.now seat.old }
         ensures seat { IsOf loads.now seat.new }
         ensures taken { taken_of seat.new ≡ taken_of seat.old }
         ensures slot { slot_of seat.new ≡ slot_of seat.old }
-        ensures place { result.0 ≡ (value_in self.now).state.place }
-        ensures answer { IfOk result.1 (IsAnswer (settings_in self.now) (value_in self.now) (value_in self.now).state.place (ask_of ask.now) (reads_of seat.old) (reads_of seat.new)) }
-        ensures steps { is_kept_for (value_in self.now) (ask_of ask.now) ≡ true → steps.new ≡ steps.old }
-        ensures err { OnErr result.1 (MayHaveRead (offer_of (settings_in self.now) (value_in self.now).state (ask_of ask.now)) (reads_of seat.old) (reads_of seat.new)) }
+        ensures found { IfOk result (IsFound (settings_in self.now) (value_in self.now)
+            (value_in self.now).state.place (ask_of ask.now) (reads_of seat.old) (reads_of seat.new)) }
+        ensures err { OnErr result (MayHaveRead
+            (offer_of (settings_in self.now) (value_in self.now).state (ask_of ask.now))
+            (reads_of seat.old) (reads_of seat.new)) }
     {
-        let answer = match self.find(&ask.path, &ask.local) {
-            Some(outcome) => self.pick_kept(alloc, outcome, ask, loads, seat),
-            None => self.pick_anew(alloc, ask, loads, seat, steps),
-        };
-        (self.state().place(), answer)
+        match self.find(&ask.path, &ask.local) {
+            Some(outcome) => {
+                let answer = self.pick_kept(alloc, outcome, ask, loads, seat)?;
+                Ok(Found::Kept(answer))
+            }
+            None => Ok(Found::Nothing(self.detach(alloc)?)),
+        }
     }
 
     /// Answers a pick by an outcome that is kept for it.
@@ -133,45 +145,6 @@ impl Current {
         ensures err { OnErr result (MayHaveRead (offer_of (settings_in self.now) (value_in self.now).state (ask_of ask.now)) (reads_of seat.old) (reads_of seat.new)) }
     {
         let decision = decide(self.state(), self.settings(), outcome, ask, loads, seat);
-        answer_of(alloc, &decision, self.state().place())
-    }
-
-    /// Answers a pick by a delegation, which it gives too.
-    fn pick_anew<L: Ledger>(
-        &self,
-        alloc: Global,
-        ask: &Ask,
-        loads: &Loads,
-        seat: &mut LoadSeat,
-        steps: &mut Steps<L>,
-    ) -> Mem<Answer>
-        requires new { is_kept_for (value_in self.now) (ask_of ask.now) ≡ false }
-        requires seat { IsOf loads.now seat.old }
-        ensures seat { IsOf loads.now seat.new }
-        ensures taken { taken_of seat.new ≡ taken_of seat.old }
-        ensures slot { slot_of seat.new ≡ slot_of seat.old }
-        ensures answer { IfOk result (IsAnswer (settings_in self.now) (value_in self.now) (value_in self.now).state.place (ask_of ask.now) (reads_of seat.old) (reads_of seat.new)) }
-        ensures err { OnErr result (MayHaveRead (offer_of (settings_in self.now) (value_in self.now).state (ask_of ask.now)) (reads_of seat.old) (reads_of seat.new)) }
-    {
-        let place = self.state().place();
-        let delegated = self.state().delegate(
-            alloc,
-            self.settings(),
-            &ask.path,
-            &ask.local,
-            Wanted::Asked,
-            steps,
-        )?;
-        let decision = decide(
-            self.state(),
-            self.settings(),
-            &delegated.outcome,
-            ask,
-            loads,
-            seat,
-        );
-        let answer = answer_of(alloc, &decision, place)?;
-        let fresh = Binding::of(alloc, &ask.path, &ask.local, delegated, place)?;
-        Ok(with_fresh(answer, fresh))
+        answer_of(alloc, &decision, self.place())
     }
 }

@@ -9,12 +9,12 @@ use crate::desk::Desk;
 use crate::names::Names;
 use crate::naming::Naming;
 use crate::pass::Pass;
-use line_base::Steps;
 use load_words::Loads;
 use machine::{Ask, Look};
 use std::alloc::Global;
 use std::sync::Mutex;
 use std::sync::ledger::Ledger;
+use step_count::Steps;
 
 /// The router.
 pub struct Router<J: Naming> {

@@ -15,24 +15,28 @@ use bind_cache::Cache;
 use dtab_table::Dtab;
 use machine::{Change, Ready, Settings, State};
 use ns_store::Store;
-use std::alloc::{AllocError, Global};
+use std::alloc::AllocError;
 
 /// A value, unless there was no memory for it.
 type Mem<T> = Result<T, AllocError>;
 
-/// Takes in a prepared change: the state absorbs it, and the cache drops exactly what it touches. An `Err` changes nothing.
+/// Takes in a prepared change: the state absorbs it, and the cache drops exactly what it touches. An
+/// `Err` changes nothing. It takes no memory: `none`, a table without entries, stands for that of a
+/// namespace that is not there.
 ///
-/// Beside the absorbing, a change of the first namespace's table compares the tables before and after, and then each path that was looked up for
-/// a kept delegation with the rules between which they differ; a service that is added or removed costs a look at each such path; any other change costs
-/// nothing.
+/// Beside the absorbing, a change of the first namespace's table compares the tables before and
+/// after, and then each path that was looked up for a kept delegation with the rules between which
+/// they differ; a service that is added or removed costs a look at each such path; any other change
+/// costs nothing.
 pub fn take_change(
-    alloc: Global,
+    none: &Dtab,
     settings: &Settings,
     state: &mut State,
     cache: &mut Cache,
     change: &Change,
     ready: &Ready,
 ) -> Mem<()>
+    requires none { rules_of none.now ≡ [] }
     ensures state { OnOk result (state_of state.new ≡ absorbed (state_of state.old) (ready_of ready.now)) }
     ensures cache { OnOk result
         (bindings_of cache.new ≡ untouched_by (settings_of settings.now) (state_of state.old) (absorbed (state_of state.old) (ready_of ready.now))
@@ -40,9 +44,9 @@ pub fn take_change(
     ensures err { OnErr result ((state_of state.new ≡ state_of state.old) × (bindings_of cache.new ≡ bindings_of cache.old)) }
 {
     match change {
-        Change::Create { name, .. } => take_table(alloc, settings, state, cache, name, ready),
-        Change::Put { name, .. } => take_table(alloc, settings, state, cache, name, ready),
-        Change::Delete { name, .. } => take_table(alloc, settings, state, cache, name, ready),
+        Change::Create { name, .. } => take_table(none, settings, state, cache, name, ready),
+        Change::Put { name, .. } => take_table(none, settings, state, cache, name, ready),
+        Change::Delete { name, .. } => take_table(none, settings, state, cache, name, ready),
         Change::SetAddrs { service, .. } => take_addrs(state, cache, service, ready),
         Change::DropService { service } => take_drop(state, cache, service, ready),
         Change::Report { .. } => state.absorb(ready),
@@ -62,13 +66,14 @@ fn table_in<'a>(store: &'a Store, space: &Name, none: &'a Dtab) -> &'a Dtab
 
 /// Takes in a change of a namespace's table. An `Err` changes nothing.
 fn take_table(
-    alloc: Global,
+    none: &Dtab,
     settings: &Settings,
     state: &mut State,
     cache: &mut Cache,
     name: &Name,
     ready: &Ready,
 ) -> Mem<()>
+    requires none { rules_of none.now ≡ [] }
     ensures state { OnOk result (state_of state.new ≡ absorbed (state_of state.old) (ready_of ready.now)) }
     ensures cache { OnOk result
         (bindings_of cache.new ≡ retold (settings_of settings.now) (state_of state.old) (absorbed (state_of state.old) (ready_of ready.now)) name.now
@@ -80,10 +85,9 @@ fn take_table(
     }
     let old = state.store().shared()?;
     state.absorb(ready)?;
-    let none = Dtab::empty(alloc);
     cache.touch_table(
-        table_in(&old, &settings.space, &none),
-        table_in(state.store(), &settings.space, &none),
+        table_in(&old, &settings.space, none),
+        table_in(state.store(), &settings.space, none),
     );
     Ok(())
 }

@@ -2,11 +2,11 @@
 
 use crate::asked::{created, give, hold, looked, peeked, picked, put, reported, set};
 use crate::kept::{remember, remember_after_change, remember_twice};
-use line_base::Steps;
 use router::{Naming, Pass, Router};
 use std::alloc::Global;
 use std::sync::Wait;
 use std::sync::ledger::Ledger;
+use step_count::Steps;
 
 /// One call of a scene, or a few that belong together.
 #[derive(Clone, Copy)]

@@ -6,13 +6,13 @@ ghost use Rattle.machine.specs.State.{IsSoundChange};
 use addr_book::{Addr, Name, read_addrs};
 use choose_core::Limits;
 use dtab_table::{Dtab, read_dtab};
-use line_base::Steps;
 use machine::{Ask, Change, Look, Reply, Settings};
 use name_tree::read_path;
 use router::{Answer, Choice, Looked, Names, Naming, Pass, Peek, Router};
 use std::alloc::Global;
 use std::sync::Wait;
 use std::sync::ledger::Ledger;
+use step_count::Steps;
 
 fn name(alloc: Global, text: &str) -> Option<Name> {
     Name::of(alloc, text.as_bytes()).ok()

@@ -7,11 +7,11 @@ ghost use Rattle.router.specs.Passes.{seen_in};
 
 use crate::asked::{ask, created};
 use bind_cache::Binding;
-use line_base::Steps;
 use router::{Answer, Naming, Pass, Remembered, Router};
 use std::alloc::Global;
 use std::sync::Wait;
 use std::sync::ledger::Ledger;
+use step_count::Steps;
 
 /// The delegation that a pick for `/svc/web` worked out, where none was kept.
 fn fresh<J: Naming, L: Ledger>(

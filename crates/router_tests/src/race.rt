@@ -6,7 +6,6 @@ ghost use Rattle.router.specs.Values.{settings_in};
 
 use crate::asked::{ask, created, picked, put, set, settings};
 use crate::stage::ended;
-use line_base::Steps;
 use machine::Ask;
 use router::{Answer, Naming, Opened, Pass, Router, open};
 use std::alloc::Global;
@@ -17,6 +16,7 @@ use std::sync::atomic::{AtomicU32, Ordering};
 use std::sync::ledger::{Blank, Ledger};
 use std::thread;
 use std::thread::Threads;
+use step_count::Steps;
 
 /// How many tables the writer puts.
 const TABLES: u64 = 500;

@@ -6,13 +6,13 @@ ghost use Rattle.router.specs.Values.{settings_in};
 
 use crate::acts::{Act, answer};
 use crate::asked::settings;
-use line_base::Steps;
 use router::{Naming, Opened, Pass, Router, open};
 use std::alloc::Global;
 use std::marker::Brand;
 use std::process::Abort;
 use std::sync::Wait;
 use std::sync::ledger::{Blank, Ledger};
+use step_count::Steps;
 
 /// One call of a scene: the number of the caller's pass, the call, and its answer.
 pub type Row = (usize, Act, &'static str);

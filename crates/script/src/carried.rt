@@ -13,10 +13,10 @@ use crate::reply::Said;
 use addr_book::Name;
 use choose_core::Limits;
 use dtab_table::Dtab;
-use line_base::Steps;
 use machine::{Change, Reply, Settings, State};
 use std::alloc::{AllocError, Global};
 use std::sync::ledger::Ledger;
+use step_count::Steps;
 
 /// The namespace of scripts.
 pub(crate) fn default_name(alloc: Global) -> Mem<Name>

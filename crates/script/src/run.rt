@@ -10,13 +10,13 @@ use crate::carried::default_name;
 use crate::reply::{append_number, numbered};
 use crate::turn::{Turn, next_turn};
 use crate::{Bytes, Mem};
-use line_base::Steps;
 use machine::{Ask, Change, Chosen, Settings, State};
 use rand_core::SeedableRng;
 use rand_pcg::Pcg64;
 use std::alloc::Global;
 use std::marker::Brand;
 use std::sync::ledger::{Blank, Ledger};
+use step_count::Steps;
 use turn_parts::first_table;
 
 /// How a run stands.

@@ -14,7 +14,7 @@ use Rattle.router.specs.declared.naming.Naming.{Ghosts}
 use Rattle.router.specs.declared.pass.Pass.{Pass}
 use Rattle.router.specs.Closing.{IsClosed, IsOf, numbers_of}
 use Rattle.router.proofs.Closing.{map_length}
-use Rattle.proxy_session.specs.Outside.{Line}
+use Rattle.line_base.specs.Lines.{Line}
 use Rattle.serving.specs.declared.running.Served.{Served}
 use Rattle.serving.specs.declared.site.Site.{Site}
 use Rattle.serving.specs.Ending.{HasServed}

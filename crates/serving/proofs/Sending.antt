@@ -18,6 +18,7 @@ use Rattle.serving.specs.contracts.job.ApiJob as ApiJob
 use Rattle.serving.specs.contracts.job.ProxyJob as ProxyJob
 use Rattle.serving.specs.contracts.job.ServingJob as ServingJob
 use Rattle.serving.specs.contracts.proxy.ProxyServer as ProxyServer
+use Rattle.proxy_session.proofs.Crossing.{server_send}
 use Rattle.router.proofs.Crossing.{pass_send, router_sync}
 
 own_send : (T : RattleType) → IsSend T → IsSend (as_row (row_field T))
@@ -34,16 +35,7 @@ module _ (a : NamedLft) (J L D C S : RattleType) (n : naming.Ghosts J.Denot) (l 
       shared_send a (Router.the_row J n l) tt (router_sync J n l j),
       (
         shared_send a Rule.the_row tt rule.the_sync,
-        (
-          pass_send J n l j,
-          (
-            own_send D d,
-            (
-              own_send C c,
-              (search (as_row_send, sendable, crosses) depth 40, (search sendable, tt)),
-            ),
-          ),
-        ),
+        (server_send J D C n l j d c, (search sendable, tt)),
       ),
     ),
   )

@@ -20,7 +20,8 @@ use Rattle.router.specs.declared.pass.Pass.{Pass}
 use Rattle.router.specs.Passes.{number_in}
 use Rattle.router.specs.Closing.{numbers_of}
 use Rattle.proxy_session.specs.Callers.{caller_of}
-use Rattle.proxy_session.specs.Outside.{Line, Upstream}
+use Rattle.line_base.specs.Dials.{Upstream}
+use Rattle.line_base.specs.Lines.{Line}
 use Rattle.admin_api.specs.declared.serving.Which.{Which}
 use Rattle.admin_api.specs.declared.serving.Which.TheVariants.{Namerd, Admin}
 use Rattle.serving.specs.declared.job.ApiJob.{ApiJob}
@@ -29,7 +30,7 @@ use Rattle.serving.specs.declared.job.ServingJob.{ServingJob}
 use Rattle.serving.specs.declared.job.ServingJob.TheVariants as job
 use Rattle.serving.specs.declared.site.Site.{Site}
 use Rattle.serving.specs.Interfaces.{AnswersNext, standing_of}
-use Rattle.serving.specs.Jobs.{ComeBack, IsApiPosted, IsPosted, IsProxyPosted, Runs, RunsApi, RunsProxy, ended_of, going_of, lacked_of, pass_of, passes_of_jobs}
+use Rattle.serving.specs.Jobs.{ComeBack, IsApiPosted, IsPosted, IsProxyPosted, Runs, RunsApi, RunsProxy, ended_of, going_of, lacked_of, pass_of, passes_of_jobs, stops_behind}
 use Rattle.serving.specs.Posts.{Post, clients, interface, client_post, interface_post, posts_at, posts_of}
 use Rattle.serving.specs.Returning.{all_ended, is_broken, with_stops}
 use Rattle.serving.specs.Running.{HasRun}
@@ -59,7 +60,7 @@ module _ {J L D C S P : Type 0} {g : Ghosts J} (line_of : P → Line) (state : L
     (moments : Option (List ℕ)) (told : Option (Returns P)) where
   abbrev shift_of : List (P × P) → ServingJob J L D C S g → ServingJob J L D C S g → Shift J P g
   shift_of served old new =
-      record { before = pass_of old; behind = pass_of new; served = served; ended = ended_of state (λ (d : D). (upstream d).log) calls new; lacked_memory = lacked_of new }
+      record { before = pass_of old; behind = pass_of new; served = served; ended = ended_of state upstream calls new; lacked_memory = lacked_of new }
 
   with_sessions : (endpoint : Endpoint) (seed : ℕ) (old new : ProxyJob J L D C S g) (end : Accepting) → IsProxyPosted state upstream to_come calls rule moments told endpoint seed old
       → (runs : RunsProxy line_of state upstream to_come calls old new end) → nat_le 100 (state new.listener).run ≡ false
@@ -69,22 +70,22 @@ module _ {J L D C S P : Type 0} {g : Ghosts J} (line_of : P → Line) (state : L
       let closed = tended told endpoint s (state old.listener) end posted.listener runs.lends runs.ends whole runs.number in
       let final = going_of upstream to_come new.server in
       let By : Rule → Going → Type 0 = λ r first. ServesEach (λ a p q b. Attends g.settings r a (line_of p) (line_of q) b) first runs.served final in
-      let start : Lcg → Bool → Going = λ w lacked. record { upstream = upstream old.server.dialer; caller = caller_of old.server.pass; moments = to_come old.server.clock; words = w; lacked_memory = lacked } in
-      let ruled = subst (λ (r : Rule). By r (start old.server.words old.server.lacked_memory)) posted.rule_is runs.sessions in
+      let start : Lcg → Bool → Going = λ w lacked. record { upstream = upstream old.server.server.way.dialer; caller = caller_of old.server.server.pass; moments = to_come old.server.server.clock; words = w; lacked_memory = lacked } in
+      let ruled = subst (λ (r : Rule). By r (start old.server.server.words old.server.lacked_memory)) posted.rule_is runs.sessions in
       let worded = subst (λ (w : Lcg). By rule (start w old.server.lacked_memory)) posted.words ruled in
       let sessions = subst (λ (b : Bool). By rule (start (pcg64_of_seed (pcg32_seed 32 seed)) b)) posted.lacked worded in
       record {
         tended = closed.0;
-        dialer = upstream old.server.dialer;
+        dialer = upstream old.server.server.way.dialer;
         new_dialer = (posted.log, posted.hung);
-        clock = to_come old.server.clock;
+        clock = to_come old.server.server.clock;
         forked = posted.clock;
         final = final;
         sessions = sessions;
         caller = refl;
         log = refl;
         lacked = refl;
-        stops = runs.stops closed.1 ∙ posted.stops;
+        stops = runs.stops ∙ (ap (λ (e : Accepting). stops_behind e (calls old.stop)) closed.1 ∙ posted.stops);
       }
 
   answered : (which : Which) (endpoint : Endpoint) (old new : ApiJob J L S g) (end : Accepting) → IsApiPosted state calls told which endpoint old
@@ -100,7 +101,7 @@ module _ {J L D C S P : Type 0} {g : Ghosts J} (line_of : P → Line) (state : L
       let named = subst (λ (w : Which). By w (calls old.server.stop) old.server.lacked_memory runs.stopped) posted.which_is runs.connections in
       let fresh = subst (λ (n : ℕ). By which n old.server.lacked_memory runs.stopped) posted.stops named in
       let free = subst (λ (b : Bool). By which 0 b runs.stopped) posted.lacked fresh in
-      let whole_run = subst (λ (n : ℕ). By which 0 false n) (sym (runs.stops closed.1)) free in
+      let whole_run = subst (λ (n : ℕ). By which 0 false n) (sym (runs.stops ∙ ap (λ (e : Accepting). stops_behind e runs.stopped) closed.1)) free in
       (s, record { tended = closed.0; connections = whole_run; log = refl }, refl, refl, refl, refl)
 
   -- a job that was posted, and ran
@@ -109,11 +110,11 @@ module _ {J L D C S P : Type 0} {g : Ghosts J} (line_of : P → Line) (state : L
     keeps : ServesPost line_of rule moments told post shift
     before : shift.before ≡ pass_of old
     behind : shift.behind ≡ pass_of new
-    ended : shift.ended ≡ ended_of state (λ (d : D). (upstream d).log) calls new
+    ended : shift.ended ≡ ended_of state upstream calls new
     lacked : shift.lacked_memory ≡ lacked_of new
 
   one : (post : Post) (old new : ServingJob J L D C S g) (end : Accepting) → IsPosted state upstream to_come calls rule moments told post old → Runs line_of state upstream to_come calls old new end
-      → is_broken (ended_of state (λ (d : D). (upstream d).log) calls new) ≡ false → One post old new
+      → is_broken (ended_of state upstream calls new) ≡ false → One post old new
   one (clients endpoint seed) (job.Proxy old) (job.Proxy new) end posted runs whole = record {
     shift = shift_of runs.served (job.Proxy old) (job.Proxy new);
     keeps = with_sessions endpoint seed old new end posted runs whole;
@@ -138,19 +139,19 @@ module _ {J L D C S P : Type 0} {g : Ghosts J} (line_of : P → Line) (state : L
     served : AllZip (ServesPost line_of rule moments told) posts shifts
     before : map (λ (s : Shift J P g). s.before) shifts ≡ passes_of_jobs jobs
     behind : map (λ (s : Shift J P g). s.behind) shifts ≡ map (λ (b : ServingJob J L D C S g × Accepting). pass_of b.0) back
-    ended : map (λ (s : Shift J P g). s.ended) shifts ≡ map (λ (b : ServingJob J L D C S g × Accepting). ended_of state (λ (d : D). (upstream d).log) calls b.0) back
+    ended : map (λ (s : Shift J P g). s.ended) shifts ≡ map (λ (b : ServingJob J L D C S g × Accepting). ended_of state upstream calls b.0) back
     lacked : list_any (λ (s : Shift J P g). s.lacked_memory) shifts ≡ list_any (λ (b : ServingJob J L D C S g × Accepting). lacked_of b.0) back
 
   gather : (posts : List Post) (jobs : List (ServingJob J L D C S g)) (back : List (ServingJob J L D C S g × Accepting))
       → AllZip (IsPosted state upstream to_come calls rule moments told) posts jobs → AllZip (ComesBack (Runs line_of state upstream to_come calls)) jobs back
-      → list_any (λ (b : ServingJob J L D C S g × Accepting). is_broken (ended_of state (λ (d : D). (upstream d).log) calls b.0)) back ≡ false → Gathered posts jobs back
+      → list_any (λ (b : ServingJob J L D C S g × Accepting). is_broken (ended_of state upstream calls b.0)) back ≡ false → Gathered posts jobs back
   gather [] [] [] posted ran whole = record { shifts = []; served = tt; before = refl; behind = refl; ended = refl; lacked = refl }
   gather [] [] (b ∷ bs) posted ran whole = absurd ran
   gather [] (j ∷ js) bs posted ran whole = absurd posted
   gather (p ∷ ps) [] bs posted ran whole = absurd posted
   gather (p ∷ ps) (j ∷ js) [] posted ran whole = absurd ran
   gather (p ∷ ps) (j ∷ js) (b ∷ bs) posted ran whole =
-      let broken = λ (c : ServingJob J L D C S g × Accepting). is_broken (ended_of state (λ (d : D). (upstream d).log) calls c.0) in
+      let broken = λ (c : ServingJob J L D C S g × Accepting). is_broken (ended_of state upstream calls c.0) in
       let this = one p j b.0 b.1 posted.0 ran.0 (or_left (broken b) (list_any broken bs) whole) in
       let others = gather ps js bs posted.1 ran.1 (or_right (broken b) (list_any broken bs) whole) in
       record {
@@ -187,7 +188,7 @@ module _ {J L D C S P : Type 0} {g : Ghosts J} (line_of : P → Line) (state : L
   pub has_run : (site : Site) (moments : Option (List ℕ)) (jobs : List (ServingJob J L D C S g)) (passes rest first ran all : List (Pass J g)) (net mid net_after : Networking P) (failed lacked : Bool)
       → AllZip (IsPosted state upstream to_come calls site.rule moments net.told) (posts_of site) jobs → passes_of_jobs jobs ++ rest ≡ passes → length rest ≡ 1
       → mid ≡ with_stops (site.workers + 4) net → failed ≡ false → first ≡ []
-      → ComeBack (Runs line_of state upstream to_come calls) state (λ (d : D). (upstream d).log) calls jobs first ran mid net_after failed lacked → all ≡ ran ++ rest
+      → ComeBack (Runs line_of state upstream to_come calls) state upstream calls jobs first ran mid net_after failed lacked → all ≡ ran ++ rest
       → HasRun line_of site moments passes all net net_after lacked
   has_run site moments jobs passes rest first ran all net mid net_after failed lacked posted begun left handed good none came ended =
       let g' = gather line_of state upstream to_come calls site.rule moments net.told (posts_of site) jobs came.back posted came.ran (sym came.failed_is ∙ good) in

@@ -43,6 +43,15 @@ pub moved : {A B : Type 0} (f : A → B) (new old all : List B) (x : A) (rest wh
 moved f new old all x rest whole grown cut same =
     ap (λ (ys : List _). ys ++ map f rest) grown ∙ (append_assoc old (f x ∷ []) (map f rest) ∙ (ap (λ xs. old ++ map f xs) (sym cut) ∙ same))
 
+-- nothing is left to move
+pub all_moved : {A B : Type 0} (f : A → B) (new all : List B) (left : List A) → length left ≡ 0 → new ++ map f left ≡ all → new ≡ all
+all_moved f new all [] none same = nil_behind new ∙ same
+  where
+    nil_behind : {C : Type 0} (ys : List C) → ys ≡ ys ++ []
+    nil_behind [] = refl
+    nil_behind (y ∷ ys) = ap (λ (zs : List _). y ∷ zs) (nil_behind ys)
+all_moved f new all (x ∷ left) none same = absurd (omega (arith, none))
+
 or_assoc : (a b c : Bool) → ((a || b) || c) ≡ (a || (b || c))
 or_assoc true b c = refl
 or_assoc false b c = refl
@@ -72,6 +81,10 @@ or_left false b none = refl
 pub or_right : (a b : Bool) → (a || b) ≡ false → b ≡ false
 or_right true b none = cc none
 or_right false b none = none
+
+-- a list begins with the same one, whatever it is called
+pub begins_with : {A : Type 0} (whole rest : List A) (x y : A) → y ≡ x → whole ≡ x ∷ rest → whole ≡ y ∷ rest
+begins_with whole rest x y same cut = subst (λ (z : _). whole ≡ z ∷ rest) (sym same) cut
 
 -- a pass is handed to a job
 pub handed : {A B : Type 0} (f : A → B) (new old : List A) (x : A) (whole rest all : List B) → new ≡ old ++ x ∷ [] → whole ≡ f x ∷ rest → map f old ++ whole ≡ all → map f new ++ rest ≡ all

@@ -4,7 +4,7 @@ use Rattle.std.specs.Io.KnownBytes.{Appends, Consumes}
 use Rattle.http_wire.specs.declared.ended.Ended.{Ended}
 use Rattle.router.specs.declared.naming.Naming.{Ghosts}
 use Rattle.router.specs.declared.pass.Pass.{Pass}
-use Rattle.proxy_session.specs.Outside.{Line}
+use Rattle.line_base.specs.Lines.{Line}
 use Rattle.admin_api.specs.declared.serving.Which.{Which}
 use Rattle.admin_api.specs.Serving.{HasCauses, IsServing, calls_after}
 use Rattle.serving.specs.Sessions.{lacked_behind}

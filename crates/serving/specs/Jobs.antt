@@ -3,21 +3,21 @@ use Rattle.std.specs.Prelude.{◌≡◌, ℕ, Bool, false, List, ◌++◌, map, 
 use Rattle.std.specs.List.{AllZip, list_any}
 use Rattle.rand_core.specs.Pcg32Seed.{pcg32_seed}
 use Rattle.rand_pcg.specs.Pcg.{pcg64_of_seed}
-use Rattle.line_base.specs.declared.dialer.DialEvent.{DialEvent}
 use Rattle.line_base.specs.declared.listener.Endpoint.{Endpoint}
 use Rattle.line_base.specs.Accepts.{Listening}
 use Rattle.line_base.specs.Clocks.{Begins}
+use Rattle.line_base.specs.Counts.{raised}
 use Rattle.line_base.specs.Nets.{Ended, IsNew, IsNewLog, Networking, Returns}
 use Rattle.workers.specs.declared.accepting.Accepting.{Accepting}
-use Rattle.workers.specs.declared.accepting.Accepting.TheVariants.{Closed}
+use Rattle.workers.specs.declared.accepting.Accepting.TheVariants.{Closed, Failing}
 use Rattle.workers.specs.Runs.{ComesBack}
 use Rattle.workers.specs.Served.{Ends, Lends, ServesEach}
 use Rattle.identifier.specs.declared.rule.Rule.{Rule}
 use Rattle.router.specs.declared.naming.Naming.{Ghosts}
 use Rattle.router.specs.declared.pass.Pass.{Pass}
 use Rattle.router.specs.Passes.{number_in}
-use Rattle.proxy_session.specs.Callers.{caller_of}
-use Rattle.proxy_session.specs.Outside.{Line, Upstream}
+use Rattle.line_base.specs.Dials.{Upstream}
+use Rattle.line_base.specs.Lines.{Line}
 use Rattle.admin_api.specs.declared.serving.Which.{Which}
 use Rattle.serving.specs.declared.job.ApiJob.{ApiJob}
 use Rattle.serving.specs.declared.job.ProxyJob.{ProxyJob}
@@ -27,11 +27,11 @@ use Rattle.serving.specs.declared.proxy.ProxyServer.{ProxyServer}
 use Rattle.serving.specs.Interfaces.{AnswersNext, standing_of}
 use Rattle.serving.specs.Posts.{Post, clients, interface}
 use Rattle.serving.specs.Returning.{all_ended, is_broken}
-use Rattle.serving.specs.Sessions.{Attends, Going}
+use Rattle.serving.specs.Sessions.{Attends, Going, going_by}
 
 module _ {J L D C S : Type 0} {g : Ghosts J} where
   abbrev pub pass_of : ServingJob J L D C S g → Pass J g
-  pass_of (job.Proxy j) = j.server.pass
+  pass_of (job.Proxy j) = j.server.server.pass
   pass_of (job.Api j) = j.server.pass
 
   abbrev pub passes_of_jobs : List (ServingJob J L D C S g) → List (Pass J g)
@@ -42,9 +42,9 @@ module _ {J L D C S : Type 0} {g : Ghosts J} where
   lacked_of (job.Api j) = j.server.lacked_memory
 
 -- what goes back to the net from a job
-module _ {J L D C S P : Type 0} {g : Ghosts J} (state : L → Listening P) (log : D → Option (List DialEvent)) (calls : S → ℕ) where
+module _ {J L D C S P : Type 0} {g : Ghosts J} (state : L → Listening P) (upstream : D → Upstream) (calls : S → ℕ) where
   abbrev pub ended_of : ServingJob J L D C S g → Ended P
-  ended_of (job.Proxy j) = record { listener = state j.listener; log = log j.server.dialer; stops = calls j.stop }
+  ended_of (job.Proxy j) = record { listener = state j.listener; log = (upstream j.server.server.way.dialer).log; stops = calls j.stop }
   ended_of (job.Api j) = record { listener = state j.listener; log = None; stops = calls j.server.stop }
 
 -- a new job for the connections of an interface
@@ -60,10 +60,10 @@ module _ {J L D C S P : Type 0} {g : Ghosts J} (state : L → Listening P) (upst
   -- a new job for the connections of clients
   pub record IsProxyPosted (endpoint : Endpoint) (seed : ℕ) (j : ProxyJob J L D C S g) : Type 0 where
     pub listener : IsNew told endpoint (state j.listener)
-    pub log : IsNewLog told (upstream j.server.dialer).log
-    pub hung : (upstream j.server.dialer).is_open ≡ false
-    pub clock : Begins moments (to_come j.server.clock)
-    pub words : j.server.words ≡ pcg64_of_seed (pcg32_seed 32 seed)
+    pub log : IsNewLog told (upstream j.server.server.way.dialer).log
+    pub hung : (upstream j.server.server.way.dialer).is_open ≡ false
+    pub clock : Begins moments (to_come j.server.server.clock)
+    pub words : j.server.server.words ≡ pcg64_of_seed (pcg32_seed 32 seed)
     pub rule_is : j.server.rule.now ≡ rule
     pub lacked : j.server.lacked_memory ≡ false
     pub stops : calls j.stop ≡ 0
@@ -77,7 +77,12 @@ module _ {J L D C S P : Type 0} {g : Ghosts J} (state : L → Listening P) (upst
 -- what goes on from one session of a job to the next
 module _ {J D C : Type 0} {g : Ghosts J} (upstream : D → Upstream) (to_come : C → Option (List ℕ)) where
   abbrev pub going_of : ProxyServer J D C g → Going
-  going_of s = record { upstream = upstream s.dialer; caller = caller_of s.pass; moments = to_come s.clock; words = s.words; lacked_memory = s.lacked_memory }
+  going_of s = going_by upstream to_come s.server s.lacked_memory
+
+-- how often a job's stop was called behind a run that ended so: once more where its listener broke, so that the others close too
+abbrev pub stops_behind : Accepting → ℕ → ℕ
+stops_behind Closed calls = calls
+stops_behind Failing calls = raised calls
 
 -- a job ran that serves an interface: its listener handed these peers out, each of which was answered and given back, until the listener was closed or broke. Its stop is the one
 -- that they call
@@ -89,7 +94,7 @@ module _ {J L S P : Type 0} {g : Ghosts J} (line_of : P → Line) (state : L →
         (standing_of old.server.pass (calls old.server.stop) old.server.lacked_memory) served (standing_of new.server.pass stopped new.server.lacked_memory)
     pub lends : Lends served (state old.listener) (state new.listener)
     pub ends : Ends end (state old.listener) (state new.listener)
-    pub stops : end ≡ Closed → calls new.server.stop ≡ stopped
+    pub stops : calls new.server.stop ≡ stops_behind end stopped
     pub number : number_in new.server.pass ≡ number_in old.server.pass
 
 module _ {J L D C S P : Type 0} {g : Ghosts J} (line_of : P → Line) (state : L → Listening P) (upstream : D → Upstream) (to_come : C → Option (List ℕ)) (calls : S → ℕ) where
@@ -99,8 +104,8 @@ module _ {J L D C S P : Type 0} {g : Ghosts J} (line_of : P → Line) (state : L
     pub sessions : ServesEach (λ s p q t. Attends g.settings old.server.rule.now s (line_of p) (line_of q) t) (going_of upstream to_come old.server) served (going_of upstream to_come new.server)
     pub lends : Lends served (state old.listener) (state new.listener)
     pub ends : Ends end (state old.listener) (state new.listener)
-    pub stops : end ≡ Closed → calls new.stop ≡ calls old.stop
-    pub number : number_in new.server.pass ≡ number_in old.server.pass
+    pub stops : calls new.stop ≡ stops_behind end (calls old.stop)
+    pub number : number_in new.server.server.pass ≡ number_in old.server.server.pass
 
   abbrev pub Runs : ServingJob J L D C S g → ServingJob J L D C S g → Accepting → Type 0
   Runs (job.Proxy old) (job.Proxy new) end = RunsProxy old new end
@@ -108,13 +113,13 @@ module _ {J L D C S P : Type 0} {g : Ghosts J} (line_of : P → Line) (state : L
   Runs (job.Api old) (job.Proxy new) end = ⊥
   Runs (job.Api old) (job.Api new) end = RunsApi line_of state calls old new end
 
-module _ {J L D C S P : Type 0} {g : Ghosts J} (runs : ServingJob J L D C S g → ServingJob J L D C S g → Accepting → Type 0) (state : L → Listening P) (log : D → Option (List DialEvent))
+module _ {J L D C S P : Type 0} {g : Ghosts J} (runs : ServingJob J L D C S g → ServingJob J L D C S g → Accepting → Type 0) (state : L → Listening P) (upstream : D → Upstream)
     (calls : S → ℕ) where
   -- jobs ran and were taken back: their passes stand behind these, all that belongs to the net is there, and it is known whether a listener broke and whether memory was wanting
   pub record ComeBack (jobs : List (ServingJob J L D C S g)) (passes passes_after : List (Pass J g)) (net net_after : Networking P) (failed lacked : Bool) : Type 0 where
     pub back : List (ServingJob J L D C S g × Accepting)
     pub ran : AllZip (ComesBack runs) jobs back
     pub passes_are : passes_after ≡ passes ++ map (λ b. pass_of b.0) back
-    pub net_is : net_after ≡ all_ended (map (λ b. ended_of state log calls b.0) back) net
-    pub failed_is : failed ≡ list_any (λ b. is_broken (ended_of state log calls b.0)) back
+    pub net_is : net_after ≡ all_ended (map (λ b. ended_of state upstream calls b.0) back) net
+    pub failed_is : failed ≡ list_any (λ b. is_broken (ended_of state upstream calls b.0)) back
     pub lacked_is : lacked ≡ list_any (λ b. lacked_of b.0) back

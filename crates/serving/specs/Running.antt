@@ -8,7 +8,7 @@ use Rattle.linker_config.specs.declared.config.Port.{Port}
 use Rattle.router.specs.declared.naming.Naming.{Ghosts}
 use Rattle.router.specs.declared.pass.Pass.{Pass}
 use Rattle.router.specs.Closing.{numbers_of}
-use Rattle.proxy_session.specs.Outside.{Line}
+use Rattle.line_base.specs.Lines.{Line}
 use Rattle.serving.specs.declared.bound.Bound.{Bound}
 use Rattle.serving.specs.declared.running.Serving.{Serving}
 use Rattle.serving.specs.declared.site.Site.{Site}

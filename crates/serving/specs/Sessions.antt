@@ -1,22 +1,17 @@
 -- What a proxy job does with a connection.
-use Rattle.std.specs.Prelude.{◌≡◌, ℕ, Bool, true, List, [], Option}
+use Rattle.std.specs.Prelude.{◌≡◌, Bool, true, [], ℕ, List, Option}
 use Rattle.rand_pcg.specs.Lcg.{Lcg}
-use Rattle.line_base.specs.declared.dialer.DialEvent.{DialEvent}
 use Rattle.http_wire.specs.declared.ended.Ended.{Ended}
 use Rattle.http_wire.specs.declared.ended.Ended.TheVariants as ended
 use Rattle.identifier.specs.declared.rule.Rule.{Rule}
 use Rattle.machine.specs.Values.{SettingsValue}
-use Rattle.proxy_session.specs.Callers.{Caller}
-use Rattle.proxy_session.specs.Outside.{Line, Upstream}
+use Rattle.router.specs.declared.naming.Naming.{Ghosts}
+use Rattle.proxy_session.specs.declared.server.Server.{Server}
+use Rattle.proxy_session.specs.Callers.{Caller, caller_of}
+use Rattle.proxy_session.specs.Exchange.{Standing}
+use Rattle.line_base.specs.Dials.{Upstream}
+use Rattle.line_base.specs.Lines.{Line}
 use Rattle.proxy_session.specs.Session.{SessionsTo}
-
--- what a peer tells of itself, by what is seen of it
-abbrev pub line_by : {P : Type 0} → (P → Option (List ℕ)) → (P → Option (List ℕ)) → (P → ℕ) → (P → ℕ) → (P → ℕ) → P → Line
-line_by left given read_faults write_faults ends p = record { left = left p; given = given p; read_faults = read_faults p; write_faults = write_faults p; ends = ends p }
-
--- what a dialer tells of itself, likewise
-abbrev pub upstream_by : {D : Type 0} → (D → Option (List DialEvent)) → (D → Bool) → (D → ℕ) → D → Upstream
-upstream_by log is_open faults d = record { log = log d; is_open = is_open d; faults = faults d }
 
 -- what goes on from one connection to the next: the dialer, the pass, the clock's moments to come and the generator of words; and whether memory was wanting in a session
 pub record Going : Type 0 where
@@ -37,10 +32,24 @@ lacked_behind before ended.ReadFault = before
 lacked_behind before ended.WriteFault = before
 lacked_behind before ended.UpstreamCut = before
 
--- one connection: a session with what the one before it left
+-- a server, and whether memory was wanting so far, by what its dialer and its clock tell of themselves
+module _ {J D C : Type 0} {g : Ghosts J} (upstream_of : D → Upstream) (moments_of : C → Option (List ℕ)) where
+  abbrev pub going_by : Server J D C g → Bool → Going
+  going_by s lacked_memory = record {
+    upstream = upstream_of s.way.dialer;
+    caller = caller_of s.pass;
+    moments = moments_of s.clock;
+    words = s.words;
+    lacked_memory = lacked_memory;
+  }
+
+-- a connection, of which these bytes were read and not used, beside what goes on
+abbrev pub beside : Line → List ℕ → Going → Standing
+beside line kept s =
+    record { line = line; kept = kept; upstream = s.upstream; caller = s.caller; moments = s.moments; words = s.words }
+
+-- one connection: a session with what the one before it left. What of its bytes was read and not used is dropped
 abbrev pub Attends : SettingsValue → Rule → Going → Line → Line → Going → Type 0
 Attends settings rule old line line_after new =
-    (end : Ended)
-    × SessionsTo settings rule (record { line = line; kept = []; upstream = old.upstream; caller = old.caller; moments = old.moments; words = old.words }) line_after new.upstream new.caller new.moments
-    new.words end
+    (end : Ended) × (rest : List ℕ) × SessionsTo settings rule (beside line [] old) (beside line_after rest new) end
     × (new.lacked_memory ≡ lacked_behind old.lacked_memory end)

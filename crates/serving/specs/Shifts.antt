@@ -12,7 +12,8 @@ use Rattle.router.specs.declared.naming.Naming.{Ghosts}
 use Rattle.router.specs.declared.pass.Pass.{Pass}
 use Rattle.router.specs.Passes.{number_in}
 use Rattle.proxy_session.specs.Callers.{Caller, caller_of}
-use Rattle.proxy_session.specs.Outside.{Line, Upstream}
+use Rattle.line_base.specs.Dials.{Upstream}
+use Rattle.line_base.specs.Lines.{Line}
 use Rattle.admin_api.specs.declared.serving.Which.{Which}
 use Rattle.serving.specs.Interfaces.{AnswersNext, standing_of}
 use Rattle.serving.specs.Posts.{Post, clients, interface}

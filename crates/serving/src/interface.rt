@@ -25,20 +25,15 @@ impl<P: Peer, J: Naming, S: Stop> Serve<P> for ApiServer<'_, J, S> {
 
     ghost serves = { λ old peer peer_after new.
         Answers old.which
-        (record { left = P.left peer; given = P.given peer; read_faults = P.read_faults peer; write_faults = P.write_faults peer; ends = P.ends peer })
-        (record {
-          left = P.left peer_after;
-          given = P.given peer_after;
-          read_faults = P.read_faults peer_after;
-          write_faults = P.write_faults peer_after;
-          ends = P.ends peer_after;
-        })
+        (P.line peer)
+        (P.line peer_after)
         old.pass new.pass
         (record { stops = S.calls old.stop; lacked_memory = old.lacked_memory })
         (record { stops = S.calls new.stop; lacked_memory = new.lacked_memory })
         × (new.which ≡ old.which) × (number_in new.pass ≡ number_in old.pass) };
 
-    fn serve<R: Wait, G: Gate>(&mut self, rt: &R, peer: &mut P, _gate: &G, _worker: u32) {
+    fn serve<R: Wait, G: Gate>(&mut self, rt: &R, peer: P, _gate: &G, _worker: u32) -> P {
+        let mut peer = peer;
         let ended = serve_admin(
             rt,
             self.alloc,
@@ -46,8 +41,9 @@ impl<P: Peer, J: Naming, S: Stop> Serve<P> for ApiServer<'_, J, S> {
             &mut self.pass,
             self.which,
             &mut self.stop,
-            peer,
+            &mut peer,
         );
         self.lacked_memory = lacked_behind(self.lacked_memory, ended);
+        peer
     }
 }

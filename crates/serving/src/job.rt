@@ -1,6 +1,5 @@
 //! The jobs.
 ghost use Rattle.serving.specs.Jobs.{RunsApi, RunsProxy};
-ghost use Rattle.serving.specs.Sessions.{line_by, upstream_by};
 
 use crate::interface::ApiServer;
 use crate::proxy::ProxyServer;
@@ -37,8 +36,8 @@ pub enum ServingJob<'a, J: Naming, L, D, C, S> {
 
 impl<J: Naming, L: Listener, D: Dialer, C: Clock, S: Stop> ProxyJob<'_, J, L, D, C, S> {
     fn accept<R: Wait, G: Gate>(&mut self, rt: &R, gate: &G) -> Accepting
-        ensures { RunsProxy (line_by L.P.left L.P.given L.P.read_faults L.P.write_faults L.P.ends) L.state
-            (upstream_by D.log D.is_open D.faults) C.to_come S.calls self.old self.new result }
+        ensures { RunsProxy L.P.line L.state
+            D.upstream C.to_come S.calls self.old self.new result }
     {
         let end = accept_all(rt, &mut self.listener, &mut self.server, gate, self.number);
         match end {
@@ -51,7 +50,7 @@ impl<J: Naming, L: Listener, D: Dialer, C: Clock, S: Stop> ProxyJob<'_, J, L, D,
 
 impl<J: Naming, L: Listener, S: Stop> ApiJob<'_, J, L, S> {
     fn accept<R: Wait, G: Gate>(&mut self, rt: &R, gate: &G) -> Accepting
-        ensures { RunsApi (line_by L.P.left L.P.given L.P.read_faults L.P.write_faults L.P.ends) L.state
+        ensures { RunsApi L.P.line L.state
             S.calls self.old self.new result }
     {
         let end = accept_all(rt, &mut self.listener, &mut self.server, gate, self.number);
@@ -66,12 +65,11 @@ impl<J: Naming, L: Listener, S: Stop> ApiJob<'_, J, L, S> {
 impl<J: Naming, L: Listener + Drop, D: Dialer + Drop, C: Clock + Drop, S: Stop + Drop> Job
     for ServingJob<'_, J, L, D, C, S> {
     ghost use Rattle.serving.specs.Jobs.{Runs};
-    ghost use Rattle.serving.specs.Sessions.{line_by, upstream_by};
 
     type End = Accepting;
 
-    ghost runs = { Runs (line_by L.P.left L.P.given L.P.read_faults L.P.write_faults L.P.ends) L.state
-        (upstream_by D.log D.is_open D.faults) C.to_come S.calls };
+    ghost runs = { Runs L.P.line L.state
+        D.upstream C.to_come S.calls };
 
     fn run<R: Wait, G: Gate>(&mut self, rt: &R, gate: &G) -> Accepting {
         match self {

@@ -1,5 +1,5 @@
 //! A job for each listener.
-ghost use Rattle.std.specs.Prelude.{◌≡◌, ℕ, ◌+◌, ◌≤◌, ◌<◌, ◌^◌, ◌++◌, [], List, Option, length, vec_len, vec_capacity};
+ghost use Rattle.std.specs.Prelude.{◌≡◌, ℕ, ◌+◌, ◌≤◌, ◌<◌, ◌^◌, ◌++◌, [], List, Option, length, vec_len, vec_capacity, IfOk};
 ghost use Rattle.std.specs.List.{AllZip};
 ghost use Rattle.std.specs.Vec.Iter.{into_iter_items};
 ghost use Rattle.identifier.specs.declared.rule.Rule.{Rule};
@@ -9,7 +9,6 @@ ghost use Rattle.serving.specs.Passes.{AreFree};
 ghost use Rattle.serving.specs.Posts.{Post, client_post, interface_post, posts_at, posts_of};
 ghost use Rattle.serving.specs.Returning.{with_stops};
 ghost use Rattle.serving.specs.Running.{AreNewFrom, Listens};
-ghost use Rattle.serving.specs.Sessions.{upstream_by};
 
 use crate::bound::Bound;
 use crate::interface::ApiServer;
@@ -18,6 +17,7 @@ use crate::proxy::ProxyServer;
 use crate::site::Site;
 use admin_api::Which;
 use line_base::{Clock, Net};
+use proxy_session::{Mem, Parts, Room, Server};
 use rand_core::SeedableRng;
 use rand_pcg::Pcg64;
 use router::{Naming, Pass, Router};
@@ -29,21 +29,40 @@ pub(crate) type Jobs<'a, J, N, C> = Vec<
     ServingJob<'a, J, <N as Net>::L, <N as Net>::D, C, <N as Net>::S>,
 >;
 
-/// A proxy job for each listener of the router, numbered from 0. Each has the next pass.
+/// What all jobs share: the allocator, the router, and where they serve.
+#[derive(Drop)]
+pub(crate) struct Setup<'a, J: Naming> {
+    pub(crate) alloc: Global,
+    pub(crate) router: &'a Router<J>,
+    pub(crate) site: &'a Site,
+}
+
+/// So many rooms, one for each server.
+pub(crate) fn make_rooms(alloc: Global, count: usize) -> Mem<Vec<Room>>
+    ensures { IfOk result (λ rooms. length rooms.items ≡ count) }
+{
+    let mut rooms = Vec::with_capacity(alloc, count)?;
+    'rooms: while rooms.len() < count {
+        rooms.push(Room::new(alloc)?)?;
+    }
+    Ok(rooms)
+}
+
+/// A proxy job for each listener of the router, numbered from 0. Each has the next pass and the next room.
 fn add_proxy_jobs<'a, J: Naming, N: Net, C: Clock>(
-    alloc: Global,
-    router: &'a Router<J>,
-    site: &'a Site,
+    setup: &Setup<'a, J>,
     net: &mut N,
     clock: &C,
     listeners: Vec<N::L>,
+    rooms: Vec<Room>,
     passes: &mut IntoIter<Pass<J>>,
     jobs: &mut Jobs<'a, J, N, C>,
 )
     requires enough { length listeners.items ≤ length (into_iter_items passes.old) }
+    requires rooms { length listeners.items ≤ length rooms.items }
     requires room { vec_len jobs.old + length listeners.items ≤ vec_capacity jobs.old }
     requires free { AreFree (into_iter_items passes.old) }
-    requires new { AreNewFrom N.L.state (N.state net.old).told site.now.server 0 listeners.items }
+    requires new { AreNewFrom N.L.state (N.state net.old).told setup.now.site.now.server 0 listeners.items }
     requires few { length listeners.items < 2 ^ 32 }
     ensures passes { passes_of_jobs jobs.new.items ++ into_iter_items passes.new ≡ passes_of_jobs jobs.old.items ++ into_iter_items passes.old }
     ensures count { vec_len jobs.new ≡ vec_len jobs.old + length listeners.items }
@@ -51,26 +70,34 @@ fn add_proxy_jobs<'a, J: Naming, N: Net, C: Clock>(
     ensures room { vec_capacity jobs.new ≡ vec_capacity jobs.old }
     ensures free { AreFree (into_iter_items passes.new) }
     ensures posted { (posts : List Post)
-        → AllZip (IsPosted N.L.state (upstream_by N.D.log N.D.is_open N.D.faults) C.to_come N.S.calls site.now.rule (C.of_fork clock.now)
+        → AllZip (IsPosted N.L.state N.D.upstream C.to_come N.S.calls setup.now.site.now.rule (C.of_fork clock.now)
         (N.state net.old).told) posts jobs.old.items
-        → AllZip (IsPosted N.L.state (upstream_by N.D.log N.D.is_open N.D.faults) C.to_come N.S.calls site.now.rule (C.of_fork clock.now) (N.state net.old).told)
-        (posts ++ posts_at (client_post site.now) (length listeners.items)) jobs.new.items }
+        → AllZip (IsPosted N.L.state N.D.upstream C.to_come N.S.calls setup.now.site.now.rule (C.of_fork clock.now) (N.state net.old).told)
+        (posts ++ posts_at (client_post setup.now.site.now) (length listeners.items)) jobs.new.items }
     ensures stops { N.state net.new ≡ with_stops (length listeners.items) (N.state net.old) }
     ensures kept { N.faults net.new ≡ N.faults net.old }
 {
+    let site = setup.site;
+    let mut rooms = rooms.into_iter();
     let mut number = 0u32;
     for listener in listeners {
         let Some(pass) = passes.next() else {
             unreachable!()
         };
-        let server = ProxyServer {
-            alloc,
-            router,
-            rule: &site.rule,
+        let Some(room) = rooms.next() else {
+            unreachable!()
+        };
+        let parts = Parts {
             pass,
             dialer: net.dialer(),
             clock: clock.fork(),
             words: Pcg64::seed_from_u64(site.seed.wrapping_add(u64::from(number))),
+        };
+        let server = ProxyServer {
+            alloc: setup.alloc,
+            router: setup.router,
+            rule: &site.rule,
+            server: Server::of(room, parts),
             lacked_memory: false,
         };
         jobs.push_reserved(ServingJob::Proxy(ProxyJob {
@@ -85,8 +112,7 @@ fn add_proxy_jobs<'a, J: Naming, N: Net, C: Clock>(
 
 /// A job for each listener of an interface, numbered from `number`. Each has the next pass.
 fn add_api_jobs<'a, J: Naming, N: Net, C: Clock>(
-    alloc: Global,
-    router: &'a Router<J>,
+    setup: &Setup<'a, J>,
     which: Which,
     first: u32,
     net: &mut N,
@@ -104,8 +130,8 @@ fn add_api_jobs<'a, J: Naming, N: Net, C: Clock>(
     ensures free { AreFree (into_iter_items passes.new) }
     ensures posted { (port : Port) → AreNewFrom N.L.state (N.state net.old).told port 0 listeners.items → (rule : Rule) → (moments : Option (List ℕ))
         → (posts : List Post) → AllZip
-        (IsPosted N.L.state (upstream_by N.D.log N.D.is_open N.D.faults) C.to_come N.S.calls rule moments (N.state net.old).told) posts jobs.old.items
-        → AllZip (IsPosted N.L.state (upstream_by N.D.log N.D.is_open N.D.faults) C.to_come N.S.calls rule moments (N.state net.old).told)
+        (IsPosted N.L.state N.D.upstream C.to_come N.S.calls rule moments (N.state net.old).told) posts jobs.old.items
+        → AllZip (IsPosted N.L.state N.D.upstream C.to_come N.S.calls rule moments (N.state net.old).told)
         (posts ++ posts_at (interface_post which port) (length listeners.items)) jobs.new.items }
     ensures stops { N.state net.new ≡ with_stops (length listeners.items) (N.state net.old) }
     ensures kept { N.faults net.new ≡ N.faults net.old }
@@ -116,8 +142,8 @@ fn add_api_jobs<'a, J: Naming, N: Net, C: Clock>(
             unreachable!()
         };
         let server = ApiServer {
-            alloc,
-            router,
+            alloc: setup.alloc,
+            router: setup.router,
             which,
             pass,
             stop: net.stopper(),
@@ -134,29 +160,29 @@ fn add_api_jobs<'a, J: Naming, N: Net, C: Clock>(
 
 /// A job for each listener, with the next of these passes: first the router's, then those of the interface to the namespaces, then the administrator's.
 pub(crate) fn add_jobs<'a, J: Naming, N: Net, C: Clock>(
-    alloc: Global,
-    router: &'a Router<J>,
-    site: &'a Site,
+    setup: &Setup<'a, J>,
     net: &mut N,
     clock: &C,
     bound: Bound<N::L>,
+    rooms: Vec<Room>,
     passes: &mut IntoIter<Pass<J>>,
     jobs: &mut Jobs<'a, J, N, C>,
 )
-    requires enough { site.now.workers + 4 ≤ length (into_iter_items passes.old) }
-    requires room { vec_len jobs.old + (site.now.workers + 4) ≤ vec_capacity jobs.old }
+    requires enough { setup.now.site.now.workers + 4 ≤ length (into_iter_items passes.old) }
+    requires room { vec_len jobs.old + (setup.now.site.now.workers + 4) ≤ vec_capacity jobs.old }
     requires free { AreFree (into_iter_items passes.old) }
+    requires rooms { setup.now.site.now.workers ≤ length rooms.items }
     requires none_yet { jobs.old.items ≡ [] }
-    requires listens { Listens N.L.state (N.state net.old).told site.now bound }
+    requires listens { Listens N.L.state (N.state net.old).told setup.now.site.now bound }
     ensures passes { passes_of_jobs jobs.new.items ++ into_iter_items passes.new ≡ into_iter_items passes.old }
-    ensures rest { length (into_iter_items passes.new) + (site.now.workers + 4) ≡ length (into_iter_items passes.old) }
-    ensures count { vec_len jobs.new ≡ site.now.workers + 4 }
+    ensures rest { length (into_iter_items passes.new) + (setup.now.site.now.workers + 4) ≡ length (into_iter_items passes.old) }
+    ensures count { vec_len jobs.new ≡ setup.now.site.now.workers + 4 }
     ensures room { vec_capacity jobs.new ≡ vec_capacity jobs.old }
     ensures free { AreFree (into_iter_items passes.new) }
     ensures posted { AllZip
-        (IsPosted N.L.state (upstream_by N.D.log N.D.is_open N.D.faults) C.to_come N.S.calls site.now.rule (C.of_fork clock.now)
-        (N.state net.old).told) (posts_of site.now) jobs.new.items }
-    ensures stops { N.state net.new ≡ with_stops (site.now.workers + 4) (N.state net.old) }
+        (IsPosted N.L.state N.D.upstream C.to_come N.S.calls setup.now.site.now.rule (C.of_fork clock.now)
+        (N.state net.old).told) (posts_of setup.now.site.now) jobs.new.items }
+    ensures stops { N.state net.new ≡ with_stops (setup.now.site.now.workers + 4) (N.state net.old) }
     ensures kept { N.faults net.new ≡ N.faults net.old }
 {
     let Bound {
@@ -164,27 +190,9 @@ pub(crate) fn add_jobs<'a, J: Naming, N: Net, C: Clock>(
         namerd,
         admin,
     } = bound;
-    let workers = site.workers;
-    add_proxy_jobs(alloc, router, site, net, clock, server, passes, jobs);
-    add_api_jobs(
-        alloc,
-        router,
-        Which::Namerd,
-        workers,
-        net,
-        namerd,
-        passes,
-        jobs,
-    );
+    let workers = setup.site.workers;
+    add_proxy_jobs(setup, net, clock, server, rooms, passes, jobs);
+    add_api_jobs(setup, Which::Namerd, workers, net, namerd, passes, jobs);
     let number = workers.wrapping_add(2);
-    add_api_jobs(
-        alloc,
-        router,
-        Which::Admin,
-        number,
-        net,
-        admin,
-        passes,
-        jobs,
-    );
+    add_api_jobs(setup, Which::Admin, number, net, admin, passes, jobs);
 }

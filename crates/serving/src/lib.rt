@@ -1,7 +1,7 @@
 //! A router that serves: connections of clients and of the two interfaces, each accepted by a job of its own.
 //!
 //! [`start`] gives a router its services and listens on its three addresses; [`Serving::run`] then serves until it is stopped. A job has a listener, a pass of the router, and a
-//! stop of its own, and serves one connection after another: a proxy job by `serve_session`, with a dialer, a clock and a generator of words that go on from connection to
+//! stop of its own, and serves one connection after another: a proxy job by `Server::serve_session`, with a dialer, a clock and a generator of words that go on from connection to
 //! connection; a job of an interface by `serve_admin`. A shutdown that is asked for on an interface, and a listener whose accepts fail a hundred times in a row, close all
 //! listeners; then each is taken back, and the router is ended.
 //!

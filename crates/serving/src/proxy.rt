@@ -6,9 +6,8 @@ ghost use Rattle.serving.specs.Sessions.{lacked_behind};
 use http_wire::Ended;
 use identifier::Rule;
 use line_base::{Clock, Dialer, Gate, Peer};
-use proxy_session::serve_session;
-use rand_pcg::Pcg64;
-use router::{Naming, Pass, Router};
+use proxy_session::{Connection, Context, Server};
+use router::{Naming, Router};
 use std::alloc::Global;
 use std::sync::Wait;
 use workers::Serve;
@@ -19,12 +18,9 @@ pub struct ProxyServer<'a, J: Naming, D, C> {
     pub(crate) alloc: Global,
     pub(crate) router: &'a Router<J>,
     pub(crate) rule: &'a Rule,
-    pub(crate) pass: Pass<J>,
-    pub(crate) dialer: D,
-    pub(crate) clock: C,
-    pub(crate) words: Pcg64,
+    pub(crate) server: Server<J, D, C>,
     pub(crate) lacked_memory: bool,
-    ghost free: { slot_in pass ≡ None },
+    ghost free: { slot_in server.pass ≡ None },
 }
 
 /// Whether memory was wanting in a session that ended so, or before it.
@@ -45,50 +41,26 @@ pub(crate) fn lacked_behind(before: bool, end: Ended) -> bool
 
 impl<P: Peer, J: Naming, D: Dialer, C: Clock> Serve<P> for ProxyServer<'_, J, D, C> {
     ghost use Rattle.std.specs.Prelude.{◌≡◌};
-    ghost use Rattle.proxy_session.specs.Callers.{caller_of};
     ghost use Rattle.router.specs.Passes.{number_in};
-    ghost use Rattle.serving.specs.Sessions.{Attends};
+    ghost use Rattle.serving.specs.Sessions.{Attends, going_by};
 
     ghost serves = { λ old peer peer_after new.
-        Attends J.settings old.rule.now
-        (record {
-          upstream = record { log = D.log old.dialer; is_open = D.is_open old.dialer; faults = D.faults old.dialer };
-          caller = caller_of old.pass;
-          moments = C.to_come old.clock;
-          words = old.words;
-          lacked_memory = old.lacked_memory;
-        })
-        (record { left = P.left peer; given = P.given peer; read_faults = P.read_faults peer; write_faults = P.write_faults peer; ends = P.ends peer })
-        (record {
-          left = P.left peer_after;
-          given = P.given peer_after;
-          read_faults = P.read_faults peer_after;
-          write_faults = P.write_faults peer_after;
-          ends = P.ends peer_after;
-        })
-        (record {
-          upstream = record { log = D.log new.dialer; is_open = D.is_open new.dialer; faults = D.faults new.dialer };
-          caller = caller_of new.pass;
-          moments = C.to_come new.clock;
-          words = new.words;
-          lacked_memory = new.lacked_memory;
-        })
-        × (new.rule ≡ old.rule) × (number_in new.pass ≡ number_in old.pass) };
+        Attends J.settings old.rule.now (going_by D.upstream C.to_come old.server old.lacked_memory)
+        (P.line peer) (P.line peer_after) (going_by D.upstream C.to_come new.server new.lacked_memory)
+        × (new.rule ≡ old.rule) × (number_in new.server.pass ≡ number_in old.server.pass) };
 
-    fn serve<R: Wait, G: Gate>(&mut self, rt: &R, peer: &mut P, gate: &G, worker: u32) {
-        let ended = serve_session(
+    fn serve<R: Wait, G: Gate>(&mut self, rt: &R, peer: P, gate: &G, worker: u32) -> P {
+        let context = Context {
             rt,
-            self.alloc,
-            self.router,
-            &mut self.pass,
-            self.rule,
-            peer,
-            &mut self.dialer,
-            &mut self.clock,
-            &mut self.words,
-            gate,
-            worker,
-        );
+            alloc: self.alloc,
+            router: self.router,
+            rule: self.rule,
+        };
+        let mut connection = Connection::of(peer);
+        let ended = self
+            .server
+            .serve_session(&context, &mut connection, gate, worker);
         self.lacked_memory = lacked_behind(self.lacked_memory, ended);
+        connection.into_peer()
     }
 }

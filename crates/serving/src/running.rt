@@ -10,7 +10,6 @@ ghost use Rattle.serving.specs.Ending.{HasServed};
 ghost use Rattle.serving.specs.Faults.{TellsFaults};
 ghost use Rattle.serving.specs.Jobs.{ComeBack, Runs, passes_of_jobs};
 ghost use Rattle.serving.specs.Services.{BookRefuses, HaveSeen};
-ghost use Rattle.serving.specs.Sessions.{line_by, upstream_by};
 ghost use Rattle.serving.specs.Passes.{AreFree};
 ghost use Rattle.serving.specs.Returning.{listened};
 ghost use Rattle.serving.specs.Running.{HasRun, IsReady, Listens, bound_of, passes_of};
@@ -19,7 +18,7 @@ ghost use Rattle.snap_cell.specs.Writers.{cell_written, opening_written};
 
 use crate::bound::{Bound, bind};
 use crate::gate::NoGate;
-use crate::jobs::{Jobs, add_jobs};
+use crate::jobs::{Jobs, Setup, add_jobs, make_rooms};
 use crate::loading::{SetFault, set_services};
 use crate::site::Site;
 use crate::taking_back::{Tally, take_all_back, take_unrun_back};
@@ -175,13 +174,24 @@ where
     ensures room { (vec_len back.new ≡ vec_len back.old + length jobs.entry.items) × (vec_capacity back.new ≡ vec_capacity back.old) }
     ensures faults { TellsFaults (N.faults net.old) (N.faults net.new) result.1.failed }
     ensures came { result.0 ≡ true
-        → ComeBack (Runs (line_by N.L.P.left N.L.P.given N.L.P.read_faults N.L.P.write_faults N.L.P.ends) N.L.state
-        (upstream_by N.D.log N.D.is_open N.D.faults) C.to_come N.S.calls) N.L.state N.D.log N.S.calls
+        → ComeBack (Runs N.L.P.line N.L.state
+        N.D.upstream C.to_come N.S.calls) N.L.state N.D.upstream N.S.calls
         jobs.entry.items back.old.items back.new.items (N.state net.old) (N.state net.new) result.1.failed result.1.lacked_memory }
 {
     match run_workers(rt, jobs, &NoGate) {
         Ok(ended) => (true, take_all_back(net, ended, back)),
         Err(JobsBack { jobs }) => (false, take_unrun_back(net, jobs, back)),
+    }
+}
+
+/// There was no memory to run the jobs.
+fn unrun<J: Naming>(passes: Vec<Pass<J>>) -> Returned<J>
+    ensures { (result.ran ≡ false) × (result.tally.failed ≡ false) × (result.passes ≡ passes) }
+{
+    Returned {
+        ran: false,
+        tally: Tally::begin(),
+        passes,
     }
 }
 
@@ -193,9 +203,7 @@ fn run_jobs<
     C: Clock + Drop + Send,
 >(
     rt: &R,
-    alloc: Global,
-    router: &Router<J>,
-    site: &Site,
+    setup: &Setup<'_, J>,
     net: &mut N,
     clock: &C,
     bound: Bound<N::L>,
@@ -203,37 +211,27 @@ fn run_jobs<
 ) -> Returned<J>
 where
     <N::L as Listener>::P: Send,
-    requires seats { length passes.items ≡ site.now.workers + 5 }
+    requires seats { length passes.items ≡ setup.now.site.now.workers + 5 }
     requires free { AreFree passes.items }
-    requires listens { Listens N.L.state (N.state net.old).told site.now bound }
+    requires listens { Listens N.L.state (N.state net.old).told setup.now.site.now bound }
     ensures numbers { numbers_of result.passes.items ≡ numbers_of passes.items }
     ensures faults { TellsFaults (N.faults net.old) (N.faults net.new) result.tally.failed }
     ensures served { result.ran ≡ true → result.tally.failed ≡ false
-        → HasRun (line_by N.L.P.left N.L.P.given N.L.P.read_faults N.L.P.write_faults N.L.P.ends) site.now (C.of_fork clock.now)
+        → HasRun N.L.P.line setup.now.site.now (C.of_fork clock.now)
         passes.items result.passes.items (N.state net.old) (N.state net.new) result.tally.lacked_memory }
 {
     let count = passes.len();
     let (Ok(mut jobs), Ok(mut back)) = (
-        Vec::with_capacity(alloc, count),
-        Vec::with_capacity(alloc, count),
+        Vec::with_capacity(setup.alloc, count),
+        Vec::with_capacity(setup.alloc, count),
     ) else {
-        return Returned {
-            ran: false,
-            tally: Tally::begin(),
-            passes,
-        };
+        return unrun(passes);
+    };
+    let Ok(rooms) = make_rooms(setup.alloc, setup.site.workers as usize) else {
+        return unrun(passes);
     };
     let mut passes = passes.into_iter();
-    add_jobs(
-        alloc,
-        router,
-        site,
-        net,
-        clock,
-        bound,
-        &mut passes,
-        &mut jobs,
-    );
+    add_jobs(setup, net, clock, bound, rooms, &mut passes, &mut jobs);
     let (ran, tally) = run_all(rt, net, jobs, &mut back);
     add_rest(passes, &mut back);
     Returned {
@@ -262,7 +260,7 @@ impl<J: Naming + Send + Sync, L: Listener> Serving<J, L> {
         ensures broken { result ≡ Err RunFault.Net → Rose (N.faults net.old) (N.faults net.new) }
         ensures kept { (result ≡ Err RunFault.Net → ⊥) → N.faults net.new ≡ N.faults net.old }
         ensures served { IfOk result (λ served. (loaded : List LoadedItem) → HaveSeen loaded (passes_of self)
-            → HasServed (line_by L.P.left L.P.given L.P.read_faults L.P.write_faults L.P.ends) site.now (C.of_fork clock.now) loaded
+            → HasServed L.P.line site.now (C.of_fork clock.now) loaded
             (passes_of self) (N.state net.old) (N.state net.new) served) }
     {
         let Serving {
@@ -270,9 +268,12 @@ impl<J: Naming + Send + Sync, L: Listener> Serving<J, L> {
             passes,
             bound,
         } = self;
-        let Returned { ran, tally, passes } = run_jobs(
-            rt, alloc, &router, site, net, clock, bound, passes,
-        );
+        let setup = Setup {
+            alloc,
+            router: &router,
+            site,
+        };
+        let Returned { ran, tally, passes } = run_jobs(rt, &setup, net, clock, bound, passes);
         let place = close(rt, router, passes);
         if tally.failed {
             return Err(RunFault::Net);

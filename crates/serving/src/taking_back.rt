@@ -10,6 +10,7 @@ use crate::interface::ApiServer;
 use crate::job::{ApiJob, ProxyJob, ServingJob};
 use crate::proxy::ProxyServer;
 use line_base::Net;
+use proxy_session::Parts;
 use router::{Naming, Pass};
 use workers::Accepting;
 
@@ -45,7 +46,7 @@ impl Tally {
 
 /// Gives a listener back to the net, with what came with it: whether the net fails to take it.
 fn end<N: Net>(net: &mut N, listener: N::L, dialer: Option<N::D>, stop: N::S) -> bool
-    ensures state { N.state net.new ≡ after_end (N.state net.old) (record { listener = N.L.state listener; log = log_of N.D.log dialer; stops = N.S.calls stop }) }
+    ensures state { N.state net.new ≡ after_end (N.state net.old) (record { listener = N.L.state listener; log = log_of N.D.upstream dialer; stops = N.S.calls stop }) }
     ensures broken { result ≡ nat_le 100 (N.L.state listener).run }
     ensures faults { TellsFaults (N.faults net.old) (N.faults net.new) result }
 {
@@ -66,8 +67,8 @@ fn take_back<J: Naming, N: Net, C: Drop>(
     ensures passes { passes.new.items ≡ passes.old.items ++ pass_of job.entry ∷ [] }
     ensures room { (vec_len passes.new ≡ vec_len passes.old + 1) × (vec_capacity passes.new ≡ vec_capacity passes.old) }
     ensures faults { (start : ℕ) → TellsFaults start (N.faults net.old) tally.old.failed → TellsFaults start (N.faults net.new) tally.new.failed }
-    ensures state { N.state net.new ≡ after_end (N.state net.old) (ended_of N.L.state N.D.log N.S.calls job.entry) }
-    ensures failed { tally.new.failed ≡ (tally.old.failed || is_broken (ended_of N.L.state N.D.log N.S.calls job.entry)) }
+    ensures state { N.state net.new ≡ after_end (N.state net.old) (ended_of N.L.state N.D.upstream N.S.calls job.entry) }
+    ensures failed { tally.new.failed ≡ (tally.old.failed || is_broken (ended_of N.L.state N.D.upstream N.S.calls job.entry)) }
     ensures lacked { tally.new.lacked_memory ≡ (tally.old.lacked_memory || lacked_of job.entry) }
 {
     match job {
@@ -82,12 +83,15 @@ fn take_back<J: Naming, N: Net, C: Drop>(
                 alloc: _,
                 router: _,
                 rule: _,
+                server,
+                lacked_memory,
+            } = server;
+            let Parts {
                 pass,
                 dialer,
                 clock: _,
                 words: _,
-                lacked_memory,
-            } = server;
+            } = server.into_parts();
             passes.push_reserved(pass);
             let failed = end(net, listener, Some(dialer), stop);
             tally.add(failed, lacked_memory);
@@ -123,8 +127,8 @@ pub(crate) fn take_all_back<J: Naming, N: Net, C: Drop>(
     ensures passes { passes.new.items ≡ passes.old.items ++ map (λ b. pass_of b.0) back.entry.items }
     ensures room { (vec_len passes.new ≡ vec_len passes.old + length back.entry.items) × (vec_capacity passes.new ≡ vec_capacity passes.old) }
     ensures faults { TellsFaults (N.faults net.old) (N.faults net.new) result.failed }
-    ensures state { N.state net.new ≡ all_ended (map (λ b. ended_of N.L.state N.D.log N.S.calls b.0) back.entry.items) (N.state net.old) }
-    ensures failed { result.failed ≡ list_any (λ b. is_broken (ended_of N.L.state N.D.log N.S.calls b.0)) back.entry.items }
+    ensures state { N.state net.new ≡ all_ended (map (λ b. ended_of N.L.state N.D.upstream N.S.calls b.0) back.entry.items) (N.state net.old) }
+    ensures failed { result.failed ≡ list_any (λ b. is_broken (ended_of N.L.state N.D.upstream N.S.calls b.0)) back.entry.items }
     ensures lacked { result.lacked_memory ≡ list_any (λ b. lacked_of b.0) back.entry.items }
 {
     let mut tally = Tally::begin();

@@ -1,18 +1,19 @@
 //! Two sessions beside one another, of which a request of the one is held until the other's is answered.
-ghost use Rattle.std.specs.Prelude.{◌≡◌, Some};
+ghost use Rattle.std.specs.Prelude.{◌≡◌, None, Some, IfOk};
 ghost use Rattle.load_words.specs.Seats.{words_of};
+ghost use Rattle.router.specs.Passes.{slot_in};
 ghost use Rattle.router.specs.Values.{settings_in};
 ghost use Rattle.snap_cell.specs.Writers.{cell_written, opening_written};
 
 use crate::scene::{Mem, Scene, by_host, client, clock, settings, spelling, spelt};
 use http_wire::Ended;
 use identifier::Rule;
-use line_base::{Failed, Gate, MemDialer, MemPeer, Peer};
-use proxy_session::serve_session;
+use line_base::{Failed, Gate, MemClock, MemDialer, MemPeer, Peer};
+use proxy_session::{Connection, Context, Parts, Room, Server};
 use rand_core::SeedableRng;
 use rand_pcg::Pcg64;
 use router::{Naming, Opened, Pass, Router, open};
-use std::alloc::Global;
+use std::alloc::{AllocError, Global};
 use std::marker::Brand;
 use std::process::Abort;
 use std::sync::Wait;
@@ -99,17 +100,9 @@ struct Client<'a> {
 }
 
 impl Peer for Client<'_> {
-    ghost use Rattle.std.specs.Prelude.{Some};
+    ghost use Rattle.line_base.specs.Memory.{line_of};
 
-    ghost left = { λ c. Some c.peer.source.left };
-
-    ghost given = { λ c. Some c.peer.sink.held };
-
-    ghost read_faults = { λ c. c.peer.source.faults };
-
-    ghost write_faults = { λ c. c.peer.sink.faults };
-
-    ghost ends = { λ c. c.peer.source.ends };
+    ghost line = { λ c. line_of c.peer };
 
     fn read(&mut self, into: &mut [u8]) -> Result<usize, Failed> {
         self.peer.read(into)
@@ -126,55 +119,73 @@ impl Peer for Client<'_> {
 
 /// Serves one connection.
 #[derive(Drop)]
-struct Connection<'a, J: Naming> {
+struct Visit<'a, J: Naming> {
     number: u32,
     alloc: Global,
     router: &'a Router<J>,
     rule: &'a Rule,
-    pass: Pass<J>,
-    client: Client<'a>,
+    server: Server<J, MemDialer, MemClock>,
+    client: Option<Client<'a>>,
+    ghost free: { slot_in server.pass ≡ None },
 }
 
-impl<J: Naming> Job for Connection<'_, J> {
+impl<J: Naming> Job for Visit<'_, J> {
     type End = Ended;
 
     ghost runs = { λ old new end. new ≡ new };
 
     fn run<R: Wait, G: Gate>(&mut self, rt: &R, gate: &G) -> Ended {
-        let alloc = self.alloc;
-        let None = self.pass.holds() else {
-            return Ended::OutOfMemory;
+        let Some(client) = self.client.take() else {
+            return Ended::PeerEnded;
         };
-        let Ok(mut clock) = clock(alloc) else {
-            return Ended::OutOfMemory;
-        };
-        let mut dialer = MemDialer::of(alloc, Vec::new(alloc), Vec::new(alloc), Vec::new(alloc));
-        let mut words = Pcg64::seed_from_u64(7);
-        serve_session(
+        let context = Context {
             rt,
-            alloc,
-            self.router,
-            &mut self.pass,
-            self.rule,
-            &mut self.client,
-            &mut dialer,
-            &mut clock,
-            &mut words,
-            gate,
-            self.number,
-        )
+            alloc: self.alloc,
+            router: self.router,
+            rule: self.rule,
+        };
+        let mut connection = Connection::of(client);
+        let ended = self
+            .server
+            .serve_session(&context, &mut connection, gate, self.number);
+        self.client = Some(connection.into_peer());
+        ended
     }
+}
+
+/// A server in memory with this pass.
+fn server<J: Naming>(alloc: Global, pass: Pass<J>) -> Mem<Server<J, MemDialer, MemClock>>
+    ensures { IfOk result (λ s. s.pass ≡ pass) }
+{
+    let room = Room::new(alloc)?;
+    let clock = clock(alloc)?;
+    let parts = Parts {
+        pass,
+        dialer: MemDialer::of(alloc, Vec::new(alloc), Vec::new(alloc), Vec::new(alloc)),
+        clock,
+        words: Pcg64::seed_from_u64(7),
+    };
+    Ok(Server::of(room, parts))
 }
 
 /// How a session ended, and what its client was given.
 type Told = (Ended, String);
 
 /// The pass of a job that has run, and what came of its session.
-fn told<J: Naming>(alloc: Global, job: Connection<'_, J>, ended: Ended) -> (Pass<J>, Mem<Told>) {
-    let Connection { pass, client, .. } = job;
-    let told = match spelling(alloc, client.peer.sink().held()) {
-        Ok(written) => Ok((ended, written)),
-        Err(want) => Err(want),
+fn told<J: Naming>(alloc: Global, job: Visit<'_, J>, ended: Ended) -> (Pass<J>, Mem<Told>) {
+    let Visit { server, client, .. } = job;
+    let Parts {
+        pass,
+        dialer: _,
+        clock: _,
+        words: _,
+    } = server.into_parts();
+    let told = match client {
+        Some(client) => match spelling(alloc, client.peer.sink().held()) {
+            Ok(written) => Ok((ended, written)),
+            Err(want) => Err(want),
+        },
+        None => Err(AllocError),
     };
     (pass, told)
 }
@@ -189,28 +200,34 @@ fn serve_both<J: Naming + Send + Sync, R: Wait + Threads + Abort + Sync>(
     clients: (MemPeer, MemPeer),
     crossing: &Crossing,
 ) -> ((Pass<J>, Mem<Told>), (Pass<J>, Mem<Told>)) {
+    let (None, None) = (passes.0.holds(), passes.1.holds()) else {
+        panic!(rt; "a pass holds a slot")
+    };
+    let (Ok(first), Ok(second)) = (server(alloc, passes.0), server(alloc, passes.1)) else {
+        panic!(rt; "no memory for the servers")
+    };
     let jobs = vec![in alloc;
-        Connection {
+        Visit {
             number: 0,
             alloc,
             router,
             rule,
-            pass: passes.0,
-            client: Client {
+            server: first,
+            client: Some(Client {
                 peer: clients.0,
                 written: &crossing.written
-            },
+            }),
         },
-        Connection {
+        Visit {
             number: 1,
             alloc,
             router,
             rule,
-            pass: passes.1,
-            client: Client {
+            server: second,
+            client: Some(Client {
                 peer: clients.1,
                 written: &crossing.written
-            },
+            }),
         },
     ];
     let Ok(jobs) = jobs else {

@@ -1,8 +1,9 @@
 //! Sessions that are played, and what they came to.
-ghost use Rattle.std.specs.Prelude.{◌≡◌, Some};
+ghost use Rattle.std.specs.Prelude.{◌≡◌, None, Some};
 ghost use Rattle.load_words.specs.Seats.{words_of};
 ghost use Rattle.machine.specs.Code.{change_of};
 ghost use Rattle.machine.specs.State.{IsSoundChange};
+ghost use Rattle.router.specs.Passes.{slot_in};
 ghost use Rattle.router.specs.Values.{settings_in};
 ghost use Rattle.snap_cell.specs.Writers.{cell_written, opening_written};
 
@@ -11,12 +12,12 @@ use crate::scene::{
 };
 use addr_book::Addr;
 use dtab_table::Dtab;
-use http_wire::{Ended, Rest, read_request_head};
+use http_wire::Ended;
 use identifier::Rule;
 use line_base::{DialEvent, Gate, MemClock, MemDialer, MemPeer};
 use machine::{Ask, Change, Reply};
 use name_tree::{Path, read_path};
-use proxy_session::{proxy_once, serve_session};
+use proxy_session::{Connection, Context, Parts, Room, Server};
 use rand_core::SeedableRng;
 use rand_pcg::Pcg64;
 use router::{Names, Naming, Opened, Pass, Peek, Router, open};
@@ -124,9 +125,10 @@ fn load<J: Naming>(alloc: Global, router: &Router<J>, pass: &mut Pass<J>) -> Mem
     }
 }
 
-/// What is outside of a session.
+/// What a session has beside its router and its pass.
 #[derive(Drop)]
 struct Outside {
+    room: Room,
     peer: MemPeer,
     dialer: MemDialer,
     clock: MemClock,
@@ -136,6 +138,7 @@ impl Outside {
     /// That of a scene.
     fn of(alloc: Global, scene: &Scene<'_>) -> Mem<Outside> {
         Ok(Outside {
+            room: Room::new(alloc)?,
             peer: client(alloc, scene)?,
             dialer: upstreams(alloc, scene)?,
             clock: clock(alloc)?,
@@ -143,67 +146,18 @@ impl Outside {
     }
 }
 
-/// Serves the client, with a pass that holds no slot.
-fn serve<J: Naming, R: Wait>(
-    rt: &R,
-    alloc: Global,
-    router: &Router<J>,
-    pass: &mut Pass<J>,
-    rule: &Rule,
-    outside: &mut Outside,
-) -> Ended {
-    let None = pass.holds() else {
-        return Ended::OutOfMemory;
-    };
-    let mut words = Pcg64::seed_from_u64(7);
-    serve_session(
-        rt,
-        alloc,
-        router,
-        pass,
-        rule,
-        &mut outside.peer,
-        &mut outside.dialer,
-        &mut outside.clock,
-        &mut words,
-        &Free,
-        0,
-    )
-}
-
-/// Reads the head of the client's first request and serves it, with a pass that holds no slot. `None` where the connection goes on.
+/// Reads the head of the client's first request and serves it. `None` where the connection goes on.
 fn serve_first<J: Naming, R: Wait>(
-    rt: &R,
-    alloc: Global,
-    router: &Router<J>,
-    pass: &mut Pass<J>,
-    rule: &Rule,
-    outside: &mut Outside,
-) -> Option<Ended> {
-    let None = pass.holds() else {
-        return Some(Ended::OutOfMemory);
-    };
-    let Ok(mut rest) = Rest::room(alloc) else {
-        return Some(Ended::OutOfMemory);
-    };
-    let Ok(head) = read_request_head(alloc, &mut outside.peer, &mut rest) else {
+    context: &Context<'_, J, R>,
+    server: &mut Server<J, MemDialer, MemClock>,
+    connection: &mut Connection<MemPeer>,
+) -> Option<Ended>
+    requires { slot_in server.old.pass ≡ None }
+{
+    let Ok(head) = server.read_head(context.alloc, connection) else {
         return Some(Ended::Cut);
     };
-    let mut words = Pcg64::seed_from_u64(7);
-    proxy_once(
-        rt,
-        alloc,
-        router,
-        pass,
-        rule,
-        &head,
-        false,
-        &mut outside.peer,
-        &mut rest,
-        &mut outside.dialer,
-        &mut outside.clock,
-        &mut words,
-    )
+    server.proxy_once(context, connection, &head, false)
 }
 
 /// Gives `web` its address, which then fails once.
@@ -227,55 +181,98 @@ fn prepare<J: Naming, R: Wait>(
 }
 
 /// What the outside was told of a session that ended so.
-fn told(alloc: Global, outside: &Outside, ended: Option<Ended>) -> Mem<Played> {
-    let sent = sent_of(alloc, outside.dialer.log())?;
+fn told(alloc: Global, peer: &MemPeer, dialer: &MemDialer, ended: Option<Ended>) -> Mem<Played> {
+    let sent = sent_of(alloc, dialer.log())?;
     Ok(Played {
-        written: spelling(alloc, outside.peer.sink().held())?,
+        written: spelling(alloc, peer.sink().held())?,
         sent: spelling(alloc, sent.as_slice())?,
-        receives: receives_of(outside.dialer.log()),
-        failed: outside.dialer.faults(),
+        receives: receives_of(dialer.log()),
+        failed: dialer.faults(),
         ended,
         reported: (0, 0),
         load: None,
     })
 }
 
-/// Plays a scene over a router that was prepared.
+/// Plays a scene over a router that was prepared, with a pass that holds no slot, and gives the pass
+/// back.
 fn play_on<J: Naming, R: Wait>(
-    rt: &R,
-    alloc: Global,
-    router: &Router<J>,
-    pass: &mut Pass<J>,
-    rule: &Rule,
+    context: &Context<'_, J, R>,
+    pass: Pass<J>,
     scene: &Scene<'_>,
-) -> Mem<Played> {
-    let mut outside = Outside::of(alloc, scene)?;
-    let ended = match scene.serving {
-        Serving::Session => Some(serve(rt, alloc, router, pass, rule, &mut outside)),
-        Serving::FirstRequest => serve_first(rt, alloc, router, pass, rule, &mut outside),
+) -> (Pass<J>, Mem<Played>) {
+    let alloc = context.alloc;
+    let (Ok(outside), None) = (Outside::of(alloc, scene), pass.holds()) else {
+        return (pass, Err(AllocError));
     };
-    told(alloc, &outside, ended)
+    let Outside {
+        room,
+        peer,
+        dialer,
+        clock,
+    } = outside;
+    let parts = Parts {
+        pass,
+        dialer,
+        clock,
+        words: Pcg64::seed_from_u64(7),
+    };
+    let mut server = Server::of(room, parts);
+    let mut connection = Connection::of(peer);
+    let ended = match scene.serving {
+        Serving::Session => Some(server.serve_session(context, &mut connection, &Free, 0)),
+        Serving::FirstRequest => serve_first(context, &mut server, &mut connection),
+    };
+    let Parts {
+        pass,
+        dialer,
+        clock: _,
+        words: _,
+    } = server.into_parts();
+    let peer = connection.into_peer();
+    (pass, told(alloc, &peer, &dialer, ended))
+}
+
+/// What a scene left at the router that was played over it.
+fn look<J: Naming, R: Wait>(
+    context: &Context<'_, J, R>,
+    pass: &mut Pass<J>,
+    played: Played,
+    reports: u64,
+) -> Mem<Played> {
+    let mut played = played;
+    let Context {
+        rt,
+        alloc,
+        router,
+        ..
+    } = context;
+    played.load = load(*alloc, router, pass)?;
+    played.reported = (reports, fail(*rt, *alloc, router, pass)?.saturating_sub(1));
+    Ok(played)
 }
 
 /// Plays a scene over a router, and looks at what it left there.
 fn play_over<J: Naming, R: Wait>(
-    rt: &R,
-    alloc: Global,
-    router: &Router<J>,
-    pass: &mut Pass<J>,
-    rule: &Rule,
+    context: &Context<'_, J, R>,
+    pass: Pass<J>,
     change: Change,
     scene: &Scene<'_>,
-) -> Mem<Played>
+) -> (Pass<J>, Mem<Played>)
     requires { IsSoundChange (change_of change) }
 {
-    prepare(rt, alloc, router, pass, change)?;
+    let mut pass = pass;
+    if prepare(context.rt, context.alloc, context.router, &mut pass, change).is_err() {
+        return (pass, Err(AllocError));
+    }
     let before = pass.made();
-    let mut played = play_on(rt, alloc, router, pass, rule, scene)?;
+    let (mut pass, played) = play_on(context, pass, scene);
     let reports = pass.made().saturating_sub(before);
-    played.load = load(alloc, router, pass)?;
-    played.reported = (reports, fail(rt, alloc, router, pass)?.saturating_sub(1));
-    Ok(played)
+    let looked = match played {
+        Ok(played) => look(context, &mut pass, played, reports),
+        Err(want) => Err(want),
+    };
+    (pass, looked)
 }
 
 /// Names a router of one pass, plays a scene over it and ends it.
@@ -296,10 +293,17 @@ fn play_named<J: Naming, R: Wait>(
     requires change { IsSoundChange (change_of change) }
 {
     let (router, mut passes) = opened.named::<J, R>(rt, alloc)?;
-    let played = match passes.as_mut_slice() {
-        [pass] => play_over(rt, alloc, &router, pass, rule, change, scene),
-        _ => unreachable!(),
+    let Some(pass) = passes.pop() else {
+        unreachable!()
     };
+    let context = Context {
+        rt,
+        alloc,
+        router: &router,
+        rule,
+    };
+    let (pass, played) = play_over(&context, pass, change, scene);
+    passes.push_reserved(pass);
     match router.close(rt, passes) {
         Ok(_) => played,
         Err(_) => unreachable!(),

@@ -84,14 +84,16 @@ struct Repeats {
 impl<P: Peer> Serve<P> for Repeats {
     ghost serves = { λ old _ _ new. new ≡ new };
 
-    fn serve<R: Wait, G: Gate>(&mut self, _rt: &R, peer: &mut P, gate: &G, worker: u32) {
+    fn serve<R: Wait, G: Gate>(&mut self, _rt: &R, peer: P, gate: &G, worker: u32) -> P {
         gate.begin(worker);
+        let mut peer = peer;
         let mut piece = [0u8; 8];
         if let Ok(count) = peer.read(&mut piece) {
             let _ = peer.write(&piece[..count]);
         }
         self.served = self.served.saturating_add(1);
         gate.done(worker);
+        peer
     }
 }
 

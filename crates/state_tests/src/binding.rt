@@ -1,15 +1,16 @@
 //! Delegations over tables that are read from their texts, and a book of two services.
 ghost use Rattle.std.specs.Prelude.{◌≡◌, ◌<◌};
 
+use crate::given::{path, table};
 use addr_book::{Book, Bound, Cluster, Leaf, Name, append_addr, read_addrs};
 use bind_core::{Delegated, Ended, Mem, Outcome, Tables, TraceItem, Wanted, bind};
-use dtab_table::{Dtab, read_dtab};
-use line_base::Steps;
-use name_tree::{Path, append_path, read_path};
+use dtab_table::Dtab;
+use name_tree::{Path, append_path};
 use std::alloc::Global;
 use std::marker::Brand;
 use std::sync::ledger::{Blank, Ledger};
 use std::test::Fail;
+use step_count::Steps;
 
 /// What paths are delegated by.
 #[derive(Drop)]
@@ -27,16 +28,21 @@ fn set(alloc: Global, book: &mut Book, service: &str, addrs: &str) -> Result<(),
     Ok(book.absorb(&ready)?)
 }
 
-/// These tables, and a book with the services `web`, which has an address, and `idle`, which has none.
-fn read_given(alloc: Global, space: &str, base: &str, local: &str) -> Result<Given, Fail> {
+/// A book with the services `web`, which has an address, and `idle`, which has none.
+fn two_services(alloc: Global) -> Result<Book, Fail> {
     let mut book = Book::start(alloc)?;
     set(alloc, &mut book, "web", "127.0.0.1 9001")?;
     set(alloc, &mut book, "idle", "")?;
+    Ok(book)
+}
+
+/// These tables, and the book of two services.
+fn read_given(alloc: Global, space: &str, base: &str, local: &str) -> Result<Given, Fail> {
     Ok(Given {
-        space: read_dtab(alloc, space.as_bytes())?,
-        base: read_dtab(alloc, base.as_bytes())?,
-        local: read_dtab(alloc, local.as_bytes())?,
-        book,
+        book: two_services(alloc)?,
+        space: table(alloc, space),
+        base: table(alloc, base),
+        local: table(alloc, local),
     })
 }
 
@@ -66,9 +72,8 @@ fn delegate_by(alloc: Global, given: &Given, path: &Path, wanted: Wanted) -> Mem
 }
 
 /// What the path of a text comes to.
-fn told(alloc: Global, given: &Given, path: &str, wanted: Wanted) -> Result<Delegated, Fail> {
-    let path = read_path(alloc, path.as_bytes())?;
-    Ok(delegate_by(alloc, given, &path, wanted)?)
+fn told(alloc: Global, given: &Given, text: &str, wanted: Wanted) -> Mem<Delegated> {
+    delegate_by(alloc, given, &path(alloc, text), wanted)
 }
 
 /// A leaf in words: the address, the client path and the residual.
@@ -100,20 +105,25 @@ fn put_bound(alloc: Global, bound: &Bound, text: &mut Vec<u8>) -> Mem<()> {
     }
 }
 
+/// Why nothing is bound, in words; nothing where something is.
+fn unbound_words(outcome: &Outcome) -> &'static str {
+    match outcome {
+        Outcome::Neg => "negative",
+        Outcome::Fail => "failing",
+        Outcome::Empty => "empty",
+        Outcome::TooDeep => "too deep",
+        Outcome::TooWide => "too wide",
+        Outcome::Bound(_) => "",
+    }
+}
+
 /// An outcome in words. A bound one is its bound.
 fn outcome_text(alloc: Global, outcome: &Outcome) -> Mem<Vec<u8>> {
-    match outcome {
-        Outcome::Neg => b"negative".to_vec(alloc),
-        Outcome::Fail => b"failing".to_vec(alloc),
-        Outcome::Empty => b"empty".to_vec(alloc),
-        Outcome::TooDeep => b"too deep".to_vec(alloc),
-        Outcome::TooWide => b"too wide".to_vec(alloc),
-        Outcome::Bound(bound) => {
-            let mut text = Vec::new(alloc);
-            put_bound(alloc, bound, &mut text)?;
-            Ok(text)
-        }
+    let mut text = Vec::from_slice(alloc, unbound_words(outcome).as_bytes())?;
+    if let Outcome::Bound(bound) = outcome {
+        put_bound(alloc, bound, &mut text)?;
     }
+    Ok(text)
 }
 
 /// How a lookup ended, in a word.
@@ -127,15 +137,18 @@ fn ended_word(ended: Ended) -> &'static str {
     }
 }
 
-/// The first few lookups of a trace in words: the depth, the path and how it ended.
-fn trace_text(alloc: Global, items: &[TraceItem], most: usize) -> Mem<Vec<u8>> {
+/// Puts a lookup behind a text: the depth, the path and how it ended.
+fn put_lookup(alloc: Global, item: &TraceItem, text: &mut Vec<u8>) -> Mem<()> {
+    text.append(&mut format!(in alloc; "{} ", item.depth)?.into_bytes())?;
+    append_path(&item.path, text)?;
+    text.append(&mut format!(in alloc; " {};", ended_word(item.ended))?.into_bytes())
+}
+
+/// The first four lookups of a trace in words.
+fn trace_text(alloc: Global, items: &[TraceItem]) -> Mem<Vec<u8>> {
     let mut text = Vec::new(alloc);
-    for item in items.iter().take(most) {
-        text.extend_from_slice(format!(in alloc; "{} ", item.depth)?.as_bytes())?;
-        append_path(&item.path, &mut text)?;
-        text.push(b' ')?;
-        text.extend_from_slice(ended_word(item.ended).as_bytes())?;
-        text.push(b';')?;
+    for item in &items[..items.len().min(4)] {
+        put_lookup(alloc, item, &mut text)?;
     }
     Ok(text)
 }
@@ -294,30 +307,36 @@ const ROWS: [(&str, &str, &str, u32); 31] = [
     ("/s/*/x => /$/inet/127.0.0.1/9", "/s/a/b/x", "negative", 1),
 ];
 
-/// What a path comes to by a table in words, the cost, and how many paths and lookups are told.
+/// A cost, and how many paths and lookups are told.
+type Counts = (u32, usize, usize);
+
+fn counts_of(found: &Delegated) -> Counts {
+    (
+        found.cost,
+        found.asked.items().len(),
+        found.trace.items().len(),
+    )
+}
+
+/// What a path comes to by a table in words, with its counts.
 fn counted(
     alloc: Global,
     table: &str,
     path: &str,
     wanted: Wanted,
-) -> Result<(Vec<u8>, u32, usize, usize), Fail> {
+) -> Result<(Vec<u8>, Counts), Fail> {
     let given = read_given(alloc, table, "", "")?;
     let found = told(alloc, &given, path, wanted)?;
     let text = outcome_text(alloc, &found.outcome)?;
-    let (asked, traced) = (found.asked.items().len(), found.trace.items().len());
-    Ok((text, found.cost, asked, traced))
+    Ok((text, counts_of(&found)))
 }
 
 #[test]
 fn delegations(rt: HostRuntime) -> Result<(), Fail> {
     for (table, path, outcome, cost) in &ROWS {
-        let found = counted(rt.alloc(), table, path, Wanted::Neither)?;
+        let (text, counts) = counted(rt.alloc(), table, path, Wanted::Neither)?;
         assert!(rt;
-            found.0.as_slice() == outcome.as_bytes(),
-            "{path} in {table}"
-        );
-        assert!(rt;
-            (found.1, found.2, found.3) == (*cost, 0, 0),
+            text.as_slice() == outcome.as_bytes() && counts == (*cost, 0, 0),
             "{path} in {table}"
         );
     }
@@ -404,8 +423,14 @@ const TABLES: [(&str, &str, &str, &str, &str, &str); 9] = [
     ),
 ];
 
-/// What a path comes to by three tables in words, with the paths that are looked up behind it, and whether the cost is their number.
-fn asked_text(
+/// What was found in words, with the paths that were looked up behind it.
+fn asked_text(alloc: Global, found: &Delegated) -> Mem<(Vec<u8>, Vec<u8>)> {
+    let text = outcome_text(alloc, &found.outcome)?;
+    Ok((text, paths_text(alloc, found.asked.items())?))
+}
+
+/// The same of a path by three tables, and whether the cost is the number of those paths.
+fn asked_by(
     alloc: Global,
     space: &str,
     base: &str,
@@ -414,22 +439,21 @@ fn asked_text(
 ) -> Result<(Vec<u8>, Vec<u8>, bool), Fail> {
     let given = read_given(alloc, space, base, local)?;
     let found = told(alloc, &given, path, Wanted::Asked)?;
-    let text = outcome_text(alloc, &found.outcome)?;
-    let asked = paths_text(alloc, found.asked.items())?;
-    let count = found.asked.items().len();
-    Ok((
-        text,
-        asked,
-        found.cost as usize == count && found.trace.items().is_empty(),
-    ))
+    let (text, asked) = asked_text(alloc, &found)?;
+    let (cost, count, traced) = counts_of(&found);
+    Ok((text, asked, cost as usize == count && traced == 0))
 }
 
 #[test]
 fn tables_and_paths_asked(rt: HostRuntime) -> Result<(), Fail> {
     for (space, base, local, path, outcome, asked) in &TABLES {
-        let found = asked_text(rt.alloc(), space, base, local, path)?;
-        assert!(rt; found.0.as_slice() == outcome.as_bytes(), "{path}");
-        assert!(rt; found.1.as_slice() == asked.as_bytes() && found.2, "{path}");
+        let found = asked_by(rt.alloc(), space, base, local, path)?;
+        assert!(rt;
+            found.0.as_slice() == outcome.as_bytes()
+                && found.1.as_slice() == asked.as_bytes()
+                && found.2,
+            "{path}"
+        );
     }
     Ok(())
 }
@@ -478,128 +502,141 @@ const TRACES: [(&str, &str, usize, &str); 8] = [
     ("/s => ! | /a", "/s", 1, "0 /s failing;"),
 ];
 
-/// The first four lookups of a path by a table in words, how many there are, and whether the cost is their number.
-fn traced_text(alloc: Global, table: &str, path: &str) -> Result<(Vec<u8>, usize, bool), Fail> {
+/// The first four lookups of a path by a table in words, with the counts.
+fn traced_text(alloc: Global, table: &str, path: &str) -> Result<(Vec<u8>, Counts), Fail> {
     let given = read_given(alloc, table, "", "")?;
     let found = told(alloc, &given, path, Wanted::Trace)?;
-    let items = found.trace.items();
-    let text = trace_text(alloc, items, 4)?;
-    let is_cost = found.cost as usize == items.len() && found.asked.items().is_empty();
-    Ok((text, items.len(), is_cost))
+    let text = trace_text(alloc, found.trace.items())?;
+    Ok((text, counts_of(&found)))
 }
 
 #[test]
 fn traces(rt: HostRuntime) -> Result<(), Fail> {
     for (table, path, count, trace) in &TRACES {
-        let found = traced_text(rt.alloc(), table, path)?;
-        assert!(rt; found.0.as_slice() == trace.as_bytes(), "{path} in {table}");
-        assert!(rt; found.1 == *count && found.2, "{path} in {table}");
+        let (text, (cost, asked, traced)) = traced_text(rt.alloc(), table, path)?;
+        assert!(rt;
+            text.as_slice() == trace.as_bytes()
+                && (cost as usize, asked, traced) == (*count, 0, *count),
+            "{path} in {table}"
+        );
     }
     Ok(())
 }
 
-/// Whether a path comes to an outcome, which `bound` begins for a bound one, with this cost and so many paths and lookups.
+/// Whether an outcome in words is this, which is `bound` for each bound one.
+fn is_outcome(text: &[u8], outcome: &str) -> bool {
+    if outcome == "bound" {
+        text.ends_with(b" /") || text.ends_with(b" ]")
+    } else {
+        text == outcome.as_bytes()
+    }
+}
+
+/// Whether a path comes to an outcome with this cost and so many paths and lookups.
 fn is_measured(
     alloc: Global,
     table: &str,
     path: &str,
     outcome: &str,
-    counts: (u32, usize, usize),
+    counts: Counts,
 ) -> Result<bool, Fail> {
-    let asked = counted(alloc, table, path, Wanted::Asked)?;
-    let traced = counted(alloc, table, path, Wanted::Trace)?;
-    let is_outcome = if outcome == "bound" {
-        traced.0.as_slice().ends_with(b" /") || traced.0.as_slice().ends_with(b" ]")
-    } else {
-        traced.0.as_slice() == outcome.as_bytes()
-    };
-    Ok(is_outcome && (traced.1, asked.2, traced.3) == counts && asked.1 == traced.1)
+    let (_text, asked) = counted(alloc, table, path, Wanted::Asked)?;
+    let (text, traced) = counted(alloc, table, path, Wanted::Trace)?;
+    let is_counted = (traced.0, asked.1, traced.2) == counts && asked.0 == traced.0;
+    Ok(is_counted && is_outcome(text.as_slice(), outcome))
 }
 
 /// `/aN` is looked up `2^(13 - N) - 1` times in a table of twelve levels: these sums come to 255, 256, 257, 9,999, 10,000 and 10,001, with the first lookup.
-const SUMS: [(&str, &str, u32, usize, usize); 6] = [
-    ("/s => /a6 | /a6", "negative", 255, 255, 255),
-    ("/s => /a5", "negative", 256, 256, 256),
-    ("/s => /a5 | /a12", "negative", 257, 0, 257),
+const SUMS: [(&str, &str, Counts); 6] = [
+    ("/s => /a6 | /a6", "negative", (255, 255, 255)),
+    ("/s => /a5", "negative", (256, 256, 256)),
+    ("/s => /a5 | /a12", "negative", (257, 0, 257)),
     (
         "/s => /a0 | /a3 | /a4 | /a5 | /a9 | /a11",
         "negative",
-        9_999,
-        0,
-        9_999,
+        (9_999, 0, 9_999),
     ),
     (
         "/s => /a0 | /a3 | /a4 | /a5 | /a9 | /a11 | /a12",
         "negative",
-        10_000,
-        0,
-        10_000,
+        (10_000, 0, 10_000),
     ),
     (
         "/s => /a0 | /a3 | /a4 | /a5 | /a9 | /a11 | /a12 | /a12",
         "too wide",
-        10_001,
-        0,
-        0,
+        (10_001, 0, 0),
     ),
 ];
 
+/// How many links a chain has or how many levels a union, the path at its front, what that comes
+/// to, and the counts.
+const LIMITS: [(u32, &str, &str, Counts); 4] = [
+    (98, "/c0", "bound", (100, 100, 100)),
+    (99, "/c0", "too deep", (100, 100, 100)),
+    (11, "/a0", "bound", (6_143, 0, 6_143)),
+    (12, "/a0", "too wide", (10_001, 0, 0)),
+];
+
+/// The table of a chain, or of unions.
+fn large_table(alloc: Global, path: &str, count: u32) -> Mem<String> {
+    if path == "/c0" {
+        chain(alloc, count)
+    } else {
+        doubling_unions(alloc, count)
+    }
+}
+
 #[test]
 fn limits(rt: HostRuntime) -> Result<(), Fail> {
-    let alloc = rt.alloc();
-    let rows = [
-        (chain(alloc, 98)?, "/c0", "bound", (100, 100, 100)),
-        (chain(alloc, 99)?, "/c0", "too deep", (100, 100, 100)),
-        (
-            doubling_unions(alloc, 11)?,
-            "/a0",
-            "bound",
-            (6_143, 0, 6_143),
-        ),
-        (
-            doubling_unions(alloc, 12)?,
-            "/a0",
-            "too wide",
-            (10_001, 0, 0),
-        ),
-    ];
-    for (table, path, outcome, counts) in &rows {
-        let is_measured = is_measured(alloc, table.as_str(), path, outcome, *counts)?;
-        assert!(rt; is_measured, "{path}");
+    for (count, path, outcome, counts) in &LIMITS {
+        let table = large_table(rt.alloc(), path, *count)?;
+        let is_measured = is_measured(rt.alloc(), table.as_str(), path, outcome, *counts)?;
+        assert!(rt; is_measured, "{path} of {count}");
     }
     Ok(())
 }
 
+/// The table of twelve levels, with this entry behind them.
+fn twelve_levels(alloc: Global, entry: &str) -> Mem<String> {
+    let mut table = doubling(alloc, 12, "|")?;
+    table.push_str(entry)?;
+    Ok(table)
+}
+
 #[test]
 fn sums(rt: HostRuntime) -> Result<(), Fail> {
-    for (entry, outcome, cost, asked, traced) in &SUMS {
-        let mut table = doubling(rt.alloc(), 12, "|")?;
-        table.push_str(entry)?;
-        let counts = (*cost, *asked, *traced);
-        let is_measured = is_measured(rt.alloc(), table.as_str(), "/s", outcome, counts)?;
+    for (entry, outcome, counts) in &SUMS {
+        let table = twelve_levels(rt.alloc(), entry)?;
+        let is_measured = is_measured(rt.alloc(), table.as_str(), "/s", outcome, *counts)?;
         assert!(rt; is_measured, "{entry}");
     }
     Ok(())
 }
 
-/// What a path of one label of so many bytes comes to without a table, in words, the cost, and how many paths are told.
-fn long(alloc: Global, len: usize) -> Result<(Vec<u8>, u32, usize), Fail> {
-    let label = Vec::from_elem(alloc, b'a', len)?;
-    let mut path = Vec::from_slice(alloc, b"/")?;
-    path.extend_from_slice(label.as_slice())?;
-    let path = read_path(alloc, path.as_slice())?;
-    let given = read_given(alloc, "", "", "")?;
-    let found = delegate_by(alloc, &given, &path, Wanted::Asked)?;
-    let text = outcome_text(alloc, &found.outcome)?;
-    Ok((text, found.cost, found.asked.items().len()))
+/// The path of one label of so many bytes, as text.
+fn long(alloc: Global, len: usize) -> Mem<String> {
+    let mut text = String::from_str(alloc, "/")?;
+    for _byte in 0..len {
+        text.push('a')?;
+    }
+    Ok(text)
 }
+
+/// How many bytes the label of a path has, what the path comes to without a table, and the counts.
+const LONG: [(usize, &str, Counts); 2] = [
+    (2_047, "negative", (1, 1, 0)),
+    (2_048, "too deep", (0, 0, 0)),
+];
 
 #[test]
 fn long_paths(rt: HostRuntime) -> Result<(), Fail> {
-    for (len, outcome, cost, asked) in [(2_047, "negative", 1, 1), (2_048, "too deep", 0, 0)] {
-        let found = long(rt.alloc(), len)?;
-        assert!(rt; found.0.as_slice() == outcome.as_bytes(), "{len}");
-        assert!(rt; (found.1, found.2) == (cost, asked), "{len}");
+    for (len, outcome, counts) in &LONG {
+        let path = long(rt.alloc(), *len)?;
+        let (text, counted) = counted(rt.alloc(), "", path.as_str(), Wanted::Asked)?;
+        assert!(rt;
+            text.as_slice() == outcome.as_bytes() && counted == *counts,
+            "{len}"
+        );
     }
     Ok(())
 }

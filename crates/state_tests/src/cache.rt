@@ -1,22 +1,28 @@
 //! A cache of two bindings, and one with as many as it may have.
+use crate::given::{path, table};
 use addr_book::Name;
 use bind_cache::{Binding, Cache, MOST_COST, MOST_KEPT, Mem};
 use bind_core::{Delegated, Outcome, PathList, Trace};
-use dtab_table::{Dtab, read_dtab};
-use name_tree::{Path, read_path};
+use dtab_table::Dtab;
+use name_tree::Path;
 use std::alloc::Global;
 use std::sync::Arc;
 use std::test::Fail;
 
+/// A copy of a path, and another one.
+fn both(alloc: Global, path: &Path, other: Path) -> Mem<PathList> {
+    let mut paths = Vec::new(alloc);
+    paths.push(Path::new(alloc).joined(alloc, path)?)?;
+    paths.push(other)?;
+    Ok(PathList::of(paths))
+}
+
 /// A binding of a path that comes to nothing after two lookups: of the path, and of another one.
 fn binding(alloc: Global, path: &Path, other: Path) -> Mem<Arc<Binding>> {
-    let mut asked = Vec::new(alloc);
-    asked.push(Path::new(alloc).joined(alloc, path)?)?;
-    asked.push(other)?;
     let found = Delegated {
         outcome: Outcome::Neg,
         cost: 2,
-        asked: PathList::of(asked),
+        asked: both(alloc, path, other)?,
         trace: Trace::of(Vec::new(alloc)),
     };
     let binding = Binding::of(alloc, path, &Dtab::empty(alloc), found, 0)?;
@@ -31,11 +37,13 @@ fn put(cache: &mut Cache, entry: Arc<Binding>) {
 }
 
 /// Keeps the bindings of `/svc/web`, which asked for the service `web`, and of `/a/x`.
-fn two(alloc: Global, web: &Path, x: &Path) -> Result<Cache, Fail> {
+fn two(alloc: Global, web: &Path, x: &Path) -> Mem<Cache> {
     let mut cache = Cache::start(alloc)?;
-    let service = read_path(alloc, b"/#/io.l5d.fs/web")?;
-    put(&mut cache, binding(alloc, web, service)?);
-    put(&mut cache, binding(alloc, x, read_path(alloc, b"/b/x")?)?);
+    put(
+        &mut cache,
+        binding(alloc, web, path(alloc, "/#/io.l5d.fs/web"))?,
+    );
+    put(&mut cache, binding(alloc, x, path(alloc, "/b/x"))?);
     Ok(cache)
 }
 
@@ -51,10 +59,7 @@ enum Touch {
 /// Tells a cache.
 fn tell(alloc: Global, cache: &mut Cache, touch: Touch) -> Result<(), Fail> {
     match touch {
-        Touch::Table(old, new) => {
-            let old = read_dtab(alloc, old.as_bytes())?;
-            cache.touch_table(&old, &read_dtab(alloc, new.as_bytes())?);
-        }
+        Touch::Table(old, new) => cache.touch_table(&table(alloc, old), &table(alloc, new)),
         Touch::Service(service) => cache.touch_service(&Name::of(alloc, service.as_bytes())?),
     }
     Ok(())
@@ -62,8 +67,7 @@ fn tell(alloc: Global, cache: &mut Cache, touch: Touch) -> Result<(), Fail> {
 
 /// Whether `/svc/web` and `/a/x` are kept behind what a cache is told.
 fn stay(alloc: Global, told: Touch) -> Result<(bool, bool), Fail> {
-    let web = read_path(alloc, b"/svc/web")?;
-    let x = read_path(alloc, b"/a/x")?;
+    let (web, x) = (path(alloc, "/svc/web"), path(alloc, "/a/x"));
     let mut cache = two(alloc, &web, &x)?;
     tell(alloc, &mut cache, told)?;
     let none = Dtab::empty(alloc);
@@ -93,14 +97,10 @@ fn changes_touch_paths(rt: HostRuntime) -> Result<(), Fail> {
 }
 
 /// Whether the path of a text is kept under a table of the request's own.
-fn is_kept_under(alloc: Global, table: &str) -> Result<bool, Fail> {
-    let web = read_path(alloc, b"/svc/web")?;
-    let cache = two(alloc, &web, &read_path(alloc, b"/a/x")?)?;
-    Ok(
-        cache
-            .find(&web, &read_dtab(alloc, table.as_bytes())?)
-            .is_some(),
-    )
+fn is_kept_under(alloc: Global, local: &str) -> Mem<bool> {
+    let web = path(alloc, "/svc/web");
+    let cache = two(alloc, &web, &path(alloc, "/a/x"))?;
+    Ok(cache.find(&web, &table(alloc, local)).is_some())
 }
 
 #[test]

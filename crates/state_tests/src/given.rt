@@ -1,14 +1,33 @@
-//! Changes, questions and picks, out of the lines of scripts that spell them.
+//! Paths and tables out of their texts, and changes, questions and picks out of the lines of
+//! scripts that spell them.
 ghost use Rattle.std.specs.Prelude.{IfOk};
 ghost use Rattle.machine.specs.Code.{change_of};
 ghost use Rattle.machine.specs.State.{IsSoundChange};
 ghost use Rattle.script.specs.Said.{line_said, IsSoundLine};
 
 use addr_book::Name;
+use dtab_table::{Dtab, read_dtab};
 use machine::{Ask, Change, Look};
+use name_tree::{Path, read_path};
 use script::{Line, read_line};
 use std::alloc::Global;
 use std::test::Fail;
+
+/// The path of a text; the empty one where it has none.
+pub(crate) fn path(alloc: Global, text: &str) -> Path {
+    match read_path(alloc, text.as_bytes()) {
+        Ok(path) => path,
+        Err(_) => Path::new(alloc),
+    }
+}
+
+/// The table of a text; the empty one where it has none.
+pub(crate) fn table(alloc: Global, text: &str) -> Dtab {
+    match read_dtab(alloc, text.as_bytes()) {
+        Ok(dtab) => dtab,
+        Err(_) => Dtab::empty(alloc),
+    }
+}
 
 /// The change of what a line says.
 fn change_in(said: Line) -> Result<Change, Fail>

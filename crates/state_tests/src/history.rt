@@ -1,13 +1,12 @@
 //! What stays kept over a change, with delegations that a state itself gives.
 ghost use Rattle.std.specs.Prelude.{◌≡◌, ◌<◌};
 
-use crate::given::change;
+use crate::given::{change, path};
 use bind_cache::{Binding, Cache};
 use bind_core::{Delegated, Tables, Wanted, bind};
 use dtab_table::Dtab;
-use line_base::Steps;
 use machine::{Settings, State};
-use name_tree::{Path, read_path};
+use name_tree::Path;
 use router_log::{take_change, take_kept};
 use script::script_settings;
 use std::alloc::{AllocError, Global};
@@ -15,6 +14,7 @@ use std::marker::Brand;
 use std::sync::Arc;
 use std::sync::ledger::{Blank, Ledger};
 use std::test::Fail;
+use step_count::Steps;
 
 /// A value, unless there was no memory for it.
 type Mem<T> = Result<T, AllocError>;
@@ -44,7 +44,7 @@ fn publish(alloc: Global, held: &mut Held, line: &str) -> Result<(), Fail> {
         return Err("the change was refused".into());
     };
     Ok(take_change(
-        alloc,
+        &Dtab::empty(alloc),
         &held.settings,
         &mut held.state,
         &mut held.cache,
@@ -83,8 +83,8 @@ fn delegate<L: Ledger>(
 }
 
 /// Keeps what the path of a text comes to.
-fn keep(alloc: Global, held: &mut Held, text: &[u8]) -> Result<(), Fail> {
-    let path = read_path(alloc, text)?;
+fn keep(alloc: Global, held: &mut Held, text: &str) -> Mem<()> {
+    let path = path(alloc, text);
     let none = Dtab::empty(alloc);
     let space = match held.state.store().get(&held.settings.space) {
         Some((_version, dtab)) => dtab,
@@ -92,7 +92,7 @@ fn keep(alloc: Global, held: &mut Held, text: &[u8]) -> Result<(), Fail> {
     };
     let found = delegate::<Brand>(alloc, space, &held.state, &path, Blank::new(1))?;
     let binding = Binding::of(alloc, &path, &none, found, held.state.place())?;
-    Ok(take_kept(&mut held.cache, &Arc::new(alloc, binding)?)?)
+    take_kept(&mut held.cache, &Arc::new(alloc, binding)?)
 }
 
 /// A state in which the table of `default` is `/svc => /#/io.l5d.fs; /a => /b`, and `web` has an address. `/svc/web` and `/a/x` are kept.
@@ -104,23 +104,23 @@ fn with_web(alloc: Global) -> Result<Held, Fail> {
         "create default /svc => /#/io.l5d.fs; /a => /b",
     )?;
     publish(alloc, &mut held, "addrs web 127.0.0.1:9001")?;
-    keep(alloc, &mut held, b"/svc/web")?;
-    keep(alloc, &mut held, b"/a/x")?;
+    keep(alloc, &mut held, "/svc/web")?;
+    keep(alloc, &mut held, "/a/x")?;
     Ok(held)
 }
 
 /// Whether the path of a text is kept.
-fn is_kept(alloc: Global, held: &Held, text: &[u8]) -> Result<bool, Fail> {
-    let path = read_path(alloc, text)?;
-    Ok(held.cache.find(&path, &Dtab::empty(alloc)).is_some())
+fn is_kept(alloc: Global, held: &Held, text: &str) -> bool {
+    let path = path(alloc, text);
+    held.cache.find(&path, &Dtab::empty(alloc)).is_some()
 }
 
 /// Whether `/svc/web` and `/a/x` stay kept over a change.
 fn stay(alloc: Global, line: &str) -> Result<(bool, bool), Fail> {
     let mut held = with_web(alloc)?;
     publish(alloc, &mut held, line)?;
-    let web = is_kept(alloc, &held, b"/svc/web")?;
-    Ok((web, is_kept(alloc, &held, b"/a/x")?))
+    let web = is_kept(alloc, &held, "/svc/web");
+    Ok((web, is_kept(alloc, &held, "/a/x")))
 }
 
 /// Changes, and whether `/svc/web` and `/a/x` stay kept over them.

@@ -1,9 +1,8 @@
 //! Lines at their limits, and replies.
+use crate::given::{path, table};
 use addr_book::{Addr, Name};
 use choose_core::Mark;
-use dtab_table::read_dtab;
 use machine::{Change, Chosen, NameList, Reply, Why};
-use name_tree::read_path;
 use script::{Bytes, Line, LineFault, Mem, Said, read_line, reply_text, script_settings, storm};
 use std::alloc::Global;
 use std::test::Fail;
@@ -66,53 +65,44 @@ fn names_have_255_bytes(rt: HostRuntime) -> Result<(), Fail> {
 }
 
 /// A line that drops a service with a name of so many bytes.
-fn drop_line(alloc: Global, bytes: usize) -> Result<Vec<u8>, Fail> {
-    let mut line = b"drop ".to_vec(alloc)?;
-    for _byte in 0..bytes {
-        line.push(b'a')?;
-    }
+fn drop_line(alloc: Global, bytes: usize) -> Mem<Bytes> {
+    let mut line = Vec::from_slice(alloc, b"drop ")?;
+    line.append(&mut Vec::from_elem(alloc, b'a', bytes)?)?;
     Ok(line)
 }
 
 /// A line of a command, then so many blanks, so many `;`, which are a table with no entry, and a blank at the end.
-fn table_line(
-    alloc: Global,
-    command: &str,
-    blanks: usize,
-    semicolons: usize,
-) -> Result<Vec<u8>, Fail> {
-    let mut line = command.as_bytes().to_vec(alloc)?;
-    for _blank in 0..blanks {
-        line.push(b' ')?;
-    }
-    for _semicolon in 0..semicolons {
-        line.push(b';')?;
-    }
+fn table_line(alloc: Global, command: &str, blanks: usize, semicolons: usize) -> Mem<Bytes> {
+    let mut line = Vec::from_slice(alloc, command.as_bytes())?;
+    line.append(&mut Vec::from_elem(alloc, b' ', blanks)?)?;
+    line.append(&mut Vec::from_elem(alloc, b';', semicolons)?)?;
     line.push(b' ')?;
     Ok(line)
 }
 
+/// Commands, how many blanks and semicolons stand behind them, and of what kind the lines are.
+const TABLES: [(&str, usize, usize, &str); 6] = [
+    ("create web", 9, 65_535, "change"),
+    ("create web", 1, 65_536, "bad"),
+    ("put web *", 9, 65_535, "change"),
+    ("put web *", 1, 65_536, "bad"),
+    ("pick /a 0 0 0 0", 9, 65_535, "ask"),
+    ("pick /a 0 0 0 0", 1, 65_536, "bad"),
+];
+
 #[test]
 fn measures_tables_from_their_first_byte_on(rt: HostRuntime) -> Result<(), Fail> {
-    for (command, good) in [
-        ("create web", "change"),
-        ("put web *", "change"),
-        ("pick /a 0 0 0 0", "ask"),
-    ] {
-        for (blanks, semicolons, want) in [(9, 65_535, good), (1, 65_536, "bad")] {
-            let line = table_line(rt.alloc(), command, blanks, semicolons)?;
-            assert!(rt;
-                kind(rt.alloc(), line.as_slice()) == want,
-                "{command}, {semicolons}"
-            );
-        }
+    for (command, blanks, semicolons, want) in &TABLES {
+        let line = table_line(rt.alloc(), command, *blanks, *semicolons)?;
+        let kind = kind(rt.alloc(), line.as_slice());
+        assert!(rt; kind == *want, "{command}, {semicolons}");
     }
     Ok(())
 }
 
 /// A line with so many addresses, all the same.
-fn addrs_line(alloc: Global, count: usize) -> Result<Vec<u8>, Fail> {
-    let mut line = b"addrs web".to_vec(alloc)?;
+fn addrs_line(alloc: Global, count: usize) -> Mem<Bytes> {
+    let mut line = Vec::from_slice(alloc, b"addrs web")?;
     for _addr in 0..count {
         line.extend_from_slice(b" 127.0.0.1:1")?;
     }
@@ -138,7 +128,7 @@ fn takes_1024_addresses(rt: HostRuntime) -> Result<(), Fail> {
 }
 
 /// The text of an answer is this.
-fn is_text(alloc: Global, said: &Said, want: &[u8]) -> Result<bool, Fail> {
+fn is_text(alloc: Global, said: &Said, want: &[u8]) -> Mem<bool> {
     Ok(reply_text(alloc, said)?.as_slice() == want)
 }
 
@@ -161,9 +151,9 @@ fn writes_short_replies(rt: HostRuntime) -> Result<(), Fail> {
 }
 
 /// A namespace's table of a text.
-fn table(alloc: Global, version: u64, text: &[u8]) -> Result<Said, Fail> {
-    let dtab = read_dtab(alloc, text)?;
-    Ok(Said::Reply(Reply::Table { version, dtab }))
+fn named_table(alloc: Global, version: u64, text: &str) -> Said {
+    let dtab = table(alloc, text);
+    Said::Reply(Reply::Table { version, dtab })
 }
 
 /// Two names.
@@ -175,31 +165,53 @@ fn names(alloc: Global) -> Result<Said, Fail> {
 }
 
 /// A replica.
-fn picked(alloc: Global) -> Result<Said, Fail> {
+fn picked(alloc: Global) -> Said {
     let addr = Addr {
         ip: 0x7f00_0001,
         port: 9,
     };
-    Ok(Said::Chosen(Chosen::Picked {
+    Said::Chosen(Chosen::Picked {
         addr,
-        client: read_path(alloc, b"/a")?,
-        residual: read_path(alloc, b"/")?,
-    }))
+        client: path(alloc, "/a"),
+        residual: path(alloc, "/"),
+    })
 }
+
+/// A kind of answer.
+#[derive(Clone, Copy)]
+enum Answer {
+    Names,
+    /// With this version and this text.
+    Table(u64, &'static str),
+    Picked,
+}
+
+/// An answer of a kind.
+fn said_of(alloc: Global, answer: Answer) -> Result<Said, Fail> {
+    match answer {
+        Answer::Names => names(alloc),
+        Answer::Table(version, text) => Ok(named_table(alloc, version, text)),
+        Answer::Picked => Ok(picked(alloc)),
+    }
+}
+
+/// Whether the text of an answer of a kind is this.
+fn is_told(alloc: Global, answer: Answer, want: &str) -> Result<bool, Fail> {
+    let said = said_of(alloc, answer)?;
+    Ok(is_text(alloc, &said, want.as_bytes())?)
+}
+
+const ANSWERS: [(Answer, &str); 4] = [
+    (Answer::Names, "names a b.c"),
+    (Answer::Table(3, "/svc => /c"), "version 3 dtab /svc=>/c"),
+    (Answer::Table(4, ""), "version 4 dtab"),
+    (Answer::Picked, "127.0.0.1:9 /a /"),
+];
 
 #[test]
 fn writes_replies(rt: HostRuntime) -> Result<(), Fail> {
-    let rows = [
-        (names(rt.alloc())?, "names a b.c"),
-        (
-            table(rt.alloc(), 3, b"/svc => /c")?,
-            "version 3 dtab /svc=>/c",
-        ),
-        (table(rt.alloc(), 4, b"")?, "version 4 dtab"),
-        (picked(rt.alloc())?, "127.0.0.1:9 /a /"),
-    ];
-    for (said, want) in &rows {
-        assert!(rt; is_text(rt.alloc(), said, want.as_bytes())?, "{want}");
+    for (answer, want) in &ANSWERS {
+        assert!(rt; is_told(rt.alloc(), *answer, want)?, "{want}");
     }
     Ok(())
 }

@@ -4,13 +4,13 @@ ghost use Rattle.weave.specs.Code.{step_of};
 ghost use Rattle.weave.specs.Held.{IsSoundStep};
 
 use crate::given::{ask, change, look};
-use line_base::Steps;
 use machine::{Chosen, Reply, Settings};
 use script::script_settings;
 use std::alloc::Global;
 use std::marker::Brand;
 use std::sync::ledger::{Blank, Ledger};
 use std::test::Fail;
+use step_count::Steps;
 use weave::{Asked, Bytes, Mem, Step, Told, ToldList, World, run, weave};
 
 /// A pass and what it does: `answer`, `remember`, `meet` with pass 0, a pick or another question, or a change, as lines of scripts have them.
@@ -205,6 +205,26 @@ fn is_kept<'a>(alloc: Global, create: &'a str, pick: &'a str) -> Result<bool, Fa
     Ok(told.as_str() == "; at 0 version 1; -; at 1 port 1; kept")
 }
 
+/// The pick of a path behind `/s`: of a label with so many bytes more.
+fn long_pick(alloc: Global, label: &str, bytes: usize) -> Mem<String> {
+    let front = repeated(alloc, "pick /s", label, bytes.min(1), "")?;
+    repeated(alloc, front.as_str(), "a", bytes, "")
+}
+
+/// Whether the delegation is kept of such a pick, by a table in which a part stands so often.
+fn is_size_kept(
+    alloc: Global,
+    branch: &str,
+    branches: usize,
+    label: &str,
+    bytes: usize,
+) -> Result<bool, Fail> {
+    let front = "create default /s => ";
+    let create = repeated(alloc, front, branch, branches, "/$/inet/127.0.0.1/1")?;
+    let pick = long_pick(alloc, label, bytes)?;
+    is_kept(alloc, create.as_str(), pick.as_str())
+}
+
 /// A part of a table and how often it stands there, a label of a path and how many bytes more it has, and whether the delegation is kept.
 const SIZES: [(&str, usize, &str, usize, bool); 4] = [
     ("/x | ", 254, "", 0, true),
@@ -217,11 +237,7 @@ const SIZES: [(&str, usize, &str, usize, bool); 4] = [
 #[test]
 fn large_delegations_are_not_kept(rt: HostRuntime) -> Result<(), Fail> {
     for (branch, branches, label, bytes, want) in &SIZES {
-        let front = "create default /s => ";
-        let create = repeated(rt.alloc(), front, branch, *branches, "/$/inet/127.0.0.1/1")?;
-        let pick = repeated(rt.alloc(), "pick /s", label, (*bytes).min(1), "")?;
-        let pick = repeated(rt.alloc(), pick.as_str(), "a", *bytes, "")?;
-        let is_kept = is_kept(rt.alloc(), create.as_str(), pick.as_str())?;
+        let is_kept = is_size_kept(rt.alloc(), branch, *branches, label, *bytes)?;
         assert!(rt; is_kept == *want, "{branch}");
     }
     Ok(())

@@ -3,13 +3,13 @@ ghost use Rattle.std.specs.Prelude.{◌≡◌, ◌<◌};
 
 use crate::given::{ask, change, look};
 use bind_core::Wanted;
-use line_base::Steps;
-use machine::{Ask, Chosen, Look, Ready, Reply, Settings, State, Taken};
+use machine::{Ask, Chosen, Look, Reply, Settings, State, Taken};
 use script::{Said, reply_text, script_settings};
 use std::alloc::{AllocError, Global};
 use std::marker::Brand;
 use std::sync::ledger::{Blank, Ledger};
 use std::test::Fail;
+use step_count::Steps;
 
 /// A value, unless there was no memory for it.
 type Mem<T> = Result<T, AllocError>;
@@ -28,19 +28,29 @@ enum By {
 }
 
 /// Applies a copy of the change of a line.
-fn applied(alloc: Global, state: &mut State, line: &str) -> Result<Reply, Fail> {
+fn applied(
+    alloc: Global,
+    settings: &Settings,
+    state: &mut State,
+    line: &str,
+) -> Result<Said, Fail> {
     let change = change(alloc, line)?.copied(alloc)?;
-    Ok(state.apply(alloc, &script_settings(alloc)?, &change)?)
+    Ok(Said::Reply(state.apply(alloc, settings, &change)?))
 }
 
 /// Prepares the change of a line, and absorbs it where it is accepted.
-fn absorbed(alloc: Global, state: &mut State, line: &str) -> Result<Reply, Fail> {
+fn absorbed(
+    alloc: Global,
+    settings: &Settings,
+    state: &mut State,
+    line: &str,
+) -> Result<Said, Fail> {
     let change = change(alloc, line)?;
-    let (reply, ready) = state.prepare(alloc, &script_settings(alloc)?, &change)?;
+    let (reply, ready) = state.prepare(alloc, settings, &change)?;
     if let Some(ready) = ready {
         state.absorb(&ready)?;
     }
-    Ok(reply)
+    Ok(Said::Reply(reply))
 }
 
 fn answer<L: Ledger>(
@@ -58,10 +68,10 @@ fn answer<L: Ledger>(
 }
 
 /// The answer to a copy of the question of a line.
-fn answered(alloc: Global, state: &State, line: &str) -> Result<Reply, Fail> {
+fn answered(alloc: Global, settings: &Settings, state: &State, line: &str) -> Result<Said, Fail> {
     let look = look(alloc, line)?.copied(alloc)?;
-    let settings = script_settings(alloc)?;
-    Ok(answer::<Brand>(alloc, state, &settings, &look, Blank::new(1))?)
+    let reply = answer::<Brand>(alloc, state, settings, &look, Blank::new(1))?;
+    Ok(Said::Reply(reply))
 }
 
 fn choose<L: Ledger>(
@@ -79,25 +89,32 @@ fn choose<L: Ledger>(
 }
 
 /// What a copy of the pick of a line comes to.
-fn chosen(alloc: Global, state: &State, line: &str) -> Result<Chosen, Fail> {
+fn chosen(alloc: Global, settings: &Settings, state: &State, line: &str) -> Result<Said, Fail> {
     let ask = ask(alloc, line)?.copied(alloc)?;
-    let settings = script_settings(alloc)?;
-    Ok(choose::<Brand>(alloc, state, &settings, &ask, Blank::new(1))?)
+    let chosen = choose::<Brand>(alloc, state, settings, &ask, Blank::new(1))?;
+    Ok(Said::Chosen(chosen))
 }
 
 /// What a line is answered.
-fn said(alloc: Global, state: &mut State, by: By, line: &str) -> Result<Said, Fail> {
+fn said(
+    alloc: Global,
+    settings: &Settings,
+    state: &mut State,
+    by: By,
+    line: &str,
+) -> Result<Said, Fail> {
     match by {
-        By::Apply => Ok(Said::Reply(applied(alloc, state, line)?)),
-        By::Absorb => Ok(Said::Reply(absorbed(alloc, state, line)?)),
-        By::Answer => Ok(Said::Reply(answered(alloc, state, line)?)),
-        By::Choose => Ok(Said::Chosen(chosen(alloc, state, line)?)),
+        By::Apply => applied(alloc, settings, state, line),
+        By::Absorb => absorbed(alloc, settings, state, line),
+        By::Answer => answered(alloc, settings, state, line),
+        By::Choose => chosen(alloc, settings, state, line),
     }
 }
 
 /// The text of what a line is answered.
 fn told(alloc: Global, state: &mut State, by: By, line: &str) -> Result<Vec<u8>, Fail> {
-    Ok(reply_text(alloc, &said(alloc, state, by, line)?)?)
+    let settings = script_settings(alloc)?;
+    Ok(reply_text(alloc, &said(alloc, &settings, state, by, line)?)?)
 }
 
 /// Lines that are carried out on one state, and their answers.
@@ -190,8 +207,7 @@ fn lines_are_answered(rt: HostRuntime) -> Result<(), Fail> {
     let mut state = State::start(rt.alloc())?;
     for (by, line, want) in &LINES {
         let told = told(rt.alloc(), &mut state, *by, line)?;
-        let told = String::from_utf8_lossy(rt.alloc(), told.as_slice())?;
-        assert_eq!(rt; told.as_str(), *want, "{line}");
+        assert!(rt; told.as_slice() == want.as_bytes(), "{line}");
     }
     Ok(())
 }
@@ -234,46 +250,45 @@ fn place_taken(
     let settings = script_settings(alloc)?;
     let mut ask = ask(alloc, "pick /svc/web")?;
     ask.words = [0, 0, word];
-    let taken = taken::<Brand>(alloc, state, &settings, &ask, loads, Blank::new(1))?;
-    Ok(taken.map(|taken| (taken.addr.port, taken.slot)))
+    match taken::<Brand>(alloc, state, &settings, &ask, loads, Blank::new(1))? {
+        Some(taken) => Ok(Some((taken.addr.port, taken.slot))),
+        None => Ok(None),
+    }
 }
+
+/// A state in which the service `web` has three addresses, of which the first weighs three times as
+/// much as each other.
+fn three_addresses(alloc: Global) -> Result<State, Fail> {
+    let mut state = State::start(alloc)?;
+    told(
+        alloc,
+        &mut state,
+        By::Apply,
+        "create default /svc => /#/io.l5d.fs",
+    )?;
+    let addrs = "addrs web 127.0.0.1:1*3 127.0.0.1:2 127.0.0.1:3";
+    told(alloc, &mut state, By::Apply, addrs)?;
+    Ok(state)
+}
+
+/// Half of all words.
+const HALF: u64 = 1 << 63;
+
+/// The third word, the loads of the two, and the port and the slot of the one that is taken.
+const LOADS: [(u64, (u64, u64), (u16, u32)); 5] = [
+    (0, (2, 1), (1, 0)),
+    (0, (3, 1), (1, 0)),
+    (0, (4, 1), (2, 1)),
+    (HALF - 1, (4, 1), (2, 1)),
+    (HALF, (4, 1), (3, 2)),
+];
 
 #[test]
 fn the_lesser_load_is_taken(rt: HostRuntime) -> Result<(), Fail> {
-    let mut state = State::start(rt.alloc())?;
-    applied(
-        rt.alloc(),
-        &mut state,
-        "create default /svc => /#/io.l5d.fs",
-    )?;
-    applied(
-        rt.alloc(),
-        &mut state,
-        "addrs web 127.0.0.1:1*3 127.0.0.1:2 127.0.0.1:3",
-    )?;
-    let half: u64 = 1 << 63;
-    let rows = [
-        (0, (2, 1), (1, 0)),
-        (0, (3, 1), (1, 0)),
-        (0, (4, 1), (2, 1)),
-        (half - 1, (4, 1), (2, 1)),
-        (half, (4, 1), (3, 2)),
-    ];
-    for (word, loads, (port, slot)) in rows {
-        let taken = place_taken(rt.alloc(), &state, word, loads)?;
-        assert!(rt; taken == Some((port, Some(slot))), "of {word} at {loads:?}");
+    let state = three_addresses(rt.alloc())?;
+    for (word, loads, (port, slot)) in &LOADS {
+        let taken = place_taken(rt.alloc(), &state, *word, *loads)?;
+        assert!(rt; taken == Some((*port, Some(*slot))), "of {word}");
     }
     Ok(())
-}
-
-fn may_be_moved<T: Send>() {}
-
-fn may_be_shared<T: Sync>() {}
-
-#[test]
-fn states_go_to_other_threads() {
-    may_be_moved::<State>();
-    may_be_shared::<State>();
-    may_be_moved::<Ready>();
-    may_be_shared::<Ready>();
 }

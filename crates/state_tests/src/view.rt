@@ -1,71 +1,84 @@
 //! A view with an escape and one of two lookups, and queries.
+use crate::given::path;
 use bind_core::{Ended, Outcome, Trace, TraceItem};
-use delegate_view::{ViewFault, view_ask, view_text};
-use dtab_table::write_dtab;
-use name_tree::{read_path, write_path};
+use delegate_view::{Bytes, Mem, ViewFault, view_ask, view_text};
+use dtab_table::{Dtab, write_dtab};
+use name_tree::{Path, write_path};
 use std::alloc::Global;
 use std::test::Fail;
 
 /// A lookup of the path of a text.
-fn lookup(alloc: Global, depth: u32, path: &[u8], ended: Ended) -> Result<TraceItem, Fail> {
-    Ok(TraceItem {
+fn lookup(alloc: Global, depth: u32, text: &str, ended: Ended) -> TraceItem {
+    TraceItem {
         depth,
-        path: read_path(alloc, path)?,
+        path: path(alloc, text),
         ended,
-    })
-}
-
-#[test]
-fn writes_a_view(rt: HostRuntime) -> Result<(), Fail> {
-    let alloc = rt.alloc();
-    let mut items = Vec::new(alloc);
-    items.push(lookup(alloc, 0, b"/svc/a\\x2Fb", Ended::Negative)?)?;
-    items.push(lookup(alloc, 11, b"/", Ended::TooDeep)?)?;
-    let text = view_text(alloc, &Outcome::TooDeep, &Trace::of(items))?;
-    assert_eq!(rt;
-        text.as_slice(),
-        b"{\"lookups\":[{\"depth\":0,\"outcome\":\"negative\",\"path\":\"/svc/a\\\\x2fb\"},{\"depth\":11,\"outcome\":\"too-deep\",\"path\":\"/\"}],\"outcome\":\"too-deep\"}".as_slice()
-    );
-    let wide = view_text(alloc, &Outcome::TooWide, &Trace::of(Vec::new(alloc)))?;
-    assert_eq!(rt;
-        wide.as_slice(),
-        b"{\"lookups\":[],\"outcome\":\"too-wide\"}".as_slice()
-    );
-    Ok(())
-}
-
-/// The path and the table that a query asks for, as texts with a space between them.
-fn asked(alloc: Global, query: &[u8]) -> Result<Vec<u8>, Fail> {
-    let (path, local) = view_ask(alloc, query)?;
-    let mut text = write_path(alloc, &path)?;
-    text.push(b' ')?;
-    text.extend_from_slice(write_dtab(alloc, &local)?.as_slice())?;
-    Ok(text)
-}
-
-/// Why a query was not read, if it was not.
-fn refused(alloc: Global, query: &[u8]) -> Option<ViewFault> {
-    match view_ask(alloc, query) {
-        Ok(_) => None,
-        Err(fault) => Some(fault),
     }
 }
 
+/// Lookups: their depths, their paths, and how they ended.
+type Row = (u32, &'static str, Ended);
+
+/// The view of some lookups that came to this.
+fn viewed(alloc: Global, outcome: &Outcome, rows: &[Row]) -> Mem<Bytes> {
+    let mut items = Vec::new(alloc);
+    for row in rows {
+        items.push(lookup(alloc, row.0, row.1, row.2))?;
+    }
+    view_text(alloc, outcome, &Trace::of(items))
+}
+
+const LOOKUPS: [Row; 2] = [
+    (0, "/svc/a\\x2Fb", Ended::Negative),
+    (11, "/", Ended::TooDeep),
+];
+
+const VIEW: &str =
+    "{\"lookups\":[{\"depth\":0,\"outcome\":\"negative\",\"path\":\"/svc/a\\\\x2fb\"},{\"depth\":11,\"outcome\":\"too-deep\",\"path\":\"/\"}],\"outcome\":\"too-deep\"}";
+
+#[test]
+fn writes_a_view(rt: HostRuntime) -> Result<(), Fail> {
+    let deep = viewed(rt.alloc(), &Outcome::TooDeep, &LOOKUPS)?;
+    assert!(rt; deep.as_slice() == VIEW.as_bytes());
+    let wide = viewed(rt.alloc(), &Outcome::TooWide, &[])?;
+    assert!(rt; wide.as_slice() == b"{\"lookups\":[],\"outcome\":\"too-wide\"}".as_slice());
+    Ok(())
+}
+
+/// The path and the table that were asked for, as texts with a space between them.
+fn asked_text(alloc: Global, path: &Path, local: &Dtab) -> Mem<Bytes> {
+    let mut text = write_path(alloc, path)?;
+    text.push(b' ')?;
+    text.append(&mut write_dtab(alloc, local)?)?;
+    Ok(text)
+}
+
+/// What a query asks for, in words.
+fn asked(alloc: Global, query: &[u8]) -> Mem<Bytes> {
+    match view_ask(alloc, query) {
+        Ok((path, local)) => asked_text(alloc, &path, &local),
+        Err(ViewFault::BadView) => b"bad".to_vec(alloc),
+        Err(ViewFault::OutOfMemory) => b"memory".to_vec(alloc),
+    }
+}
+
+/// Queries, and what they ask for.
+const QUERIES: [(&str, &str); 5] = [
+    ("path=/svc/a", "/svc/a "),
+    (
+        "x=1&dtab=/a+%3D%3E+/b&p%61th=/svc%5Cx2f&path=no&dtab=no",
+        "/svc\\x2f /a=>/b",
+    ),
+    ("dtab=", "bad"),
+    ("path=/a&dtab=/a", "bad"),
+    ("path=a&path=/a", "bad"),
+];
+
 #[test]
 fn reads_queries(rt: HostRuntime) -> Result<(), Fail> {
-    let alloc = rt.alloc();
-    let plain = asked(alloc, b"path=/svc/a")?;
-    assert_eq!(rt; plain.as_slice(), b"/svc/a ".as_slice());
-    let form = asked(
-        alloc,
-        b"x=1&dtab=/a+%3D%3E+/b&p%61th=/svc%5Cx2f&path=no&dtab=no",
-    )?;
-    assert_eq!(rt; form.as_slice(), b"/svc\\x2f /a=>/b".as_slice());
-    assert_eq!(rt; refused(alloc, b"dtab="), Some(ViewFault::BadView));
-    assert_eq!(rt;
-        refused(alloc, b"path=/a&dtab=/a"),
-        Some(ViewFault::BadView)
-    );
-    assert_eq!(rt; refused(alloc, b"path=a&path=/a"), Some(ViewFault::BadView));
+    for (query, want) in &QUERIES {
+        let asked = asked(rt.alloc(), query.as_bytes())?;
+        assert!(rt; asked.as_slice() == want.as_bytes(), "{query}");
+    }
     Ok(())
 }

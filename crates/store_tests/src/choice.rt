@@ -3,7 +3,7 @@ ghost use Rattle.std.specs.Prelude.{◌≡◌, ◌≤◌, ◌<◌, ◌^◌, IfOk
 ghost use Rattle.choose_core.specs.Good.{IsGood};
 
 use addr_book::{
-    Addr, Book, Bound, BoundItem, BoundList, Cluster, Leaf, Name, Weighted, read_addrs,
+    Addr, Book, Bound, BoundItem, BoundList, Cluster, Leaf, Name, ReadyBook, Weighted, read_addrs,
 };
 use choose_core::*;
 use name_tree::read_path;
@@ -35,28 +35,29 @@ fn failed(mark: Mark, times: u32, moment: u64) -> Mark {
     mark
 }
 
+/// A number of failures at one moment, and then of others at a later one; and the mark that they
+/// leave, by its count and its moment.
+const MARKS: [((u32, u64), (u32, u64), (u32, u64)); 4] = [
+    ((4, 0), (0, 0), (4, 0)),
+    ((5, 0), (0, 0), (5, 5_000)),
+    ((5, 0), (1, 6_000), (5, 11_000)),
+    ((5, 0), (1, u64::MAX - 10), (5, u64::MAX)),
+];
+
+/// The count and the moment of the mark that failures leave.
+fn left(first: (u32, u64), later: (u32, u64)) -> (u32, u64) {
+    let mark = failed(failed(Mark::NONE, first.0, first.1), later.0, later.1);
+    (mark.count, mark.until)
+}
+
 #[test]
 fn marks_stop_at_the_limit_and_stay_past_the_moment(rt: HostRuntime) {
+    for (first, later, want) in &MARKS {
+        assert!(rt; left(*first, *later) == *want);
+    }
     let dead = failed(Mark::NONE, 5, 0);
-    assert_eq!(rt; failed(Mark::NONE, 4, 0), Mark { count: 4, until: 0 });
-    assert_eq!(rt;
-        dead,
-        Mark {
-            count: 5,
-            until: 5_000
-        }
-    );
-    assert!(rt; dead.is_dead(4_999, LIMITS));
-    assert!(rt; !dead.is_dead(5_000, LIMITS));
-    assert_eq!(rt;
-        failed(dead, 1, 6_000),
-        Mark {
-            count: 5,
-            until: 11_000
-        }
-    );
-    assert_eq!(rt; dead.after(true, 6_001, LIMITS), Mark::NONE);
-    assert_eq!(rt; failed(dead, 1, u64::MAX - 10).until, u64::MAX);
+    assert!(rt; dead.is_dead(4_999, LIMITS) && !dead.is_dead(5_000, LIMITS));
+    assert!(rt; dead.after(true, 6_001, LIMITS) == Mark::NONE);
 }
 
 /// Failing reports on an address, where there is room for its mark.
@@ -69,13 +70,37 @@ fn fail(marks: &mut Marks, port: u16, times: u32) {
     }
 }
 
-/// A book with one service, `web`, with these addresses.
+/// A service `web` with these addresses, prepared.
+fn prepared_web(alloc: Global, book: &Book, addrs: &[u8]) -> Result<ReadyBook, Fail> {
+    let list = read_addrs(alloc, addrs)?;
+    let web = Name::of(alloc, b"web")?;
+    Ok(book.prepare_set(alloc, &web, &list)?)
+}
+
+/// A book with one service, `web`, with these addresses; where there are none, a book with no
+/// service.
 fn book_with(alloc: Global, addrs: &[u8]) -> Result<Book, Fail> {
     let mut book = Book::start(alloc)?;
-    let list = read_addrs(alloc, addrs)?;
-    let ready = book.prepare_set(alloc, &Name::of(alloc, b"web")?, &list)?;
-    book.absorb(&ready)?;
+    if !addrs.is_empty() {
+        let ready = prepared_web(alloc, &book, addrs)?;
+        book.absorb(&ready)?;
+    }
     Ok(book)
+}
+
+/// The addresses of the book whose marks are kept, one after the other; and then how many marks
+/// there are, and how often the ports 1 and 4 have failed.
+const KEPT: [(&str, (u32, u32, u32)); 3] = [
+    ("127.0.0.1 4", (1, 0, 2)),
+    ("", (0, 0, 0)),
+    // An address that comes back has no failures.
+    ("127.0.0.1 4", (0, 0, 0)),
+];
+
+/// How many marks there are, and how often the ports 1 and 4 have failed.
+fn counts_of(marks: &Marks) -> (u32, u32, u32) {
+    let (one, four) = (marks.mark(at_port(1)), marks.mark(at_port(4)));
+    (marks.count(), one.count, four.count)
 }
 
 #[test]
@@ -83,15 +108,11 @@ fn keeps_the_marks_of_the_book(rt: HostRuntime) -> Result<(), Fail> {
     let mut marks = Marks::start(rt.alloc())?;
     fail(&mut marks, 4, 2);
     fail(&mut marks, 1, 1);
-    assert_eq!(rt; marks.count(), 2);
-    marks.keep(&book_with(rt.alloc(), b"127.0.0.1 4")?);
-    assert_eq!(rt; marks.mark(at_port(1)), Mark::NONE);
-    assert_eq!(rt; marks.mark(at_port(4)), Mark { count: 2, until: 0 });
-    marks.keep(&Book::start(rt.alloc())?);
-    assert_eq!(rt; marks.count(), 0);
-    // An address that comes back has no failures.
-    marks.keep(&book_with(rt.alloc(), b"127.0.0.1 4")?);
-    assert_eq!(rt; marks.mark(at_port(4)), Mark::NONE);
+    assert!(rt; counts_of(&marks) == (2, 1, 2));
+    for (addrs, want) in &KEPT {
+        marks.keep(&book_with(rt.alloc(), addrs.as_bytes())?);
+        assert!(rt; counts_of(&marks) == *want);
+    }
     Ok(())
 }
 
@@ -111,48 +132,48 @@ fn drawn(
     Ok(pair(items, marks, 0, LIMITS, w1, w2))
 }
 
+/// Three addresses, two of which the first has three times the weight, and three of which the third
+/// does.
+const THREE: &str = "127.0.0.1 1\n127.0.0.1 2\n127.0.0.1 3";
+
+const FIRST: &str = "127.0.0.1 1 * 3\n127.0.0.1 2";
+
+const THIRD: &str = "127.0.0.1 1\n127.0.0.1 2\n127.0.0.1 3 * 3";
+
+/// Addresses, two words, and the places that they draw.
+const DRAWN: [(&str, u64, u64, (usize, usize)); 7] = [
+    (THREE, u64::MAX, u64::MAX, (2, 1)),
+    ("127.0.0.1 1\n127.0.0.1 2", 0, 0, (0, 1)),
+    ("127.0.0.1 1", 5, 5, (0, 0)),
+    (FIRST, 13_835_058_055_282_163_711, 0, (0, 1)),
+    (FIRST, 13_835_058_055_282_163_712, 0, (1, 0)),
+    // The third weighs three quarters of what is left without the second.
+    (THIRD, 1 << 62, (1 << 62) - 1, (1, 0)),
+    (THIRD, 1 << 62, 1 << 62, (1, 2)),
+];
+
 #[test]
 fn draws_two_places_by_weight(rt: HostRuntime) -> Result<(), Fail> {
-    let alloc = rt.alloc();
-    let marks = Marks::start(alloc)?;
-    let three = b"127.0.0.1 1\n127.0.0.1 2\n127.0.0.1 3";
-    let first = b"127.0.0.1 1 * 3\n127.0.0.1 2";
-    let heavy = b"127.0.0.1 1\n127.0.0.1 2\n127.0.0.1 3 * 3";
-    assert_eq!(rt; drawn(alloc, &marks, three, u64::MAX, u64::MAX)?, (2, 1));
-    assert_eq!(rt;
-        drawn(alloc, &marks, b"127.0.0.1 1\n127.0.0.1 2", 0, 0)?,
-        (0, 1)
-    );
-    assert_eq!(rt; drawn(alloc, &marks, b"127.0.0.1 1", 5, 5)?, (0, 0));
-    assert_eq!(rt;
-        drawn(alloc, &marks, first, 13_835_058_055_282_163_711, 0)?,
-        (0, 1)
-    );
-    assert_eq!(rt;
-        drawn(alloc, &marks, first, 13_835_058_055_282_163_712, 0)?,
-        (1, 0)
-    );
-    // The third weighs three quarters of what is left without the second.
-    assert_eq!(rt;
-        drawn(alloc, &marks, heavy, 1 << 62, (1 << 62) - 1)?,
-        (1, 0)
-    );
-    assert_eq!(rt; drawn(alloc, &marks, heavy, 1 << 62, 1 << 62)?, (1, 2));
+    let marks = Marks::start(rt.alloc())?;
+    for (addrs, first, second, want) in &DRAWN {
+        let drawn = drawn(rt.alloc(), &marks, addrs.as_bytes(), *first, *second)?;
+        assert!(rt; drawn == *want, "{addrs} by {first}");
+    }
     Ok(())
 }
 
 #[test]
 fn leaves_dead_addresses_out(rt: HostRuntime) -> Result<(), Fail> {
-    let list = read_addrs(rt.alloc(), b"127.0.0.1 1\n127.0.0.1 2\n127.0.0.1 3")?;
+    let list = read_addrs(rt.alloc(), THREE.as_bytes())?;
     let mut marks = Marks::start(rt.alloc())?;
     fail(&mut marks, 2, 5);
-    assert_eq!(rt; live_count(list.items(), &marks, 4_999, LIMITS), 2);
-    assert_eq!(rt; port_at(list.items(), &marks, 4_999, 1), 3);
-    assert_eq!(rt; port_at(list.items(), &marks, 5_000, 1), 2);
+    assert!(rt; live_count(list.items(), &marks, 4_999, LIMITS) == 2);
+    assert!(rt; port_at(list.items(), &marks, 4_999, 1) == 3);
+    assert!(rt; port_at(list.items(), &marks, 5_000, 1) == 2);
     // Where all are dead, all take part.
     fail(&mut marks, 1, 5);
     fail(&mut marks, 3, 5);
-    assert_eq!(rt; live_count(list.items(), &marks, 0, LIMITS), 3);
+    assert!(rt; live_count(list.items(), &marks, 0, LIMITS) == 3);
     Ok(())
 }
 
@@ -219,49 +240,70 @@ fn port_of(bound: &Bound, book: &Book, word: u64) -> Option<u16>
     }
 }
 
-#[test]
-fn chooses_a_branch_of_those_that_are_left(rt: HostRuntime) -> Result<(), Fail> {
-    let alloc = rt.alloc();
+/// A union of the port 1, of weight 0.3, and the port 2, of weight 0.7.
+fn two_ports(alloc: Global) -> Result<Bound, Fail>
+    ensures { IfOk result IsGood }
+{
     let one = leaf(alloc, Cluster::Inet(at_port(1)))?;
     let two = leaf(alloc, Cluster::Inet(at_port(2)))?;
+    union_of_two(alloc, 300_000, one, 700_000, two)
+}
+
+/// A union of a service that is gone, with a great weight, and the two ports, with the weight 2.
+fn beside_gone(alloc: Global) -> Result<Bound, Fail>
+    ensures { IfOk result IsGood }
+{
     let gone = leaf(alloc, Cluster::Fs(Name::of(alloc, b"gone")?))?;
-    let live = union_of_two(alloc, 300_000, one, 700_000, two)?;
-    // The weight of the branch of which nothing is left does not count. The other one, of weight 2, uses up its part of the word: twice the
-    // word, without what is above 2^64, goes on to the union below.
-    let bound = union_of_two(alloc, 900_000_000_000, gone, 2, live)?;
-    let book = Book::start(alloc)?;
-    let rows = [
-        (0, 1),
-        (2_767_011_611_056_432_742, 1),
-        (2_767_011_611_056_432_743, 2),
-        (HALF - 1, 2),
-        (HALF, 1),
-    ];
-    for (word, port) in rows {
-        assert_eq!(rt; port_of(&bound, &book, word), Some(port), "of {word}");
+    let ports = two_ports(alloc)?;
+    union_of_two(alloc, 900_000_000_000, gone, 2, ports)
+}
+
+/// Words, and the ports that they choose. The weight of the branch of which nothing is left does
+/// not count. The other one, of weight 2, uses up its part of the
+/// word: twice the word, without what is above 2^64, goes on to the union below.
+const LEFT: [(u64, u16); 5] = [
+    (0, 1),
+    (2_767_011_611_056_432_742, 1),
+    (2_767_011_611_056_432_743, 2),
+    (HALF - 1, 2),
+    (HALF, 1),
+];
+
+#[test]
+fn chooses_a_branch_of_those_that_are_left(rt: HostRuntime) -> Result<(), Fail> {
+    let bound = beside_gone(rt.alloc())?;
+    let book = Book::start(rt.alloc())?;
+    for (word, port) in &LEFT {
+        assert!(rt; port_of(&bound, &book, *word) == Some(*port), "of {word}");
     }
     Ok(())
 }
 
+/// A union of the port 3 and the two ports, with weights alike.
+fn beside_three(alloc: Global) -> Result<Bound, Fail>
+    ensures { IfOk result IsGood }
+{
+    let three = leaf(alloc, Cluster::Inet(at_port(3)))?;
+    let ports = two_ports(alloc)?;
+    union_of_two(alloc, 1, three, 1, ports)
+}
+
+/// Words, and the ports that they choose.
+const BELOW: [(u64, u16); 6] = [
+    (0, 3),
+    (HALF - 1, 3),
+    (HALF, 1),
+    (HALF + 2_767_011_611_056_432_742, 1),
+    (HALF + 2_767_011_611_056_432_743, 2),
+    (u64::MAX, 2),
+];
+
 #[test]
 fn chooses_in_the_union_below_with_what_is_left_of_the_word(rt: HostRuntime) -> Result<(), Fail> {
-    let alloc = rt.alloc();
-    let one = leaf(alloc, Cluster::Inet(at_port(1)))?;
-    let two = leaf(alloc, Cluster::Inet(at_port(2)))?;
-    let three = leaf(alloc, Cluster::Inet(at_port(3)))?;
-    let below = union_of_two(alloc, 300_000, one, 700_000, two)?;
-    let bound = union_of_two(alloc, 1, three, 1, below)?;
-    let book = Book::start(alloc)?;
-    let rows = [
-        (0, 3),
-        (HALF - 1, 3),
-        (HALF, 1),
-        (HALF + 2_767_011_611_056_432_742, 1),
-        (HALF + 2_767_011_611_056_432_743, 2),
-        (u64::MAX, 2),
-    ];
-    for (word, port) in rows {
-        assert_eq!(rt; port_of(&bound, &book, word), Some(port), "of {word}");
+    let bound = beside_three(rt.alloc())?;
+    let book = Book::start(rt.alloc())?;
+    for (word, port) in &BELOW {
+        assert!(rt; port_of(&bound, &book, *word) == Some(*port), "of {word}");
     }
     Ok(())
 }

@@ -1,6 +1,6 @@
 //! Changes of a store with their answers in order, the limits, and stores that absorb what others prepared.
 use addr_book::Name;
-use dtab_table::{read_dtab, write_dtab};
+use dtab_table::{Dtab, read_dtab, write_dtab};
 use ns_store::*;
 use std::alloc::Global;
 use std::test::Fail;
@@ -8,25 +8,40 @@ use std::test::Fail;
 /// A change of a namespace.
 #[derive(Clone, Copy)]
 enum Step {
-    Create(&'static [u8]),
-    Put(Option<u64>, &'static [u8]),
+    Create(&'static str),
+    Put(Option<u64>, &'static str),
     Delete(Option<u64>),
 }
 
-/// Carries a change of a name out. The version that the name has then; `None` where it has none.
-fn carry_out(
+/// The version that a name has after a change, `None` where it has none; or why the change is
+/// refused.
+type Told = Result<Option<u64>, StoreFault>;
+
+/// The table of a text; the empty one where it has none.
+fn table(alloc: Global, text: &str) -> Dtab {
+    match read_dtab(alloc, text.as_bytes()) {
+        Ok(dtab) => dtab,
+        Err(_) => Dtab::empty(alloc),
+    }
+}
+
+/// A change of a name, prepared.
+fn prepared(
     alloc: Global,
-    store: &mut Store,
+    store: &Store,
     name: &Name,
     step: Step,
-) -> Result<Option<u64>, StoreFault> {
-    let ready = match step {
-        Step::Create(table) => store.prepare_create(alloc, name, &read(alloc, table)?)?,
-        Step::Put(version, table) => {
-            store.prepare_put(alloc, name, version, &read(alloc, table)?)?
-        }
-        Step::Delete(version) => store.prepare_delete(alloc, name, version)?,
-    };
+) -> Result<ReadyStore, StoreFault> {
+    match step {
+        Step::Create(text) => store.prepare_create(alloc, name, &table(alloc, text)),
+        Step::Put(version, text) => store.prepare_put(alloc, name, version, &table(alloc, text)),
+        Step::Delete(version) => store.prepare_delete(alloc, name, version),
+    }
+}
+
+/// Carries a change of a name out.
+fn carry_out(alloc: Global, store: &mut Store, name: &Name, step: Step) -> Told {
+    let ready = prepared(alloc, store, name, step)?;
     store.absorb(&ready)?;
     match store.get(name) {
         Some((version, _)) => Ok(Some(version)),
@@ -34,131 +49,158 @@ fn carry_out(
     }
 }
 
-/// The table of a text.
-fn read(alloc: Global, text: &[u8]) -> Result<dtab_table::Dtab, StoreFault> {
-    match read_dtab(alloc, text) {
-        Ok(dtab) => Ok(dtab),
-        Err(_) => Err(StoreFault::OutOfMemory),
+/// The same of the name of a text.
+fn told(alloc: Global, store: &mut Store, name: &str, step: Step) -> Result<Told, Fail> {
+    let name = Name::of(alloc, name.as_bytes())?;
+    Ok(carry_out(alloc, store, &name, step))
+}
+
+/// What a name has, its version and its table, as one text; `-` where it has nothing.
+fn held(alloc: Global, store: &Store, name: &str) -> Result<Vec<u8>, Fail> {
+    match store.get(&Name::of(alloc, name.as_bytes())?) {
+        Some((version, dtab)) => {
+            let mut text = format!(in alloc; "{version} ")?.into_bytes();
+            text.append(&mut write_dtab(alloc, dtab)?)?;
+            Ok(text)
+        }
+        None => Ok(b"-".to_vec(alloc)?),
     }
 }
 
+/// Changes of `web` one after the other, and what each is told.
+const VERSIONS: [(Step, Told); 8] = [
+    (Step::Create("/svc => /a"), Ok(Some(1))),
+    (Step::Create(""), Err(StoreFault::Exists(1))),
+    (Step::Put(Some(7), "/svc => /b"), Err(StoreFault::Stale(1))),
+    (Step::Put(Some(1), "/svc => /b"), Ok(Some(2))),
+    (Step::Delete(Some(1)), Err(StoreFault::Stale(2))),
+    (Step::Delete(None), Ok(None)),
+    (Step::Put(None, "/x => /y"), Err(StoreFault::Missing)),
+    (Step::Create("/svc => /c"), Ok(Some(3))),
+];
+
 #[test]
 fn gives_each_table_a_version_of_its_own(rt: HostRuntime) -> Result<(), Fail> {
-    let web = Name::of(rt.alloc(), b"web")?;
     let mut store = Store::start(rt.alloc())?;
-    let rows: [(Step, Result<Option<u64>, StoreFault>); 8] = [
-        (Step::Create(b"/svc => /a"), Ok(Some(1))),
-        (Step::Create(b""), Err(StoreFault::Exists(1))),
-        (Step::Put(Some(7), b"/svc => /b"), Err(StoreFault::Stale(1))),
-        (Step::Put(Some(1), b"/svc => /b"), Ok(Some(2))),
-        (Step::Delete(Some(1)), Err(StoreFault::Stale(2))),
-        (Step::Delete(None), Ok(None)),
-        (Step::Put(None, b"/x => /y"), Err(StoreFault::Missing)),
-        (Step::Create(b"/svc => /c"), Ok(Some(3))),
-    ];
-    for (step, want) in rows {
-        assert_eq!(rt; carry_out(rt.alloc(), &mut store, &web, step), want);
+    for (step, want) in &VERSIONS {
+        assert!(rt; told(rt.alloc(), &mut store, "web", *step)? == *want);
     }
-    let Some((version, dtab)) = store.get(&web) else {
-        return Err("web is missing".into());
-    };
-    assert_eq!(rt; version, 3);
-    assert_eq!(rt;
-        write_dtab(rt.alloc(), dtab)?.as_slice(),
-        b"/svc=>/c".as_slice()
-    );
-    assert!(rt; store.get(&Name::of(rt.alloc(), b"x")?).is_none());
-    assert_eq!(rt; store.count(), 1);
-    assert!(rt; store.count() > 0);
-    assert_eq!(rt; store.name(0).text(), b"web".as_slice());
+    assert!(rt; store.count() == 1 && store.name(0).text() == b"web".as_slice());
+    for (name, want) in [("web", "3 /svc=>/c"), ("x", "-")] {
+        let held = held(rt.alloc(), &store, name)?;
+        assert!(rt; held.as_slice() == want.as_bytes(), "{name}");
+    }
     Ok(())
 }
 
 /// One of 256 names of two letters, in byte order: `AA` to `AP`, `BA` to `BP`, up to `PP`.
-fn name_of_two(alloc: Global, number: u8) -> Result<Name, addr_book::NameFault> {
-    Name::of(alloc, &[b'A' + number / 16, b'A' + number % 16])
+fn letters(number: u8) -> [u8; 2] {
+    [b'A' + number / 16, b'A' + number % 16]
 }
+
+/// Makes the namespaces of all 256 names, in another order. The first turn that isn't told the next
+/// version.
+fn fill(alloc: Global, store: &mut Store) -> Result<Option<u8>, Fail> {
+    for turn in 0..=255u8 {
+        // 37 and 256 have no common divisor, so each number comes once.
+        let name = Name::of(alloc, &letters(turn.wrapping_mul(37)))?;
+        let told = carry_out(alloc, store, &name, Step::Create("/a => /b"));
+        if told != Ok(Some(u64::from(turn) + 1)) {
+            return Ok(Some(turn));
+        }
+    }
+    Ok(None)
+}
+
+/// Whether a store has this name at this place.
+fn has_at(store: &Store, at: usize, text: &[u8]) -> bool {
+    at < store.count() && store.name(at).text() == text
+}
+
+/// Changes of a full store one after the other, and what each is told.
+const FULL: [(&str, Step, Told); 5] = [
+    ("web", Step::Create(""), Err(StoreFault::TooManyNames)),
+    ("AA", Step::Create(""), Err(StoreFault::Exists(1))),
+    ("AA", Step::Put(Some(1), "/a => /c"), Ok(Some(257))),
+    ("AA", Step::Delete(Some(257)), Ok(None)),
+    ("web", Step::Create(""), Ok(Some(258))),
+];
 
 #[test]
 fn holds_256_namespaces_in_byte_order(rt: HostRuntime) -> Result<(), Fail> {
     let mut store = Store::start(rt.alloc())?;
-    for turn in 0..=255u8 {
-        // 37 and 256 have no common divisor, so each number comes once.
-        let name = name_of_two(rt.alloc(), turn.wrapping_mul(37))?;
-        let given = carry_out(rt.alloc(), &mut store, &name, Step::Create(b"/a => /b"));
-        assert_eq!(rt; given, Ok(Some(u64::from(turn) + 1)));
-    }
-    assert_eq!(rt; store.count(), 256);
+    assert!(rt; fill(rt.alloc(), &mut store)? == None && store.count() == 256);
     for number in 0..=255u8 {
-        assert!(rt; usize::from(number) < store.count());
-        let name = name_of_two(rt.alloc(), number)?;
-        assert_eq!(rt; store.name(usize::from(number)).text(), name.text());
+        assert!(rt; has_at(&store, usize::from(number), &letters(number)));
     }
-    let web = Name::of(rt.alloc(), b"web")?;
-    let first = name_of_two(rt.alloc(), 0)?;
-    let rows: [(&Name, Step, Result<Option<u64>, StoreFault>); 5] = [
-        (&web, Step::Create(b""), Err(StoreFault::TooManyNames)),
-        (&first, Step::Create(b""), Err(StoreFault::Exists(1))),
-        (&first, Step::Put(Some(1), b"/a => /c"), Ok(Some(257))),
-        (&first, Step::Delete(Some(257)), Ok(None)),
-        (&web, Step::Create(b""), Ok(Some(258))),
-    ];
-    for (name, step, want) in rows {
-        assert_eq!(rt; carry_out(rt.alloc(), &mut store, name, step), want);
+    for (name, step, want) in &FULL {
+        assert!(rt; told(rt.alloc(), &mut store, name, *step)? == *want);
     }
-    assert_eq!(rt; store.count(), 256);
+    assert!(rt; store.count() == 256);
     Ok(())
 }
 
+/// The last version that is given.
+const LAST: u64 = u64::MAX - 1;
+
+/// Changes one after the other from there on, and what each is told.
+const SPENT: [(&str, Step, Told); 8] = [
+    ("web", Step::Create("/a => /b"), Ok(Some(LAST))),
+    ("mail", Step::Create(""), Err(StoreFault::VersionsSpent)),
+    ("web", Step::Create(""), Err(StoreFault::Exists(LAST))),
+    (
+        "web",
+        Step::Put(Some(LAST), ""),
+        Err(StoreFault::VersionsSpent),
+    ),
+    ("web", Step::Put(Some(1), ""), Err(StoreFault::Stale(LAST))),
+    ("mail", Step::Put(None, ""), Err(StoreFault::Missing)),
+    ("web", Step::Delete(Some(LAST)), Ok(None)),
+    ("web", Step::Create(""), Err(StoreFault::VersionsSpent)),
+];
+
 #[test]
 fn stops_at_the_last_version(rt: HostRuntime) -> Result<(), Fail> {
-    let web = Name::of(rt.alloc(), b"web")?;
-    let mail = Name::of(rt.alloc(), b"mail")?;
-    let last = u64::MAX - 1;
-    let mut store = Store::with_next(rt.alloc(), last)?;
-    let rows: [(&Name, Step, Result<Option<u64>, StoreFault>); 8] = [
-        (&web, Step::Create(b"/a => /b"), Ok(Some(last))),
-        (&mail, Step::Create(b""), Err(StoreFault::VersionsSpent)),
-        (&web, Step::Create(b""), Err(StoreFault::Exists(last))),
-        (
-            &web,
-            Step::Put(Some(last), b""),
-            Err(StoreFault::VersionsSpent),
-        ),
-        (&web, Step::Put(Some(1), b""), Err(StoreFault::Stale(last))),
-        (&mail, Step::Put(None, b""), Err(StoreFault::Missing)),
-        (&web, Step::Delete(Some(last)), Ok(None)),
-        (&web, Step::Create(b""), Err(StoreFault::VersionsSpent)),
-    ];
-    for (name, step, want) in rows {
-        assert_eq!(rt; carry_out(rt.alloc(), &mut store, name, step), want);
+    let mut store = Store::with_next(rt.alloc(), LAST)?;
+    for (name, step, want) in &SPENT {
+        assert!(rt; told(rt.alloc(), &mut store, name, *step)? == *want);
     }
     Ok(())
+}
+
+/// Two stores take in a new namespace `web`, which was prepared on the first.
+fn absorbed_twice(alloc: Global, first: &mut Store, second: &mut Store) -> Result<(), Fail> {
+    let web = Name::of(alloc, b"web")?;
+    let ready = prepared(alloc, first, &web, Step::Create("/a => /b"))?;
+    first.absorb(&ready)?;
+    Ok(second.absorb(&ready)?)
+}
+
+/// Whether a name has this in both stores.
+fn both_hold(
+    alloc: Global,
+    first: &Store,
+    second: &Store,
+    name: &str,
+    want: &str,
+) -> Result<bool, Fail> {
+    let one = held(alloc, first, name)?;
+    let other = held(alloc, second, name)?;
+    Ok(one.as_slice() == want.as_bytes() && other.as_slice() == want.as_bytes())
 }
 
 #[test]
 fn absorbs_what_another_store_prepared(rt: HostRuntime) -> Result<(), Fail> {
-    let web = Name::of(rt.alloc(), b"web")?;
-    let mail = Name::of(rt.alloc(), b"mail")?;
     let mut first = Store::start(rt.alloc())?;
     let mut second = Store::start(rt.alloc())?;
-    assert_eq!(rt;
-        carry_out(rt.alloc(), &mut second, &mail, Step::Create(b"/m => /n")),
-        Ok(Some(1))
-    );
-    let ready = first.prepare_create(rt.alloc(), &web, &read(rt.alloc(), b"/a => /b")?)?;
-    first.absorb(&ready)?;
-    second.absorb(&ready)?;
-    for store in [&first, &second] {
-        assert_eq!(rt; store.count(), 1);
-        assert!(rt; store.get(&mail).is_none());
-        let Some((version, dtab)) = store.get(&web) else {
-            return Err("web is missing".into());
-        };
-        assert_eq!(rt; version, 1);
-        assert_eq!(rt;
-            write_dtab(rt.alloc(), dtab)?.as_slice(),
-            b"/a=>/b".as_slice()
+    let mail = told(rt.alloc(), &mut second, "mail", Step::Create("/m => /n"))?;
+    assert!(rt; mail == Ok(Some(1)));
+    absorbed_twice(rt.alloc(), &mut first, &mut second)?;
+    assert!(rt; first.count() == 1 && second.count() == 1);
+    for (name, want) in [("web", "1 /a=>/b"), ("mail", "-")] {
+        assert!(rt;
+            both_hold(rt.alloc(), &first, &second, name, want)?,
+            "{name}"
         );
     }
     Ok(())

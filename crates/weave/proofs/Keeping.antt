@@ -1,7 +1,6 @@
 -- Delegations that are kept in the code's world.
 use Rattle.std.proofs.Common.{◌≡◌, get_or, ℕ, ◌+◌, ◌<◌, ◌≤◌, take, Bool, List, [], ◌∷◌, ◌++◌, length, map, set, true, false, Some, None, Option, refl, arith, ap, sym, ◌∙◌, subst, length-append}
 use Rattle.std.specs.Prelude.{not, ◌||◌, nat_lt, nat_le, filter, slice_get, option_map, if◌then◌else◌, is_some}
-use Rattle.std.proofs.lemmas.List.{length-map}
 use Rattle.std.proofs.lemmas.Bool.Decides.{nat_tests}
 use Rattle.std.proofs.lemmas.List.Elements.{filter-append}
 use Rattle.machine.specs.Values.{SettingsValue, StateValue}
@@ -17,7 +16,7 @@ use Rattle.router_log.specs.Call.{keeping, publishes, is_kept, is_large, is_late
 use Rattle.router_log.proofs.Places.{value_push}
 use Rattle.weave.specs.declared.pass.Pass.{Pass}
 use Rattle.weave.specs.declared.world.World.{World}
-use Rattle.weave.specs.Code.{item_of, operation_of, pass_of, kept_in_arc}
+use Rattle.weave.specs.Code.{items_of, pass_of, kept_in_arc}
 use Rattle.weave.specs.World.{Item, PassValue, was_kept, was_not_kept, with_call, called, publishes_now}
 use Rattle.weave.specs.Held.{ops_of, world_of, value_in, Holds, Becomes}
 use Rattle.weave.proofs.Schedules.{kept_here}
@@ -37,11 +36,11 @@ others_le settings number ops c o (i ∷ is) =
     let one = one_at_most settings found o in
     omega (arith, rest, one)
 
-pub keeps_few : (w : World) (number : ℕ) (x : Pass) → Holds w → number < length w.passes.items → x ≡ get_or w.passes.items number x → x.keeps ≤ length x.items.items
+pub keeps_few : (w : World) (number : ℕ) (x : Pass) → Holds w → number < length w.passes.items → x ≡ get_or w.passes.items number x → x.keeps ≤ length (items_of x)
 keeps_few w number x holds there is =
     let here = standing w.passes.items number x there is in
     let h = holds.passes number x here in
-    omega (arith, h.keeps, others_le (settings_of w.settings) number (ops_of w) 0 0 (map item_of x.items.items), length-map x.items.items item_of)
+    omega (arith, h.keeps, others_le (settings_of w.settings) number (ops_of w) 0 0 (items_of x))
 
 kept_count_kept : (ops : List Operation) (caller serial : ℕ) (k : Kept) → kept_count (ops ++ kept caller serial k ∷ []) ≡ kept_count ops + 1
 kept_count_kept ops caller serial k =
@@ -71,9 +70,9 @@ filter_le test (x ∷ xs) =
     elim (test x) as (λ (b : Bool). length (if b then x ∷ filter test xs else filter test xs) ≤ length (x ∷ xs)) [ true ↦ omega (arith, rest) | false ↦ omega (arith, rest) ]
 
 -- no more delegations are kept than operations were published
-pub kept_few : (w : World) → Holds w → w.keeps ≤ length w.operations.items
+pub kept_few : (w : World) → Holds w → w.keeps ≤ length (ops_of w)
 kept_few w holds =
-    omega (arith, holds.keeps, filter_le (λ (op : Operation). not (is_change op)) (ops_of w), length-map w.operations.items operation_of)
+    omega (arith, holds.keeps, filter_le (λ (op : Operation). not (is_change op)) (ops_of w))
 
 -- why a delegation is not kept
 module _ (settings : SettingsValue) (ops : List Operation) (k : Kept) where
@@ -140,7 +139,7 @@ keeps_it old new number point serial p x q k holds here is point_is serial_is fr
     let S = settings_of old.settings in
     let same = same_pass old.passes.items number p x here is in
     let op = kept number serial k in
-    let made : serial ≡ others_made is_change (publishes S) number (ops_of old) (map item_of p.items.items) = serial_is ∙ (ap (λ (y : Pass). y.keeps) same ∙ (holds.passes number p here).keeps) in
+    let made : serial ≡ others_made is_change (publishes S) number (ops_of old) (items_of p) = serial_is ∙ (ap (λ (y : Pass). y.keeps) same ∙ (holds.passes number p here).keeps) in
     let found : publishes_now S number (ops_of old) (pass_of p) (keeping k) ≡ Some op = keeping_some S number (ops_of old) (pass_of p) k has ∙ ap (λ n. Some (kept number n k)) (sym made) in
     let longer = length-append (ops_of old) (op ∷ []) in
     let pass_is : pass_of q ≡ with_call S (pass_of p) (keeping k) (ops_of old) (ops_of old ++ op ∷ []) =

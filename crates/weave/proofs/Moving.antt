@@ -24,11 +24,12 @@ use Rattle.router_log.proofs.Taking.{change_taken}
 use Rattle.router_log.specs.Call.{Call, changing, publishes}
 use Rattle.std.specs.declared.sync.Arc.{Arc}
 use Rattle.bind_cache.specs.declared.binding.Binding.{Binding}
-use Rattle.weave.specs.declared.call.Item.{Item as Item_code}
+use Rattle.weave.specs.declared.listed.CallList.{CallList}
 use Rattle.weave.specs.declared.pass.Pass.{Pass}
 use Rattle.weave.specs.declared.pass.Flight.{Flight}
 use Rattle.weave.specs.declared.world.World.{World}
-use Rattle.weave.specs.Code.{item_of, pass_of, kept_in_arc}
+use Rattle.weave.specs.Listed.{calls_in}
+use Rattle.weave.specs.Code.{items_of, pass_of, kept_in_arc}
 use Rattle.weave.specs.World.{Item, PassValue, WorldValue, new_pass, opening_world, publishes_now, with_call, called, seeing, answer_of, fresh_of}
 use Rattle.weave.specs.Worlds.{IsWorld}
 use Rattle.weave.specs.Held.{ops_of, world_of, value_in, FlightHolds, PassHolds, Holds, Becomes}
@@ -77,9 +78,9 @@ module _ (settings : SettingsValue) where
   no_extra [] = refl
   no_extra (i ∷ is) = ap (λ js. i ∷ js) (no_extra is)
 
-  pass_grown : (ops more : List Operation) (number : ℕ) (p : Pass) → All (λ (i : Item). i.1 ≤ length ops) (map item_of p.items.items) → PassHolds settings ops number p → PassHolds settings (ops ++ more) number p
+  pass_grown : (ops more : List Operation) (number : ℕ) (p : Pass) → All (λ (i : Item). i.1 ≤ length ops) (items_of p) → PassHolds settings ops number p → PassHolds settings (ops ++ more) number p
   pass_grown ops more number p within h =
-      let items = map item_of p.items.items in
+      let items = items_of p in
       record {
         changes = h.changes ∙ sym (changes_grown is_change (publishes settings) number ops more 0 0 items within);
         keeps = h.keeps ∙ sym (others_grown is_change (publishes settings) number ops more 0 0 items within);
@@ -87,12 +88,12 @@ module _ (settings : SettingsValue) where
       }
 
   -- a pass with one call more
-  pass_called : (ops : List Operation) (number : ℕ) (p q : Pass) (call : Call) (found : Option Operation) → All (λ (i : Item). i.1 ≤ length ops) (map item_of p.items.items) → PassHolds settings ops number p
-      → publishes_now settings number ops (pass_of p) call ≡ found → map item_of q.items.items ≡ map item_of p.items.items ++ (call, length ops) ∷ [] → q.flight ≡ p.flight
+  pass_called : (ops : List Operation) (number : ℕ) (p q : Pass) (call : Call) (found : Option Operation) → All (λ (i : Item). i.1 ≤ length ops) (items_of p) → PassHolds settings ops number p
+      → publishes_now settings number ops (pass_of p) call ≡ found → items_of q ≡ items_of p ++ (call, length ops) ∷ [] → q.flight ≡ p.flight
       → q.changes ≡ changes_with is_change (publishes settings) found p.changes → q.keeps ≡ others_with is_change (publishes settings) found p.keeps
       → PassHolds settings (ops ++ option_to_list found) number q
   pass_called ops number p q call found within h is items flight changes keeps =
-      let old = map item_of p.items.items in
+      let old = items_of p in
       let more = option_to_list found in
       let whole = ops ++ more in
       let cs = changes_grown is_change (publishes settings) number ops more 0 0 old within in
@@ -126,7 +127,7 @@ module _ (old new : World) (number : ℕ) (p q : Pass) (call : Call) (found : Op
   abbrev now : List Operation
   now = ops_of old ++ option_to_list found
 
-  within : (j : ℕ) (r : Pass) → slice_get old.passes.items j ≡ Some r → All (λ (i : Item). i.1 ≤ length (ops_of old)) (map item_of r.items.items)
+  within : (j : ℕ) (r : Pass) → slice_get old.passes.items j ≡ Some r → All (λ (i : Item). i.1 ≤ length (ops_of old)) (items_of r)
   within j r there = (all_seen S (ops_of old) j (pass_of r) (holds.world.all j (pass_of r) (get-map pass_of old.passes.items j r there)).pass).placed.within
 
   world_is : world_of new ≡ called S (world_of old) number (pass_of p) call
@@ -202,11 +203,11 @@ changes_le settings number ops c o (i ∷ is) =
     let one = one_at_most settings found c in
     omega (arith, rest, one)
 
-pub changes_few : (w : World) (number : ℕ) (x : Pass) → Holds w → number < length w.passes.items → x ≡ get_or w.passes.items number x → x.changes ≤ length x.items.items
+pub changes_few : (w : World) (number : ℕ) (x : Pass) → Holds w → number < length w.passes.items → x ≡ get_or w.passes.items number x → x.changes ≤ length (items_of x)
 changes_few w number x holds there is =
     let here = standing w.passes.items number x there is in
     let h = holds.passes number x here in
-    omega (arith, h.changes, changes_le (settings_of w.settings) number (ops_of w) 0 0 (map item_of x.items.items), length-map x.items.items item_of)
+    omega (arith, h.changes, changes_le (settings_of w.settings) number (ops_of w) 0 0 (items_of x))
 
 kept_count_changed : (ops : List Operation) (caller serial : ℕ) (change : ChangeValue) → kept_count (ops ++ changed caller serial change ∷ []) ≡ kept_count ops
 kept_count_changed ops caller serial change = ap length (filter-append (λ (op : Operation). not (is_change op)) ops (changed caller serial change ∷ []) ∙ append-nil (filter (λ (op : Operation). not (is_change op)) ops))
@@ -223,11 +224,11 @@ accepted old new number point serial p x q change ready holds here is point_is s
     let S = settings_of old.settings in
     let same = same_pass old.passes.items number p x here is in
     let op = changed number serial change in
-    let made : serial ≡ changes_made is_change (publishes S) number (ops_of old) (map item_of p.items.items) = serial_is ∙ (ap (λ (y : Pass). y.changes) same ∙ (holds.passes number p here).changes) in
+    let made : serial ≡ changes_made is_change (publishes S) number (ops_of old) (items_of p) = serial_is ∙ (ap (λ (y : Pass). y.changes) same ∙ (holds.passes number p here).changes) in
     let value_is : state_of old.state ≡ (value_of S (ops_of old)).state = ap (λ (v : Value). v.state) holds.value in
     let yes : is_accepted (value_of S (ops_of old)).state change ≡ true = ap (λ (s : StateValue). is_accepted s change) (sym value_is) ∙ ready_is.accepted in
     let found : publishes_now S number (ops_of old) (pass_of p) (changing change) ≡ Some op =
-    ap (λ (b : Bool). if b then Some (changed number (changes_made is_change (publishes S) number (ops_of old) (map item_of p.items.items)) change) else None) yes ∙ ap (λ n. Some (changed number n change)) (sym made) in
+    ap (λ (b : Bool). if b then Some (changed number (changes_made is_change (publishes S) number (ops_of old) (items_of p)) change) else None) yes ∙ ap (λ n. Some (changed number n change)) (sym made) in
     let longer = length-append (ops_of old) (op ∷ []) in
     let pass_is : pass_of q ≡ with_call S (pass_of p) (changing change) (ops_of old) (ops_of old ++ op ∷ []) =
     pass ∙ (ap (λ (y : Pass). pass_with y (changing change) point (point + 1)) same ∙ (ap (λ n. pass_with p (changing change) n (n + 1)) point_is ∙ ap (λ n. pass_with p (changing change) (length (ops_of old)) n) (sym longer))) in
@@ -298,7 +299,7 @@ renewed old new number q v holds pass_holds pass_is world settings ops passes va
     }
 
 -- a pass whose calls are those of another, and what is counted of them
-pub holds_from : (settings : SettingsValue) (ops : List Operation) (number : ℕ) (p q : Pass) → PassHolds settings ops number p → map item_of q.items.items ≡ map item_of p.items.items → q.changes ≡ p.changes → q.keeps ≡ p.keeps
+pub holds_from : (settings : SettingsValue) (ops : List Operation) (number : ℕ) (p q : Pass) → PassHolds settings ops number p → items_of q ≡ items_of p → q.changes ≡ p.changes → q.keeps ≡ p.keeps
     → ((f : Flight) → q.flight ≡ Some f → p.flight ≡ Some f) → PassHolds settings ops number q
 holds_from settings ops number p q h calls changes keeps flight = record {
   changes = changes ∙ (h.changes ∙ ap (changes_made is_change (publishes settings) number ops) (sym calls));
@@ -353,7 +354,7 @@ sees old new number point p x q holds here is point_is seen items flight fresh c
     let h = holds.passes number p here in
     let items_are : q.items ≡ p.items = items ∙ ap (λ (y : Pass). y.items) same in
     let flight_is : q.flight ≡ p.flight = flight ∙ ap (λ (y : Pass). y.flight) same in
-    let calls : map item_of q.items.items ≡ map item_of p.items.items = ap (λ (v : Vec Item_code Global). map item_of v.items) items_are in
+    let calls : items_of q ≡ items_of p = ap (λ (v : CallList). calls_in v.list.value) items_are in
     let pass_holds = holds_from S (ops_of old) number p q h calls (changes ∙ ap (λ (y : Pass). y.changes) same) (keeps ∙ ap (λ (y : Pass). y.keeps) same) (λ f there. sym flight_is ∙ there) in
     let make : ℕ → List Item → Option ℕ → Option Kept → PassValue = λ seen items flight fresh. record { seen = seen; items = items; flight = flight; fresh = fresh } in
     let pass_is : pass_of q ≡ make (length (ops_of old)) (pass_of p).items (pass_of p).flight (pass_of p).fresh =
@@ -380,7 +381,7 @@ started w n ops passes counts value keeps =
       keeps = keeps ∙ ap kept_count (sym ops);
       passes = λ j p here.
           let blank : pass_of p ≡ new_pass = none_of n j new_pass (pass_of p) (ap (λ (xs : List PassValue). slice_get xs j) (sym passes) ∙ get-map pass_of w.passes.items j p here) in
-          let items : map item_of p.items.items ≡ [] = ap (λ (v : PassValue). v.items) blank in
+          let items : items_of p ≡ [] = ap (λ (v : PassValue). v.items) blank in
           let both = counts j p here in
           record {
             changes = both.0 ∙ ap (changes_made is_change (publishes S) j (ops_of w)) (sym items);

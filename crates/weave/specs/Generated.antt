@@ -1,5 +1,7 @@
--- Generated schedules: the steps that the words of a seed give, and the line that sums up what they leave.
-use Rattle.std.specs.Prelude.{ℕ, zero, suc, ◌+◌, ◌/◌, ◌%◌, ◌==◌, nat_lt, if◌then◌else◌, List, [], ◌∷◌, ◌++◌, codes, None}
+-- Generated schedules: the steps that the words of a seed give, and the line that sums up what they
+-- leave.
+use Rattle.std.specs.Prelude.{ℕ, zero, suc, ◌+◌, ◌/◌, ◌%◌, ◌==◌, nat_lt, if◌then◌else◌, List, []}
+use Rattle.std.specs.Prelude.{◌∷◌, ◌++◌, codes, None}
 use Rattle.std.specs.Fmt.{decimal}
 use Rattle.rand_core.specs.Pcg32Seed.{pcg32_seed}
 use Rattle.rand_pcg.specs.Lcg.{Lcg}
@@ -7,13 +9,15 @@ use Rattle.rand_pcg.specs.Pcg.{pcg64, pcg64_of_seed}
 use Rattle.machine.specs.Values.{SettingsValue, ChangeValue, create, put, set_addrs, AskValue}
 use Rattle.router_log.specs.Operation.{place_of, kept_count}
 use Rattle.turn_parts.specs.Parts.{addrs_from, service_name, service_path, namer_rule, table_by}
-use Rattle.weave.specs.World.{pick, StepValue, publish, enter, answer, remember, meet, ToldValue, nothing, opening_world, run_from}
+use Rattle.weave.specs.World.{pick, StepValue, publish, enter, answer, remember, meet, ToldValue}
+use Rattle.weave.specs.World.{nothing, opening_world, run_from}
 
 -- the change that comes before the turns: a table that sends each service to the book
 abbrev pub first_change : ChangeValue
 first_change = create (codes "default") (namer_rule ∷ [])
 
--- the change of a turn: fewer than five addresses for a service, or a table that sends one service to the next
+-- the change of a turn: fewer than five addresses for a service, or a table that sends one service
+-- to the next
 abbrev pub addrs_change : ℕ → ℕ → ChangeValue
 addrs_change s q = set_addrs (service_name s) (addrs_from (q % 5) (1024 + q))
 
@@ -26,7 +30,15 @@ ask_of_turn s words =
     let branch = pcg64 words in
     let first = pcg64 branch.1 in
     let second = pcg64 first.1 in
-    (record { path = service_path s; own = []; moment = 0; branch_word = branch.0; first_draw = first.0; second_draw = second.0 }, second.1)
+    let ask : AskValue = record {
+      path = service_path s;
+      own = [];
+      moment = 0;
+      branch_word = branch.0;
+      first_draw = first.0;
+      second_draw = second.0;
+    } in
+    (ask, second.1)
 
 abbrev pub asking : ℕ → AskValue × Lcg → StepValue × Lcg
 asking pass ask = (enter pass (pick ask.0), ask.1)
@@ -40,7 +52,8 @@ turn_step kind pass s q words =
     if kind == 3 then (remember pass, words) else
     if nat_lt kind 6 then asking pass (ask_of_turn s words) else (answer pass, words)
 
--- the step of a turn by the generator: its word's lowest two bits are its pass, the next three its kind, the next four a service, the next twelve a number
+-- the step of a turn by the generator: its word's lowest two bits are its pass, the next three its
+-- kind, the next four a service, the next twelve a number
 unfoldable pub turn_by : Lcg → StepValue × Lcg
 turn_by words =
     let drawn = pcg64 words in
@@ -53,7 +66,8 @@ turns_by (suc n) words = let turn = turn_by words in turn.0 ∷ turns_by n turn.
 
 -- all steps: pass 0 makes the first change, then come the turns
 abbrev pub steps_of_seed : ℕ → ℕ → List StepValue
-steps_of_seed turns seed = publish 0 first_change ∷ turns_by turns (pcg64_of_seed (pcg32_seed 32 seed))
+steps_of_seed turns seed =
+    publish 0 first_change ∷ turns_by turns (pcg64_of_seed (pcg32_seed 32 seed))
 
 -- how many answers a step gives: one, or none where nothing was in flight
 abbrev pub given_by : StepValue → ToldValue → ℕ
@@ -66,9 +80,12 @@ abbrev pub answers_given : List StepValue → List ToldValue → ℕ
 answers_given (s ∷ ss) (t ∷ ts) = given_by s t + answers_given ss ts
 answers_given ss ts = 0
 
--- the line that sums up a run: how many changes there are, how many answers were given, and how many delegations were ever kept
+-- the line that sums up a run: how many changes there are, how many answers were given, and how
+-- many delegations were ever kept
 abbrev pub weave_line : ℕ → ℕ → ℕ → List ℕ
-weave_line changes answers kept = codes "history " ++ decimal changes ++ codes " looks " ++ decimal answers ++ codes " kept " ++ decimal kept
+weave_line changes answers kept =
+    codes "history " ++ decimal changes ++ codes " looks " ++ decimal answers
+    ++ codes " kept " ++ decimal kept
 
 abbrev pub weave_of : SettingsValue → ℕ → ℕ → List ℕ
 weave_of settings turns seed =

@@ -13,28 +13,32 @@ use Rattle.weave.specs.declared.pass.Pass.{Pass}
 use Rattle.weave.specs.declared.pass.Flight.{Flight}
 use Rattle.weave.specs.declared.step.Told.{Told}
 use Rattle.weave.specs.declared.world.World.{World}
-use Rattle.weave.specs.Code.{item_of, told_value, kept_in_arc, operation_of, pass_of}
-use Rattle.weave.specs.World.{Item, StepValue, publish, ToldValue, WorldValue, answer_of, fresh_of, stepped}
+use Rattle.weave.specs.Code.{items_of, told_value, kept_in_arc, pass_of}
+use Rattle.weave.specs.Listed.{operations_in}
+use Rattle.weave.specs.World.{Item, StepValue, publish, ToldValue, WorldValue, answer_of, fresh_of}
+use Rattle.weave.specs.World.{stepped}
 use Rattle.weave.specs.Worlds.{IsWorld}
 
 abbrev pub ops_of : World → List OperationValue
-ops_of w = map operation_of w.operations.items
+ops_of w = operations_in w.operations.list.value
 
 abbrev pub world_of : World → WorldValue
 world_of w = record { ops = ops_of w; passes = map pass_of w.passes.items }
 
 -- a question that waits has the answer to its call at its point, and what a pick works out there
-pub record FlightHolds (settings : SettingsValue) (ops : List OperationValue) (items : List Item) (f : Flight) : Type 0 where
+pub record FlightHolds (settings : SettingsValue) (ops : List OperationValue) (items : List Item)
+    (f : Flight) : Type 0 where
   pub item : Item
   pub here : slice_get items f.item ≡ Some item
   pub within : item.1 ≤ length ops
   pub told : told_value f.told ≡ answer_of settings (take item.1 ops) item.0
   pub fresh : option_map kept_in_arc f.fresh ≡ fresh_of settings (take item.1 ops) item.0
 
-pub record PassHolds (settings : SettingsValue) (ops : List OperationValue) (number : ℕ) (p : Pass) : Type 0 where
-  pub changes : p.changes ≡ changes_made is_change (publishes settings) number ops (map item_of p.items.items)
-  pub keeps : p.keeps ≡ others_made is_change (publishes settings) number ops (map item_of p.items.items)
-  pub flight : (f : Flight) → p.flight ≡ Some f → FlightHolds settings ops (map item_of p.items.items) f
+pub record PassHolds (settings : SettingsValue) (ops : List OperationValue) (number : ℕ)
+    (p : Pass) : Type 0 where
+  pub changes : p.changes ≡ changes_made is_change (publishes settings) number ops (items_of p)
+  pub keeps : p.keeps ≡ others_made is_change (publishes settings) number ops (items_of p)
+  pub flight : (f : Flight) → p.flight ≡ Some f → FlightHolds settings ops (items_of p) f
 
 abbrev pub value_in : World → Value
 value_in w = record { state = state_of w.state; cache = bindings_of w.cache }
@@ -44,7 +48,8 @@ pub record Holds (w : World) : Type 0 where
   pub world : IsWorld (settings_of w.settings) (world_of w)
   pub value : value_in w ≡ value_of (settings_of w.settings) (ops_of w)
   pub keeps : w.keeps ≡ kept_count (ops_of w)
-  pub passes : (number : ℕ) (p : Pass) → slice_get w.passes.items number ≡ Some p → PassHolds (settings_of w.settings) (ops_of w) number p
+  pub passes : (number : ℕ) (p : Pass) → slice_get w.passes.items number ≡ Some p
+      → PassHolds (settings_of w.settings) (ops_of w) number p
 
 -- the world is then this one, under the same settings
 pub record Becomes (old new : World) (w : WorldValue) : Type 0 where

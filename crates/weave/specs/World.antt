@@ -1,5 +1,7 @@
--- The world: what was published, and what each pass has seen, called and not yet been answered. Each step is one of one pass, or a meeting of two.
-use Rattle.std.specs.Prelude.{ℕ, ◌-◌, ◌^◌, min, if◌then◌else◌, List, [], ◌∷◌, ◌++◌, length, take, replicate, slice_get, slice_set, Option, Some, None, is_some, is_none}
+-- The world: what was published, and what each pass has seen, called and not yet been answered.
+-- Each step is one of one pass, or a meeting of two.
+use Rattle.std.specs.Prelude.{ℕ, ◌-◌, ◌^◌, min, if◌then◌else◌, List, [], ◌∷◌, ◌++◌, length, take}
+use Rattle.std.specs.Prelude.{replicate, slice_get, slice_set, Option, Some, None, is_some, is_none}
 use Rattle.std.specs.Option.{option_to_list, option_or}
 use Rattle.addr_book.specs.Namer.{named_in}
 use Rattle.name_tree.specs.Path.{Labels}
@@ -8,7 +10,8 @@ use Rattle.bind_core.specs.Delegation.{outcome_of, cost_of, kept_asked}
 use Rattle.bind_cache.specs.Kept.{Kept}
 use Rattle.bind_cache.specs.Sizes.{text_bytes}
 use Rattle.bind_cache.specs.Cache.{found_in}
-use Rattle.machine.specs.Values.{SettingsValue, StateValue, ChangeValue, LookValue, AskValue, ReplyValue, ChosenValue}
+use Rattle.machine.specs.Values.{SettingsValue, StateValue, ChangeValue, LookValue, AskValue}
+use Rattle.machine.specs.Values.{ReplyValue, ChosenValue}
 use Rattle.machine.specs.State.{reply_of}
 use Rattle.machine.specs.Looking.{effective, look_of}
 use Rattle.machine.specs.Choosing.{pick_of, chosen_of}
@@ -47,7 +50,8 @@ pub data ToldValue : Type 0 where
 abbrev pub Item : Type 0
 Item = Call × ℕ
 
--- a pass: how many operations it has seen; its calls; the place among these of the one that is not answered yet; and the delegation that it worked out last
+-- a pass: how many operations it has seen; its calls; the place among these of the one that is not
+-- answered yet; and the delegation that it worked out last
 pub record PassValue : Type 0 where
   pub seen : ℕ
   pub items : List Item
@@ -71,7 +75,15 @@ delegation_in settings state path own =
     let rules = effective settings state own in
     let names = named_in state.book in
     let asked = kept_asked rules names path in
-    record { path = path; local = own; ending = outcome_of rules names path; cost = cost_of rules names path; asked = asked; bytes = min (text_bytes path own asked) (2 ^ 64 - 1); place = state.place }
+    record {
+      path = path;
+      local = own;
+      ending = outcome_of rules names path;
+      cost = cost_of rules names path;
+      asked = asked;
+      bytes = min (text_bytes path own asked) (2 ^ 64 - 1);
+      place = state.place;
+    }
 
 abbrev pub call_of : Question → Call
 call_of (pick ask) = asked ask
@@ -79,15 +91,20 @@ call_of (look l) = looked l
 
 -- what a call behind some operations is answered. An answer to a pick has no loads in it
 abbrev pub answer_of : SettingsValue → List Operation → Call → ToldValue
-answer_of settings ops (asked ask) = chosen (place_of ops) (chosen_of (pick_of settings (value_of settings ops).state ask 0 0))
-answer_of settings ops (looked l) = reply (place_of ops) (look_of settings (value_of settings ops).state l)
-answer_of settings ops (changing change) = reply (place_of ops) (reply_of settings (value_of settings ops).state change)
+answer_of settings ops (asked ask) =
+    chosen (place_of ops) (chosen_of (pick_of settings (value_of settings ops).state ask 0 0))
+answer_of settings ops (looked l) =
+    reply (place_of ops) (look_of settings (value_of settings ops).state l)
+answer_of settings ops (changing change) =
+    reply (place_of ops) (reply_of settings (value_of settings ops).state change)
 answer_of settings ops (keeping k) = nothing
 
 -- the delegation that a pick works out, where none is kept for its path and table
 abbrev pub fresh_of : SettingsValue → List Operation → Call → Option Kept
 fresh_of settings ops (asked ask) =
-    if is_none (found_in (value_of settings ops).cache ask.path ask.own) then Some (delegation_in settings (value_of settings ops).state ask.path ask.own) else None
+    if is_none (found_in (value_of settings ops).cache ask.path ask.own)
+    then Some (delegation_in settings (value_of settings ops).state ask.path ask.own)
+    else None
 fresh_of settings ops _ = None
 
 -- the call that is not answered yet
@@ -102,11 +119,17 @@ module _ (settings : SettingsValue) where
   -- what a call of a pass publishes behind all that was published
   abbrev pub publishes_now : ℕ → List Operation → PassValue → Call → Option Operation
   publishes_now number ops p call =
-      publishes settings ops number (changes_made is_change (publishes settings) number ops p.items) (others_made is_change (publishes settings) number ops p.items) call
+      publishes settings ops number (changes_made is_change (publishes settings) number ops p.items)
+      (others_made is_change (publishes settings) number ops p.items) call
 
   -- a pass with one call more, behind these operations, of which so many are seen then
   abbrev pub with_call : PassValue → Call → List Operation → List Operation → PassValue
-  with_call p call ops now = record { seen = length now; items = p.items ++ (call, length ops) ∷ []; flight = p.flight; fresh = p.fresh }
+  with_call p call ops now = record {
+    seen = length now;
+    items = p.items ++ (call, length ops) ∷ [];
+    flight = p.flight;
+    fresh = p.fresh;
+  }
 
   -- a call of a pass: what it publishes stands behind all that was published
   abbrev pub called : WorldValue → ℕ → PassValue → Call → WorldValue
@@ -115,29 +138,52 @@ module _ (settings : SettingsValue) where
       record { ops = now; passes = slice_set w.passes number (with_call p call w.ops now) }
 
   abbrev pub seeing : WorldValue → ℕ → PassValue → WorldValue
-  seeing w number p = record { ops = w.ops; passes = slice_set w.passes number (record { seen = length w.ops; items = p.items; flight = p.flight; fresh = p.fresh }) }
+  seeing w number p =
+      let seen : PassValue = record {
+        seen = length w.ops;
+        items = p.items;
+        flight = p.flight;
+        fresh = p.fresh;
+      } in
+      record { ops = w.ops; passes = slice_set w.passes number seen }
 
   -- a question is in flight from the call that was made of it
   abbrev pub entered : WorldValue → ℕ → PassValue → Question → WorldValue
   entered w number p question =
-      record { ops = w.ops; passes = slice_set w.passes number (record { seen = length w.ops; items = p.items ++ (call_of question, length w.ops) ∷ []; flight = Some (length p.items); fresh = p.fresh }) }
+      let asking : PassValue = record {
+        seen = length w.ops;
+        items = p.items ++ (call_of question, length w.ops) ∷ [];
+        flight = Some (length p.items);
+        fresh = p.fresh;
+      } in
+      record { ops = w.ops; passes = slice_set w.passes number asking }
 
-  -- an answer is that to the call at its point, and ends its flight. A pick for which nothing was kept there leaves what it worked out
+  -- an answer is that to the call at its point, and ends its flight. A pick for which nothing was
+  -- kept there leaves what it worked out
   abbrev pub answered : WorldValue → ℕ → PassValue → Option Item → WorldValue × ToldValue
   answered w number p None = (w, nothing)
-  answered w number p (Some item) = (
-    record { ops = w.ops; passes = slice_set w.passes number (record { seen = p.seen; items = p.items; flight = None; fresh = option_or (fresh_of settings (take item.1 w.ops) item.0) p.fresh }) },
-    answer_of settings (take item.1 w.ops) item.0,
-  )
+  answered w number p (Some item) =
+      let told : PassValue = record {
+        seen = p.seen;
+        items = p.items;
+        flight = None;
+        fresh = option_or (fresh_of settings (take item.1 w.ops) item.0) p.fresh;
+      } in
+      let world : WorldValue = record { ops = w.ops; passes = slice_set w.passes number told } in
+      (world, answer_of settings (take item.1 w.ops) item.0)
 
-  -- what was worked out last is kept, or not; where there is nothing, the pass sees what was published all the same
+  -- what was worked out last is kept, or not; where there is nothing, the pass sees what was
+  -- published all the same
   abbrev pub remembered : WorldValue → ℕ → PassValue → Option Kept → WorldValue × ToldValue
   remembered w number p None = (seeing w number p, nothing)
-  remembered w number p (Some k) = (called w number p (keeping k), if is_some (publishes_now number w.ops p (keeping k)) then was_kept else was_not_kept)
+  remembered w number p (Some k) =
+      let is_published = is_some (publishes_now number w.ops p (keeping k)) in
+      (called w number p (keeping k), if is_published then was_kept else was_not_kept)
 
   abbrev pub published : WorldValue → ℕ → Option PassValue → ChangeValue → WorldValue × ToldValue
   published w number None change = (w, nothing)
-  published w number (Some p) change = (called w number p (changing change), answer_of settings w.ops (changing change))
+  published w number (Some p) change =
+      (called w number p (changing change), answer_of settings w.ops (changing change))
 
   abbrev pub entering : WorldValue → ℕ → Option PassValue → Question → WorldValue × ToldValue
   entering w number None question = (w, nothing)
@@ -155,8 +201,10 @@ module _ (settings : SettingsValue) where
   seen_by w number None = w
   seen_by w number (Some p) = seeing w number p
 
-  abbrev pub meeting : WorldValue → ℕ → ℕ → Option PassValue → Option PassValue → WorldValue × ToldValue
-  meeting w one other (Some p) (Some q) = (let first = seeing w one p in seen_by first other (slice_get first.passes other), nothing)
+  abbrev pub meeting : WorldValue → ℕ → ℕ → Option PassValue → Option PassValue
+      → WorldValue × ToldValue
+  meeting w one other (Some p) (Some q) =
+      (let first = seeing w one p in seen_by first other (slice_get first.passes other), nothing)
   meeting w one other _ _ = (w, nothing)
 
   -- a step, and what it tells. One that names a pass that is not there changes nothing
@@ -165,9 +213,11 @@ module _ (settings : SettingsValue) where
   stepped w (enter number question) = entering w number (slice_get w.passes number) question
   stepped w (answer number) = answering w number (slice_get w.passes number)
   stepped w (remember number) = remembering w number (slice_get w.passes number)
-  stepped w (meet one other) = meeting w one other (slice_get w.passes one) (slice_get w.passes other)
+  stepped w (meet one other) =
+      meeting w one other (slice_get w.passes one) (slice_get w.passes other)
 
   -- steps, one after another, and what each tells
   abbrev pub run_from : WorldValue → List StepValue → WorldValue × List ToldValue
   run_from w [] = (w, [])
-  run_from w (s ∷ ss) = let first = stepped w s in let rest = run_from first.0 ss in (rest.0, first.1 ∷ rest.1)
+  run_from w (s ∷ ss) =
+      let first = stepped w s in let rest = run_from first.0 ss in (rest.0, first.1 ∷ rest.1)

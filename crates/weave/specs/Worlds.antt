@@ -15,14 +15,16 @@ module _ (settings : SettingsValue) where
     pub rest : List Operation
     pub is : front ++ rest ≡ ops
     pub place : k.place ≡ place_of front
-    pub right : IsRight (standing_rules settings (value_of settings front).state) (named_in (value_of settings front).state.book) k
+    pub right : IsRight (standing_rules settings (value_of settings front).state)
+        (named_in (value_of settings front).state.book) k
 
   pub record PassOk (ops : List Operation) (number : ℕ) (p : PassValue) : Type 0 where
     pub pass : IsPass settings ops number p
     pub fresh : (k : Kept) → p.fresh ≡ Some k → WasRight ops k
 
   abbrev pub AllOk : List Operation → List PassValue → Type 0
-  AllOk ops passes = (number : ℕ) (p : PassValue) → slice_get passes number ≡ Some p → PassOk ops number p
+  AllOk ops passes =
+      (number : ℕ) (p : PassValue) → slice_get passes number ≡ Some p → PassOk ops number p
 
   pub record IsWorld (w : WorldValue) : Type 0 where
     pub fit : AllFit settings opening_value w.ops

@@ -4,30 +4,33 @@ ghost use Rattle.machine.specs.Code.{settings_of, ask_of};
 ghost use Rattle.weave.specs.Code.{step_of, told_value};
 ghost use Rattle.weave.specs.Held.{world_of, IsSoundStep, Holds};
 ghost use Rattle.weave.specs.World.{publish, stepped, opening_world};
-ghost use Rattle.weave.specs.Generated.{weave_of, first_change, weave_line, turn_by, ask_of_turn, given_by};
+ghost use Rattle.weave.specs.Generated.{weave_of, first_change, weave_line, turn_by, ask_of_turn};
+ghost use Rattle.weave.specs.Generated.{given_by};
 
 use crate::step::{Asked, Step, Told};
 use crate::turns::{addrs_change, first_change, table_change};
 use crate::world::World;
 use crate::{Bytes, Mem};
 use dtab_table::Dtab;
-use line_base::Steps;
 use machine::{Ask, Settings};
 use rand_core::SeedableRng;
 use rand_core::utils::NextWord;
 use rand_pcg::Pcg64;
 use std::alloc::Global;
 use std::sync::ledger::Ledger;
+use step_count::Steps;
 use turn_parts::service_path;
 
 /// The passes of generated schedules.
 const PASSES: u32 = 4;
 
-/// Runs so many generated turns of four passes, by the words of the generator of a seed, and sums up what they left: how long the history is, how many
-/// answers were given, and how many delegations were ever kept, as `history 254 looks 127 kept 3`.
+/// Runs so many generated turns of four passes, by the words of the generator of a seed, and sums
+/// up what they left: how long the history is, how many answers were given, and how many
+/// delegations were ever kept, as `history 254 looks 127 kept 3`.
 ///
-/// Before the turns pass 0 creates the namespace `default` with `/svc => /#/io.l5d.fs`. A turn's word `w` gives the pass `w mod 4`, the kind
-/// `w / 4 mod 8`, a service `s` of sixteen by `w / 32 mod 16`, and a number `q` by `w / 512 mod 4096`:
+/// Before the turns pass 0 creates the namespace `default` with `/svc => /#/io.l5d.fs`. A turn's
+/// word `w` gives the pass `w mod 4`, the kind `w / 4 mod 8`, a service `s` of sixteen by `w / 32
+/// mod 16`, and a number `q` by `w / 512 mod 4096`:
 ///
 /// | kind | step |
 /// |---|---|
@@ -60,7 +63,8 @@ pub fn weave<L: Ledger>(
 /// A world of four passes, the first of which has made the first change.
 fn begin<L: Ledger>(alloc: Global, settings: Settings, ticks: &mut Steps<L>) -> Mem<World>
     ensures settings { IfOk result (λ w. settings_of w.settings ≡ settings_of settings) }
-    ensures world { IfOk result (λ w. world_of w ≡ (stepped (settings_of settings) (opening_world 4) (publish 0 first_change)).0) }
+    ensures world { IfOk result (λ w. world_of w
+        ≡ (stepped (settings_of settings) (opening_world 4) (publish 0 first_change)).0) }
     ensures holds { IfOk result Holds }
 {
     let mut world = World::start(alloc, settings, PASSES)?;
@@ -104,7 +108,8 @@ impl Turn {
         requires pass { self.pass < 4 }
         requires service { self.service < 16 }
         requires number { self.number < 4096 }
-        ensures step { IfOk result (λ step. (step_of step, words.new) ≡ turn_step self.kind self.pass self.service self.number words.old) }
+        ensures step { IfOk result (λ step. (step_of step, words.new)
+            ≡ turn_step self.kind self.pass self.service self.number words.old) }
         ensures sound { IfOk result (λ step. IsSoundStep (step_of step)) }
     {
         let pass = self.pass;

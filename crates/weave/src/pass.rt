@@ -1,12 +1,14 @@
 //! Passes.
 use crate::Mem;
-use crate::call::{Call, Item};
+use crate::call::Call;
+use crate::listed::CallList;
 use crate::step::Told;
 use bind_cache::Binding;
-use std::alloc::Global;
+use std::alloc::AllocError;
 use std::sync::Arc;
 
-/// A question that is not answered yet: the place of its call among the calls of its pass, the answer, and what was worked out for it.
+/// A question that is not answered yet: the place of its call among the calls of its pass, the
+/// answer, and what was worked out for it.
 #[derive(Debug, Drop)]
 pub(crate) struct Flight {
     pub(crate) item: usize,
@@ -14,12 +16,13 @@ pub(crate) struct Flight {
     pub(crate) fresh: Option<Arc<Binding>>,
 }
 
-/// A pass: how many operations it has seen, its calls, the question that waits, and the delegation that it worked out last. Beside these
-/// it counts the changes and the delegations that it published.
-#[derive(Debug, Drop)]
+/// A pass: how many operations it has seen, its calls, the question that waits, and the delegation
+/// that it worked out last. Beside these it counts the changes and the delegations that it
+/// published.
+#[derive(Drop)]
 pub(crate) struct Pass {
     pub(crate) seen: usize,
-    pub(crate) items: Vec<Item>,
+    pub(crate) items: CallList,
     pub(crate) flight: Option<Flight>,
     pub(crate) fresh: Option<Arc<Binding>>,
     pub(crate) changes: u64,
@@ -27,20 +30,21 @@ pub(crate) struct Pass {
 }
 
 impl Pass {
-    ghost use Rattle.std.specs.Prelude.{◌≡◌, ◌<◌, ◌∷◌, ◌++◌, [], None, OnOk, OnErr, MatchOption};
+    ghost use Rattle.std.specs.Prelude.{◌≡◌, ◌<◌, ◌-◌, ◌^◌, ◌∷◌, ◌++◌, [], None, OnOk, OnErr};
+    ghost use Rattle.std.specs.Prelude.{length};
     ghost use Rattle.weave.specs.World.{new_pass};
-    ghost use Rattle.std.specs.Vec.{vec_len, vec_capacity};
-    ghost use Rattle.weave.specs.Code.{pass_of, call_value, told_value, flight_told, flight_fresh};
+    ghost use Rattle.weave.specs.Code.{items_of, pass_of, told_value, flight_told, flight_fresh};
+    ghost use Rattle.weave.specs.Listed.{call_value};
 
     /// A pass that has seen and called nothing.
-    pub(crate) fn new(alloc: Global) -> Pass
+    pub(crate) fn new() -> Pass
         ensures pass { pass_of result ≡ new_pass }
         ensures changes { result.changes ≡ 0 }
         ensures keeps { result.keeps ≡ 0 }
     {
         Pass {
             seen: 0,
-            items: Vec::new(alloc),
+            items: CallList::new(),
             flight: None,
             fresh: None,
             changes: 0,
@@ -48,7 +52,8 @@ impl Pass {
         }
     }
 
-    /// One call more, behind so many operations, of which so many are seen then. An `Err` changes nothing.
+    /// One call more, behind so many operations, of which so many are seen then. An `Err` changes
+    /// nothing: it comes where no more calls can be counted.
     pub(crate) fn call(&mut self, call: Call, at: usize, seen: usize) -> Mem<()>
         ensures pass { OnOk result
             (pass_of self.new
@@ -64,25 +69,24 @@ impl Pass {
         ensures keeps { self.new.keeps ≡ self.old.keeps }
         ensures err { OnErr result (pass_of self.new ≡ pass_of self.old) }
     {
-        self.items.push(Item { call, at })?;
-        self.seen = seen;
+        self.has_room()?;
+        self.call_in_room(call, at, seen);
         Ok(())
     }
 
-    /// Sets room aside for one call. Nothing else changes, also where there is no memory.
-    pub(crate) fn make_room(&mut self) -> Mem<()>
-        ensures pass { pass_of self.new ≡ pass_of self.old }
-        ensures flight { self.new.flight ≡ self.old.flight }
-        ensures changes { self.new.changes ≡ self.old.changes }
-        ensures keeps { self.new.keeps ≡ self.old.keeps }
-        ensures room { OnOk result (vec_len self.new.items < vec_capacity self.new.items) }
+    /// Whether one call more can be counted.
+    pub(crate) fn has_room(&self) -> Mem<()>
+        ensures { OnOk result (length (items_of self.now) < 2 ^ 64 - 1) }
     {
-        self.items.reserve(1)
+        if self.items.is_full() {
+            return Err(AllocError);
+        }
+        Ok(())
     }
 
-    /// One call more, as by [`Pass::call`], where there is room for it.
+    /// One call more, as by [`Pass::call`], where it can be counted.
     pub(crate) fn call_in_room(&mut self, call: Call, at: usize, seen: usize)
-        requires { vec_len self.old.items < vec_capacity self.old.items }
+        requires { length (items_of self.old) < 2 ^ 64 - 1 }
         ensures pass { pass_of self.new
             ≡ record {
               seen = seen;
@@ -95,11 +99,12 @@ impl Pass {
         ensures changes { self.new.changes ≡ self.old.changes }
         ensures keeps { self.new.keeps ≡ self.old.keeps }
     {
-        self.items.push_reserved(Item { call, at });
+        self.items.push(call, at);
         self.seen = seen;
     }
 
-    /// The answer to the question that waits, if one does. What was worked out for it takes the place of what was worked out before.
+    /// The answer to the question that waits, if one does. What was worked out for it takes the
+    /// place of what was worked out before.
     pub(crate) fn take_answer(&mut self) -> Told
         ensures seen { self.new.seen ≡ self.old.seen }
         ensures items { self.new.items ≡ self.old.items }

@@ -1,7 +1,5 @@
 //! Steps, and what they tell.
-use crate::Mem;
 use machine::{Ask, Change, Chosen, Look, Reply};
-use std::alloc::Global;
 
 /// What a pass asks without changing anything.
 #[derive(Debug, Drop)]
@@ -12,27 +10,13 @@ pub enum Asked {
     Look(Look),
 }
 
-impl Asked {
-    ghost use Rattle.std.specs.Prelude.{◌≡◌, IfOk};
-    ghost use Rattle.weave.specs.Code.{question_of};
-
-    /// An equal one.
-    pub(crate) fn copied(&self, alloc: Global) -> Mem<Asked>
-        ensures { IfOk result (λ copy. question_of copy ≡ question_of self.now) }
-    {
-        match self {
-            Asked::Pick(ask) => Ok(Asked::Pick(ask.copied(alloc)?)),
-            Asked::Look(look) => Ok(Asked::Look(look.copied(alloc)?)),
-        }
-    }
-}
-
 /// A step of one pass, or a meeting of two. Passes go by their numbers, from 0 on.
 #[derive(Debug, Drop)]
 pub enum Step {
     /// A pass asks for a change, which is published where the state accepts it.
     Publish(u32, Change),
-    /// A pass asks something. Its answer comes later, and is that of this point; it takes the place of one that is still waiting.
+    /// A pass asks something. Its answer comes later, and is that of this point; it takes the place
+    /// of one that is still waiting.
     Enter(u32, Asked),
     /// A pass is answered.
     Answer(u32),
@@ -53,7 +37,8 @@ pub enum Told {
     Kept,
     /// It isn't.
     NotKept,
-    /// Nothing: a question waits for its answer, passes met, there was nothing to answer or to remember, or there is no such pass.
+    /// Nothing: a question waits for its answer, passes met, there was nothing to answer or to
+    /// remember, or there is no such pass.
     Nothing,
 }
 

@@ -10,10 +10,10 @@ ghost use Rattle.weave.specs.Held.{world_of, ops_of, value_in, IsSoundStep, Hold
 use crate::Mem;
 use crate::step::{Step, Told, ToldList};
 use crate::world::World;
-use line_base::Steps;
 use machine::Settings;
 use std::alloc::Global;
 use std::sync::ledger::Ledger;
+use step_count::Steps;
 
 impl World {
     ghost use Rattle.weave.specs.declared.pass.Pass.{Pass};
@@ -24,8 +24,10 @@ impl World {
 
     /// Makes a step, and tells what came of it. An `Err` changes nothing.
     ///
-    /// A change costs its preparing and its absorbing, and what the cache looks at; a question is worked out here, also where its answer is never asked for, and
-    /// a pick whose delegation is kept takes one look-up in the cache; every other step takes the same small time, however long the history is.
+    /// A change costs its preparing and its absorbing, and what the cache looks at; a question is
+    /// worked out here, also where its answer is never asked for, and a pick whose delegation is
+    /// kept takes one look-up in the cache; every other step takes the same small time, however
+    /// long the history is.
     pub fn step<L: Ledger>(&mut self, step: &Step, steps: &mut Steps<L>) -> Mem<Told>
         requires holds { Holds self.old }
         requires sound { IsSoundStep (step_of step.now) }
@@ -63,16 +65,18 @@ impl World {
     pub(crate) fn see(&mut self, number: usize)
         requires holds { Holds self.old }
         requires there { number < length self.old.passes.items }
-        ensures sees { (p : Pass) → slice_get self.old.passes.items number ≡ Some p → Becomes self.old self.new
+        ensures sees { (p : Pass) → slice_get self.old.passes.items number ≡ Some p
+            → Becomes self.old self.new
             (seeing (settings_of self.old.settings) (world_of self.old) number (pass_of p)) }
         ensures passes { length self.new.passes.items ≡ length self.old.passes.items }
     {
-        let point = self.operations.len();
+        let point = self.operations.len;
         self.passes[number].seen = point;
     }
 }
 
-/// Makes these steps, one after another, in a new world of so many passes. It gives that world, and what each step told.
+/// Makes these steps, one after another, in a new world of so many passes. It gives that world, and
+/// what each step told.
 pub fn run<L: Ledger>(
     alloc: Global,
     settings: Settings,
@@ -82,8 +86,10 @@ pub fn run<L: Ledger>(
 ) -> Mem<(World, ToldList)>
     requires { All IsSoundStep (map step_of steps.now) }
     ensures settings { IfOk result (λ r. settings_of r.0.settings ≡ settings_of settings) }
-    ensures world { IfOk result (λ r. world_of r.0 ≡ (run_from (settings_of settings) (opening_world passes) (map step_of steps.now)).0) }
-    ensures told { IfOk result (λ r. told_list r.1 ≡ (run_from (settings_of settings) (opening_world passes) (map step_of steps.now)).1) }
+    ensures world { IfOk result (λ r. world_of r.0
+        ≡ (run_from (settings_of settings) (opening_world passes) (map step_of steps.now)).0) }
+    ensures told { IfOk result (λ r. told_list r.1
+        ≡ (run_from (settings_of settings) (opening_world passes) (map step_of steps.now)).1) }
     ensures history { IfOk result (λ r. IsOneHistory (settings_of settings) (world_of r.0)) }
     ensures value { IfOk result (λ r. value_in r.0 ≡ value_of (settings_of settings) (ops_of r.0)) }
     ensures holds { IfOk result (λ r. Holds r.0) }

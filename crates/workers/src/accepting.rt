@@ -11,9 +11,9 @@ pub trait Serve<P: Peer> {
     /// What one call does: the server before it, the peer before it, the peer behind it, and the server behind it.
     ghost serves: { Self → P → P → Self → Type 0 };
 
-    /// Serves a peer to the end of its connection, and tells the gate of each request by the worker's number.
-    fn serve<R: Wait, G: Gate>(&mut self, rt: &R, peer: &mut P, gate: &G, worker: u32)
-        ensures { serves self.old peer.old peer.new self.new };
+    /// Serves a peer to the end of its connection, and gives it back. The gate is told of each request by the worker's number.
+    fn serve<R: Wait, G: Gate>(&mut self, rt: &R, peer: P, gate: &G, worker: u32) -> P
+        ensures { serves self.old peer result self.new };
 }
 
 /// Why no more peers are accepted.
@@ -43,9 +43,8 @@ pub fn accept_all<R: Wait, L: Listener, S: Serve<L::P>, G: Gate>(
         match listener.accept() {
             Ok(Some(peer)) => {
                 failed = 0;
-                let mut peer = peer;
-                server.serve(rt, &mut peer, gate, worker);
-                listener.finish(peer);
+                let served = server.serve(rt, peer, gate, worker);
+                listener.finish(served);
             }
             Ok(None) => return Accepting::Closed,
             Err(_) => {

@@ -1,5 +1,5 @@
 //! Bodies that are passed on over peers and dialers in memory.
-ghost use Rattle.std.specs.Prelude.{IfOk, IsTrue};
+ghost use Rattle.std.specs.Prelude.{◌≡◌, IfOk, IsTrue};
 
 use body_wire::{BodyEnd, Bytes, Mem, pass_back, pass_body, read_body, write_all};
 use http_wire::{Framing, Rest};
@@ -127,6 +127,30 @@ fn sent_of(alloc: Global, log: &[DialEvent]) -> Mem<(Bytes, usize)> {
     Ok((sent, sends))
 }
 
+/// What a body is passed on between, with the room for what comes, and what goes first.
+#[derive(Drop)]
+struct Ends {
+    peer: MemPeer,
+    dialer: MemDialer,
+    rest: Rest,
+    out: Bytes,
+}
+
+/// A peer and a dialer, with these bytes kept, and the head `H` to go first.
+fn ends_of(alloc: Global, peer: MemPeer, dialer: MemDialer, kept: &[u8]) -> Mem<Ends>
+    ensures { IfOk result (λ ends. ends.dialer ≡ dialer) }
+{
+    let mut rest = Rest::room(alloc)?;
+    rest.add(kept)?;
+    let out = Vec::from_slice(alloc, b"H")?;
+    Ok(Ends {
+        peer,
+        dialer,
+        rest,
+        out,
+    })
+}
+
 /// Passes a request's body on behind the head `H`, with these bytes kept, and those that come read and sent in such calls.
 pub(super) fn onward(
     alloc: Global,
@@ -136,18 +160,22 @@ pub(super) fn onward(
     gives: Calls,
     takes: Calls,
 ) -> Result<Passed, Fail> {
-    let mut peer = peer_of(alloc, comes, gives, Calls::whole())?;
-    let mut dialer = dialed(alloc, b"", takes)?;
-    let mut rest = Rest::room(alloc)?;
-    rest.add(kept)?;
-    let mut out = Vec::from_slice(alloc, b"H")?;
-    let answer = pass_body(&mut peer, &mut rest, framing, &mut out, &mut dialer);
-    let (sent, sends) = sent_of(alloc, dialer.log())?;
+    let peer = peer_of(alloc, comes, gives, Calls::whole())?;
+    let dialer = dialed(alloc, b"", takes)?;
+    let mut ends = ends_of(alloc, peer, dialer, kept)?;
+    let answer = pass_body(
+        &mut ends.peer,
+        &mut ends.rest,
+        framing,
+        &mut ends.out,
+        &mut ends.dialer,
+    );
+    let (sent, sends) = sent_of(alloc, ends.dialer.log())?;
     Ok(Passed {
         answer,
         went: behind_head(alloc, sent.as_slice())?,
         sends,
-        got: comes.len().saturating_sub(peer.source().left().len()),
+        got: comes.len().saturating_sub(ends.peer.source().left().len()),
     })
 }
 
@@ -160,23 +188,22 @@ pub(super) fn back(
     gives: Calls,
     takes: Calls,
 ) -> Result<Passed, Fail> {
-    let mut peer = peer_of(alloc, b"", Calls::whole(), takes)?;
-    let mut dialer = dialed(alloc, comes, gives)?;
-    let mut rest = Rest::room(alloc)?;
-    let mut out = Vec::from_slice(alloc, b"H")?;
+    let peer = peer_of(alloc, b"", Calls::whole(), takes)?;
+    let dialer = dialed(alloc, comes, gives)?;
+    let mut ends = ends_of(alloc, peer, dialer, b"")?;
     let answer = pass_back(
-        &mut dialer,
-        &mut rest,
+        &mut ends.dialer,
+        &mut ends.rest,
         framing,
         chunked,
-        &mut out,
-        &mut peer,
+        &mut ends.out,
+        &mut ends.peer,
     );
     Ok(Passed {
         answer,
-        went: behind_head(alloc, peer.sink().held())?,
+        went: behind_head(alloc, ends.peer.sink().held())?,
         sends: 0,
-        got: got_of(dialer.log()),
+        got: got_of(ends.dialer.log()),
     })
 }
 
@@ -200,13 +227,17 @@ pub(super) fn unsent(
     framing: Framing,
     kept: &[u8],
 ) -> Result<(Result<u64, BodyEnd>, Bytes), Fail> {
-    let mut peer = peer_of(alloc, b"", Calls::whole(), Calls::whole())?;
-    let mut dialer = dialed(alloc, b"", Calls::until(0))?;
-    let mut rest = Rest::room(alloc)?;
-    rest.add(kept)?;
-    let mut out = Vec::from_slice(alloc, b"H")?;
-    let answer = pass_body(&mut peer, &mut rest, framing, &mut out, &mut dialer);
-    Ok((answer, Vec::from_slice(alloc, rest.kept())?))
+    let peer = peer_of(alloc, b"", Calls::whole(), Calls::whole())?;
+    let dialer = dialed(alloc, b"", Calls::until(0))?;
+    let mut ends = ends_of(alloc, peer, dialer, kept)?;
+    let answer = pass_body(
+        &mut ends.peer,
+        &mut ends.rest,
+        framing,
+        &mut ends.out,
+        &mut ends.dialer,
+    );
+    Ok((answer, Vec::from_slice(alloc, ends.rest.kept())?))
 }
 
 /// Whether some bytes are written whole in such calls, and what is given of them.

@@ -4,7 +4,7 @@ ghost use Rattle.std.specs.Io.{ReadsAtMost, WritesAtMost};
 ghost use Rattle.std.specs.Io.KnownBytes.{Keeps, ReadConsumes};
 ghost use Rattle.line_base.specs.Counts.{HasCause, MovesNothing};
 ghost use Rattle.line_base.specs.Dials.{LogsDial, LogsSend, LogsReceive, LogsHang};
-ghost use Rattle.line_base.specs.Memory.{Answered, FailsNext, behind_call, called, piece_of};
+ghost use Rattle.line_base.specs.Memory.{Answered, FailsNext, behind_call, called, piece_of, upstream_of};
 
 use crate::dialer::{DialEvent, Dialer};
 use crate::memory::plan::CallPlan;
@@ -104,13 +104,7 @@ fn copy_for(log: &mut Vec<DialEvent>, bytes: &[u8]) -> Result<Piece, Failed>
 }
 
 impl Dialer for MemDialer {
-    ghost log = { λ d. Some d.log };
-
-    ghost left = { λ d. Some d.left };
-
-    ghost is_open = { λ d. d.is_open };
-
-    ghost faults = { λ d. d.faults };
+    ghost upstream = { upstream_of };
 
     /// Fails at the calls that are listed, and where there is no memory for the log.
     fn dial(&mut self, ip: u32, port: u16) -> Result<(), Failed>

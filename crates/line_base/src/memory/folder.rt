@@ -2,7 +2,7 @@
 ghost use Rattle.std.specs.Prelude.{◌≡◌, ◌↔◌, [], map, IfOk, Err, Some};
 ghost use Rattle.std.specs.String.{string_bytes};
 ghost use Rattle.line_base.specs.Files.{AreNames, Finds, FindsAt, HasFolderCause, IsWithin, Names, file_at, names_in, path_of};
-ghost use Rattle.line_base.specs.Memory.{FailsNext, called};
+ghost use Rattle.line_base.specs.Memory.{FailsNext, called, filed_of};
 
 use crate::folder::{Folder, FolderFault, Found, NameList};
 use crate::memory::plan::CallPlan;
@@ -128,9 +128,7 @@ fn find(alloc: Global, files: &[MemFile], path: &[u8], most: usize) -> Mem<Found
 }
 
 impl Folder for MemFolder {
-    ghost files = { λ d. Some d.files };
-
-    ghost faults = { λ d. d.faults };
+    ghost filed = { filed_of };
 
     /// Fails exactly at the calls that are listed.
     fn names(&mut self, folder: &str) -> Result<NameList, FolderFault>

@@ -2,7 +2,7 @@
 ghost use Rattle.std.specs.Prelude.{◌≡◌, ◌≤◌, ◌<◌, ◌↔◌, ℕ, [], length, false, Some, Err, IsErr, IfOk, IfSome, slice_index_or};
 ghost use Rattle.line_base.specs.Accepts.{new_listening};
 ghost use Rattle.line_base.specs.Counts.{HasCause};
-ghost use Rattle.line_base.specs.Memory.{FailsNext, called};
+ghost use Rattle.line_base.specs.Memory.{FailsNext, called, upstream_of};
 ghost use Rattle.line_base.specs.Nets.{AreNew, HasNetCause, after_end, after_listen, after_stopper, log_of};
 
 use crate::listener::{Endpoint, Listeners};
@@ -48,11 +48,12 @@ pub struct MemEnded<P: Peer + Drop> {
 
 impl<P: Peer + Drop> Model for MemEnded<P> {
     ghost use Rattle.std.specs.Prelude.{Some};
+    ghost use Rattle.line_base.specs.Memory.{upstream_of};
     ghost use Rattle.line_base.specs.Nets.{Ended, log_of};
 
     ghost Value = { Ended P };
 
-    ghost view = { λ e. record { listener = e.listener.state; log = log_of (λ d. Some d.log) e.dialer; stops = e.stop } };
+    ghost view = { λ e. record { listener = e.listener.state; log = log_of upstream_of e.dialer; stops = e.stop } };
 }
 
 impl<P: Peer + Drop> MemEnded<P> {
@@ -65,7 +66,7 @@ impl<P: Peer + Drop> MemEnded<P> {
 
     /// The dialer, if there was one.
     pub fn dialer(&self) -> Option<&MemDialer>
-        ensures { self.now.log ≡ log_of (λ d. Some d.now.log) result }
+        ensures { self.now.log ≡ log_of (λ d. upstream_of d.now) result }
     {
         self.dialer.as_ref()
     }
@@ -294,7 +295,7 @@ impl<P: Peer + Drop + Send> Net for MemNet<P> {
         dialer: Option<MemDialer>,
         stop: MemStop,
     ) -> Result<(), Failed>
-        ensures state { self.new.state ≡ after_end self.old.state (record { listener = listener.state; log = log_of (λ d. Some d.log) dialer; stops = stop }) }
+        ensures state { self.new.state ≡ after_end self.old.state (record { listener = listener.state; log = log_of upstream_of dialer; stops = stop }) }
         ensures broken { IsErr result ↔ (BROKEN_RUN ≤ listener.state.run) }
         ensures cause { HasCause self.old.faults self.new.faults result }
         ensures plan { self.new.plan ≡ self.old.plan }

@@ -3,7 +3,7 @@ ghost use Rattle.std.specs.Prelude.{◌≡◌, ◌≤◌, ◌<◌, ◌+◌, ◌�
 ghost use Rattle.std.specs.Io.{ReadsAtMost, WritesAtMost};
 ghost use Rattle.std.specs.Io.KnownBytes.{ReadConsumes, WriteAppends};
 ghost use Rattle.line_base.specs.Counts.{HasCause, CountsEnds, MovesNothing};
-ghost use Rattle.line_base.specs.Memory.{FailsNext, piece_of, behind_call};
+ghost use Rattle.line_base.specs.Memory.{FailsNext, piece_of, behind_call, input_of, output_of, line_of};
 
 use crate::memory::plan::CallPlan;
 use crate::memory::unread::Unread;
@@ -67,11 +67,7 @@ impl MemSource {
 }
 
 impl Source for MemSource {
-    ghost left = { λ s. Some s.left };
-
-    ghost faults = { λ s. s.faults };
-
-    ghost ends = { λ s. s.ends };
+    ghost input = { input_of };
 
     /// Fails exactly at the calls that are listed.
     fn read(&mut self, into: &mut [u8]) -> Result<usize, Failed>
@@ -148,9 +144,7 @@ impl MemSink {
 }
 
 impl Sink for MemSink {
-    ghost held = { λ s. Some s.held };
-
-    ghost faults = { λ s. s.faults };
+    ghost output = { output_of };
 
     /// Fails at the calls that are listed, and else only where there is no memory for what it holds.
     fn write(&mut self, bytes: &[u8]) -> Result<usize, Failed>
@@ -219,15 +213,7 @@ impl MemPeer {
 }
 
 impl Peer for MemPeer {
-    ghost left = { λ p. Some p.source.left };
-
-    ghost given = { λ p. Some p.sink.held };
-
-    ghost read_faults = { λ p. p.source.faults };
-
-    ghost write_faults = { λ p. p.sink.faults };
-
-    ghost ends = { λ p. p.source.ends };
+    ghost line = { line_of };
 
     /// A read of its source.
     fn read(&mut self, into: &mut [u8]) -> Result<usize, Failed>

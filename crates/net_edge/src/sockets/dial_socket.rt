@@ -1,7 +1,7 @@
 //! The socket of a dialer, which is connected to one address after another.
 use super::address::{NO_ADDRESS, raw_address};
 use super::calls::connect;
-use super::peer::IDLE_SECONDS;
+use super::flow::{Flow, IDLE_SECONDS};
 use libc::net::{self, AF_INET, SOCK_CLOEXEC, SOCK_STREAM};
 use os::FromRawFd;
 use std::io;
@@ -15,7 +15,7 @@ pub const DIAL_SECONDS: u64 = 10;
 /// costs no new socket and no option.
 #[derive(Drop)]
 pub(crate) struct DialSocket {
-    pub(crate) stream: TcpStream,
+    pub(crate) flow: Flow,
     /// Whether its sends may wait as long as reads. Else they may wait as long as a dial.
     is_patient: bool,
 }
@@ -28,25 +28,22 @@ impl DialSocket {
             return Err(io::Error::from_raw_os_error(os::errno()));
         }
         let stream = unsafe { TcpStream::from_raw_fd(descriptor) };
-        stream.set_nodelay(true)?;
-        stream.set_read_timeout(Some(Duration::from_secs(IDLE_SECONDS)))?;
-        stream.set_write_timeout(Some(Duration::from_secs(DIAL_SECONDS)))?;
         Ok(DialSocket {
-            stream,
+            flow: Flow::over(stream, Duration::from_secs(DIAL_SECONDS))?,
             is_patient: false,
         })
     }
 
     /// Connects it to an address, and says whether that address answered in time.
     pub(crate) fn connect(&mut self, ip: u32, port: u16) -> bool {
-        self.wait_for_writes(false).is_ok() && connect(&self.stream, &raw_address(ip, port))
+        self.wait_for_writes(false).is_ok() && connect(&self.flow.stream, &raw_address(ip, port))
     }
 
     /// Ends its connection at once, and says whether it can be connected again. What the kernel
     /// still had to send is dropped, and the other end is told by a reset: so no port of this
     /// machine waits for the last bytes.
     pub(crate) fn dissolve(&self) -> bool {
-        connect(&self.stream, &NO_ADDRESS)
+        connect(&self.flow.stream, &NO_ADDRESS)
     }
 
     /// Lets its sends wait as long as reads, or as long as a dial, from now on.
@@ -58,7 +55,7 @@ impl DialSocket {
                 DIAL_SECONDS
             };
             let limit = Duration::from_secs(seconds);
-            self.stream.set_write_timeout(Some(limit))?;
+            self.flow.stream.set_write_timeout(Some(limit))?;
             self.is_patient = is_patient;
         }
         Ok(())

@@ -34,13 +34,12 @@ impl<'a, R> SocketDialer<'a, R> {
 }
 
 impl<R: Net> Dialer for SocketDialer<'_, R> {
-    ghost log = { λ _. None };
-
-    ghost left = { λ _. None };
-
-    ghost is_open = { λ d. is_some d.current };
-
-    ghost faults = { λ d. d.faults };
+    ghost upstream = { λ d. record {
+      log = None;
+      left = None;
+      is_open = is_some d.current;
+      faults = d.faults;
+    } };
 
     fn dial(&mut self, ip: u32, port: u16) -> Result<(), Failed> {
         self.hang();

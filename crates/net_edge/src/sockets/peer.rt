@@ -1,15 +1,12 @@
 //! A connection that was accepted.
 ghost use Rattle.std.specs.Prelude.{None};
 
-use super::calls::{read_some, write_some};
+use super::flow::{Flow, IDLE_SECONDS};
 use line_base::{Failed, Peer};
 use std::io::{self, Read};
 use std::net::{Shutdown, TcpStream};
 use std::rt;
 use std::time::{Duration, Instant};
-
-/// How many seconds a read or a write of a socket may wait.
-pub const IDLE_SECONDS: u64 = 60;
 
 /// How many milliseconds a connection that is being ended is read from.
 const LINGER_MILLISECONDS: u64 = 2_000;
@@ -26,22 +23,18 @@ const LINGER_PIECE: usize = 16_384;
 /// A connection that was accepted. It tells no content.
 #[derive(Drop)]
 pub struct SocketPeer {
-    stream: TcpStream,
+    flow: Flow,
     read_faults: u64,
     write_faults: u64,
     ends: u64,
 }
 
 impl SocketPeer {
-    /// A connection over this socket, with no fault and no end so far. It sends at once, and ends
-    /// its reads and writes in time.
+    /// A connection over this socket, with no fault and no end so far. It ends its reads and writes
+    /// in time.
     pub(crate) fn over(stream: TcpStream) -> io::Result<SocketPeer> {
-        stream.set_nodelay(true)?;
-        let limit = Duration::from_secs(IDLE_SECONDS);
-        stream.set_read_timeout(Some(limit))?;
-        stream.set_write_timeout(Some(limit))?;
         Ok(SocketPeer {
-            stream,
+            flow: Flow::over(stream, Duration::from_secs(IDLE_SECONDS))?,
             read_faults: 0,
             write_faults: 0,
             ends: 0,
@@ -53,11 +46,12 @@ impl SocketPeer {
     /// its bytes were read resets the connection. That is bounded in time.
     pub(crate) fn end<R: rt::Clock>(self, rt: &R) {
         let SocketPeer {
-            stream,
+            flow,
             read_faults: _,
             write_faults: _,
             ends,
         } = self;
+        let stream = flow.stream;
         let silence = Duration::from_millis(SILENCE_MILLISECONDS);
         let is_told = stream.shutdown(Shutdown::Write).is_ok();
         if is_told && ends == 0 && stream.set_read_timeout(Some(silence)).is_ok() {
@@ -85,21 +79,19 @@ fn drain<R: rt::Clock>(rt: &R, mut stream: TcpStream) {
 }
 
 impl Peer for SocketPeer {
-    ghost left = { λ _. None };
-
-    ghost given = { λ _. None };
-
-    ghost read_faults = { λ p. p.read_faults };
-
-    ghost write_faults = { λ p. p.write_faults };
-
-    ghost ends = { λ p. p.ends };
+    ghost line = { λ p. record {
+      left = None;
+      given = None;
+      read_faults = p.read_faults;
+      write_faults = p.write_faults;
+      ends = p.ends;
+    } };
 
     fn read(&mut self, into: &mut [u8]) -> Result<usize, Failed> {
         if into.is_empty() {
             return Ok(0);
         }
-        match read_some(&mut self.stream, into) {
+        match self.flow.read(into) {
             Ok(0) => {
                 self.ends = self.ends.saturating_add(1);
                 Ok(0)
@@ -116,7 +108,7 @@ impl Peer for SocketPeer {
         if bytes.is_empty() {
             return Ok(0);
         }
-        match write_some(&mut self.stream, bytes) {
+        match self.flow.write(bytes) {
             Ok(count) if count > 0 => Ok(count),
             _ => {
                 self.write_faults = self.write_faults.saturating_add(1);

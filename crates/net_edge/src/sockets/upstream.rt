@@ -2,7 +2,6 @@
 ghost use Rattle.std.specs.Prelude.{◌≤◌, length, IfOk};
 ghost use Rattle.std.specs.Io.{ReadsAtMost, WritesAtMost};
 
-use super::calls::{read_some, write_some};
 use super::dial_socket::DialSocket;
 use std::io;
 
@@ -56,14 +55,14 @@ impl Upstream {
             self.sent = Sent::Long;
             self.socket.wait_for_writes(true)?;
         }
-        write_some(&mut self.socket.stream, bytes)
+        self.socket.flow.write(bytes)
     }
 
     /// Receives some bytes.
     pub(crate) fn receive(&mut self, into: &mut [u8]) -> io::Result<usize>
         ensures { ReadsAtMost result into.new }
     {
-        let received = read_some(&mut self.socket.stream, into);
+        let received = self.socket.flow.read(into);
         self.is_heard = received.is_ok();
         received
     }

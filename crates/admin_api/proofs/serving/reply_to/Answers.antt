@@ -9,4 +9,4 @@ returns-in-Ok-clause-answers g c =
 
 pub returns-in-Err-clause-answers : goal.returns-in-Err-clause-answers
 returns-in-Err-clause-answers g c =
-    ([], false, Appends-nil (g.P.Peer.given c.args.peer.now), refl, inr (record { leaves = c.in-Err.ensures.want; nothing = refl; goes_on = refl; is = refl }))
+    ([], false, Appends-nil (g.P.Peer.line c.args.peer.now).given, refl, inr (record { leaves = c.in-Err.ensures.want; nothing = refl; goes_on = refl; is = refl }))

@@ -12,8 +12,8 @@ requests-init g c = record {
   serves = (
     [],
     [],
-    Consumes-nil (g.P.Peer.left c.args.peer.now),
-    Appends-nil (g.P.Peer.given c.args.peer.now),
+    Consumes-nil (g.P.Peer.line c.args.peer.now).left,
+    Appends-nil (g.P.Peer.line c.args.peer.now).given,
     λ more. subst (λ (rest : List ℕ). Serves c.args.which c.args.pass.now more 0 c.args.pass.now (rest ++ more) []) (sym c.in-Ok.ensures) begun,
   );
   ends = omega arith;
@@ -36,8 +36,8 @@ requests-preserved g c =
       serves = (
         s.0 ++ t.0,
         s.1 ++ t.1,
-        Consumes-trans (g.P.Peer.left c.args.peer.now) (g.P.Peer.left c.requests.peer) (g.P.Peer.left c.serve_next.new.peer) s.0 t.0 s.2 t.3,
-        Appends-trans (g.P.Peer.given c.args.peer.now) (g.P.Peer.given c.requests.peer) (g.P.Peer.given c.serve_next.new.peer) s.1 t.1 s.3 t.4,
+        Consumes-trans (g.P.Peer.line c.args.peer.now).left (g.P.Peer.line c.requests.peer).left (g.P.Peer.line c.serve_next.new.peer).left s.0 t.0 s.2 t.3,
+        Appends-trans (g.P.Peer.line c.args.peer.now).given (g.P.Peer.line c.requests.peer).given (g.P.Peer.line c.serve_next.new.peer).given s.1 t.1 s.3 t.4,
         serves_more c.args.which c.args.pass.now c.requests.served c.requests.pass c.serve_next.new.pass s.0 s.1 t.0 t.1 c.requests.rest c.serve_next.new.rest s.4 t.2 t.6,
       );
       ends = let h = i.ends in omega (arith, h, e);
@@ -56,8 +56,8 @@ returns-in-Some-clause-serves g c =
       s.0 ++ t.0,
       s.1 ++ t.1,
       t.2,
-      Consumes-trans (g.P.Peer.left c.args.peer.now) (g.P.Peer.left c.requests.peer) (g.P.Peer.left c.serve_next.new.peer) s.0 t.0 s.2 t.3,
-      Appends-trans (g.P.Peer.given c.args.peer.now) (g.P.Peer.given c.requests.peer) (g.P.Peer.given c.serve_next.new.peer) s.1 t.1 s.3 t.4,
+      Consumes-trans (g.P.Peer.line c.args.peer.now).left (g.P.Peer.line c.requests.peer).left (g.P.Peer.line c.serve_next.new.peer).left s.0 t.0 s.2 t.3,
+      Appends-trans (g.P.Peer.line c.args.peer.now).given (g.P.Peer.line c.requests.peer).given (g.P.Peer.line c.serve_next.new.peer).given s.1 t.1 s.3 t.4,
       t.5 ∙ ap (λ (n : ℕ). calls_after n t.2) i.calls,
       serves_all c.args.which c.args.pass.now c.requests.served c.requests.pass c.serve_next.new.pass s.0 s.1 t.0 t.1 c.requests.rest c.serve_next.new.rest s.4 t.2 c.in-Some.ended t.6,
     )
@@ -65,8 +65,8 @@ returns-in-Some-clause-serves g c =
 pub returns-in-Some-clause-causes : goal.returns-in-Some-clause-causes
 returns-in-Some-clause-causes g c =
     let i = c.requests.invariant in
-    all_causes (g.P.Peer.ends c.args.peer.now) (g.P.Peer.ends c.requests.peer) (g.P.Peer.ends c.serve_next.new.peer) (g.P.Peer.read_faults c.args.peer.now) (g.P.Peer.read_faults c.requests.peer)
-    (g.P.Peer.read_faults c.serve_next.new.peer) (g.P.Peer.write_faults c.args.peer.now) (g.P.Peer.write_faults c.requests.peer) (g.P.Peer.write_faults c.serve_next.new.peer) c.in-Some.ended
+    all_causes (g.P.Peer.line c.args.peer.now).ends (g.P.Peer.line c.requests.peer).ends (g.P.Peer.line c.serve_next.new.peer).ends (g.P.Peer.line c.args.peer.now).read_faults (g.P.Peer.line c.requests.peer).read_faults
+    (g.P.Peer.line c.serve_next.new.peer).read_faults (g.P.Peer.line c.args.peer.now).write_faults (g.P.Peer.line c.requests.peer).write_faults (g.P.Peer.line c.serve_next.new.peer).write_faults c.in-Some.ended
     i.ends i.reads i.writes c.in-Some.ensures.causes
 
 pub returns-in_default-clause-serves : goal.returns-in_default-clause-serves
@@ -74,8 +74,8 @@ returns-in_default-clause-serves g c = (
   [],
   [],
   false,
-  Consumes-nil (g.P.Peer.left c.args.peer.now),
-  Appends-nil (g.P.Peer.given c.args.peer.now),
+  Consumes-nil (g.P.Peer.line c.args.peer.now).left,
+  Appends-nil (g.P.Peer.line c.args.peer.now).given,
   refl,
   record { count = 0; mid = c.args.pass.now; rest = []; first = []; final = []; serves = begun; ends = inr (refl, refl, refl); all = refl },
 )

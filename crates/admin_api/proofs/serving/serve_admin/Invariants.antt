@@ -9,9 +9,9 @@ invariant-requests g l = record {
   few : l.served < 10000;
   number : number_in l.pass ≡ number_in l.fn.pass;
   calls : g.S.Stop.calls l.stop ≡ g.S.Stop.calls l.fn.stop;
-  serves : (came : List ℕ) × (gave : List ℕ) × Consumes (g.P.Peer.left l.fn.peer) (g.P.Peer.left l.peer) came × Appends (g.P.Peer.given l.fn.peer) (g.P.Peer.given l.peer) gave
+  serves : (came : List ℕ) × (gave : List ℕ) × Consumes (g.P.Peer.line l.fn.peer).left (g.P.Peer.line l.peer).left came × Appends (g.P.Peer.line l.fn.peer).given (g.P.Peer.line l.peer).given gave
       × ((more : List ℕ) → Serves l.which l.fn.pass (came ++ more) l.served l.pass (l.rest ++ more) gave);
-  ends : g.P.Peer.ends l.fn.peer ≤ g.P.Peer.ends l.peer;
-  reads : g.P.Peer.read_faults l.fn.peer ≤ g.P.Peer.read_faults l.peer;
-  writes : g.P.Peer.write_faults l.fn.peer ≤ g.P.Peer.write_faults l.peer;
+  ends : (g.P.Peer.line l.fn.peer).ends ≤ (g.P.Peer.line l.peer).ends;
+  reads : (g.P.Peer.line l.fn.peer).read_faults ≤ (g.P.Peer.line l.peer).read_faults;
+  writes : (g.P.Peer.line l.fn.peer).write_faults ≤ (g.P.Peer.line l.peer).write_faults;
 }

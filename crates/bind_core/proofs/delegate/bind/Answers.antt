@@ -9,14 +9,19 @@ use Rattle.bind_core.proofs.delegate.bind.Goals as goal
 
 pub returns-clause-delegated : goal.returns-clause-delegated
 returns-clause-delegated g c =
-    delegated (rules_in c.args.tables.now) (named_in c.args.book.now) c.args.path.now c.args.wanted _ c.evaluate.new.work _ (c.new-work.ensures.fits.most_is ∙ c.most_kept.ensures) c.in_ok-outcome.ensures.answer refl
+    delegated (rules_in c.args.tables.now) (named_in c.args.book.now) c.args.path.now c.args.wanted
+    _ c.evaluate.new.work _ (c.new-work.ensures.fits.most_is ∙ c.most_kept.ensures)
+    c.in_ok-outcome.ensures.answer refl
     c.in_ok-asked.ensures.asked c.in_ok-asked.ensures.trace
 
 pub returns-clause-width : goal.returns-clause-width
-returns-clause-width g c = width (rules_in c.args.tables.now) (named_in c.args.book.now) 100 c.args.path.now _ _ c.in_ok-outcome.ensures.answer.outcome c.in_ok-outcome.ensures.answer.count
+returns-clause-width g c = width (rules_in c.args.tables.now) (named_in c.args.book.now) 100
+    c.args.path.now _ _ c.in_ok-outcome.ensures.answer.outcome c.in_ok-outcome.ensures.answer.count
 
 pub returns-clause-filled : goal.returns-clause-filled
-returns-clause-filled g c = filled_outcome (rules_in c.args.tables.now) (named_in c.args.book.now) c.args.path.now _ c.in_ok-outcome.ensures.answer.outcome
+returns-clause-filled g c = filled_outcome (rules_in c.args.tables.now) (named_in c.args.book.now)
+    c.args.path.now _ c.in_ok-outcome.ensures.answer.outcome
 
 pub returns-clause-bounded : goal.returns-clause-bounded
-returns-clause-bounded g c = bounded_outcome (rules_in c.args.tables.now) (named_in c.args.book.now) c.args.path.now _ c.in_ok-outcome.ensures.answer.outcome
+returns-clause-bounded g c = bounded_outcome (rules_in c.args.tables.now) (named_in c.args.book.now)
+    c.args.path.now _ c.in_ok-outcome.ensures.answer.outcome

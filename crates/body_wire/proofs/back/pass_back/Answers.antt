@@ -12,9 +12,9 @@ pieces-init g c = record {
   way = (
     [],
     [],
-    Consumes-nil (g.D.Dialer.left c.args.dialer.now),
-    Receives-nil (g.D.Dialer.log c.args.dialer.now),
-    Appends-nil (g.P.Peer.given c.args.peer.now),
+    Consumes-nil (g.D.Dialer.upstream c.args.dialer.now).left,
+    Receives-nil (g.D.Dialer.upstream c.args.dialer.now).log,
+    Appends-nil (g.P.Peer.line c.args.peer.now).given,
     begins c.args.framing (form_of c.args.chunked) most_passed c.of-decoder.result c.args.out.now.items c.args.rest.now c.of-decoder.ensures.holds
         (c.of-decoder.ensures.form ∙ c.of.ensures) c.of-decoder.ensures.limit,
   );
@@ -23,7 +23,7 @@ pieces-init g c = record {
   writes = refl;
   reads = refl;
   ends = refl;
-  left = Keeps-refl (g.P.Peer.left c.args.peer.now);
+  left = Keeps-refl (g.P.Peer.line c.args.peer.now).left;
 }
 
 pub returns-in-Some-clause-body : goal.returns-in-Some-clause-body
@@ -38,7 +38,7 @@ returns-in-Some-clause-body g c =
       w.1 ++ t.0,
       w.2,
       w.3,
-      Appends-trans (g.P.Peer.given c.args.peer.now) (g.P.Peer.given c.pieces.peer) (g.P.Peer.given c.write_turn-turn.new.peer) w.1 t.0 w.4 t.1,
+      Appends-trans (g.P.Peer.line c.args.peer.now).given (g.P.Peer.line c.pieces.peer).given (g.P.Peer.line c.write_turn-turn.new.peer).given w.1 t.0 w.4 t.1,
       (λ at. absurd (let no : ⊥ = cc in no)),
       answered c.args.framing (form_of c.args.chunked) most_passed c.pieces.decoder c.write_turn-turn.new.decoder c.args.out.now.items c.args.rest.now w.0 w.1 c.pieces.out.items
           c.pieces.rest c.write_turn-turn.new.rest t.0 w.5 BodyEnd.WriteFault c.write_turn-turn.result c.in-Some.end (λ all went front. front) (λ taken passed rest front. front) t.2
@@ -52,9 +52,9 @@ returns-in-Ok-eq0-clause-body g c =
     let b = c.in-Ok-eq0.ensures.bytes in (
       w.0 ++ b.0 ∷ [],
       w.1 ++ t.0,
-      came_piece (g.D.Dialer.left c.args.dialer.now) (g.D.Dialer.left c.pieces.dialer) (g.D.Dialer.left c.pull_from.new.dialer) w.0 b.0 w.2 b.1,
-      received_more (g.D.Dialer.log c.args.dialer.now) (g.D.Dialer.log c.pieces.dialer) (g.D.Dialer.log c.pull_from.new.dialer) w.0 b.0 w.3 b.2,
-      Appends-trans (g.P.Peer.given c.args.peer.now) (g.P.Peer.given c.pieces.peer) (g.P.Peer.given c.write_turn-turn.new.peer) w.1 t.0 w.4 t.1,
+      came_piece (g.D.Dialer.upstream c.args.dialer.now).left (g.D.Dialer.upstream c.pieces.dialer).left (g.D.Dialer.upstream c.pull_from.new.dialer).left w.0 b.0 w.2 b.1,
+      received_more (g.D.Dialer.upstream c.args.dialer.now).log (g.D.Dialer.upstream c.pieces.dialer).log (g.D.Dialer.upstream c.pull_from.new.dialer).log w.0 b.0 w.3 b.2,
+      Appends-trans (g.P.Peer.line c.args.peer.now).given (g.P.Peer.line c.pieces.peer).given (g.P.Peer.line c.write_turn-turn.new.peer).given w.1 t.0 w.4 t.1,
       (λ at. (w.0, ap (λ p. w.0 ++ p ∷ []) (no_bytes b.0 (b.3 ∙ c.in-Ok-eq0.field-0-test)))),
       on_end c.args.framing (form_of c.args.chunked) most_passed c.pieces.decoder c.write_turn-turn.new.decoder c.args.out.now.items c.args.rest.now w.0 w.1 c.pieces.out.items
           c.pieces.rest c.write_turn-turn.new.rest t.0 c.write_turn-turn.result w.5 t.2
@@ -73,9 +73,9 @@ pieces-preserved g c =
       way = (
         w.0 ++ b.0 ∷ [],
         w.1 ++ t.0,
-        came_piece (g.D.Dialer.left c.args.dialer.now) (g.D.Dialer.left c.pieces.dialer) (g.D.Dialer.left c.pull_from.new.dialer) w.0 b.0 w.2 b.1,
-        received_more (g.D.Dialer.log c.args.dialer.now) (g.D.Dialer.log c.pieces.dialer) (g.D.Dialer.log c.pull_from.new.dialer) w.0 b.0 w.3 b.2,
-        Appends-trans (g.P.Peer.given c.args.peer.now) (g.P.Peer.given c.pieces.peer) (g.P.Peer.given c.write_turn-turn.new.peer) w.1 t.0 w.4 t.1,
+        came_piece (g.D.Dialer.upstream c.args.dialer.now).left (g.D.Dialer.upstream c.pieces.dialer).left (g.D.Dialer.upstream c.pull_from.new.dialer).left w.0 b.0 w.2 b.1,
+        received_more (g.D.Dialer.upstream c.args.dialer.now).log (g.D.Dialer.upstream c.pieces.dialer).log (g.D.Dialer.upstream c.pull_from.new.dialer).log w.0 b.0 w.3 b.2,
+        Appends-trans (g.P.Peer.line c.args.peer.now).given (g.P.Peer.line c.pieces.peer).given (g.P.Peer.line c.write_turn-turn.new.peer).given w.1 t.0 w.4 t.1,
         on_piece c.args.framing (form_of c.args.chunked) most_passed c.pieces.decoder c.write_turn-turn.new.decoder c.args.out.now.items c.args.rest.now w.0 w.1
             c.pieces.out.items c.pieces.rest c.write_turn-turn.new.rest t.0 c.write_turn-turn.result w.5 t.2 more c.write_turn-turn.new.out.items b.0 c.pull_from.new.self
             c.write_turn-turn.ensures.out b.5 c.in-Ok.ensures.most,
@@ -83,9 +83,9 @@ pieces-preserved g c =
       faults = c.in-Ok.ensures.cause.kept ∙ i.faults;
       open_ = c.in-Ok.ensures.stays ∙ i.open_;
       writes = c.write_turn-turn.ensures.cause.others (λ failed. cc) ∙ i.writes;
-      reads = c.write_turn-turn.ensures.others.1 ∙ i.reads;
-      ends = c.write_turn-turn.ensures.others.2 ∙ i.ends;
-      left = Keeps-trans (g.P.Peer.left c.args.peer.now) (g.P.Peer.left c.pieces.peer) (g.P.Peer.left c.write_turn-turn.new.peer) i.left c.write_turn-turn.ensures.others.0;
+      reads = c.write_turn-turn.ensures.others.read_faults ∙ i.reads;
+      ends = c.write_turn-turn.ensures.others.ends ∙ i.ends;
+      left = Keeps-trans (g.P.Peer.line c.args.peer.now).left (g.P.Peer.line c.pieces.peer).left (g.P.Peer.line c.write_turn-turn.new.peer).left i.left c.write_turn-turn.ensures.others.left;
     }
 
 pub returns-in-Err-clause-body : goal.returns-in-Err-clause-body
@@ -99,9 +99,9 @@ returns-in-Err-clause-body g c =
     c.pieces.rest c.write_turn-turn.new.rest t.0 c.write_turn-turn.result w.5 t.2 more c.pull_from.new.self b.2 in (
       w.0,
       w.1 ++ t.0,
-      Consumes-kept (g.D.Dialer.left c.args.dialer.now) (g.D.Dialer.left c.pieces.dialer) (g.D.Dialer.left c.pull_from.new.dialer) _ w.2 b.0,
-      received_same (g.D.Dialer.log c.args.dialer.now) (g.D.Dialer.log c.pieces.dialer) (g.D.Dialer.log c.pull_from.new.dialer) w.0 w.3 b.1,
-      Appends-trans (g.P.Peer.given c.args.peer.now) (g.P.Peer.given c.pieces.peer) (g.P.Peer.given c.write_turn-turn.new.peer) w.1 t.0 w.4 t.1,
+      Consumes-kept (g.D.Dialer.upstream c.args.dialer.now).left (g.D.Dialer.upstream c.pieces.dialer).left (g.D.Dialer.upstream c.pull_from.new.dialer).left _ w.2 b.0,
+      received_same (g.D.Dialer.upstream c.args.dialer.now).log (g.D.Dialer.upstream c.pieces.dialer).log (g.D.Dialer.upstream c.pull_from.new.dialer).log w.0 w.3 b.1,
+      Appends-trans (g.P.Peer.line c.args.peer.now).given (g.P.Peer.line c.pieces.peer).given (g.P.Peer.line c.write_turn-turn.new.peer).given w.1 t.0 w.4 t.1,
       (λ at. absurd (let no : ⊥ = cc in no)),
       faults.1,
     )

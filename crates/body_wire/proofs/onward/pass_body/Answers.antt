@@ -12,18 +12,18 @@ pieces-init g c = record {
   way = (
     [],
     [],
-    Consumes-nil (g.P.Peer.left c.args.peer.now),
-    Sends-nil (g.D.Dialer.log c.args.dialer.now),
+    Consumes-nil (g.P.Peer.line c.args.peer.now).left,
+    Sends-nil (g.D.Dialer.upstream c.args.dialer.now).log,
     begins c.args.framing Form.Chunks most_passed c.of-decoder.result c.args.out.now.items c.args.rest.now c.of-decoder.ensures.holds c.of-decoder.ensures.form
         c.of-decoder.ensures.limit,
   );
   ends = refl;
   reads = refl;
-  given = Keeps-refl (g.P.Peer.given c.args.peer.now);
+  given = Keeps-refl (g.P.Peer.line c.args.peer.now).given;
   writes = refl;
   faults = refl;
   open_ = refl;
-  left = Keeps-refl (g.D.Dialer.left c.args.dialer.now);
+  left = Keeps-refl (g.D.Dialer.upstream c.args.dialer.now).left;
 }
 
 pub returns-in-Some-clause-body : goal.returns-in-Some-clause-body
@@ -33,7 +33,7 @@ returns-in-Some-clause-body g c =
       w.0,
       w.1 ++ t.0,
       w.2,
-      Sends-trans (g.D.Dialer.log c.args.dialer.now) (g.D.Dialer.log c.pieces.dialer) (g.D.Dialer.log c.send_turn-turn.new.dialer) w.1 t.0 w.3 t.1,
+      Sends-trans (g.D.Dialer.upstream c.args.dialer.now).log (g.D.Dialer.upstream c.pieces.dialer).log (g.D.Dialer.upstream c.send_turn-turn.new.dialer).log w.1 t.0 w.3 t.1,
       answered c.args.framing Form.Chunks most_passed c.pieces.decoder c.send_turn-turn.new.decoder c.args.out.now.items c.args.rest.now w.0 w.1 c.pieces.out.items
           c.pieces.rest c.send_turn-turn.new.rest t.0 w.4 BodyEnd.SendFault c.send_turn-turn.result c.in-Some.end (λ all went front. front) (λ taken passed rest front. front) t.2
           (sym c.answer.ensures ∙ c.in-Some.is),
@@ -55,8 +55,8 @@ returns-in-Ok-eq0-clause-body g c =
     let b = c.in-Ok-eq0.ensures.bytes in (
       w.0 ++ b.0 ∷ [],
       w.1 ++ t.0,
-      came_piece (g.P.Peer.left c.args.peer.now) (g.P.Peer.left c.pieces.peer) (g.P.Peer.left c.pull.new.peer) w.0 b.0 w.2 b.1,
-      Sends-trans (g.D.Dialer.log c.args.dialer.now) (g.D.Dialer.log c.pieces.dialer) (g.D.Dialer.log c.send_turn-turn.new.dialer) w.1 t.0 w.3 t.1,
+      came_piece (g.P.Peer.line c.args.peer.now).left (g.P.Peer.line c.pieces.peer).left (g.P.Peer.line c.pull.new.peer).left w.0 b.0 w.2 b.1,
+      Sends-trans (g.D.Dialer.upstream c.args.dialer.now).log (g.D.Dialer.upstream c.pieces.dialer).log (g.D.Dialer.upstream c.send_turn-turn.new.dialer).log w.1 t.0 w.3 t.1,
       on_end c.args.framing Form.Chunks most_passed c.pieces.decoder c.send_turn-turn.new.decoder c.args.out.now.items c.args.rest.now w.0 w.1 c.pieces.out.items
           c.pieces.rest c.send_turn-turn.new.rest t.0 c.send_turn-turn.result w.4 t.2
           (no_answer c.send_turn-turn.new.decoder.count BodyEnd.SendFault c.send_turn-turn.result (sym c.answer.ensures ∙ c.in-None.is)) b.0 c.pull.new.self c.at_end.result
@@ -75,19 +75,19 @@ pieces-preserved g c =
       way = (
         w.0 ++ b.0 ∷ [],
         w.1 ++ t.0,
-        came_piece (g.P.Peer.left c.args.peer.now) (g.P.Peer.left c.pieces.peer) (g.P.Peer.left c.pull.new.peer) w.0 b.0 w.2 b.1,
-        Sends-trans (g.D.Dialer.log c.args.dialer.now) (g.D.Dialer.log c.pieces.dialer) (g.D.Dialer.log c.send_turn-turn.new.dialer) w.1 t.0 w.3 t.1,
+        came_piece (g.P.Peer.line c.args.peer.now).left (g.P.Peer.line c.pieces.peer).left (g.P.Peer.line c.pull.new.peer).left w.0 b.0 w.2 b.1,
+        Sends-trans (g.D.Dialer.upstream c.args.dialer.now).log (g.D.Dialer.upstream c.pieces.dialer).log (g.D.Dialer.upstream c.send_turn-turn.new.dialer).log w.1 t.0 w.3 t.1,
         on_piece c.args.framing Form.Chunks most_passed c.pieces.decoder c.send_turn-turn.new.decoder c.args.out.now.items c.args.rest.now w.0 w.1 c.pieces.out.items
             c.pieces.rest c.send_turn-turn.new.rest t.0 c.send_turn-turn.result w.4 t.2 more c.send_turn-turn.new.out.items b.0 c.pull.new.self c.send_turn-turn.ensures.out b.3
             c.in-Ok.ensures.most,
       );
       ends = c.in-Ok.ensures.end.given some ∙ i.ends;
       reads = c.in-Ok.ensures.cause.kept ∙ i.reads;
-      given = Keeps-trans (g.P.Peer.given c.args.peer.now) (g.P.Peer.given c.pieces.peer) (g.P.Peer.given c.pull.new.peer) i.given c.in-Ok.ensures.others.0;
-      writes = c.in-Ok.ensures.others.1 ∙ i.writes;
+      given = Keeps-trans (g.P.Peer.line c.args.peer.now).given (g.P.Peer.line c.pieces.peer).given (g.P.Peer.line c.pull.new.peer).given i.given c.in-Ok.ensures.others.given;
+      writes = c.in-Ok.ensures.others.write_faults ∙ i.writes;
       faults = c.send_turn-turn.ensures.cause.others (λ failed. cc) ∙ i.faults;
       open_ = c.send_turn-turn.ensures.stays.0 ∙ i.open_;
-      left = Keeps-trans (g.D.Dialer.left c.args.dialer.now) (g.D.Dialer.left c.pieces.dialer) (g.D.Dialer.left c.send_turn-turn.new.dialer) i.left c.send_turn-turn.ensures.stays.1;
+      left = Keeps-trans (g.D.Dialer.upstream c.args.dialer.now).left (g.D.Dialer.upstream c.pieces.dialer).left (g.D.Dialer.upstream c.send_turn-turn.new.dialer).left i.left c.send_turn-turn.ensures.stays.1;
     }
 
 pub returns-in-Err-clause-body : goal.returns-in-Err-clause-body
@@ -101,7 +101,7 @@ returns-in-Err-clause-body g c =
     c.send_turn-turn.new.rest t.0 c.send_turn-turn.result w.4 t.2 more c.pull.new.self b.1 in (
       w.0,
       w.1 ++ t.0,
-      Consumes-kept (g.P.Peer.left c.args.peer.now) (g.P.Peer.left c.pieces.peer) (g.P.Peer.left c.pull.new.peer) _ w.2 b.0,
-      Sends-trans (g.D.Dialer.log c.args.dialer.now) (g.D.Dialer.log c.pieces.dialer) (g.D.Dialer.log c.send_turn-turn.new.dialer) w.1 t.0 w.3 t.1,
+      Consumes-kept (g.P.Peer.line c.args.peer.now).left (g.P.Peer.line c.pieces.peer).left (g.P.Peer.line c.pull.new.peer).left _ w.2 b.0,
+      Sends-trans (g.D.Dialer.upstream c.args.dialer.now).log (g.D.Dialer.upstream c.pieces.dialer).log (g.D.Dialer.upstream c.send_turn-turn.new.dialer).log w.1 t.0 w.3 t.1,
       faults.0,
     )

@@ -10,16 +10,16 @@ use Rattle.body_wire.proofs.onward.pass_body.Given as goal
 abbrev pub invariant-pieces : goal.invariant-pieces
 invariant-pieces g l = record {
   way :
-      (pieces : List (List ℕ)) × (sent : List ℕ) × Consumes (g.P.Peer.left l.fn.peer) (g.P.Peer.left l.peer) (concat pieces)
-      × Sends (g.D.Dialer.log l.fn.dialer) (g.D.Dialer.log l.dialer) sent
+      (pieces : List (List ℕ)) × (sent : List ℕ) × Consumes (g.P.Peer.line l.fn.peer).left (g.P.Peer.line l.peer).left (concat pieces)
+      × Sends (g.D.Dialer.upstream l.fn.dialer).log (g.D.Dialer.upstream l.dialer).log sent
       × OnWay l.fn.framing Form.Chunks most_passed l.decoder l.fn.out.items l.fn.rest pieces sent l.out.items l.rest;
-  ends : g.P.Peer.ends l.peer ≡ g.P.Peer.ends l.fn.peer;
-  reads : g.P.Peer.read_faults l.peer ≡ g.P.Peer.read_faults l.fn.peer;
-  given : Keeps (g.P.Peer.given l.fn.peer) (g.P.Peer.given l.peer);
-  writes : g.P.Peer.write_faults l.peer ≡ g.P.Peer.write_faults l.fn.peer;
-  faults : g.D.Dialer.faults l.dialer ≡ g.D.Dialer.faults l.fn.dialer;
-  open_ : g.D.Dialer.is_open l.dialer ≡ g.D.Dialer.is_open l.fn.dialer;
-  left : Keeps (g.D.Dialer.left l.fn.dialer) (g.D.Dialer.left l.dialer);
+  ends : (g.P.Peer.line l.peer).ends ≡ (g.P.Peer.line l.fn.peer).ends;
+  reads : (g.P.Peer.line l.peer).read_faults ≡ (g.P.Peer.line l.fn.peer).read_faults;
+  given : Keeps (g.P.Peer.line l.fn.peer).given (g.P.Peer.line l.peer).given;
+  writes : (g.P.Peer.line l.peer).write_faults ≡ (g.P.Peer.line l.fn.peer).write_faults;
+  faults : (g.D.Dialer.upstream l.dialer).faults ≡ (g.D.Dialer.upstream l.fn.dialer).faults;
+  open_ : (g.D.Dialer.upstream l.dialer).is_open ≡ (g.D.Dialer.upstream l.fn.dialer).is_open;
+  left : Keeps (g.D.Dialer.upstream l.fn.dialer).left (g.D.Dialer.upstream l.dialer).left;
 }
 
 abbrev pub decreases-pieces : goal.decreases-pieces

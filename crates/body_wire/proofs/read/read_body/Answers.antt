@@ -59,7 +59,7 @@ returns-in-Ok-eq0-clause-body g c =
     let on = goes_on c.args.framing c.pieces.decoder c.take_all.new.decoder c.args.rest.now r.0 c.pieces.content.items c.take_all.new.out.items c.pieces.rest c.take_all.new.rest r.2 e.0 in
     let stops = subst (λ (stop : Stop). Stops c.take_all.new.decoder c.take_all.new.rest stop) c.in-Ok-More.field-0-is e.1 in (
       r.0 ++ b.0,
-      Consumes-trans (g.P.Peer.left c.args.peer.now) (g.P.Peer.left c.pieces.peer) (g.P.Peer.left c.pull.new.peer) r.0 b.0 r.1 b.1,
+      Consumes-trans (g.P.Peer.line c.args.peer.now).left (g.P.Peer.line c.pieces.peer).left (g.P.Peer.line c.pull.new.peer).left r.0 b.0 r.1 b.1,
       subst (λ (result : Result (Vec ℕ Global) BodyEnd). ReadsBody c.args.framing c.args.rest.now (r.0 ++ b.0) c.pull.new.self result) (sym c.content_at_end.ensures)
           (at_end c.args.framing c.take_all.new.decoder c.args.rest.now r.0 c.take_all.new.out.items c.take_all.new.rest on c.take_all.new.out b.0 c.pull.new.self refl
           (b.2 ∙ c.in-Ok-eq0.field-0-test) b.3 stops),
@@ -76,13 +76,13 @@ pieces-preserved g c =
     record {
       reads = (
         r.0 ++ b.0,
-        Consumes-trans (g.P.Peer.left c.args.peer.now) (g.P.Peer.left c.pieces.peer) (g.P.Peer.left c.pull.new.peer) r.0 b.0 r.1 b.1,
+        Consumes-trans (g.P.Peer.line c.args.peer.now).left (g.P.Peer.line c.pieces.peer).left (g.P.Peer.line c.pull.new.peer).left r.0 b.0 r.1 b.1,
         piece_came c.args.framing c.take_all.new.decoder c.args.rest.now r.0 c.take_all.new.out.items c.take_all.new.rest b.0 c.pull.new.self on b.3,
       );
       ends = c.in-Ok.ensures.end.given some ∙ i.ends;
       faults = c.in-Ok.ensures.cause.kept ∙ i.faults;
-      given = Keeps-trans (g.P.Peer.given c.args.peer.now) (g.P.Peer.given c.pieces.peer) (g.P.Peer.given c.pull.new.peer) i.given c.in-Ok.ensures.others.0;
-      writes = c.in-Ok.ensures.others.1 ∙ i.writes;
+      given = Keeps-trans (g.P.Peer.line c.args.peer.now).given (g.P.Peer.line c.pieces.peer).given (g.P.Peer.line c.pull.new.peer).given i.given c.in-Ok.ensures.others.given;
+      writes = c.in-Ok.ensures.others.write_faults ∙ i.writes;
     }
 
 pub returns-in-Err-pull-clause-body : goal.returns-in-Err-pull-clause-body
@@ -93,6 +93,6 @@ returns-in-Err-pull-clause-body g c =
     let on = goes_on c.args.framing c.pieces.decoder c.take_all.new.decoder c.args.rest.now r.0 c.pieces.content.items c.take_all.new.out.items c.pieces.rest c.take_all.new.rest r.2 e.0 in
     let stops = subst (λ (stop : Stop). Stops c.take_all.new.decoder c.take_all.new.rest stop) c.in-Ok-More.field-0-is e.1 in (
       r.0,
-      Consumes-kept (g.P.Peer.left c.args.peer.now) (g.P.Peer.left c.pieces.peer) (g.P.Peer.left c.pull.new.peer) r.0 r.1 b.0,
+      Consumes-kept (g.P.Peer.line c.args.peer.now).left (g.P.Peer.line c.pieces.peer).left (g.P.Peer.line c.pull.new.peer).left r.0 r.1 b.0,
       fault c.args.framing c.take_all.new.decoder c.args.rest.now r.0 c.take_all.new.out.items c.take_all.new.rest on c.pull.new.self b.1 stops,
     )

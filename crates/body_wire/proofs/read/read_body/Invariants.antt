@@ -7,12 +7,12 @@ use Rattle.body_wire.proofs.read.read_body.Given as goal
 abbrev pub invariant-pieces : goal.invariant-pieces
 invariant-pieces g l = record {
   reads :
-      (came : List ℕ) × Consumes (g.P.Peer.left l.fn.peer) (g.P.Peer.left l.peer) came
+      (came : List ℕ) × Consumes (g.P.Peer.line l.fn.peer).left (g.P.Peer.line l.peer).left came
       × Reads l.fn.framing l.decoder l.fn.rest came l.content.items l.rest;
-  ends : g.P.Peer.ends l.peer ≡ g.P.Peer.ends l.fn.peer;
-  faults : g.P.Peer.read_faults l.peer ≡ g.P.Peer.read_faults l.fn.peer;
-  given : Keeps (g.P.Peer.given l.fn.peer) (g.P.Peer.given l.peer);
-  writes : g.P.Peer.write_faults l.peer ≡ g.P.Peer.write_faults l.fn.peer;
+  ends : (g.P.Peer.line l.peer).ends ≡ (g.P.Peer.line l.fn.peer).ends;
+  faults : (g.P.Peer.line l.peer).read_faults ≡ (g.P.Peer.line l.fn.peer).read_faults;
+  given : Keeps (g.P.Peer.line l.fn.peer).given (g.P.Peer.line l.peer).given;
+  writes : (g.P.Peer.line l.peer).write_faults ≡ (g.P.Peer.line l.fn.peer).write_faults;
 }
 
 abbrev pub decreases-pieces : goal.decreases-pieces

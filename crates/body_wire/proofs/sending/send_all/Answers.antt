@@ -6,9 +6,9 @@ use Rattle.body_wire.proofs.sending.send_all.Goals as goal
 pub loop-at-init : goal.loop-at-init
 loop-at-init g c = record {
   within = omega arith;
-  sent = Sends-nil (g.D.Dialer.log c.args.dialer.now);
+  sent = Sends-nil (g.D.Dialer.upstream c.args.dialer.now).log;
   open_ = refl;
-  left = Keeps-refl (g.D.Dialer.left c.args.dialer.now);
+  left = Keeps-refl (g.D.Dialer.upstream c.args.dialer.now).left;
   faults = refl;
 }
 

@@ -6,10 +6,10 @@ use Rattle.body_wire.proofs.sending.send_all.Given as goal
 abbrev pub invariant-loop-at : goal.invariant-loop-at
 invariant-loop-at g l = record {
   within : l.at ≤ length l.bytes;
-  sent : Sends (g.D.Dialer.log l.fn.dialer) (g.D.Dialer.log l.dialer) (take l.at l.bytes);
-  open_ : g.D.Dialer.is_open l.dialer ≡ g.D.Dialer.is_open l.fn.dialer;
-  left : Keeps (g.D.Dialer.left l.fn.dialer) (g.D.Dialer.left l.dialer);
-  faults : g.D.Dialer.faults l.dialer ≡ g.D.Dialer.faults l.fn.dialer;
+  sent : Sends (g.D.Dialer.upstream l.fn.dialer).log (g.D.Dialer.upstream l.dialer).log (take l.at l.bytes);
+  open_ : (g.D.Dialer.upstream l.dialer).is_open ≡ (g.D.Dialer.upstream l.fn.dialer).is_open;
+  left : Keeps (g.D.Dialer.upstream l.fn.dialer).left (g.D.Dialer.upstream l.dialer).left;
+  faults : (g.D.Dialer.upstream l.dialer).faults ≡ (g.D.Dialer.upstream l.fn.dialer).faults;
 }
 
 abbrev pub decreases-loop-at : goal.decreases-loop-at

@@ -6,8 +6,8 @@ use Rattle.body_wire.proofs.writing.write_all.Goals as goal
 pub loop-at-init : goal.loop-at-init
 loop-at-init g c = record {
   within = omega arith;
-  sent = Appends-nil (g.P.Peer.given c.args.peer.now);
-  left = Keeps-refl (g.P.Peer.left c.args.peer.now);
+  sent = Appends-nil (g.P.Peer.line c.args.peer.now).given;
+  left = Keeps-refl (g.P.Peer.line c.args.peer.now).left;
   reads = refl;
   ends = refl;
   faults = refl;
@@ -17,9 +17,9 @@ pub loop-at-preserved : goal.loop-at-preserved
 loop-at-preserved g c = record {
   within = let b = c.in-Ok.ensures.bound in omega arith;
   sent = given_more _ _ _ c.args.bytes.now c.loop-at.at c.in-Ok.count c.loop-at.invariant.sent c.in-Ok.ensures.bytes;
-  left = Keeps-trans _ _ _ c.loop-at.invariant.left c.in-Ok.ensures.others.0;
-  reads = c.in-Ok.ensures.others.1 ∙ c.loop-at.invariant.reads;
-  ends = c.in-Ok.ensures.others.2 ∙ c.loop-at.invariant.ends;
+  left = Keeps-trans _ _ _ c.loop-at.invariant.left c.in-Ok.ensures.others.left;
+  reads = c.in-Ok.ensures.others.read_faults ∙ c.loop-at.invariant.reads;
+  ends = c.in-Ok.ensures.others.ends ∙ c.loop-at.invariant.ends;
   faults = c.in-Ok.ensures.cause.kept ∙ c.loop-at.invariant.faults;
 }
 
@@ -27,11 +27,11 @@ pub returns-in-Err-clause-bytes : goal.returns-in-Err-clause-bytes
 returns-in-Err-clause-bytes g c = front_given _ _ _ c.args.bytes.now c.loop-at.at c.loop-at.invariant.sent c.in-Err.ensures.bytes
 
 pub returns-in-Err-clause-others : goal.returns-in-Err-clause-others
-returns-in-Err-clause-others g c = (
-  Keeps-trans _ _ _ c.loop-at.invariant.left c.in-Err.ensures.others.0,
-  c.in-Err.ensures.others.1 ∙ c.loop-at.invariant.reads,
-  c.in-Err.ensures.others.2 ∙ c.loop-at.invariant.ends,
-)
+returns-in-Err-clause-others g c = record {
+  left = Keeps-trans _ _ _ c.loop-at.invariant.left c.in-Err.ensures.others.left;
+  read_faults = c.in-Err.ensures.others.read_faults ∙ c.loop-at.invariant.reads;
+  ends = c.in-Err.ensures.others.ends ∙ c.loop-at.invariant.ends;
+}
 
 pub returns-clause-bytes : goal.returns-clause-bytes
 returns-clause-bytes g c = all_given _ _ c.args.bytes.now c.loop-at.at c.loop-at.invariant.sent c.loop-at-test.false

@@ -5,11 +5,11 @@ use Rattle.body_wire.proofs.writing.write_all.Given as goal
 abbrev pub invariant-loop-at : goal.invariant-loop-at
 invariant-loop-at g l = record {
   within : l.at ≤ length l.bytes;
-  sent : Appends (g.P.Peer.given l.fn.peer) (g.P.Peer.given l.peer) (take l.at l.bytes);
-  left : Keeps (g.P.Peer.left l.fn.peer) (g.P.Peer.left l.peer);
-  reads : g.P.Peer.read_faults l.peer ≡ g.P.Peer.read_faults l.fn.peer;
-  ends : g.P.Peer.ends l.peer ≡ g.P.Peer.ends l.fn.peer;
-  faults : g.P.Peer.write_faults l.peer ≡ g.P.Peer.write_faults l.fn.peer;
+  sent : Appends (g.P.Peer.line l.fn.peer).given (g.P.Peer.line l.peer).given (take l.at l.bytes);
+  left : Keeps (g.P.Peer.line l.fn.peer).left (g.P.Peer.line l.peer).left;
+  reads : (g.P.Peer.line l.peer).read_faults ≡ (g.P.Peer.line l.fn.peer).read_faults;
+  ends : (g.P.Peer.line l.peer).ends ≡ (g.P.Peer.line l.fn.peer).ends;
+  faults : (g.P.Peer.line l.peer).write_faults ≡ (g.P.Peer.line l.fn.peer).write_faults;
 }
 
 abbrev pub decreases-loop-at : goal.decreases-loop-at

@@ -16,8 +16,8 @@ returns-then-rest-eq0 c =
     let none : sum ws - get_or ws (first_place ws c.args.w1) 0 ≡ 0 = (λ i. sym c.total_weight-total.ensures i - sym weight_is i) ∙ c.if-rest-eq0.true in
     paired_alone live c.args.w1 c.args.w2 c.draw-first.result.at c.ranges.w1.fits c.ranges.w2.fits have more at_is none
 
-pub draw_other-requires : goal.draw_other-requires
-draw_other-requires c =
+pub draw_other-requires-clause-out : goal.draw_other-requires-clause-out
+draw_other-requires-clause-out c =
     let live = passing c.args.sieve.now c.args.list.now in
     let ws = weights_of live in
     let have = passing_weights (passes c.args.sieve.now) c.args.list.now c.requires.weights in

@@ -13,8 +13,8 @@ loop-answer-init g c = record {
   trusts = trusts_first c.first_look.new.rest c.kept.result.now c.new-watch.result c.follow.new.self c.kept.ensures c.new-watch.ensures.0 c.follow.ensures;
   ends = c.in-More.ensures.bytes.1;
   faults = c.in-More.ensures.bytes.2;
-  given = c.in-More.ensures.others.0;
-  write_faults = c.in-More.ensures.others.1;
+  given = c.in-More.ensures.others.given;
+  write_faults = c.in-More.ensures.others.write_faults;
 }
 
 pub loop-answer-preserved : goal.loop-answer-preserved
@@ -27,8 +27,8 @@ loop-answer-preserved g c =
       trusts = turn.trusts c.in-More-take_turn.is;
       ends = more.1 ∙ before.ends;
       faults = more.2 ∙ before.faults;
-      given = Keeps-trans _ _ _ before.given turn.others.0;
-      write_faults = turn.others.1 ∙ before.write_faults;
+      given = Keeps-trans _ _ _ before.given turn.others.given;
+      write_faults = turn.others.write_faults ∙ before.write_faults;
     }
 
 pub returns-in-Answered-take_turn-clause-head : goal.returns-in-Answered-take_turn-clause-head

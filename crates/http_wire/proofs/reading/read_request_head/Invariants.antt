@@ -6,12 +6,12 @@ use Rattle.http_wire.proofs.reading.read_request_head.Given as goal
 
 abbrev pub invariant-loop-answer : goal.invariant-loop-answer
 invariant-loop-answer g l = record {
-  read : (taken : List ℕ) × Consumes (g.P.Peer.left l.fn.peer) (g.P.Peer.left l.peer) taken × IsPrompt l.fn.rest taken × (l.rest ≡ l.fn.rest ++ taken);
+  read : (taken : List ℕ) × Consumes (g.P.Peer.line l.fn.peer).left (g.P.Peer.line l.peer).left taken × IsPrompt l.fn.rest taken × (l.rest ≡ l.fn.rest ++ taken);
   trusts : Trusts l.watch l.rest;
-  ends : g.P.Peer.ends l.peer ≡ g.P.Peer.ends l.fn.peer;
-  faults : g.P.Peer.read_faults l.peer ≡ g.P.Peer.read_faults l.fn.peer;
-  given : Keeps (g.P.Peer.given l.fn.peer) (g.P.Peer.given l.peer);
-  write_faults : g.P.Peer.write_faults l.peer ≡ g.P.Peer.write_faults l.fn.peer;
+  ends : (g.P.Peer.line l.peer).ends ≡ (g.P.Peer.line l.fn.peer).ends;
+  faults : (g.P.Peer.line l.peer).read_faults ≡ (g.P.Peer.line l.fn.peer).read_faults;
+  given : Keeps (g.P.Peer.line l.fn.peer).given (g.P.Peer.line l.peer).given;
+  write_faults : (g.P.Peer.line l.peer).write_faults ≡ (g.P.Peer.line l.fn.peer).write_faults;
 }
 
 abbrev pub decreases-loop-answer : goal.decreases-loop-answer

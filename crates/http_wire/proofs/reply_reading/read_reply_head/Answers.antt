@@ -1,7 +1,7 @@
-use Rattle.std.proofs.Common.{rules, ◌≡◌, List, ℕ, [], refl, sym, ap, arith, subst, ◌∙◌, length-append, length, Err}
-use Rattle.http_wire.specs.declared.reading.HeadEnd.{HeadEnd}
+use Rattle.std.proofs.Common.{rules, ◌≡◌, List, ℕ, [], refl, sym, ap, arith, subst, ◌∙◌, length-append, length}
+use Rattle.http_wire.specs.Reading.{is_read_fault, raised_at}
 use Rattle.http_wire.specs.Replies.{Tracks}
-use Rattle.http_wire.proofs.Receiving.{looked_reply, nothing_yet, one_more, rose_later, stopped_reply, tracked_open}
+use Rattle.http_wire.proofs.Receiving.{looked_reply, nothing_yet, one_more, quiet_after, stopped_reply, tracked_open}
 use Rattle.http_wire.proofs.Replying.{decided_reply, tracks_first}
 use Rattle.http_wire.proofs.Sound.{sound_reply}
 use Rattle.http_wire.proofs.reply_reading.read_reply_head.Goals as goal
@@ -11,7 +11,7 @@ loop-watch-init g c = record {
   read = nothing_yet _ _ c.args.rest.now;
   tracks = subst (λ (bytes : List ℕ). Tracks bytes c.follow.new.self.place) c.kept.ensures (c.follow.ensures [] (subst (Tracks []) (sym c.new-watch.ensures) tracks_first));
   stays = refl;
-  faults = omega arith;
+  faults = refl;
 }
 
 pub receive_once-requires-clause-open_ : goal.receive_once-requires-clause-open_
@@ -35,7 +35,7 @@ loop-watch-preserved g c =
           (tracked_open c.loop-watch.rest c.loop-watch.watch.place open_.1 open_.0 before.tracks) c.in-Ok.ensures.bytes;
       tracks = c.in-Ok.ensures.tracks;
       stays = c.receive_once.ensures.stays ∙ before.stays;
-      faults = omega (arith, before.faults, c.receive_once.ensures.faults);
+      faults = c.in-Ok.ensures.fault ∙ before.faults;
     }
 
 pub returns-in-Err-clause-head : goal.returns-in-Err-clause-head
@@ -46,9 +46,8 @@ returns-in-Err-clause-head g c =
     (tracked_open c.loop-watch.rest c.loop-watch.watch.place open_.1 open_.0 before.tracks) c.in-Err.ensures.bytes
 
 pub returns-in-Err-clause-fault : goal.returns-in-Err-clause-fault
-returns-in-Err-clause-fault g c same =
-    let fault : c.in-Err.end ≡ HeadEnd.ReadFault = cc in
-    rose_later _ _ _ c.loop-watch.invariant.faults (c.receive_once.ensures.fault (c.in-Err.is ∙ ap Err fault))
+returns-in-Err-clause-fault g c =
+    c.in-Err.ensures.fault ∙ ap (λ (n : ℕ). raised_at (is_read_fault c.in-Err.end) n) c.loop-watch.invariant.faults
 
 pub returns-in-Err-clause-faults : goal.returns-in-Err-clause-faults
 returns-in-Err-clause-faults g c = omega (arith, c.loop-watch.invariant.faults, c.receive_once.ensures.faults)
@@ -67,8 +66,11 @@ returns-clause-head g c =
 pub returns-clause-sound : goal.returns-clause-sound
 returns-clause-sound g c = sound_reply c.loop-watch.rest c.answer.new.rest c.answer.result c.answer.ensures
 
+pub returns-clause-fault : goal.returns-clause-fault
+returns-clause-fault g c = quiet_after _ _ c.loop-watch.rest c.answer.new.rest c.answer.result c.loop-watch.invariant.faults c.answer.ensures
+
 pub returns-clause-faults : goal.returns-clause-faults
-returns-clause-faults g c = c.loop-watch.invariant.faults
+returns-clause-faults g c = omega (arith, c.loop-watch.invariant.faults)
 
 pub returns-clause-stays : goal.returns-clause-stays
 returns-clause-stays g c = c.loop-watch.invariant.stays

@@ -6,8 +6,8 @@ use Rattle.linker_config.proofs.folder.load_names.Given as goal
 
 abbrev pub invariant-loop-name : goal.invariant-loop-name
 invariant-loop-name g l = record {
-  files : g.F.Folder.files l.folder ≡ g.F.Folder.files l.fn.folder;
-  faults : g.F.Folder.faults l.folder ≡ g.F.Folder.faults l.fn.folder;
-  told : (fs : List File) → g.F.Folder.files l.fn.folder ≡ Some fs
+  files : (g.F.Folder.filed l.folder).files ≡ (g.F.Folder.filed l.fn.folder).files;
+  faults : (g.F.Folder.filed l.folder).faults ≡ (g.F.Folder.filed l.fn.folder).faults;
+  told : (fs : List File) → (g.F.Folder.filed l.fn.folder).files ≡ Some fs
       → behind l.items.items (services_told fs l.root (map (λ n. string_bytes n) (drop l.name-index l.names))) ≡ services_told fs l.root (map (λ n. string_bytes n) l.names);
 }

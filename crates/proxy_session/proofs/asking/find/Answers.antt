@@ -13,10 +13,13 @@ returns-in-None-clause-ok g c = (none c.in-None.why, inl c.in-None.ensures, refl
 
 pub returns-in-Miss-clause-ok : goal.returns-in-Miss-clause-ok
 returns-in-Miss-clause-ok g c =
-    found_behind g.J.Naming.settings (caller_of c.args.pass.now) (caller_of c.peek.new.pass) (caller_of c.find_anew.new.pass) (ask_of c.args.ask.now) c.peek.new.names c.in-Miss.ensures
+    found_behind g.J.Naming.settings (caller_of c.args.pass.now) (caller_of c.peek.new.pass)
+    (caller_of c.find_anew.new.pass) (ask_of c.args.ask.now) c.peek.new.names c.in-Miss.ensures
     c.find_anew.result c.find_anew.ensures.ok
 
 pub returns-in-Miss-clause-err : goal.returns-in-Miss-clause-err
 returns-in-Miss-clause-err g c =
-    stopped_behind g.J.Naming.settings (caller_of c.args.pass.now) (caller_of c.peek.new.pass) (caller_of c.find_anew.new.pass) (ask_of c.args.ask.now) c.in-Miss.ensures c.find_anew.result
+    stopped_behind g.J.Naming.settings (caller_of c.args.pass.now) (caller_of c.peek.new.pass)
+    (caller_of c.find_anew.new.pass) (ask_of c.args.ask.now) c.in-Miss.ensures
+    c.find_anew.result
     c.find_anew.ensures.err

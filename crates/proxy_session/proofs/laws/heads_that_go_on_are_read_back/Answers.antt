@@ -3,4 +3,8 @@ use Rattle.proxy_session.proofs.Visiting.{sessions_read_back}
 use Rattle.proxy_session.proofs.laws.heads_that_go_on_are_read_back.Goals as goal
 
 pub returns : goal.returns
-returns c = record { heads = heads_read_back; exchanges = exchanges_read_back; sessions = sessions_read_back }
+returns c = record {
+  heads = heads_read_back;
+  exchanges = exchanges_read_back;
+  sessions = sessions_read_back;
+}

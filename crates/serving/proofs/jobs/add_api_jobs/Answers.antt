@@ -5,7 +5,7 @@ use Rattle.std.specs.Prelude.{Option}
 use Rattle.std.specs.Vec.Iter.{into_iter_items}
 use Rattle.identifier.specs.declared.rule.Rule.{Rule}
 use Rattle.linker_config.specs.declared.config.Port.{Port}
-use Rattle.proxy_session.specs.Outside.{Upstream}
+use Rattle.line_base.specs.Dials.{Upstream}
 use Rattle.serving.specs.Jobs.{IsPosted, pass_of}
 use Rattle.serving.specs.Posts.{interface_post, posts_at}
 use Rattle.serving.specs.Returning.{with_stops}
@@ -18,7 +18,7 @@ use Rattle.serving.proofs.jobs.add_api_jobs.Goals as goal
 
 pub loop-listener-init : goal.loop-listener-init
 loop-listener-init g c =
-    let upstream = λ (d : g.row.N-D.Denot). let u : Upstream = record { log = g.N.D.Dialer.log d; is_open = g.N.D.Dialer.is_open d; faults = g.N.D.Dialer.faults d } in u in
+    let upstream = λ (d : g.row.N-D.Denot). let u : Upstream = g.N.D.Dialer.upstream d in u in
     let R = λ (rule : Rule) (moments : Option (List ℕ)). IsPosted {J = g.row.J.Denot} {D = g.row.N-D.Denot} {g = g.J.Naming} g.N.L.Listener.state upstream g.C.Clock.to_come g.N.S.Stop.calls rule moments (g.N.Net.state c.args.net.now).told in
     let whole = c.into_iter-listener-iterator.ensures.into_iter_gives.0 in
     let many = ap length whole in
@@ -39,7 +39,7 @@ loop-listener-init g c =
 
 pub loop-listener-preserved : goal.loop-listener-preserved
 loop-listener-preserved g c =
-    let upstream = λ (d : g.row.N-D.Denot). let u : Upstream = record { log = g.N.D.Dialer.log d; is_open = g.N.D.Dialer.is_open d; faults = g.N.D.Dialer.faults d } in u in
+    let upstream = λ (d : g.row.N-D.Denot). let u : Upstream = g.N.D.Dialer.upstream d in u in
     let R = λ (rule : Rule) (moments : Option (List ℕ)). IsPosted {J = g.row.J.Denot} {D = g.row.N-D.Denot} {g = g.J.Naming} g.N.L.Listener.state upstream g.C.Clock.to_come g.N.S.Stop.calls rule moments (g.N.Net.state c.args.net.now).told in
     let inv = c.loop-listener.invariant in
     let cut = c.in-Some.ensures.steps.0 in
@@ -72,7 +72,7 @@ loop-listener-preserved g c =
 
 pub returns-clause-posted : goal.returns-clause-posted
 returns-clause-posted g c = λ port n rule moments ps all.
-    let upstream = λ (d : g.row.N-D.Denot). let u : Upstream = record { log = g.N.D.Dialer.log d; is_open = g.N.D.Dialer.is_open d; faults = g.N.D.Dialer.faults d } in u in
+    let upstream = λ (d : g.row.N-D.Denot). let u : Upstream = g.N.D.Dialer.upstream d in u in
     let R = λ (rule : Rule) (moments : Option (List ℕ)). IsPosted {J = g.row.J.Denot} {D = g.row.N-D.Denot} {g = g.J.Naming} g.N.L.Listener.state upstream g.C.Clock.to_come g.N.S.Stop.calls rule moments (g.N.Net.state c.args.net.now).told in
     let before = c.loop-listener.invariant.posted in
     let none : length (into_iter_items c.loop-listener.listener-iterator) ≡ 0 = first_of (search rules, grind (arith, common_steps)) in

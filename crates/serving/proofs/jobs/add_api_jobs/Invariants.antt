@@ -24,9 +24,9 @@ invariant-loop-listener g l = record {
       × ((port : Port) → AreNewFrom g.N.L.Listener.state (g.N.Net.state l.fn.net).told port 0 l.fn.listeners.items
       → AreNewFrom g.N.L.Listener.state (g.N.Net.state l.fn.net).told port place (into_iter_items l.listener-iterator))
       × ((port : Port) → AreNewFrom g.N.L.Listener.state (g.N.Net.state l.fn.net).told port 0 l.fn.listeners.items → (rule : Rule) → (moments : Option (List ℕ)) → (posts : List Post)
-      → AllZip (IsPosted g.N.L.Listener.state (λ d. record { log = g.N.D.Dialer.log d; is_open = g.N.D.Dialer.is_open d; faults = g.N.D.Dialer.faults d }) g.C.Clock.to_come g.N.S.Stop.calls
+      → AllZip (IsPosted g.N.L.Listener.state (λ d. g.N.D.Dialer.upstream d) g.C.Clock.to_come g.N.S.Stop.calls
       rule moments (g.N.Net.state l.fn.net).told) posts l.fn.jobs.items
-      → AllZip (IsPosted g.N.L.Listener.state (λ d. record { log = g.N.D.Dialer.log d; is_open = g.N.D.Dialer.is_open d; faults = g.N.D.Dialer.faults d }) g.C.Clock.to_come g.N.S.Stop.calls
+      → AllZip (IsPosted g.N.L.Listener.state (λ d. g.N.D.Dialer.upstream d) g.C.Clock.to_come g.N.S.Stop.calls
       rule moments (g.N.Net.state l.fn.net).told) (posts ++ posts_at (interface_post l.which port) place) l.jobs.items);
   stops : with_stops (length (into_iter_items l.listener-iterator)) (g.N.Net.state l.net) ≡ with_stops (length l.fn.listeners.items) (g.N.Net.state l.fn.net);
   kept : g.N.Net.faults l.net ≡ g.N.Net.faults l.fn.net;

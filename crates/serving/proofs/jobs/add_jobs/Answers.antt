@@ -1,7 +1,7 @@
 use Rattle.std.proofs.Common.{◌≡◌, ◌+◌, sym, subst, ◌∙◌, arith, length}
 use Rattle.std.specs.Prelude.{Option}
 use Rattle.line_base.specs.Nets.{Returns}
-use Rattle.proxy_session.specs.Outside.{Upstream}
+use Rattle.line_base.specs.Dials.{Upstream}
 use Rattle.serving.specs.Jobs.{IsPosted}
 use Rattle.serving.specs.Running.{AreNewFrom}
 use Rattle.serving.proofs.Posting.{all_posted, all_stops, told_kept}
@@ -9,8 +9,8 @@ use Rattle.serving.proofs.jobs.add_jobs.Goals as goal
 
 pub returns-clause-posted : goal.returns-clause-posted
 returns-clause-posted g c =
-    let upstream = λ (d : g.row.N-D.Denot). let u : Upstream = record { log = g.N.D.Dialer.log d; is_open = g.N.D.Dialer.is_open d; faults = g.N.D.Dialer.faults d } in u in
-    let site = c.args.site.now in
+    let upstream = λ (d : g.row.N-D.Denot). let u : Upstream = g.N.D.Dialer.upstream d in u in
+    let site = c.args.setup.now.site.now in
     let bound = c.args.bound in
     let count = c.requires.listens.count in
     let moments = g.C.Clock.of_fork c.args.clock.now in
@@ -31,7 +31,7 @@ pub returns-clause-stops : goal.returns-clause-stops
 returns-clause-stops g c =
     let bound = c.args.bound in
     let count = c.requires.listens.count in
-    let sum : length bound.server.items + length bound.namerd.items + length bound.admin.items ≡ c.args.site.now.workers + 4 = omega (arith, count.0, count.1, count.2) in
+    let sum : length bound.server.items + length bound.namerd.items + length bound.admin.items ≡ c.args.setup.now.site.now.workers + 4 = omega (arith, count.0, count.1, count.2) in
     all_stops (g.N.Net.state c.args.net.now) (g.N.Net.state c.add_proxy_jobs.new.net) (g.N.Net.state c.add_api_jobs.new.net) (g.N.Net.state c.add_api_jobs-2.new.net)
-    (length bound.server.items) (length bound.namerd.items) (length bound.admin.items) (c.args.site.now.workers + 4) c.add_proxy_jobs.ensures.stops c.add_api_jobs.ensures.stops
+    (length bound.server.items) (length bound.namerd.items) (length bound.admin.items) (c.args.setup.now.site.now.workers + 4) c.add_proxy_jobs.ensures.stops c.add_api_jobs.ensures.stops
     c.add_api_jobs-2.ensures.stops sum

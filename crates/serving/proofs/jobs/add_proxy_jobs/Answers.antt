@@ -5,7 +5,7 @@ use Rattle.std.specs.Prelude.{Option}
 use Rattle.line_base.specs.Nets.{IsNewLog, Networking, Returns, after_stopper}
 use Rattle.identifier.specs.declared.rule.Rule.{Rule}
 use Rattle.linker_config.specs.declared.config.Port.{Port}
-use Rattle.proxy_session.specs.Outside.{Upstream}
+use Rattle.line_base.specs.Dials.{Upstream}
 use Rattle.serving.specs.Jobs.{IsPosted, pass_of}
 use Rattle.serving.specs.Posts.{client_post}
 use Rattle.serving.specs.Returning.{with_stops}
@@ -13,12 +13,12 @@ use Rattle.serving.specs.Running.{AreNewFrom}
 use Rattle.serving.specs.declared.job.ServingJob.{ServingJob}
 use Rattle.serving.proofs.Chains.{free_rest}
 use Rattle.serving.proofs.Posting.{next_new, stops_moved}
-use Rattle.serving.proofs.Zipping.{handed, none_posted, one_posted}
+use Rattle.serving.proofs.Zipping.{begins_with, handed, none_posted, one_posted}
 use Rattle.serving.proofs.jobs.add_proxy_jobs.Goals as goal
 
 pub loop-listener-init : goal.loop-listener-init
 loop-listener-init g c =
-    let upstream = λ (d : g.row.N-D.Denot). let u : Upstream = record { log = g.N.D.Dialer.log d; is_open = g.N.D.Dialer.is_open d; faults = g.N.D.Dialer.faults d } in u in
+    let upstream = λ (d : g.row.N-D.Denot). let u : Upstream = g.N.D.Dialer.upstream d in u in
     let R = λ (rule : Rule) (moments : Option (List ℕ)). IsPosted {J = g.row.J.Denot} {D = g.row.N-D.Denot} {g = g.J.Naming} g.N.L.Listener.state upstream g.C.Clock.to_come g.N.S.Stop.calls rule moments (g.N.Net.state c.args.net.now).told in
     let whole = c.into_iter-listener-iterator.ensures.into_iter_gives.0 in
     let many = ap length whole in
@@ -29,12 +29,13 @@ loop-listener-init g c =
       count = omega (arith, many);
       rest = omega (arith, many);
       enough = omega (arith, many, c.requires.enough);
+      rooms = let all = ap length c.into_iter-rooms.ensures.rest in omega (arith, many, all, c.requires.rooms);
       room = omega (arith, many, c.requires.room);
       capacity = refl;
       free = c.requires.free;
       place = omega (arith, many);
-      new = new c.args.site.now.server c.requires.new;
-      posted = λ ps all. none_posted (R c.args.site.now.rule (g.C.Clock.of_fork c.args.clock.now)) (client_post c.args.site.now) ps c.args.jobs.now.items all;
+      new = new c.args.setup.now.site.now.server c.requires.new;
+      posted = λ ps all. none_posted (R c.args.setup.now.site.now.rule (g.C.Clock.of_fork c.args.clock.now)) (client_post c.args.setup.now.site.now) ps c.args.jobs.now.items all;
       told = refl;
       stops = ap (λ (n : ℕ). with_stops n (g.N.Net.state c.args.net.now)) many;
       kept = refl;
@@ -42,7 +43,7 @@ loop-listener-init g c =
 
 pub loop-listener-preserved : goal.loop-listener-preserved
 loop-listener-preserved g c =
-    let upstream = λ (d : g.row.N-D.Denot). let u : Upstream = record { log = g.N.D.Dialer.log d; is_open = g.N.D.Dialer.is_open d; faults = g.N.D.Dialer.faults d } in u in
+    let upstream = λ (d : g.row.N-D.Denot). let u : Upstream = g.N.D.Dialer.upstream d in u in
     let R = λ (rule : Rule) (moments : Option (List ℕ)). IsPosted {J = g.row.J.Denot} {D = g.row.N-D.Denot} {g = g.J.Naming} g.N.L.Listener.state upstream g.C.Clock.to_come g.N.S.Stop.calls rule moments (g.N.Net.state c.args.net.now).told in
     let inv = c.loop-listener.invariant in
     let cut = c.in-Some.ensures.steps.0 in
@@ -51,27 +52,29 @@ loop-listener-preserved g c =
     let fewer = ap length taken in
     let pushed = c.push_reserved.ensures in
     let told = (g.N.Net.state c.args.net.now).told in
-    let next = next_new g.N.L.Listener.state told c.args.site.now.server c.loop-listener.number (c.loop-listener.number + 1) _ _ c.in-Some.listener refl cut inv.new in
+    let next = next_new g.N.L.Listener.state told c.args.setup.now.site.now.server c.loop-listener.number (c.loop-listener.number + 1) _ _ c.in-Some.listener refl cut inv.new in
     let same = ap (λ (n : Networking g.row.N-L-P.Denot). n.told) c.dialer.ensures.kept.0 ∙ inv.told in
     record {
-      passes = handed (λ (j : ServingJob g.row.J.Denot g.row.N-L.Denot g.row.N-D.Denot g.row.C.Denot g.row.N-S.Denot g.J.Naming). pass_of j) _ _ _ _ _ _ pushed.items taken inv.passes;
+      passes = handed (λ (j : ServingJob g.row.J.Denot g.row.N-L.Denot g.row.N-D.Denot g.row.C.Denot g.row.N-S.Denot g.J.Naming). pass_of j) _ _ _ _ _ _ pushed.items
+          (begins_with _ _ _ _ c.of.ensures.pass taken) inv.passes;
       count = omega (arith, pushed.len, inv.count, shorter);
       rest = omega (arith, inv.rest, shorter, fewer);
       enough = omega (arith, inv.enough, shorter, fewer);
+      rooms = let less = ap length c.in-Some-next-2.ensures.items in omega (arith, inv.rooms, shorter, less);
       room = omega (arith, pushed.len, pushed.capacity, inv.room, shorter);
       capacity = pushed.capacity ∙ inv.capacity;
       free = free_rest _ _ c.in-Some-next.pass taken inv.free;
       place = omega (arith, inv.place, shorter);
       new = next.1;
       posted = λ ps all.
-          one_posted (R c.args.site.now.rule (g.C.Clock.of_fork c.args.clock.now)) (client_post c.args.site.now) c.loop-listener.number (c.loop-listener.number + 1) ps _ _ _ refl pushed.items
+          one_posted (R c.args.setup.now.site.now.rule (g.C.Clock.of_fork c.args.clock.now)) (client_post c.args.setup.now.site.now) c.loop-listener.number (c.loop-listener.number + 1) ps _ _ _ refl pushed.items
           (inv.posted ps all)
           (record {
             listener = next.0;
-            log = subst (λ (t : Option (Returns g.row.N-L-P.Denot)). IsNewLog t (g.N.D.Dialer.log c.dialer.result)) inv.told c.dialer.ensures.log;
-            hung = c.dialer.ensures.closed;
-            clock = c.fork.ensures.0;
-            words = c.seed_from_u64.ensures ∙ ap (λ (n : ℕ). pcg64_of_seed (pcg32_seed 32 ((c.args.site.now.seed + n) % 2 ^ 64))) c.from.ensures;
+            log = rw c.of.ensures.dialer (subst (λ (t : Option (Returns g.row.N-L-P.Denot)). IsNewLog t (g.N.D.Dialer.upstream c.dialer.result).log) inv.told c.dialer.ensures.log);
+            hung = rw c.of.ensures.dialer c.dialer.ensures.closed;
+            clock = rw c.of.ensures.clock c.fork.ensures.0;
+            words = c.of.ensures.words ∙ (c.seed_from_u64.ensures ∙ ap (λ (n : ℕ). pcg64_of_seed (pcg32_seed 32 ((c.args.setup.now.site.now.seed + n) % 2 ^ 64))) c.from.ensures);
             rule_is = refl;
             lacked = refl;
             stops = c.stopper.ensures.calls;

@@ -14,16 +14,17 @@ invariant-loop-listener g l = record {
   count : vec_len l.jobs + length (into_iter_items l.listener-iterator) ≡ vec_len l.fn.jobs + length l.fn.listeners.items;
   rest : length (into_iter_items l.passes) + length l.fn.listeners.items ≡ length (into_iter_items l.fn.passes) + length (into_iter_items l.listener-iterator);
   enough : length (into_iter_items l.listener-iterator) ≤ length (into_iter_items l.passes);
+  rooms : length (into_iter_items l.listener-iterator) ≤ length (into_iter_items l.rooms);
   room : vec_len l.jobs + length (into_iter_items l.listener-iterator) ≤ vec_capacity l.jobs;
   capacity : vec_capacity l.jobs ≡ vec_capacity l.fn.jobs;
   free : AreFree (into_iter_items l.passes);
   place : l.number + length (into_iter_items l.listener-iterator) ≡ length l.fn.listeners.items;
-  new : AreNewFrom g.N.L.Listener.state (g.N.Net.state l.fn.net).told l.site.server l.number (into_iter_items l.listener-iterator);
+  new : AreNewFrom g.N.L.Listener.state (g.N.Net.state l.fn.net).told l.setup.site.now.server l.number (into_iter_items l.listener-iterator);
   posted : (posts : List Post)
-      → AllZip (IsPosted g.N.L.Listener.state (λ d. record { log = g.N.D.Dialer.log d; is_open = g.N.D.Dialer.is_open d; faults = g.N.D.Dialer.faults d }) g.C.Clock.to_come g.N.S.Stop.calls
-      l.site.rule (g.C.Clock.of_fork l.clock) (g.N.Net.state l.fn.net).told) posts l.fn.jobs.items
-      → AllZip (IsPosted g.N.L.Listener.state (λ d. record { log = g.N.D.Dialer.log d; is_open = g.N.D.Dialer.is_open d; faults = g.N.D.Dialer.faults d }) g.C.Clock.to_come g.N.S.Stop.calls
-      l.site.rule (g.C.Clock.of_fork l.clock) (g.N.Net.state l.fn.net).told) (posts ++ posts_at (client_post l.site) l.number) l.jobs.items;
+      → AllZip (IsPosted g.N.L.Listener.state (λ d. g.N.D.Dialer.upstream d) g.C.Clock.to_come g.N.S.Stop.calls
+      l.setup.site.now.rule (g.C.Clock.of_fork l.clock) (g.N.Net.state l.fn.net).told) posts l.fn.jobs.items
+      → AllZip (IsPosted g.N.L.Listener.state (λ d. g.N.D.Dialer.upstream d) g.C.Clock.to_come g.N.S.Stop.calls
+      l.setup.site.now.rule (g.C.Clock.of_fork l.clock) (g.N.Net.state l.fn.net).told) (posts ++ posts_at (client_post l.setup.site.now) l.number) l.jobs.items;
   told : (g.N.Net.state l.net).told ≡ (g.N.Net.state l.fn.net).told;
   stops : with_stops (length (into_iter_items l.listener-iterator)) (g.N.Net.state l.net) ≡ with_stops (length l.fn.listeners.items) (g.N.Net.state l.fn.net);
   kept : g.N.Net.faults l.net ≡ g.N.Net.faults l.fn.net;

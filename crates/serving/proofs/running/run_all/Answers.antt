@@ -2,7 +2,8 @@ use denote.Exit.{no}
 use denote.Param.Send.{arg_send, param_send}
 use Rattle.std.proofs.Common.{Vec, Global, arith, ap}
 use Rattle.router.specs.Closing.{numbers_of}
-use Rattle.proxy_session.specs.Outside.{Line, Upstream}
+use Rattle.line_base.specs.Dials.{Upstream}
+use Rattle.line_base.specs.Lines.{Line}
 use Rattle.serving.specs.Jobs.{passes_of_jobs}
 use Rattle.serving.specs.declared.job.ServingJob.{ServingJob}
 use Rattle.serving.proofs.Chains.{numbers_back, zip_length}
@@ -21,8 +22,8 @@ take_all_back-requires-clause-room g c κs within =
 
 pub returns-in-Ok-clause-numbers : goal.returns-in-Ok-clause-numbers
 returns-in-Ok-clause-numbers g c =
-    let line_of = λ (p : g.row.N-L-P.Denot). let l : Line = record { left = g.N.L.P.Peer.left p; given = g.N.L.P.Peer.given p; read_faults = g.N.L.P.Peer.read_faults p; write_faults = g.N.L.P.Peer.write_faults p; ends = g.N.L.P.Peer.ends p } in l in
-    let upstream = λ (d : g.row.N-D.Denot). let u : Upstream = record { log = g.N.D.Dialer.log d; is_open = g.N.D.Dialer.is_open d; faults = g.N.D.Dialer.faults d } in u in
+    let line_of = λ (p : g.row.N-L-P.Denot). let l : Line = g.N.L.P.Peer.line p in l in
+    let upstream = λ (d : g.row.N-D.Denot). let u : Upstream = g.N.D.Dialer.upstream d in u in
     let same = same_numbers line_of g.N.L.Listener.state upstream g.C.Clock.to_come g.N.S.Stop.calls c.args.jobs.items c.in-Ok.ended.items c.in-Ok.ensures in
     numbers_back _ c.args.back.now.items _ _ c.take_all_back.ensures.passes same
 

@@ -10,7 +10,7 @@ use Rattle.serving.proofs.taking_back.take_all_back.Goals as goal
 
 pub loop-ended-init : goal.loop-ended-init
 loop-ended-init g c =
-    let ended = λ (j : (ServingJob g.row.J.Denot g.row.N-L.Denot g.row.N-D.Denot g.row.C.Denot g.row.N-S.Denot g.J.Naming) × Accepting). ended_of g.N.L.Listener.state g.N.D.Dialer.log g.N.S.Stop.calls j.0 in
+    let ended = λ (j : (ServingJob g.row.J.Denot g.row.N-L.Denot g.row.N-D.Denot g.row.C.Denot g.row.N-S.Denot g.J.Naming) × Accepting). ended_of g.N.L.Listener.state g.N.D.Dialer.upstream g.N.S.Stop.calls j.0 in
     let same = c.into_iter-ended-iterator.ensures.into_iter_gives.0 in
     record {
       passes = map_begun (λ (j : (ServingJob g.row.J.Denot g.row.N-L.Denot g.row.N-D.Denot g.row.C.Denot g.row.N-S.Denot g.J.Naming) × Accepting). pass_of j.0) _ _ _ same;
@@ -29,7 +29,7 @@ loop-ended-preserved g c =
     let step = c.in-Some.ensures.steps in
     let back = c.take_back.ensures in
     let shorter = ap length step.0 in
-    let ended = λ (j : (ServingJob g.row.J.Denot g.row.N-L.Denot g.row.N-D.Denot g.row.C.Denot g.row.N-S.Denot g.J.Naming) × Accepting). ended_of g.N.L.Listener.state g.N.D.Dialer.log g.N.S.Stop.calls j.0 in
+    let ended = λ (j : (ServingJob g.row.J.Denot g.row.N-L.Denot g.row.N-D.Denot g.row.C.Denot g.row.N-S.Denot g.J.Naming) × Accepting). ended_of g.N.L.Listener.state g.N.D.Dialer.upstream g.N.S.Stop.calls j.0 in
     record {
       passes = moved (λ (j : (ServingJob g.row.J.Denot g.row.N-L.Denot g.row.N-D.Denot g.row.C.Denot g.row.N-S.Denot g.J.Naming) × Accepting). pass_of j.0) _ _ _ c.in-Some.ended _ _ back.passes step.0 inv.passes;
       count = omega (arith, back.room.0, inv.count, shorter);

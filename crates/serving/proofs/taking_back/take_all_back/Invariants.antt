@@ -12,10 +12,10 @@ invariant-loop-ended g l = record {
   count : vec_len l.passes + length (into_iter_items l.ended-iterator) ≡ vec_len l.fn.passes + length l.fn.back.items;
   room : vec_len l.passes + length (into_iter_items l.ended-iterator) ≤ vec_capacity l.passes;
   faults : TellsFaults (g.N.Net.faults l.fn.net) (g.N.Net.faults l.net) l.tally.failed;
-  state : all_ended (map (λ b. ended_of g.N.L.Listener.state g.N.D.Dialer.log g.N.S.Stop.calls b.0) (into_iter_items l.ended-iterator)) (g.N.Net.state l.net)
-      ≡ all_ended (map (λ b. ended_of g.N.L.Listener.state g.N.D.Dialer.log g.N.S.Stop.calls b.0) l.fn.back.items) (g.N.Net.state l.fn.net);
-  failed : (l.tally.failed || list_any (λ b. is_broken (ended_of g.N.L.Listener.state g.N.D.Dialer.log g.N.S.Stop.calls b.0)) (into_iter_items l.ended-iterator))
-      ≡ list_any (λ b. is_broken (ended_of g.N.L.Listener.state g.N.D.Dialer.log g.N.S.Stop.calls b.0)) l.fn.back.items;
+  state : all_ended (map (λ b. ended_of g.N.L.Listener.state g.N.D.Dialer.upstream g.N.S.Stop.calls b.0) (into_iter_items l.ended-iterator)) (g.N.Net.state l.net)
+      ≡ all_ended (map (λ b. ended_of g.N.L.Listener.state g.N.D.Dialer.upstream g.N.S.Stop.calls b.0) l.fn.back.items) (g.N.Net.state l.fn.net);
+  failed : (l.tally.failed || list_any (λ b. is_broken (ended_of g.N.L.Listener.state g.N.D.Dialer.upstream g.N.S.Stop.calls b.0)) (into_iter_items l.ended-iterator))
+      ≡ list_any (λ b. is_broken (ended_of g.N.L.Listener.state g.N.D.Dialer.upstream g.N.S.Stop.calls b.0)) l.fn.back.items;
   lacked : (l.tally.lacked_memory || list_any (λ b. lacked_of b.0) (into_iter_items l.ended-iterator)) ≡ list_any (λ b. lacked_of b.0) l.fn.back.items;
   capacity : vec_capacity l.passes ≡ vec_capacity l.fn.passes;
 }

@@ -10,19 +10,24 @@ use Rattle.std.proofs.Crossing.{crosses}
 use Rattle.std.specs.declared.sync.ledger.Ledger as ledger
 use Rattle.identifier.proofs.rule.Rule.TheSendSync as rule
 use Rattle.identifier.specs.contracts.rule.Rule as Rule
-use Rattle.router.proofs.Crossing.{pass_send, router_sync}
+use Rattle.line_base.proofs.memory.clock.MemClock.TheSendSync as clock
+use Rattle.line_base.proofs.memory.dialer.MemDialer.TheSendSync as dialer
+use Rattle.line_base.specs.contracts.memory.clock.MemClock as MemClock
+use Rattle.line_base.specs.contracts.memory.dialer.MemDialer as MemDialer
+use Rattle.proxy_session.proofs.Crossing.{server_send}
+use Rattle.router.proofs.Crossing.{router_sync}
 use Rattle.router.specs.contracts.router.Router as Router
 use Rattle.router.specs.declared.naming.Naming as naming
 use Rattle.session_tests.proofs.beside.Client.TheSendSync as client
-use Rattle.session_tests.specs.contracts.beside.Connection as Connection
+use Rattle.session_tests.specs.contracts.beside.Visit as Visit
 use Rattle.session_tests.proofs.beside.serve_both.Goals as goal
 
 shared_send : (a : NamedLft) (R : RattleType) (one : One R.mir) → IsSync R → IsSend (as_row (shr_ref_field a R one))
 shared_send a R one s = as_row_send (shr_ref_field a R one) (shr_send a.mir a.lft R s)
 
 -- a connection may go to another thread
-connection_send : (a : NamedLft) (J : RattleType) (n : naming.Ghosts J.Denot) (l : ledger.Ghosts J.Denot) → IsSend J → IsSend (Connection.the_row a J n l)
-connection_send a J n l j = declared_send (Connection.the_type a J n l) (
+connection_send : (a : NamedLft) (J : RattleType) (n : naming.Ghosts J.Denot) (l : ledger.Ghosts J.Denot) → IsSend J → IsSend (Visit.the_row a J n l)
+connection_send a J n l j = declared_send (Visit.the_type a J n l) (
   search sendable,
   (
     search (crosses, sendable) depth 40,
@@ -30,7 +35,7 @@ connection_send a J n l j = declared_send (Connection.the_type a J n l) (
       shared_send a (Router.the_row J n l) tt (router_sync J n l j),
       (
         shared_send a Rule.the_row tt rule.the_sync,
-        (pass_send J n l j, (search (client.the_send, crosses, sendable) depth 40, tt)),
+        (server_send J MemDialer.the_row MemClock.the_row n l j dialer.the_send clock.the_send, (search (client.the_send, crosses, sendable) depth 40, tt)),
       ),
     ),
   ),

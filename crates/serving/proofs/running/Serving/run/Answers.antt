@@ -1,5 +1,5 @@
 use Rattle.std.proofs.Common.{arith}
-use Rattle.proxy_session.specs.Outside.{Line}
+use Rattle.line_base.specs.Lines.{Line}
 use Rattle.serving.proofs.Chains.{same_length}
 use Rattle.serving.proofs.Ending.{has_served}
 use Rattle.serving.proofs.running.Serving.run.Goals as goal
@@ -10,7 +10,7 @@ close-place-requires-clause-all g c =
 
 pub returns-clause-served : goal.returns-clause-served
 returns-clause-served g c = λ loaded seen.
-    let line_of = λ (p : g.row.L-P.Denot). let l : Line = record { left = g.L.P.Peer.left p; given = g.L.P.Peer.given p; read_faults = g.L.P.Peer.read_faults p; write_faults = g.L.P.Peer.write_faults p; ends = g.L.P.Peer.ends p } in l in
+    let line_of = λ (p : g.row.L-P.Denot). let l : Line = g.L.P.Peer.line p in l in
     let ran = c.run_jobs-ran.ensures.served c.if-not-ran.false c.if-tally.false in
     has_served line_of c.args.site.now (g.C.Clock.of_fork c.args.clock.now) loaded c.args.self.passes.items c.run_jobs-ran.result.passes.items (g.N.Net.state c.args.net.now)
     (g.N.Net.state c.run_jobs-ran.new.net) (record { place = c.close-place.result; lacked_memory = c.run_jobs-ran.result.tally.lacked_memory }) c.requires.ready.apart seen c.requires.listens.room ran c.close-place.ensures

@@ -1,7 +1,8 @@
-use Rattle.std.proofs.Common.{refl, sym, ◌∙◌}
-use Rattle.std.proofs.lemmas.List.{length-map}
-use Rattle.weave.specs.Code.{operation_of, question_of}
-use Rattle.weave.proofs.Moving.{steady}
+use Rattle.std.proofs.Common.{Some, refl, ap, ◌∙◌}
+use Rattle.weave.specs.Listed.{question_of}
+use Rattle.weave.specs.declared.step.Asked.{Asked}
+use Rattle.weave.specs.World.{call_of}
+use Rattle.weave.proofs.Moving.{steady, pass_with}
 use Rattle.weave.proofs.Asking.{asks}
 use Rattle.weave.proofs.Results.{if_err}
 use Rattle.weave.proofs.world.World.ask.Goals as goal
@@ -10,9 +11,9 @@ pub returns-clause-ok : goal.returns-clause-ok
 returns-clause-ok c = λ p here.
     let old = c.args.self.now in
     let x = c.index_mut-pass.result.now in
-    asks old _ c.args.number c.len-point.result p x c.call.new.self _ (question_of c.args.asked) (record { item = c.len-item.result; told = c.args.told; fresh = c.args.fresh }) c.requires.holds here c.index_mut-pass.ensures.value
-    (c.len-point.ensures ∙ (old.operations.ok.0 ∙ sym (length-map old.operations.items operation_of)))
-    c.in_ok-call.ensures.pass c.in_ok-call.ensures.changes c.in_ok-call.ensures.keeps refl refl refl refl refl refl (c.len-item.ensures ∙ x.items.ok.0) c.requires.told c.requires.fresh refl refl refl refl refl
+    asks old _ c.args.number c.args.self.now.operations.len p x c.call.new.self (record c.call.new.self { flight = Some (record { item = x.items.len; told = c.args.told; fresh = c.args.fresh }) }) (question_of c.args.asked.now) (record { item = x.items.len; told = c.args.told; fresh = c.args.fresh }) c.requires.holds here c.index_mut-pass.ensures.value
+    old.operations.counted
+    (c.in_ok-call.ensures.pass ∙ ap (λ (k : Asked). pass_with x (call_of (question_of k)) old.operations.len old.operations.len) c.of.ensures) c.in_ok-call.ensures.changes c.in_ok-call.ensures.keeps refl refl refl refl refl refl x.items.counted c.requires.told c.requires.fresh refl refl refl refl refl
 
 pub returns-in_err-call-clause-err : goal.returns-in_err-call-clause-err
 returns-in_err-call-clause-err c =

@@ -1,6 +1,6 @@
 use Rattle.std.proofs.Common.{refl, arith, subst, Option}
 use Rattle.machine.specs.Code.{settings_of}
-use Rattle.weave.specs.Code.{pass_of, question_of}
+use Rattle.weave.specs.Listed.{question_of}
 use Rattle.weave.specs.World.{PassValue, Question, enter, entering, entered}
 use Rattle.weave.specs.Held.{world_of, Becomes}
 use Rattle.weave.proofs.Moving.{present_value}
@@ -19,4 +19,4 @@ returns-clause-ok g c =
     let old = c.args.self.now in
     let x = present_value old.passes.items c.args.number (omega (arith, c.if-number-len.false, c.len.ensures, old.passes.ok.0)) in
     enters_it old c.ask.new.self c.args.number x.0 (question_of c.args.asked.now) x.1
-    (subst (λ (q : Question). Becomes old c.ask.new.self (entered (settings_of old.settings) (world_of old) c.args.number (pass_of x.0) q)) c.in_ok-copy.ensures (c.in_ok-ask.ensures.ok x.0 x.1))
+    (c.in_ok-ask.ensures.ok x.0 x.1)

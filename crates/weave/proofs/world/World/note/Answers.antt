@@ -1,6 +1,5 @@
 use Rattle.std.proofs.Common.{refl, sym, ◌∙◌}
-use Rattle.std.proofs.lemmas.List.{length-map}
-use Rattle.weave.specs.Code.{call_value, operation_of}
+use Rattle.weave.specs.Listed.{call_value}
 use Rattle.weave.proofs.Moving.{noted, steady}
 use Rattle.weave.proofs.Results.{on_ok, on_err}
 use Rattle.weave.proofs.world.World.note.Goals as goal
@@ -9,8 +8,8 @@ pub returns-clause-ok : goal.returns-clause-ok
 returns-clause-ok c =
     on_ok c.call.result c.call.ensures.pass
     (λ pass p here.
-    noted c.args.self.now _ c.args.number c.len-point.result p c.index_mut.result.now c.call.new.self (call_value c.args.call) c.requires.holds here c.index_mut.ensures.value
-    (c.len-point.ensures ∙ (c.args.self.now.operations.ok.0 ∙ sym (length-map c.args.self.now.operations.items operation_of))) pass c.call.ensures.flight c.call.ensures.changes c.call.ensures.keeps
+    noted c.args.self.now _ c.args.number c.args.self.now.operations.len p c.index_mut.result.now c.call.new.self (call_value c.args.call) c.requires.holds here c.index_mut.ensures.value
+    c.args.self.now.operations.counted pass c.call.ensures.flight c.call.ensures.changes c.call.ensures.keeps
     (c.requires.nothing p here) refl refl refl refl refl)
 
 pub returns-clause-err : goal.returns-clause-err

@@ -8,7 +8,7 @@ use Rattle.bind_cache.specs.Kept.{Kept}
 use Rattle.bind_cache.specs.Bindings.{bindings_of}
 use Rattle.router_log.specs.Value.{Value}
 use Rattle.weave.specs.declared.pass.Pass.{Pass}
-use Rattle.weave.specs.Code.{operation_of, pass_of}
+use Rattle.weave.specs.Code.{pass_of}
 use Rattle.weave.specs.World.{PassValue, new_pass}
 use Rattle.weave.proofs.Moving.{started, all_at}
 use Rattle.weave.proofs.world.World.start.Goals as goal
@@ -16,7 +16,7 @@ use Rattle.weave.proofs.world.World.start.Goals as goal
 pub returns-clause-holds : goal.returns-clause-holds
 returns-clause-holds c =
     let make : StateValue → List Kept → Value = λ s ks. record { state = s; cache = ks } in
-    started _ c.loop-number._number (ap (map operation_of) c.new-2.ensures.items) c.loop-number.invariant.0 (λ j p here. all_at (λ (q : Pass). (q.changes ≡ 0) × (q.keeps ≡ 0)) c.loop-number.all.items j p c.loop-number.invariant.1 here)
+    started _ c.loop-number._number c.new-2.ensures c.loop-number.invariant.0 (λ j p here. all_at (λ (q : Pass). (q.changes ≡ 0) × (q.keeps ≡ 0)) c.loop-number.all.items j p c.loop-number.invariant.1 here)
     (ap (λ (s : StateValue). make s (bindings_of c.in_ok-start-2.field-0)) c.in_ok-start.ensures ∙ ap (make opening) c.in_ok-start-2.ensures) refl
 
 pub loop-number-preserved : goal.loop-number-preserved

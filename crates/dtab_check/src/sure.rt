@@ -1,0 +1,31 @@
+//! Entries whose trees are sure.
+ghost use Rattle.std.specs.Prelude.{◌≡◌, ◌<◌, ◌^◌, length, map, IfOk};
+ghost use Rattle.dtab_table.specs.Rules.{rule_of};
+ghost use Rattle.dtab_check.specs.Sure.{is_sure};
+
+use crate::Mem;
+use crate::found::leading_to;
+use crate::indexed::IndexedEntries;
+use crate::live::live_in;
+use dtab_table::Entry;
+use std::alloc::Global;
+
+/// Which entries of a table have a sure tree, entry by entry.
+///
+/// Each leaf is looked up once in an index of the table's prefixes. That takes one look-up for each
+/// shape of prefix, and a step for each prefix that the leaf begins with.
+pub(crate) fn sure_entries(alloc: Global, entries: &[Entry]) -> Mem<Vec<bool>>
+    requires { length entries.now < 2 ^ 32 }
+    ensures { IfOk result (λ sure. sure.items
+        ≡ map (λ r. is_sure (map rule_of entries.now) r.tree) (map rule_of entries.now)) }
+{
+    let indexed = IndexedEntries::of(alloc, entries)?;
+    let mut own = Vec::with_capacity(alloc, entries.len())?;
+    let mut rows = Vec::with_capacity(alloc, entries.len())?;
+    for entry in entries {
+        let live = live_in(alloc, &entry.tree)?;
+        own.push(live.stops)?;
+        rows.push(indexed.reached_by(alloc, live.leaves.as_slice())?)?;
+    }
+    leading_to(alloc, own.as_slice(), rows.as_slice())
+}

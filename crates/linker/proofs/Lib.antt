@@ -1,6 +1,0 @@
-pub mod Known
-pub mod Plays
-pub mod Runs
-pub mod Causes
-pub mod OneLine
-pub mod Serving

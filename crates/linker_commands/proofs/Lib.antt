@@ -1,0 +1,5 @@
+pub mod Known
+pub mod Plays
+pub mod Runs
+pub mod Causes
+pub mod Serving

@@ -1,0 +1,264 @@
+-- How a run ends that was to serve.
+use Rattle.std.proofs.Common.{◌≡◌, ℕ, ◌+◌, List, ◌++◌, refl, sym, ap, subst, ◌∙◌, inl, inr, false}
+use Rattle.std.proofs.Common.{arith}
+use Rattle.std.specs.Prelude.{Option, None, Some, Result, Ok, Err, codes}
+use Rattle.std.specs.Io.KnownBytes.{Appends}
+use Rattle.std.specs.declared.vec.Vec.{Vec}
+use Rattle.std.specs.declared.alloc.Global.{Global}
+use Rattle.line_base.specs.Counts.{Rose}
+use Rattle.line_base.specs.Files.{File}
+use Rattle.line_base.specs.Nets.{Networking}
+use Rattle.linker_config.specs.declared.loaded.LoadedItem.{LoadedItem}
+use Rattle.machine.specs.Values.{SettingsValue}
+use Rattle.router.specs.declared.naming.Naming.{Ghosts}
+use Rattle.router.specs.declared.pass.Pass.{Pass}
+use Rattle.serving.specs.declared.running.Served.{Served}
+use Rattle.serving.specs.declared.site.Site.{Site}
+use Rattle.serving.specs.Ending.{HasServed}
+use Rattle.serving.specs.Returning.{listened}
+use Rattle.serving.specs.Services.{BookRefuses}
+use Rattle.line_base.specs.Lines.{Line}
+use Rattle.std.specs.declared.marker.Brand.{Brand}
+use Rattle.linker_config.specs.declared.config.Config.{Config}
+use Rattle.linker_config.specs.declared.loaded.LoadFault.{LoadFault}
+use Rattle.linker_config.specs.declared.loaded.LoadFault.TheVariants.{BadFile, FolderFault}
+use Rattle.linker_config.specs.declared.loaded.LoadFault.TheVariants.{LongFile, OutOfMemory}
+use Rattle.linker_config.specs.Folder.{Loads}
+use Rattle.linker_config.specs.Loading.{HasLoadCause}
+use Rattle.linker_commands.specs.declared.check.ConfigEnd.{ConfigEnd}
+use Rattle.linker_commands.specs.declared.check.ConfigEnd.TheVariants.{Wrong}
+use Rattle.linker_commands.specs.Found.{IfWrong}
+use Rattle.linker_commands.specs.declared.run.Status.{Status}
+use Rattle.linker_commands.specs.declared.run.Status.TheVariants as status
+use Rattle.line_base.specs.Files.{Filed}
+use Rattle.line_base.specs.Streams.{Output}
+use Rattle.linker_commands.specs.Run.{AppendsFront, Course, line_told, no_memory, served}
+use Rattle.linker_commands.specs.Run.{EndsServing, Ended, Linked, Serves}
+use Rattle.linker_commands.specs.Served.{Finish, broken, short, finish_code, AreLoaded, IsConfig}
+use Rattle.linker_commands.specs.Served.{IsLast, IsMadeBy, LoadsRoot, RefusesBook, RefusesService}
+use Rattle.linker_commands.specs.Served.{ServedBy, TellsEnd, TellsNet, TellsServing, router_of}
+use Rattle.linker_commands.specs.Served.{file_line, memory_line, serving_line, shut_down, site_of}
+use Rattle.linker_commands.specs.Told.{Tells, code_of}
+use Rattle.linker_commands.proofs.Runs.{tells_end, tells_behind, tells_memory_first, fails_before}
+
+-- a net that tells the same
+linked_same : {P : Type 0} (a b : Linked P) → b.state ≡ a.state → b.faults ≡ a.faults → b ≡ a
+linked_same a b state faults = λ i. record { state = state i; faults = faults i }
+
+module _ (J : Type 0) {P : Type 0} (line_of : P → Line) (moments : Option (List ℕ))
+    (files : Option (List File)) (c : Config) where
+  -- the book has no room for a service
+  pub no_room : (settings : SettingsValue) (loaded : List LoadedItem) (site : Site)
+      (net net_after : Linked P) (old new : Output) (result : Status)
+      → IsMadeBy files c site settings loaded
+      → BookRefuses settings loaded × (net_after.state ≡ net.state) → net_after.faults ≡ net.faults
+      → Tells (codes "error book\n") status.Wrong old new result
+      → EndsServing J line_of moments files c net net_after old new (code_of result)
+  no_room settings loaded site net net_after old new result made refused kept told =
+      let book : RefusesBook files c = (
+        loaded,
+        made.loads,
+        subst
+            (λ (s : SettingsValue). BookRefuses s loaded) made.settings_are refused.0,
+      ) in
+      inr (inl (
+        book,
+        linked_same net net_after refused.1 kept,
+        tells_end
+            (line_told false (codes "error book\n")) (codes "error book\n") status.Wrong result old
+            new refl refl told,
+      ))
+
+  -- memory was wanting before anything was written
+  pub no_memory_yet : (net net_after : Linked P) (old new : Output) (result : Status)
+      → net_after.faults ≡ net.faults → Tells memory_line status.Memory old new result
+      → EndsServing J line_of moments files c net net_after old new (code_of result)
+  no_memory_yet net net_after old new result kept told =
+      inr (inr (kept, tells_memory_first no_memory result old new told))
+
+  -- an address can't be listened on
+  pub not_listening : (net net_after : Linked P) (old new : Output) (result : Status)
+      → AreLoaded files c → Rose net.faults net_after.faults
+      → Tells (codes "error net\n") status.Net old new result
+      → EndsServing J line_of moments files c net net_after old new (code_of result)
+  not_listening net net_after old new result loaded rose told =
+      inl (
+        codes "error net\n",
+        broken,
+        record {
+          last = codes "error net\n";
+          is_last = (refl, loaded);
+          lines_are = inr (refl, refl);
+        },
+        record { rose = λ _. rose; kept = λ other. absurd (other refl) },
+        tells_end (served (codes "error net\n") broken) (codes "error net\n") status.Net result old
+            new refl refl told,
+      )
+
+  -- the line that tells where it serves could not be written
+  pub not_told : (net net_after : Linked P) (line : List ℕ) (old new : Output)
+      → line ≡ serving_line c → net_after.faults ≡ net.faults → Rose old.faults new.faults
+      → AppendsFront old.held new.held line → EndsServing J line_of moments files c net net_after
+      old new 5
+  not_told net net_after line old new is kept rose front =
+      let lines = serving_line c ++ memory_line in
+      inl (
+        lines,
+        short,
+        record { last = memory_line; is_last = inl refl; lines_are = inl refl },
+        record { rose = λ same. cc same; kept = λ _. kept },
+        fails_before (served lines short) (serving_line c) memory_line old new refl rose
+            (subst (AppendsFront old.held new.held) is front),
+      )
+
+  -- it served, and what came last was told
+  pub told_on : (net mid net_after : Linked P) (line : List ℕ) (old between new : Output)
+      (result : Status) → line ≡ serving_line c → mid.faults ≡ net.faults
+      → Appends old.held between.held line → between.faults ≡ old.faults
+      → ((last : List ℕ) × (finish : Finish) × (end : Status)
+      × IsLast J line_of moments files c net.state net_after.state last finish
+      × TellsNet mid.faults net_after.faults finish
+      × (code_of end ≡ finish_code finish) × Tells last end between new result)
+      → EndsServing J line_of moments files c net net_after old new (code_of result)
+  told_on net mid net_after line old between new result is kept before same on =
+      let lines = serving_line c ++ on.0 in
+      inl (
+        lines,
+        on.1,
+        record { last = on.0; is_last = on.3; lines_are = inl refl },
+        subst (λ (n : ℕ). TellsNet n net_after.faults on.1) kept on.4,
+        tells_behind (served lines on.1) (serving_line c) on.0 on.2 result old between new refl on.5
+            (subst (Appends old.held between.held) is before) same on.6,
+      )
+
+module _ {J P : Type 0} (line_of : P → Line) (moments : Option (List ℕ))
+    (files : Option (List File)) (c : Config) where
+  -- a router that served is told of
+  pub told_end : (net net_after : Networking P) (end : Served) (last : List ℕ) (finish : Finish)
+      → ServedBy J line_of moments files c net net_after end → TellsEnd end last finish
+      → IsLast J line_of moments files c net net_after last finish
+  told_end net net_after end last shut_down by told = (end, by, told.0, told.1)
+  told_end net net_after end last broken by told = absurd told
+  told_end net net_after end last short by (inl wanting) = inl wanting
+  told_end net net_after end last short by (inr told) = inr (end, by, told.0, told.1)
+
+  -- it served by the configuration
+  pub served_by : {g : Ghosts J} (site : Site) (loaded : List LoadedItem) (passes : List (Pass J g))
+      (net mid net_after : Networking P) (end : Served) → IsMadeBy files c site g.settings loaded
+      → mid ≡ listened (c.workers + 4) net → HasServed line_of site moments loaded passes mid
+      net_after end → ServedBy J line_of moments files c net net_after end
+  served_by {g} site loaded passes net mid net_after end made listening whole =
+      let At : Site → Networking P → Type 0 =
+      λ s n. HasServed line_of s moments loaded passes n net_after end in
+      let sited : At (site_of c) (listened (c.workers + 4) net) = subst
+      (λ (n : Networking P). At (site_of c) n) listening
+      (subst (λ (s : Site). At s mid) made.site_is whole) in
+      let Over : SettingsValue → Type 0 =
+      λ s. (ps : List (Pass J (router_of J g.cell s g.words g.seats)))
+      × HasServed line_of (site_of c) moments loaded ps (listened (c.workers + 4) net) net_after
+      end in
+      let over : Over g.settings = (passes, sited) in
+      let settled = subst Over made.settings_are over in
+      record {
+        loaded = loaded;
+        loads = made.loads;
+        cell = g.cell;
+        words = g.words;
+        seats = g.seats;
+        passes = settled.0;
+        whole = settled.1;
+      }
+
+pub listening_by : {P : Type 0} (site : Site) (c : Config) (net mid : Networking P)
+    → site ≡ site_of c → mid ≡ listened (site.workers + 4) net → mid ≡ listened (c.workers + 4) net
+listening_by site c net mid same is = is ∙ ap (λ (s : Site). listened (s.workers + 4) net) same
+
+-- a refusal of services comes from the folder that is named
+named_root : (files : Option (List File)) (root : Option (List ℕ)) (fault : LoadFault)
+    → LoadsRoot files root (Err fault)
+    → (named : List ℕ) × (root ≡ Some named) × Loads files named (Err fault)
+named_root files None fault told = cc told
+named_root files (Some named) fault told = (named, refl, told)
+
+pub refuses_long : (files : Option (List File)) (c : Config) (name : List ℕ) (fault : LoadFault)
+    → fault ≡ LongFile name → LoadsRoot files c.root (Err fault)
+    → RefusesService files c (file_line name)
+refuses_long files c name fault is told =
+    let root = named_root files c.root fault told in
+    let loads : LoadFault → Type 0 = λ f. Loads files root.0 (Err f) in
+    inl (root.0, name, root.1, inl (subst loads is root.2), refl)
+
+pub refuses_bad : (files : Option (List File)) (c : Config) (name : List ℕ) (line : ℕ)
+    (fault : LoadFault) → fault ≡ BadFile name line → LoadsRoot files c.root (Err fault)
+    → RefusesService files c (file_line name)
+refuses_bad files c name line fault is told =
+    let root = named_root files c.root fault told in
+    let loads : LoadFault → Type 0 = λ f. Loads files root.0 (Err f) in
+    inl (root.0, name, root.1, inr (line, subst loads is root.2), refl)
+
+-- the folder's count rose exactly where it could not be read
+pub kept_unless : {T : Type 0} (before now : ℕ) (fault : LoadFault) → (fault ≡ FolderFault → ⊥)
+    → HasLoadCause {T = T} before now (Err fault) → now ≡ before
+kept_unless before now (LongFile name) other cause = cause.count
+kept_unless before now (BadFile name line) other cause = cause.count
+kept_unless before now FolderFault other cause = absurd (other refl)
+kept_unless before now OutOfMemory other cause = cause.count
+
+pub rose_with : {T : Type 0} (before now : ℕ) (fault : LoadFault) → fault ≡ FolderFault
+    → HasLoadCause {T = T} before now (Err fault) → Rose before now
+rose_with before now (LongFile name) is cause = cc is
+rose_with before now (BadFile name line) is cause = cc is
+rose_with before now FolderFault is cause = omega (arith, cause.count)
+rose_with before now OutOfMemory is cause = cc is
+
+-- how a router ends that was to serve by a configuration is a course of serving by the one at a
+-- path
+pub course_of_end : {P : Type 0} (line_of : P → Line) (moments : Option (List ℕ)) (path : List ℕ)
+    (c : Config) (files files_after : Filed) (net net_after : Linked P) (old new : Output)
+    (code : ℕ)
+    → IsConfig files.files path c → files_after.faults ≡ files.faults
+    → EndsServing Brand line_of moments files.files c net net_after old new code
+    → (course : Course) × Serves line_of moments path files files_after net net_after course
+    × Ended course old new code
+course_of_end line_of moments path c files files_after net net_after old new code right kept
+    (inl end) =
+    (served end.0 end.1, (c, right, end.2, end.3, kept), end.4)
+course_of_end line_of moments path c files files_after net net_after old new code right kept
+    (inr (inl book)) = (
+      line_told false (codes "error book\n"),
+      (inr (c, right, inr (book.0, refl)), kept, book.1),
+      book.2,
+    )
+course_of_end line_of moments path c files files_after net net_after old new code right kept
+    (inr (inr wanting)) =
+    (no_memory, (kept, wanting.0), wanting.1)
+
+-- what a folder tells of itself is the same
+filed_same : (a b : Filed) → a.files ≡ b.files → a.faults ≡ b.faults → a ≡ b
+filed_same a b files faults =
+    let with_files : Option (List File) → Filed = λ f. record { files = f; faults = a.faults } in
+    let with_faults : ℕ → Filed = λ n. record { files = b.files; faults = n } in
+    ap with_files files ∙ ap with_faults faults
+
+-- the configuration was read first, and left the folder as it was
+pub serves_from : {P : Type 0} (line_of : P → Line) (moments : Option (List ℕ)) (path : List ℕ)
+    (c : Config) (files mid files_after : Filed) (net net_after : Linked P) (old new : Output)
+    (code : ℕ)
+    → mid.files ≡ files.files → mid.faults ≡ files.faults → IsConfig files.files path c
+    → ((named : List ℕ) → IsConfig mid.files named c → (course : Course)
+    × Serves line_of moments named mid files_after net net_after course × Ended course old new code)
+    → (course : Course) × Serves line_of moments path files files_after net net_after course
+    × Ended course old new code
+serves_from line_of moments path c files mid files_after net net_after old new code same kept right
+    on =
+    let holds : Option (List File) → Type 0 = λ f. IsConfig f path c in
+    let serves : Filed → Type 0 = λ f. (course : Course)
+    × Serves line_of moments path f files_after net net_after course
+    × Ended course old new code in
+    subst serves (filed_same mid files same kept) (on path (subst holds (sym same) right))
+
+-- the line of a configuration that is refused
+pub wrong_told : (end : ConfigEnd) (line : Vec ℕ Global) (Is : List ℕ → Type 0) → end ≡ Wrong line
+    → IfWrong end Is → Is line.items
+wrong_told end line Is is told =
+    let tells : ConfigEnd → Type 0 = λ e. IfWrong e Is in subst tells is told

@@ -1,0 +1,27 @@
+use Rattle.std.proofs.Common.{◌≡◌, ℕ, List, subst, true}
+use Rattle.std.specs.Prelude.{Ok}
+use Rattle.line_base.specs.declared.folder.Found.{Found}
+use Rattle.line_base.specs.declared.folder.Found.TheVariants.{Bytes, Absent, Longer}
+use Rattle.linker_config.specs.declared.config.Config.{Config}
+use Rattle.linker_config.specs.Answers.{Reads}
+use Rattle.linker_config.specs.Lines.{good_line}
+use Rattle.linker_commands.specs.Check.{TellsFound}
+use Rattle.linker_commands.specs.Served.{IsText}
+use Rattle.linker_commands.proofs.check.check.Goals as goal
+
+-- the line of a configuration that was read tells of what was found
+told_right : (found : Found) (text line : List ℕ) (config : Config) → IsText found text
+    → Reads text (Ok config) → line ≡ good_line config → TellsFound found true line
+told_right (Bytes bytes) text line config is reads told =
+    (config, subst (λ (t : List ℕ). Reads t (Ok config)) is reads, told)
+told_right Absent text line config is reads told = absurd is
+told_right Longer text line config is reads told = absurd is
+
+pub returns-in-Ok-check_line-clause-told : goal.returns-in-Ok-check_line-clause-told
+returns-in-Ok-check_line-clause-told g c =
+    let right = c.in-Ok.ensures.config in (
+      right.0,
+      right.1,
+      told_right right.0 right.2 c.in-Ok-check_line.line.items c.in-Ok.config
+          right.3 right.4 c.in-Ok-check_line.ensures,
+    )

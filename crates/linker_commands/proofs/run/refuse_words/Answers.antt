@@ -1,0 +1,20 @@
+use Rattle.std.proofs.Common.{refl, ◌∙◌}
+use Rattle.line_base.specs.Streams.{Output}
+use Rattle.linker_commands.specs.Run.{words_refused}
+use Rattle.linker_commands.specs.declared.run.Status.TheVariants as status
+use Rattle.linker_commands.proofs.Runs.{tells_end, tells_memory_first}
+use Rattle.linker_commands.proofs.run.refuse_words.Goals as goal
+
+pub returns-in-Ok : goal.returns-in-Ok
+returns-in-Ok g c =
+    let old : Output = g.K.Sink.output c.args.out.now in
+    let new : Output = g.K.Sink.output c.tell.new.out in
+    tells_end (words_refused c.args.place) c.as_bytes.result.now status.Words c.tell.result old new
+    (c.as_bytes.ensures.value ∙ c.in-Ok.ensures) refl c.tell.ensures
+
+pub returns-in-Err : goal.returns-in-Err
+returns-in-Err g c =
+    let old : Output = g.K.Sink.output c.args.out.now in
+    let new : Output = g.K.Sink.output c.tell-in-Err.new.out in
+    tells_memory_first (words_refused c.args.place) c.tell-in-Err.result old new
+    c.tell-in-Err.ensures

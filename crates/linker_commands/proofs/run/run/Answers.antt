@@ -1,0 +1,30 @@
+use Rattle.std.proofs.Common.{refl, sym, subst, ◌∙◌, ap, Ok, Result, ℕ}
+use Rattle.linker_commands.specs.Generated.{storm_line, weave_line}
+use Rattle.line_base.specs.Files.{Filed}
+use Rattle.line_base.specs.Streams.{Input, Output}
+use Rattle.linker_commands.specs.Run.{Takes}
+use Rattle.linker_commands.specs.Words.{Asked, command_of, storm, weave}
+use Rattle.linker_commands.proofs.run.run.Goals as goal
+
+pub returns-in-Ok-Storm : goal.returns-in-Ok-Storm
+returns-in-Ok-Storm g c =
+    let input : Input = g.S.Source.input c.args.input.now in
+    let files : Filed = g.F.Folder.filed c.args.folder.now in
+    let run = c.in-Ok-Storm.run' in
+    let made = c.tell_made.ensures (storm_line run.turns run.seed) c.storm_line.ensures in (
+      made.0,
+      (rw c.in-Ok-Storm.ensures (rw c.in-Ok-Storm.field-0-is (made.1, refl, refl, refl))),
+      made.2,
+    )
+
+pub returns-in-Ok-Weave : goal.returns-in-Ok-Weave
+returns-in-Ok-Weave g c =
+    let input : Input = g.S.Source.input c.args.input.now in
+    let files : Filed = g.F.Folder.filed c.args.folder.now in
+    let run = c.in-Ok-Weave.run' in
+    let made =
+    c.tell_made-in-Ok-Weave.ensures (weave_line run.turns run.seed) c.weave_line.ensures in (
+      made.0,
+      (rw c.in-Ok-Weave.ensures (rw c.in-Ok-Weave.field-0-is (made.1, refl, refl, refl))),
+      made.2,
+    )

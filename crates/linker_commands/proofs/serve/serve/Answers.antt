@@ -1,0 +1,69 @@
+use Rattle.std.proofs.Common.{refl, ap, inl, false, Err, List, ℕ}
+use Rattle.line_base.specs.Lines.{Line}
+use Rattle.linker_commands.specs.Check.{TellsPath}
+use Rattle.line_base.specs.Files.{Filed}
+use Rattle.line_base.specs.Streams.{Output}
+use Rattle.linker_commands.specs.Run.{Linked, line_told, read_failed, no_memory}
+use Rattle.linker_commands.specs.Told.{code_of}
+use Rattle.linker_commands.specs.declared.run.Status.TheVariants as status
+use Rattle.linker_commands.proofs.Runs.{tells_end, tells_memory_first}
+use Rattle.linker_commands.proofs.Serving.{serves_from, wrong_told}
+use Rattle.linker_commands.proofs.serve.serve.Goals as goal
+
+pub returns-in-Ok-clause-served : goal.returns-in-Ok-clause-served
+returns-in-Ok-clause-served g c =
+    let old_files : Filed = g.F.Folder.filed c.args.folder.now in
+    let mid_files : Filed = g.F.Folder.filed c.configured.new.folder in
+    let new_files : Filed = g.F.Folder.filed c.serve_by.new.folder in
+    let old_net : Linked g.row.N-L-P.Denot =
+    record { state = g.N.Net.state c.args.net.now; faults = g.N.Net.faults c.args.net.now } in
+    let new_net : Linked g.row.N-L-P.Denot = record
+    { state = g.N.Net.state c.serve_by.new.net; faults = g.N.Net.faults c.serve_by.new.net } in
+    let line_of = λ (p : g.row.N-L-P.Denot). let l : Line = g.N.L.P.Peer.line p in l in
+    let old : Output = g.K.Sink.output c.args.out.now in
+    let new : Output = g.K.Sink.output c.serve_by.new.out in
+    let e = c.in-Ok.ensures in
+    serves_from line_of (g.C.Clock.of_fork c.args.clock.now) c.args.path.now c.in-Ok.config
+    old_files mid_files new_files old_net new_net old new (code_of c.serve_by.result) e.files
+    (e.kept (λ is. cc is)) e.config c.serve_by.ensures.served
+
+pub returns-in-Err-Wrong-clause-served : goal.returns-in-Err-Wrong-clause-served
+returns-in-Err-Wrong-clause-served g c =
+    let old : Output = g.K.Sink.output c.args.out.now in
+    let new : Output = g.K.Sink.output c.tell.new.out in
+    let a = c.in-Err-Wrong in
+    let is : List ℕ → Type 0 =
+    λ line. TellsPath (g.F.Folder.filed c.args.folder.now).files c.args.path.now false line in
+    let course = line_told false a.line.items in (
+      course,
+      (
+        inl (wrong_told a.field-0 a.line is a.field-0-is a.ensures.wrong),
+        a.ensures.kept
+            (λ same. cc (same, a.field-0-is)),
+        refl,
+      ),
+      tells_end course c.as_slice.result.now status.Wrong c.tell.result old new
+          (rw c.in-Err-Wrong.field-0-is at c.as_slice.ensures.value) refl c.tell.ensures,
+    )
+
+pub returns-in-Err-Fault-clause-served : goal.returns-in-Err-Fault-clause-served
+returns-in-Err-Fault-clause-served g c =
+    let old : Output = g.K.Sink.output c.args.out.now in
+    let new : Output = g.K.Sink.output c.tell-in-Err-Fault.new.out in
+    let a = c.in-Err-Fault in (
+      read_failed,
+      (a.ensures.fault (ap Err a.field-0-is), refl),
+      tells_end read_failed _ status.Read
+          c.tell-in-Err-Fault.result old new refl refl c.tell-in-Err-Fault.ensures,
+    )
+
+pub returns-in-Err-OutOfMemory-clause-served : goal.returns-in-Err-OutOfMemory-clause-served
+returns-in-Err-OutOfMemory-clause-served g c =
+    let old : Output = g.K.Sink.output c.args.out.now in
+    let new : Output = g.K.Sink.output c.tell-in-Err-OutOfMemory.new.out in
+    let a = c.in-Err-OutOfMemory in (
+      no_memory,
+      (a.ensures.kept (λ same. cc (same, a.field-0-is)), refl),
+      tells_memory_first
+          no_memory c.tell-in-Err-OutOfMemory.result old new c.tell-in-Err-OutOfMemory.ensures,
+    )

@@ -1,0 +1,21 @@
+use Rattle.std.specs.Prelude.{Some}
+use Rattle.load_words.specs.Seats.{words_of}
+use Rattle.snap_cell.specs.Writers.{cell_written, opening_written}
+use Rattle.router.specs.Values.{settings_in}
+use Rattle.linker_commands.proofs.serve.serve_by.Given as goal
+
+-- the router that was just opened
+abbrev pub ghosts-serve_opened-J-Naming : goal.ghosts-serve_opened-J-Naming
+ghosts-serve_opened-J-Naming g a =
+    record {
+      cell = Some (cell_written a.opened.writer);
+      settings = settings_in
+          (opening_written a.opened.writer);
+      words = Some (words_of a.opened.loads);
+      seats =
+          a.opened.seats;
+    }
+
+abbrev pub ghosts-serve_opened-J-Ledger : goal.ghosts-serve_opened-J-Ledger
+ghosts-serve_opened-J-Ledger g a =
+    record { name = a.opened.blank.name; parts = a.opened.blank.parts }

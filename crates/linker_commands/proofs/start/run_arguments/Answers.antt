@@ -1,0 +1,26 @@
+use Rattle.std.proofs.Common.{sym, subst}
+use Rattle.line_base.specs.Lines.{Line}
+use Rattle.line_base.specs.Files.{Filed}
+use Rattle.line_base.specs.Streams.{Input, Output}
+use Rattle.linker_commands.specs.Run.{Linked, Ran, words_of}
+use Rattle.linker_commands.proofs.start.run_arguments.Goals as goal
+
+pub returns-clause-ran : goal.returns-clause-ran
+returns-clause-ran g c =
+    let old_in : Input = g.S.Source.input c.args.input.now in
+    let new_in : Input = g.S.Source.input c.status_for-status.new.input in
+    let old_files : Filed = g.F.Folder.filed c.args.folder.now in
+    let new_files : Filed = g.F.Folder.filed c.status_for-status.new.folder in
+    let old_net : Linked g.row.N-L-P.Denot =
+    record { state = g.N.Net.state c.args.net.now; faults = g.N.Net.faults c.args.net.now } in
+    let line_of = λ (p : g.row.N-L-P.Denot). let l : Line = g.N.L.P.Peer.line p in l in
+    let new_net : Linked g.row.N-L-P.Denot = record {
+      state = g.N.Net.state c.status_for-status.new.net;
+      faults = g.N.Net.faults
+          c.status_for-status.new.net;
+    } in
+    let old_out : Output = g.K.Sink.output c.args.out.now in
+    let new_out : Output = g.K.Sink.output c.status_for-status.new.out in
+    subst (Ran line_of (g.C.Clock.of_fork c.args.clock.now) (words_of c.args.arguments) old_in
+    new_in old_files new_files old_net new_net old_out new_out) (sym c.from.ensures)
+    c.status_for-status.ensures

@@ -1,0 +1,59 @@
+//! The commands of `linker`, over any folder, net, clock, input and output.
+//!
+//! [`linker`] does what the words of a command line say. `replay` reads a script from the input and
+//! carries its lines out on one state of a router: changes of namespaces, services and marks,
+//! looks, and picks; the crate `script` says which lines there are. `check CONFIG` tells whether a
+//! router's configuration is right, or what its first fault is. `lint FILE` tells which entries of
+//! a table are never asked; the crate `dtab_check` finds them. `serve CONFIG` serves by it until it
+//! is shut down: a router and its two interfaces, which the crate `serving` runs. `storm N SEED`
+//! makes a run of N generated changes and picks on one state, and `weave N SEED` one of four
+//! passes, whose answers come later than their questions.
+//!
+//! [`run_arguments`] calls it with the arguments of a process and gives the code to exit with. The
+//! program is a `main` that makes the folder, the net, the clock and the streams of the machine: so
+//! all that it decides is decided here, where tests hand in an outside in memory.
+//!
+//! # What is proved
+//! At status 0 the output has grown by the replay of what was read, as `specs/Replay.antt` defines
+//! it over the whole language of scripts, or by the one line of the configuration that was found,
+//! as `specs/Check.antt` says, or by what is told of a table, as `specs/Lint.antt` has it, or by
+//! the line of the generated run, as `specs/Generated.antt` has it, or by the lines that tell where
+//! a router served and how many changes there were, as `specs/Served.antt` has them: that router
+//! did what `serving` says of a run, with all its listeners clean. Each other status has its cause;
+//! and where nothing fails, a script is carried out in full, and a configuration, a table and a
+//! generated run are told of. These are clauses of [`linker`]. The code to exit with is the status
+//! for exactly the words after the program's name: a clause of [`run_arguments`].
+//!
+//! # Example
+//! ```text
+//! let words = ["replay"];
+//! let status = linker(rt, &words, &mut folder, &mut net, &mut clock, &mut input, &mut out);
+//! // For `dtab /svc => /$/inet/127.0.0.1/8080` and `pick /svc/a` on the input, 0, and written are
+//! // `ok` and `127.0.0.1:8080 /$/inet/127.0.0.1/8080 /a`.
+//! ```
+#![tactic(auto)]
+
+use std::alloc::AllocError;
+
+mod check;
+mod ends;
+mod generated;
+mod lint;
+mod player;
+mod program;
+mod reply;
+mod run;
+mod serve;
+mod start;
+mod words;
+
+pub use program::linker;
+pub use run::{Status, tell};
+pub use start::{Exit, run_arguments, words_behind_name};
+pub use words::{Command, Generated, read_words};
+
+/// A value, unless there was no memory for it.
+pub type Mem<T> = Result<T, AllocError>;
+
+/// Bytes of a text.
+pub type Bytes = Vec<u8>;

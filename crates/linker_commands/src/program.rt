@@ -1,0 +1,149 @@
+//! The top call: all that the program does, over any folder, input and output.
+ghost use Rattle.std.specs.Prelude.{◌≡◌, ◌⊎◌, ◌<◌, Contains, IsErr, IsSome, true, false, map};
+ghost use Rattle.std.specs.Prelude.{string_bytes};
+ghost use Rattle.line_base.specs.Counts.{Rose};
+ghost use Rattle.linker_commands.specs.Generated.{storm_line, weave_line};
+ghost use Rattle.line_base.specs.Files.{Filed};
+ghost use Rattle.line_base.specs.Streams.{Input, Output};
+ghost use Rattle.linker_commands.specs.Run.{Ran, Linked, statuses, EndsWhole, Shows, ReadsLong};
+ghost use Rattle.linker_commands.specs.Run.{Yields, ReplaysAll, ChecksAll, LintsAll, MakesAll};
+ghost use Rattle.linker_commands.specs.Words.{command_of, storm, weave};
+
+use crate::run::run;
+use line_base::{Clock, Folder, Listener, Net, Sink, Source};
+use std::marker::Brand;
+use std::sync::Wait;
+use std::sync::ledger::Blank;
+use std::thread::Threads;
+
+/// Does what the words after the program's name say, and gives the status to end with.
+///
+/// - `replay` reads a script from the input, to its end and at most 67,108,864 bytes of it, carries
+///   out its lines in order, and writes a reply line for each; a bad line ends it.
+/// - `check CONFIG` reads the configuration at the path CONFIG, at most 1,048,576 bytes of it, and
+///   writes a line that says that it is right and where its router listens, or what its first fault
+///   is.
+/// - `lint FILE` reads the table at the path FILE, at most 65,536 bytes of it, and writes a line
+///   for each of its entries that is never asked, a line that counts them, and the table without
+///   them.
+/// - `serve CONFIG` reads the configuration at the path CONFIG and the services of the folder that
+///   it names, listens on the router's address and on those of the two interfaces, writes a line
+///   that says where, serves until it is shut down, and writes how many changes there were.
+/// - `storm N SEED` makes N generated turns, each a change or a pick by the words of the generator
+///   with this seed, on one state, and writes the line that sums them up.
+/// - `weave N SEED` makes N generated steps of four passes, each a change, a question, an answer to
+///   an earlier one, or what passes learn or keep, and writes the line that sums them up.
+///
+/// A path is a word that is not empty and does not begin with `-`. N is at most 1,000,000 and SEED
+/// at most 2^64 - 1, both in decimal digits without leading zeros. Where something is wrong, the
+/// last line that is written tells what.
+///
+/// | status | where | last line |
+/// |---|---|---|
+/// | 0 | all was done | |
+/// | 2 | the word at P fits no command, counted from 1, or is missing | `error words P` |
+/// | 3 | line N of the script is bad; those before it are answered | `error line N` |
+/// | 3 | the configuration has a fault; `docs/CONFIGURATION.md` has them | `error config ..` |
+/// | 3 | the file is absent or too long, or `read_dtab` refuses its text | `error table ..` |
+/// | 3 | the file of the service NAME is bad or too long | `error file NAME` |
+/// | 3 | there is no room for the services | `error book` |
+/// | 4 | the input or the folder could not be read | `error read` |
+/// | 5 | a write failed; this comes before every other status | |
+/// | 6 | an address can't be listened on, or a hundred accepts failed in a row | `error net` |
+/// | 7 | there was no memory, or not enough for a session of a router | `error memory` |
+/// | 8 | the script is longer than 67,108,864 bytes | `error long` |
+pub fn linker<
+    R: AllocGlobal + Threads + Wait + Sync,
+    F: Folder,
+    N: Net + Send,
+    C: Clock + Drop + Send,
+    S: Source,
+    K: Sink,
+>(
+    rt: &R,
+    words: &[String],
+    folder: &mut F,
+    net: &mut N,
+    clock: &mut C,
+    input: &mut S,
+    out: &mut K,
+) -> u8
+where
+    <N::L as Listener>::P: Send,
+    // What was read, what was written, and the status go together: at 0 the output has grown by the
+    // replay of what was read, or by the line that tells of the configuration that was found, or of
+    // the generated run, or by what is told of the table that was found, or by the lines that tell
+    // where a router served and how many changes there were. That router served by the
+    // configuration and the services of its folder: all its connections were served, and all its
+    // listeners and stops came back.
+    ensures ran { Ran N.L.P.line (C.of_fork clock.old) (map string_bytes words.now)
+        (S.input input.old) (S.input input.new) (F.filed folder.old) (F.filed folder.new)
+        (record { state = N.state net.old; faults = N.faults net.old })
+        (record { state = N.state net.new; faults = N.faults net.new }) (K.output out.old)
+        (K.output out.new) result }
+
+    // 2 exactly where the words fit no command.
+    ensures words { result ≡ 2 → IsErr (command_of (map string_bytes words.now)) }
+    ensures refused { IsErr (command_of (map string_bytes words.now)) → (result ≡ 2)
+        ⊎ Yields result (K.output out.old) (K.output out.new) }
+
+    // 0 and 3 only where the input was read to its end and each line of it is good, or one is bad;
+    // where the configuration is right, or is not, or its services are refused; and where the file
+    // has a table, or has none. A generated run is never wrong.
+    ensures done { result ≡ 0 → Shows (command_of (map string_bytes words.now)) (S.input input.old)
+        (S.input input.new) (F.filed folder.old) true }
+    ensures wrong { result ≡ 3 → Shows (command_of (map string_bytes words.now)) (S.input input.old)
+        (S.input input.new) (F.filed folder.old) false }
+
+    // 0 of `serve` only where every listener came back clean, and as many stops came back as were
+    // handed out.
+    ensures all_back { result ≡ 0 → EndsWhole (command_of (map string_bytes words.now))
+        (F.filed folder.old) (record { state = N.state net.old; faults = N.faults net.old })
+        (record { state = N.state net.new; faults = N.faults net.new }) }
+
+    // 5 exactly where the output's count of faults rose, 4 exactly where the input's or the
+    // folder's did, and 6 exactly where the net's did, but for want of memory.
+    ensures read { result ≡ 4 → Rose (S.input input.old).faults (S.input input.new).faults
+        ⊎ Rose (F.filed folder.old).faults (F.filed folder.new).faults }
+    ensures write { result ≡ 5 → Rose (K.output out.old).faults (K.output out.new).faults }
+    ensures net { result ≡ 6 → Rose (N.faults net.old) (N.faults net.new) }
+    ensures read_fault { (S.input input.old).faults < (S.input input.new).faults → (result ≡ 4)
+        ⊎ Yields result (K.output out.old) (K.output out.new) }
+    ensures folder_fault { (F.filed folder.old).faults < (F.filed folder.new).faults → (result ≡ 4)
+        ⊎ Yields result (K.output out.old) (K.output out.new) }
+    ensures write_fault { (K.output out.old).faults < (K.output out.new).faults → result ≡ 5 }
+    ensures net_fault { N.faults net.old < N.faults net.new → (result ≡ 6)
+        ⊎ Yields result (K.output out.old) (K.output out.new) }
+
+    // 8 exactly where more was read than a script may have.
+    ensures long { result ≡ 8 → ReadsLong (S.input input.old) (S.input input.new) }
+    ensures longer { IsSome (S.input input.old).left → ReadsLong (S.input input.old)
+        (S.input input.new) → (result ≡ 8) ⊎ Yields result (K.output out.old) (K.output out.new) }
+
+    // Where nothing fails, an input that tells its bytes is carried out in full, and a
+    // configuration, a table and a generated run are told of.
+    ensures replays { ReplaysAll (map string_bytes words.now) (S.input input.old)
+        (S.input input.new) (K.output out.old) (K.output out.new) result }
+    ensures checks { ChecksAll (map string_bytes words.now) (F.filed folder.old)
+        (F.filed folder.new) (K.output out.old) (K.output out.new) result }
+    ensures lints { LintsAll (map string_bytes words.now) (F.filed folder.old) (F.filed folder.new)
+        (K.output out.old) (K.output out.new) result }
+    ensures storms { MakesAll storm storm_line (map string_bytes words.now) (K.output out.old)
+        (K.output out.new) result }
+    ensures weaves { MakesAll weave weave_line (map string_bytes words.now) (K.output out.old)
+        (K.output out.new) result }
+    ensures status { Contains statuses result }
+{
+    run::<R, F, N, C, S, K, Brand>(
+        rt,
+        rt.alloc(),
+        words,
+        folder,
+        net,
+        clock,
+        input,
+        out,
+        Blank::new(1),
+    )
+    .code()
+}

@@ -1,0 +1,227 @@
+//! The program, from its words to its status.
+ghost use Rattle.std.specs.Prelude.{◌≡◌, ◌<◌, ◌≤◌, ℕ, List, length, map, string_bytes, IfOk};
+ghost use Rattle.line_base.specs.Files.{Filed};
+ghost use Rattle.line_base.specs.Streams.{Input, Output};
+ghost use Rattle.linker_commands.specs.Check.{TellsPath};
+ghost use Rattle.linker_commands.specs.Lint.{TellsTablePath};
+ghost use Rattle.linker_commands.specs.Run.{Ran, Course, words_refused, script_read, output_of};
+ghost use Rattle.linker_commands.specs.Run.{status_if, Reads, Checks, Makes, Ended};
+ghost use Rattle.linker_commands.specs.Told.{code_of, Tells};
+
+use crate::check::{CheckEnd, check};
+use crate::ends::{ReadEnd, read_all, write_all};
+use crate::generated::{storm_line, weave_line};
+use crate::lint::lint;
+use crate::player::{PlayEnd, play};
+use crate::serve::serve;
+use crate::words::{Command, read_words};
+use crate::{Bytes, Mem};
+use line_base::{Clock, Folder, Listener, Net, Sink, Source};
+use std::alloc::Global;
+use std::sync::Wait;
+use std::sync::ledger::{Blank, Ledger};
+use std::thread::Threads;
+use step_count::Steps;
+
+/// The most bytes of a script.
+pub const MOST_SCRIPT: usize = 67_108_864;
+
+/// How a run ends.
+#[derive(Clone, Copy, Debug, PartialEq, Eq)]
+pub enum Status {
+    /// All was done.
+    Done = 0,
+    /// The words fit no command.
+    Words = 2,
+    /// What was read is wrong: a line of the script is bad, or the configuration has a fault.
+    Wrong = 3,
+    /// The input or the folder could not be read.
+    Read = 4,
+    /// A write failed.
+    Write = 5,
+    /// An address can't be listened on, or a listener is broken.
+    Net = 6,
+    /// There was no memory.
+    Memory = 7,
+    /// The script is too long.
+    Long = 8,
+}
+
+impl Status {
+    /// All was done with what is right, and else it is wrong.
+    fn of_right(is_right: bool) -> Status
+        ensures { code_of result ≡ status_if is_right }
+    {
+        if is_right {
+            Status::Done
+        } else {
+            Status::Wrong
+        }
+    }
+
+    /// The number of the status, with which the program ends.
+    pub fn code(self) -> u8
+        ensures { result ≡ code_of self }
+    {
+        self as u8
+    }
+}
+
+/// Writes a last line, and ends so, unless the write fails.
+pub fn tell<K: Sink>(out: &mut K, line: &[u8], status: Status) -> Status
+    ensures { Tells line.now status (K.output out.old) (K.output out.new) result }
+{
+    match write_all(out, line) {
+        Ok(()) => status,
+        Err(_) => Status::Write,
+    }
+}
+
+/// The line that tells of the first word that fits no command.
+fn words_line(alloc: Global, place: usize) -> Mem<String>
+    ensures { IfOk result (λ line. string_bytes line ≡ output_of (words_refused place)) }
+{
+    format!(in alloc; "error words {place}\n")
+}
+
+/// Tells of the first word that fits no command.
+fn refuse_words<K: Sink>(alloc: Global, out: &mut K, place: usize) -> Status
+    ensures { Ended (words_refused place) (K.output out.old) (K.output out.new) (code_of result) }
+{
+    match words_line(alloc, place) {
+        Ok(line) => tell(out, line.as_bytes(), Status::Words),
+        Err(_) => tell(out, b"error memory\n", Status::Memory),
+    }
+}
+
+/// Carries out a script that was read.
+fn carry_out<K: Sink, L: Ledger>(
+    alloc: Global,
+    script: &[u8],
+    out: &mut K,
+    steps: &mut Steps<L>,
+) -> Status
+    requires { length script.now ≤ 67108864 }
+    ensures { Ended (script_read script.now) (K.output out.old) (K.output out.new)
+        (code_of result) }
+{
+    match play(alloc, script, out, steps) {
+        PlayEnd::Done => Status::Done,
+        PlayEnd::BadLine => Status::Wrong,
+        PlayEnd::WriteFault => Status::Write,
+        PlayEnd::OutOfMemory => tell(out, b"error memory\n", Status::Memory),
+    }
+}
+
+/// Reads a script to its end, and carries it out.
+fn replay<S: Source, K: Sink, L: Ledger>(
+    alloc: Global,
+    input: &mut S,
+    out: &mut K,
+    steps: &mut Steps<L>,
+) -> Status
+    ensures { (course : Course) × Reads (S.input input.old) (S.input input.new) course
+        × Ended course (K.output out.old) (K.output out.new) (code_of result) }
+{
+    match read_all(alloc, input, MOST_SCRIPT) {
+        Ok(script) => carry_out(alloc, script.as_slice(), out, steps),
+        Err(ReadEnd::Fault) => tell(out, b"error read\n", Status::Read),
+        Err(ReadEnd::Long) => tell(out, b"error long\n", Status::Long),
+        Err(ReadEnd::OutOfMemory) => tell(out, b"error memory\n", Status::Memory),
+    }
+}
+
+/// Tells of the configuration at a path.
+fn check_config<F: Folder, K: Sink>(
+    alloc: Global,
+    folder: &mut F,
+    path: &str,
+    out: &mut K,
+) -> Status
+    ensures checked { (course : Course) × Checks (TellsPath (F.filed folder.old).files path.now)
+        (F.filed folder.old) (F.filed folder.new) course × Ended course (K.output out.old)
+        (K.output out.new) (code_of result) }
+    ensures files { (F.filed folder.new).files ≡ (F.filed folder.old).files }
+{
+    match check(alloc, folder, path) {
+        Ok(verdict) => tell(
+            out,
+            verdict.line.as_slice(),
+            Status::of_right(verdict.is_right),
+        ),
+        Err(CheckEnd::Fault) => tell(out, b"error read\n", Status::Read),
+        Err(CheckEnd::OutOfMemory) => tell(out, b"error memory\n", Status::Memory),
+    }
+}
+
+/// Tells which entries of the table at a path are never asked.
+fn lint_table<F: Folder, K: Sink>(alloc: Global, folder: &mut F, path: &str, out: &mut K) -> Status
+    ensures linted { (course : Course) × Checks (TellsTablePath (F.filed folder.old).files path.now)
+        (F.filed folder.old) (F.filed folder.new) course × Ended course (K.output out.old)
+        (K.output out.new) (code_of result) }
+    ensures files { (F.filed folder.new).files ≡ (F.filed folder.old).files }
+{
+    match lint(alloc, folder, path) {
+        Ok(verdict) => tell(
+            out,
+            verdict.line.as_slice(),
+            Status::of_right(verdict.is_right),
+        ),
+        Err(CheckEnd::Fault) => tell(out, b"error read\n", Status::Read),
+        Err(CheckEnd::OutOfMemory) => tell(out, b"error memory\n", Status::Memory),
+    }
+}
+
+/// Tells the line that was made from the words alone, unless there was no memory for it.
+fn tell_made<K: Sink>(out: &mut K, made: Mem<Bytes>) -> Status
+    ensures { (line : List ℕ) → IfOk made (λ made. made.items ≡ line) → (course : Course)
+        × Makes line course × Ended course (K.output out.old) (K.output out.new) (code_of result) }
+{
+    match made {
+        Ok(line) => tell(out, line.as_slice(), Status::Done),
+        Err(_) => tell(out, b"error memory\n", Status::Memory),
+    }
+}
+
+/// Does what the words say.
+pub fn run<
+    R: Threads + Wait + Sync,
+    F: Folder,
+    N: Net + Send,
+    C: Clock + Drop + Send,
+    S: Source,
+    K: Sink,
+    L: Ledger,
+>(
+    rt: &R,
+    alloc: Global,
+    words: &[String],
+    folder: &mut F,
+    net: &mut N,
+    clock: &mut C,
+    input: &mut S,
+    out: &mut K,
+    blank: Blank,
+) -> Status
+where
+    <N::L as Listener>::P: Send,
+    requires name { blank.name ≡ L.name }
+    requires parts { blank.parts ≡ L.parts }
+    requires some { 0 < blank.parts }
+    ensures { Ran N.L.P.line (C.of_fork clock.old) (map string_bytes words.now) (S.input input.old)
+        (S.input input.new) (F.filed folder.old) (F.filed folder.new)
+        (record { state = N.state net.old; faults = N.faults net.old })
+        (record { state = N.state net.new; faults = N.faults net.new }) (K.output out.old)
+        (K.output out.new) (code_of result) }
+{
+    let mut steps = Steps::<L>::start(blank);
+    match read_words(words) {
+        Ok(Command::Replay) => replay(alloc, input, out, &mut steps),
+        Ok(Command::Check(path)) => check_config(alloc, folder, path, out),
+        Ok(Command::Lint(path)) => lint_table(alloc, folder, path, out),
+        Ok(Command::Serve(path)) => serve(rt, alloc, folder, path, net, clock, out),
+        Ok(Command::Storm(run)) => tell_made(out, storm_line(alloc, run)),
+        Ok(Command::Weave(run)) => tell_made(out, weave_line(alloc, run, &mut steps)),
+        Err(place) => refuse_words(alloc, out, place),
+    }
+}

@@ -1,0 +1,274 @@
+//! `serve`: a router with its interfaces, from its configuration until it is stopped.
+ghost use Rattle.std.specs.Prelude.{◌≡◌, ◌+◌, ◌≤◌, ℕ, List, Option, Some, IfOk, false, length};
+ghost use Rattle.std.specs.Prelude.{string_bytes};
+ghost use Rattle.line_base.specs.Files.{File};
+ghost use Rattle.line_base.specs.Nets.{Networking};
+ghost use Rattle.line_base.specs.Files.{Filed};
+ghost use Rattle.line_base.specs.Streams.{Output};
+ghost use Rattle.linker_commands.specs.Run.{Course, Ended, EndsServing, Linked, Serves, line_told};
+ghost use Rattle.linker_commands.specs.Served.{Finish, IsConfig, IsLast, IsMadeBy, LoadsRoot};
+ghost use Rattle.linker_commands.specs.Served.{TellsEnd, TellsNet, file_line, finish_code, last_of};
+ghost use Rattle.linker_commands.specs.Served.{site_line};
+ghost use Rattle.linker_commands.specs.Told.{Tells, code_of};
+ghost use Rattle.linker_config.specs.declared.loaded.LoadedItem.{LoadedItem};
+ghost use Rattle.linker_config.specs.Loading.{HasLoadCause};
+ghost use Rattle.load_words.specs.Seats.{words_of};
+ghost use Rattle.router.specs.Values.{settings_in};
+ghost use Rattle.serving.specs.Services.{HaveSeen};
+ghost use Rattle.serving.specs.Returning.{listened};
+ghost use Rattle.serving.specs.Running.{IsReady, Listens, bound_of, passes_of};
+ghost use Rattle.snap_cell.specs.Writers.{cell_written, opening_written};
+
+use crate::check::{ConfigEnd, configured};
+use crate::ends::write_all;
+use crate::run::{Status, tell};
+use crate::{Bytes, Mem};
+use addr_book::Name;
+use line_base::{Clock, Folder, Listener, Net, Sink};
+use linker_config::{Config, LoadFault, Loaded, Text, append_port, load_folder};
+use router::{Naming, Opened, open};
+use serving::{RunFault, Served, Serving, Site, StartFault, start};
+use std::alloc::Global;
+use std::marker::Brand;
+use std::sync::Wait;
+use std::thread::Threads;
+
+/// The services of the folder that a configuration names, and none where it names none.
+fn load<F: Folder>(alloc: Global, folder: &mut F, root: &Option<Text>) -> Result<Loaded, LoadFault>
+    ensures loads { LoadsRoot (F.filed folder.old).files root.now result }
+    ensures files { (F.filed folder.new).files ≡ (F.filed folder.old).files }
+    ensures cause { HasLoadCause (F.filed folder.old).faults (F.filed folder.new).faults result }
+{
+    match root {
+        Some(root) => load_folder(alloc, folder, root.as_str()),
+        None => Ok(Loaded::of(Vec::new(alloc))),
+    }
+}
+
+/// The line that tells of a service's file that is refused.
+fn refused_line(alloc: Global, name: &Name) -> Mem<Bytes>
+    ensures { IfOk result (λ line. line.items ≡ file_line name.now) }
+{
+    let mut line = Vec::from_slice(alloc, b"error file ")?;
+    line.extend_from_slice(name.text())?;
+    line.push(b'\n')?;
+    Ok(line)
+}
+
+/// The line that tells where a router serves: its own address, and those of the two interfaces.
+fn site_text(alloc: Global, site: &Site) -> Mem<Bytes>
+    ensures { IfOk result (λ line. line.items ≡ site_line site.now) }
+{
+    let mut line = Vec::from_slice(alloc, b"serving ")?;
+    append_port(site.server, &mut line)?;
+    line.push(b' ')?;
+    append_port(site.namerd, &mut line)?;
+    line.push(b' ')?;
+    append_port(site.admin, &mut line)?;
+    line.push(b'\n')?;
+    Ok(line)
+}
+
+/// What is told last: how many changes there were, and whether memory was wanting in a session.
+fn last_line(alloc: Global, served: Served) -> Mem<String>
+    ensures { IfOk result (λ line. string_bytes line ≡ last_of served.place served.lacked_memory) }
+{
+    let place = served.place;
+    let mut line = format!(in alloc; "closed {place}\n")?;
+    if served.lacked_memory {
+        line.push_str("error memory\n")?;
+    }
+    Ok(line)
+}
+
+/// Tells of a file that is refused.
+fn tell_file<K: Sink>(alloc: Global, out: &mut K, name: &Name) -> Status
+    ensures { Ended (line_told false (file_line name.now)) (K.output out.old) (K.output out.new)
+        (code_of result) }
+{
+    match refused_line(alloc, name) {
+        Ok(line) => tell(out, line.as_slice(), Status::Wrong),
+        Err(_) => tell(out, b"error memory\n", Status::Memory),
+    }
+}
+
+/// Tells how it was to serve.
+fn tell_served<K: Sink>(alloc: Global, out: &mut K, served: Served) -> Status
+    ensures { (last : List ℕ) × (finish : Finish) × (end : Status) × TellsEnd served last finish
+        × (code_of end ≡ finish_code finish) × Tells last end (K.output out.old) (K.output out.new)
+        result }
+{
+    let Ok(line) = last_line(alloc, served) else {
+        return tell(out, b"error memory\n", Status::Memory);
+    };
+    if served.lacked_memory {
+        tell(out, line.as_bytes(), Status::Memory)
+    } else {
+        tell(out, line.as_bytes(), Status::Done)
+    }
+}
+
+/// Serves where it was told, and tells how it was.
+fn serve_on<
+    J: Naming + Send + Sync,
+    R: Threads + Wait + Sync,
+    N: Net + Send,
+    C: Clock + Drop + Send,
+    K: Sink,
+>(
+    rt: &R,
+    alloc: Global,
+    serving: Serving<J, N::L>,
+    site: &Site,
+    net: &mut N,
+    clock: &C,
+    out: &mut K,
+) -> Status
+where
+    <N::L as Listener>::P: Send,
+    requires ready { IsReady serving }
+    requires listens { Listens N.L.state (N.state net.old).told site.now (bound_of serving) }
+    requires seats { length (passes_of serving) ≡ site.now.workers + 5 }
+    requires parts { J.parts ≡ J.seats }
+    ensures { (files : Option (List File)) → (c : Config) → (before : Networking N.L.P)
+        → (loaded : List LoadedItem) → IsMadeBy files c site.now J.settings loaded
+        → HaveSeen loaded (passes_of serving) → N.state net.old ≡ listened (c.workers + 4) before
+        → (last : List ℕ) × (finish : Finish) × (end : Status)
+        × IsLast J N.L.P.line (C.of_fork clock.now) files c before (N.state net.new) last finish
+        × TellsNet (N.faults net.old) (N.faults net.new) finish × (code_of end ≡ finish_code finish)
+        × Tells last end (K.output out.old) (K.output out.new) result }
+{
+    match serving.run(rt, alloc, site, net, clock) {
+        Ok(served) => tell_served(alloc, out, served),
+        Err(RunFault::Net) => tell(out, b"error net\n", Status::Net),
+        Err(RunFault::OutOfMemory) => tell(out, b"error memory\n", Status::Memory),
+    }
+}
+
+/// Serves with a router that was opened.
+fn serve_opened<
+    J: Naming + Send + Sync,
+    R: Threads + Wait + Sync,
+    N: Net + Send,
+    C: Clock + Drop + Send,
+    K: Sink,
+>(
+    rt: &R,
+    alloc: Global,
+    opened: Opened,
+    loaded: Loaded,
+    site: &Site,
+    net: &mut N,
+    clock: &C,
+    out: &mut K,
+) -> Status
+where
+    <N::L as Listener>::P: Send,
+    requires cell { Some (cell_written opened.writer) ≡ J.cell }
+    requires settings { settings_in (opening_written opened.writer) ≡ J.settings }
+    requires words { Some (words_of opened.loads) ≡ J.words }
+    requires name { opened.blank.name ≡ J.name }
+    requires parts { (opened.blank.parts ≡ J.parts) × (J.parts ≡ J.seats) }
+    requires seats { (opened.seats ≡ J.seats) × (opened.seats ≡ site.now.workers + 5) }
+    ensures { (files : Option (List File)) → (c : Config) → IsMadeBy files c site.now J.settings
+        loaded → EndsServing J N.L.P.line (C.of_fork clock.now) files c
+        (record { state = N.state net.old; faults = N.faults net.old })
+        (record { state = N.state net.new; faults = N.faults net.new }) (K.output out.old)
+        (K.output out.new) (code_of result) }
+{
+    let serving = match start::<J, R, N>(rt, alloc, opened, loaded, site, net) {
+        Ok(serving) => serving,
+        Err(StartFault::Book) => return tell(out, b"error book\n", Status::Wrong),
+        Err(StartFault::Net) => return tell(out, b"error net\n", Status::Net),
+        Err(StartFault::OutOfMemory) => return tell(out, b"error memory\n", Status::Memory),
+    };
+    let Ok(line) = site_text(alloc, site) else {
+        serving.close(rt);
+        return tell(out, b"error memory\n", Status::Memory);
+    };
+    match write_all(out, line.as_slice()) {
+        Ok(()) => serve_on(rt, alloc, serving, site, net, clock, out),
+        Err(_) => {
+            serving.close(rt);
+            Status::Write
+        }
+    }
+}
+
+/// Serves by a configuration.
+fn serve_by<R: Threads + Wait + Sync, F: Folder, N: Net + Send, C: Clock + Drop + Send, K: Sink>(
+    rt: &R,
+    alloc: Global,
+    folder: &mut F,
+    config: Config,
+    net: &mut N,
+    clock: &C,
+    out: &mut K,
+) -> Status
+where
+    <N::L as Listener>::P: Send,
+    requires workers { config.workers ≤ 256 }
+    ensures served { (path : List ℕ) → IsConfig (F.filed folder.old).files path config
+        → (course : Course) × Serves N.L.P.line (C.of_fork clock.now) path (F.filed folder.old)
+        (F.filed folder.new) (record { state = N.state net.old; faults = N.faults net.old })
+        (record { state = N.state net.new; faults = N.faults net.new }) course
+        × Ended course (K.output out.old) (K.output out.new) (code_of result) }
+    ensures files { (F.filed folder.new).files ≡ (F.filed folder.old).files }
+{
+    let Config {
+        admin,
+        namerd,
+        server,
+        root,
+        rule,
+        settings,
+        workers,
+        seed,
+    } = config;
+    let loaded = match load(alloc, folder, &root) {
+        Ok(loaded) => loaded,
+        Err(LoadFault::LongFile { name }) => return tell_file(alloc, out, &name),
+        Err(LoadFault::BadFile { name, line: _ }) => return tell_file(alloc, out, &name),
+        Err(LoadFault::FolderFault) => return tell(out, b"error read\n", Status::Read),
+        Err(LoadFault::OutOfMemory) => return tell(out, b"error memory\n", Status::Memory),
+    };
+    let site = Site {
+        server,
+        namerd,
+        admin,
+        rule,
+        workers,
+        seed,
+    };
+    let Ok(opened) = open(rt, alloc, settings, site.seats()) else {
+        return tell(out, b"error memory\n", Status::Memory);
+    };
+    serve_opened::<Brand, R, N, C, K>(rt, alloc, opened, loaded, &site, net, clock, out)
+}
+
+/// Serves by the configuration at a path, until it is stopped.
+pub fn serve<R: Threads + Wait + Sync, F: Folder, N: Net + Send, C: Clock + Drop + Send, K: Sink>(
+    rt: &R,
+    alloc: Global,
+    folder: &mut F,
+    path: &str,
+    net: &mut N,
+    clock: &C,
+    out: &mut K,
+) -> Status
+where
+    <N::L as Listener>::P: Send,
+    ensures served { (course : Course) × Serves N.L.P.line (C.of_fork clock.now) path.now
+        (F.filed folder.old) (F.filed folder.new) (record
+        { state = N.state net.old; faults = N.faults net.old })
+        (record { state = N.state net.new; faults = N.faults net.new }) course
+        × Ended course (K.output out.old) (K.output out.new) (code_of result) }
+    ensures files { (F.filed folder.new).files ≡ (F.filed folder.old).files }
+{
+    match configured(alloc, folder, path) {
+        Ok(config) => serve_by(rt, alloc, folder, config, net, clock, out),
+        Err(ConfigEnd::Wrong(line)) => tell(out, line.as_slice(), Status::Wrong),
+        Err(ConfigEnd::Fault) => tell(out, b"error read\n", Status::Read),
+        Err(ConfigEnd::OutOfMemory) => tell(out, b"error memory\n", Status::Memory),
+    }
+}

@@ -1,0 +1,117 @@
+//! The program from the arguments of its process to the code that it exits with.
+ghost use Rattle.std.specs.Prelude.{◌≡◌, ◌↔◌, IsTrue, IfOk, drop};
+ghost use Rattle.std.specs.Process.{exit_status};
+ghost use Rattle.std.specs.Vec.Iter.{into_iter_items};
+ghost use Rattle.line_base.specs.Files.{Filed};
+ghost use Rattle.line_base.specs.Streams.{Input, Output};
+ghost use Rattle.linker_commands.specs.Run.{Ran, Linked, words_of};
+
+use crate::program::linker;
+use crate::run::{Status, tell};
+use line_base::{Clock, Folder, Listener, Net, Sink, Source};
+use std::alloc::{AllocError, AllocGlobal, Global};
+use std::env::Args;
+use std::io::{self, ErrorKind};
+use std::process::ExitCode;
+use std::sync::Wait;
+use std::thread::Threads;
+
+/// What the process ends with.
+#[derive(Drop)]
+pub struct Exit {
+    /// The code that it exits with, which is the program's status.
+    pub code: ExitCode,
+    /// The program's status.
+    pub status: u8,
+    /// Whether the words fit no command: how to call the program is then written to standard error.
+    pub tells_usage: bool,
+}
+
+/// The arguments behind the first, which is the program's name.
+pub fn words_behind_name(alloc: Global, arguments: Args) -> Result<Vec<String>, AllocError>
+    ensures { IfOk result (λ words. words.items ≡ drop 1 (into_iter_items arguments)) }
+{
+    let mut words = Vec::new(alloc);
+    for word in arguments {
+        words.push(word)?;
+    }
+    if !words.is_empty() {
+        drop(words.remove(0));
+    }
+    Ok(words)
+}
+
+/// The status for the arguments of the process. Those that are no text are one empty word, which
+/// fits no command.
+fn status_for<
+    R: AllocGlobal + Threads + Wait + Sync,
+    F: Folder,
+    N: Net + Send,
+    C: Clock + Drop + Send,
+    S: Source,
+    K: Sink,
+>(
+    rt: &R,
+    arguments: io::Result<Args>,
+    folder: &mut F,
+    net: &mut N,
+    clock: &mut C,
+    input: &mut S,
+    out: &mut K,
+) -> u8
+where
+    <N::L as Listener>::P: Send,
+    ensures { Ran N.L.P.line (C.of_fork clock.old) (words_of arguments) (S.input input.old)
+        (S.input input.new) (F.filed folder.old) (F.filed folder.new)
+        (record { state = N.state net.old; faults = N.faults net.old })
+        (record { state = N.state net.new; faults = N.faults net.new }) (K.output out.old)
+        (K.output out.new) result }
+{
+    let alloc = rt.alloc();
+    match arguments {
+        Ok(arguments) => match words_behind_name(alloc, arguments) {
+            Ok(words) => linker(rt, words.as_slice(), folder, net, clock, input, out),
+            Err(_) => tell(out, b"error memory\n", Status::Memory).code(),
+        },
+        Err(error) if error.kind() == ErrorKind::OutOfMemory => {
+            tell(out, b"error memory\n", Status::Memory).code()
+        }
+        Err(_) => linker(rt, &[String::new(alloc)], folder, net, clock, input, out),
+    }
+}
+
+/// Does what the arguments say, the first of which is the program's name, and gives what the
+/// process ends with.
+pub fn run_arguments<
+    R: AllocGlobal + Threads + Wait + Sync,
+    F: Folder,
+    N: Net + Send,
+    C: Clock + Drop + Send,
+    S: Source,
+    K: Sink,
+>(
+    rt: &R,
+    arguments: io::Result<Args>,
+    folder: &mut F,
+    net: &mut N,
+    clock: &mut C,
+    input: &mut S,
+    out: &mut K,
+) -> Exit
+where
+    <N::L as Listener>::P: Send,
+    ensures ran { Ran N.L.P.line (C.of_fork clock.old) (words_of arguments) (S.input input.old)
+        (S.input input.new) (F.filed folder.old) (F.filed folder.new)
+        (record { state = N.state net.old; faults = N.faults net.old })
+        (record { state = N.state net.new; faults = N.faults net.new }) (K.output out.old)
+        (K.output out.new) (exit_status result.code) }
+    ensures status { exit_status result.code ≡ result.status }
+    ensures usage { IsTrue result.tells_usage ↔ (exit_status result.code ≡ 2) }
+{
+    let status = status_for(rt, arguments, folder, net, clock, input, out);
+    Exit {
+        code: ExitCode::from(status),
+        status,
+        tells_usage: status == 2,
+    }
+}

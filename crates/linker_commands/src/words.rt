@@ -1,0 +1,195 @@
+//! The words of the command line.
+ghost use Rattle.std.specs.Prelude.{◌≡◌, None, Some, Ok, Err, ℕ, List, IfOk, IfErr, IsTrue};
+ghost use Rattle.std.specs.Prelude.{IsFalse, MatchResult, map, string_bytes};
+ghost use Rattle.addr_book.specs.Addr.{at_most};
+ghost use Rattle.script.specs.Words.{number_of};
+ghost use Rattle.linker_commands.specs.Words.{asked_by, command_of, replay, storm, weave, alone};
+ghost use Rattle.linker_commands.specs.Words.{path_word, path_words, check, serve, lint, Asked};
+ghost use Rattle.linker_commands.specs.Words.{of_run, most_turns, turns_words, seed_words};
+
+use script::read_number;
+
+/// The most turns of a generated run.
+const MOST_TURNS: u64 = 1_000_000;
+
+/// What the words ask for.
+#[derive(Clone, Copy, Debug, PartialEq, Eq)]
+pub enum Command<'a> {
+    /// `replay`: carry out the script on the input.
+    Replay,
+    /// `check CONFIG`: tell whether the configuration at this path is right.
+    Check(&'a str),
+    /// `serve CONFIG`: serve by the configuration at this path, until it is stopped.
+    Serve(&'a str),
+    /// `lint FILE`: tell which entries of the table at this path are never asked.
+    Lint(&'a str),
+    /// `storm N SEED`: make a generated run of changes and picks on one state, and sum it up.
+    Storm(Generated),
+    /// `weave N SEED`: make a generated run of four passes, whose answers come later than their
+    /// questions, and sum it up.
+    Weave(Generated),
+}
+
+/// What a generated run goes by.
+#[derive(Clone, Copy, Debug, PartialEq, Eq)]
+pub struct Generated {
+    /// How many turns it has, at most 1,000,000.
+    pub turns: u32,
+    /// The seed of the words that its turns go by.
+    pub seed: u64,
+}
+
+/// The command that the words spell, or the place of the first that fits none, counted from 1: one
+/// more than their number where a word is missing.
+pub fn read_words(words: &[String]) -> Result<Command<'_>, usize>
+    ensures { MatchResult result
+        (λ command. command_of (map string_bytes words.now) ≡ Ok (asked_by command))
+        (λ place. command_of (map string_bytes words.now) ≡ Err place) }
+{
+    match words {
+        [word, others @ ..] if word.as_str() == "replay" => read_replay(others),
+        [word, others @ ..] if word.as_str() == "check" => read_check(others),
+        [word, others @ ..] if word.as_str() == "serve" => read_serve(others),
+        [word, others @ ..] if word.as_str() == "lint" => read_lint(others),
+        [word, others @ ..] if word.as_str() == "storm" => read_storm(others),
+        [word, others @ ..] if word.as_str() == "weave" => read_weave(others),
+        _ => Err(1),
+    }
+}
+
+/// `replay` with the words behind it, which are none.
+fn read_replay(others: &[String]) -> Result<Command<'_>, usize>
+    ensures { MatchResult result
+        (λ command. alone 2 replay (map string_bytes others.now) ≡ Ok (asked_by command))
+        (λ place. alone 2 replay (map string_bytes others.now) ≡ Err place) }
+{
+    match others {
+        [] => Ok(Command::Replay),
+        [_, ..] => Err(2),
+    }
+}
+
+/// `check` with the words behind it.
+fn read_check(others: &[String]) -> Result<Command<'_>, usize>
+    ensures { MatchResult result
+        (λ command. path_words check (map string_bytes others.now) ≡ Ok (asked_by command))
+        (λ place. path_words check (map string_bytes others.now) ≡ Err place) }
+{
+    match read_path_word(others) {
+        Ok(path) => Ok(Command::Check(path)),
+        Err(place) => Err(place),
+    }
+}
+
+/// The path behind a command, which is the last word.
+fn read_path_word(others: &[String]) -> Result<&str, usize>
+    ensures ok { IfOk result (λ path. (command : List ℕ → Asked)
+        → path_words command (map string_bytes others.now) ≡ Ok (command path.now)) }
+    ensures err { IfErr result (λ place. (command : List ℕ → Asked)
+        → path_words command (map string_bytes others.now) ≡ Err place) }
+{
+    match others {
+        [path] if is_path(path.as_str()) => Ok(path.as_str()),
+        [path, _, ..] if is_path(path.as_str()) => Err(3),
+        _ => Err(2),
+    }
+}
+
+/// `serve` with the words behind it.
+fn read_serve(others: &[String]) -> Result<Command<'_>, usize>
+    ensures { MatchResult result
+        (λ command. path_words serve (map string_bytes others.now) ≡ Ok (asked_by command))
+        (λ place. path_words serve (map string_bytes others.now) ≡ Err place) }
+{
+    match read_path_word(others) {
+        Ok(path) => Ok(Command::Serve(path)),
+        Err(place) => Err(place),
+    }
+}
+
+/// `lint` with the words behind it.
+fn read_lint(others: &[String]) -> Result<Command<'_>, usize>
+    ensures { MatchResult result
+        (λ command. path_words lint (map string_bytes others.now) ≡ Ok (asked_by command))
+        (λ place. path_words lint (map string_bytes others.now) ≡ Err place) }
+{
+    match read_path_word(others) {
+        Ok(path) => Ok(Command::Lint(path)),
+        Err(place) => Err(place),
+    }
+}
+
+/// `storm` with the words behind it.
+fn read_storm(others: &[String]) -> Result<Command<'_>, usize>
+    ensures { MatchResult result
+        (λ command. of_run storm (turns_words (map string_bytes others.now))
+        ≡ Ok (asked_by command))
+        (λ place. of_run storm (turns_words (map string_bytes others.now)) ≡ Err place) }
+{
+    match read_generated(others) {
+        Ok(run) => Ok(Command::Storm(run)),
+        Err(place) => Err(place),
+    }
+}
+
+/// `weave` with the words behind it.
+fn read_weave(others: &[String]) -> Result<Command<'_>, usize>
+    ensures { MatchResult result
+        (λ command. of_run weave (turns_words (map string_bytes others.now))
+        ≡ Ok (asked_by command))
+        (λ place. of_run weave (turns_words (map string_bytes others.now)) ≡ Err place) }
+{
+    match read_generated(others) {
+        Ok(run) => Ok(Command::Weave(run)),
+        Err(place) => Err(place),
+    }
+}
+
+/// The turns and the seed of a generated run, which are the words behind its command.
+fn read_generated(others: &[String]) -> Result<Generated, usize>
+    ensures { MatchResult result
+        (λ run. turns_words (map string_bytes others.now) ≡ Ok (run.turns, run.seed))
+        (λ place. turns_words (map string_bytes others.now) ≡ Err place) }
+{
+    match others {
+        [turns, others @ ..] => match read_turns(turns.as_bytes()) {
+            Some(turns) => read_seed(turns, others),
+            None => Err(2),
+        },
+        [] => Err(2),
+    }
+}
+
+/// The turns that a word says.
+fn read_turns(word: &[u8]) -> Option<u32>
+    ensures { result ≡ at_most most_turns (number_of word.now) }
+{
+    match read_number(word) {
+        Some(turns) if turns <= MOST_TURNS => Some(turns as u32),
+        _ => None,
+    }
+}
+
+/// The seed behind the turns.
+fn read_seed(turns: u32, others: &[String]) -> Result<Generated, usize>
+    ensures { MatchResult result
+        (λ run. seed_words turns (map string_bytes others.now) ≡ Ok (run.turns, run.seed))
+        (λ place. seed_words turns (map string_bytes others.now) ≡ Err place) }
+{
+    match others {
+        [seed, others @ ..] => match read_number(seed.as_bytes()) {
+            Some(seed) if others.is_empty() => Ok(Generated { turns, seed }),
+            Some(_) => Err(4),
+            None => Err(3),
+        },
+        [] => Err(3),
+    }
+}
+
+/// Whether a word can be a path: it is not empty, and does not begin with `-` as an option does.
+fn is_path(word: &str) -> bool
+    ensures ok { IsTrue result → path_word word.now ≡ Some word.now }
+    ensures none { IsFalse result → path_word word.now ≡ None }
+{
+    !word.is_empty() && !word.starts_with('-')
+}

@@ -1,0 +1,25 @@
+//! Tests of the program over folders, nets, sources and sinks in memory: scripts with their
+//! replies, configurations, tables, words, limits, faults at each call in turn, and routers that
+//! serve.
+#![tactic(auto)]
+
+#[cfg(test)]
+mod configurations;
+#[cfg(test)]
+mod faults;
+#[cfg(test)]
+mod limits;
+#[cfg(test)]
+mod lints;
+#[cfg(test)]
+mod outside;
+#[cfg(test)]
+mod paired;
+#[cfg(test)]
+mod routers;
+#[cfg(test)]
+mod running;
+#[cfg(test)]
+mod scripts;
+#[cfg(test)]
+mod words;

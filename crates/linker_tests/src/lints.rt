@@ -1,0 +1,105 @@
+//! Tables of which it is told which entries are never asked.
+use crate::outside::file;
+use crate::running::{run_with, sink, source};
+use line_base::{MemFolder, MemSink};
+use std::alloc::{AllocError, AllocGlobal, Global};
+use std::sync::Wait;
+use std::test::Fail;
+use std::thread::Threads;
+
+/// A folder that has one file, `t.dtab`: a text, and a part behind it so many times. The calls
+/// whose numbers are in `failing` fail.
+fn one_table(
+    alloc: Global,
+    text: &str,
+    part: &str,
+    parts: u32,
+    failing: &[u64],
+) -> Result<MemFolder, AllocError> {
+    let mut table = String::from_str(alloc, text)?;
+    for _ in 0..parts {
+        table.push_str(part)?;
+    }
+    let files = vec![in alloc; file(alloc, "tables", "t.dtab", table.as_str())?]?;
+    Ok(MemFolder::of(alloc, files, Vec::from_slice(alloc, failing)?))
+}
+
+/// What `lint` writes of the file at a path, and its status.
+fn linted<R: AllocGlobal + Threads + Wait + Sync>(
+    rt: &R,
+    path: &str,
+    folder: MemFolder,
+) -> Result<(MemSink, u8), AllocError> {
+    let alloc = rt.alloc();
+    run_with(rt, &["lint", path], folder, source(alloc, "")?, sink(alloc))
+}
+
+/// Tables, each with a part behind it so many times: what is told of them, and why a text is none.
+/// A file of 65,536 bytes is read, and one of 65,537 is not.
+#[test]
+fn tables(rt: HostRuntime) -> Result<(), Fail> {
+    let alloc = rt.alloc();
+    let rows = [
+        (
+            "/svc => /a; /svc/web => /b; /svc => /$/inet/127.0.0.1/80",
+            "",
+            0,
+            "hidden 1 by 3 /svc\nhidden 2 by 3 /svc/web\nentries 3 hidden 2\ntable /svc=>/$/inet/127.0.0.1/80\n",
+            0,
+        ),
+        // A label does not cover `*`.
+        (
+            "/s/* => /a; /s/x => !",
+            "",
+            0,
+            "entries 2 hidden 0\ntable /s/*=>/a;/s/x=>!\n",
+            0,
+        ),
+        // What a leaf names is sure where an entry that matches it is.
+        (
+            "/a => /x; /b => $; /a => /b/c",
+            "",
+            0,
+            "hidden 1 by 3 /a\nentries 3 hidden 1\ntable /b=>$;/a=>/b/c\n",
+            0,
+        ),
+        ("", "", 0, "entries 0 hidden 0\ntable\n", 0),
+        (
+            "/a => /b",
+            "\n",
+            65_528,
+            "entries 1 hidden 0\ntable /a=>/b\n",
+            0,
+        ),
+        ("/a => /b", "\n", 65_529, "error table long\n", 3),
+        ("/a => /b /c => /d", "", 0, "error table syntax 9\n", 3),
+        ("/a=>", "(", 65, "error table nested 68\n", 3),
+        ("", "/a=>/b;", 1_025, "error table many 1025\n", 3),
+    ];
+    for (text, part, parts, written, status) in rows {
+        let folder = one_table(alloc, text, part, parts, &[])?;
+        let (sink, ended) = linted(&rt, "tables/t.dtab", folder)?;
+        assert!(rt;
+            sink.held() == written.as_bytes() && ended == status,
+            "of {text:?} and {parts} times {part:?}"
+        );
+    }
+    Ok(())
+}
+
+/// A table that is not there, and a folder that fails.
+#[test]
+fn tables_that_are_not_read(rt: HostRuntime) -> Result<(), Fail> {
+    let alloc = rt.alloc();
+    let other = linted(&rt, "tables/u.dtab", one_table(alloc, "", "", 0, &[])?)?;
+    let failed = linted(&rt, "tables/t.dtab", one_table(alloc, "", "", 0, &[0])?)?;
+    assert_eq!(rt;
+        (other.0.held(), other.1),
+        (b"error table absent\n".as_slice(), 3)
+    );
+    assert_eq!(rt;
+        (failed.0.held(), failed.1),
+        (b"error read\n".as_slice(), 4)
+    );
+    Ok(())
+}

@@ -1,0 +1,190 @@
+//! A folder and a net in memory, for a router that serves.
+use crate::paired::Paired;
+use crate::running::{append, sink, source};
+use line_base::{
+    DialEvent, MemAddress, MemClock, MemDials, MemFile, MemFolder, MemNet, MemPeer, MemVisits, Peer,
+};
+use linker_commands::linker;
+use std::alloc::{AllocError, AllocGlobal, Global};
+use std::sync::Wait;
+use std::thread::Threads;
+
+/// A file of a folder.
+pub(crate) fn file(
+    alloc: Global,
+    folder: &str,
+    name: &str,
+    text: &str,
+) -> Result<MemFile, AllocError> {
+    Ok(MemFile::of(
+        String::from_str(alloc, folder)?,
+        String::from_str(alloc, name)?,
+        Vec::from_slice(alloc, text.as_bytes())?,
+    ))
+}
+
+/// What comes to a listener of a port: a connection that gives these bytes, and none where there are no bytes.
+fn visit(alloc: Global, port: u16, bytes: &str) -> Result<MemAddress<MemPeer>, AllocError> {
+    let mut peers = Vec::new(alloc);
+    if !bytes.is_empty() {
+        peers.push(MemPeer::of(source(alloc, bytes)?, sink(alloc)))?;
+    }
+    visits(alloc, port, peers, Vec::new(alloc))
+}
+
+/// What comes to a listener of a port: these connections. The accepts whose numbers are in `failing` fail.
+pub(crate) fn visits<P: Drop>(
+    alloc: Global,
+    port: u16,
+    peers: Vec<P>,
+    failing: Vec<u64>,
+) -> Result<MemAddress<P>, AllocError> {
+    Ok(MemAddress {
+        ip: 0x7f00_0001,
+        port,
+        visits: vec![in alloc; MemVisits { peers, failing }]?,
+    })
+}
+
+/// A net with these connections: to the router's first two listeners, and to one of each interface. Its first dialer is answered twice, with `hi`.
+pub(crate) fn net_of(
+    alloc: Global,
+    first: &str,
+    second: &str,
+    namerd: &str,
+    admin: &str,
+) -> Result<MemNet<MemPeer>, AllocError> {
+    let mut addresses = Vec::new(alloc);
+    addresses.push(visit(alloc, 4140, first)?)?;
+    addresses.push(visit(alloc, 4140, second)?)?;
+    addresses.push(visit(alloc, 4180, namerd)?)?;
+    addresses.push(visit(alloc, 9990, admin)?)?;
+    let reply = b"HTTP/1.1 200 OK\r\nContent-Length: 2\r\n\r\nhi";
+    let dials = MemDials {
+        replies: vec![in alloc;
+            Vec::from_slice(alloc, reply)?,
+            Vec::from_slice(alloc, reply)?,
+        ]?,
+        sizes: Vec::new(alloc),
+        failing: Vec::new(alloc),
+    };
+    Ok(MemNet::of(alloc, addresses, vec![in alloc; dials]?, Vec::new(alloc)))
+}
+
+/// A folder with the configuration `conf/c.json`, and the service `web` at `disco`, whose file has one line so many times. The calls whose numbers are in
+/// `failing` fail.
+pub(crate) fn folder_of(
+    alloc: Global,
+    config: &str,
+    line: &str,
+    lines: u32,
+    failing: &[u64],
+) -> Result<MemFolder, AllocError> {
+    let mut text = String::new(alloc);
+    for _ in 0..lines {
+        text.push_str(line)?;
+    }
+    let files = vec![in alloc;
+        file(alloc, "conf", "c.json", config)?,
+        file(alloc, "disco", "web", text.as_str())?,
+    ]?;
+    Ok(MemFolder::of(alloc, files, Vec::from_slice(alloc, failing)?))
+}
+
+/// A client that can be asked what it was answered.
+pub(crate) trait Answered {
+    fn answers(&self) -> &[u8];
+}
+
+impl Answered for MemPeer {
+    fn answers(&self) -> &[u8] {
+        self.sink().held()
+    }
+}
+
+impl Answered for Paired<'_> {
+    fn answers(&self) -> &[u8] {
+        self.client().sink().held()
+    }
+}
+
+/// What the connections to a net were given, one after another.
+fn given<P: Peer + Drop + Answered>(alloc: Global, net: &MemNet<P>) -> Result<String, AllocError> {
+    let mut text = String::new(alloc);
+    for ended in net.ended() {
+        for peer in ended.listener().returned() {
+            append(&mut text, peer.answers())?;
+        }
+    }
+    Ok(text)
+}
+
+/// Puts what a dialer did behind a text: a line where it opened a connection and where it ended one, and the bytes that it sent.
+fn append_event(text: &mut String, event: &DialEvent) -> Result<(), AllocError> {
+    match event {
+        DialEvent::Dialed(ip, port) => write!(text, "dial {ip:x} {port}\n")?,
+        DialEvent::Sent(piece) => append(text, piece.bytes())?,
+        DialEvent::Got(_) => {}
+        DialEvent::Hung => text.push_str("hang\n")?,
+    }
+    Ok(())
+}
+
+/// What the dialers of a net did, one after another.
+fn dialed<P: Peer + Drop>(alloc: Global, net: &MemNet<P>) -> Result<String, AllocError> {
+    let mut text = String::new(alloc);
+    for ended in net.ended() {
+        if let Some(dialer) = ended.dialer() {
+            for event in dialer.log() {
+                append_event(&mut text, event)?;
+            }
+        }
+    }
+    Ok(text)
+}
+
+/// How it was to serve.
+#[derive(Drop)]
+pub(crate) struct Outcome {
+    pub(crate) written: String,
+    pub(crate) status: u8,
+    /// What the connections were given, one after another.
+    pub(crate) given: String,
+    /// What the dialers did, one after another.
+    pub(crate) dialed: String,
+}
+
+/// Serves by the configuration `conf/c.json`.
+pub(crate) fn served<R: AllocGlobal + Threads + Wait + Sync, P: Peer + Drop + Send + Answered>(
+    rt: &R,
+    folder: MemFolder,
+    net: MemNet<P>,
+) -> Result<Outcome, AllocError> {
+    let alloc = rt.alloc();
+    let words = vec![in alloc;
+        String::from_str(alloc, "serve")?,
+        String::from_str(alloc, "conf/c.json")?,
+    ]?;
+    let mut folder = folder;
+    let mut net = net;
+    let mut clock = MemClock::of(alloc, Vec::new(alloc))?;
+    let mut source = source(alloc, "")?;
+    let mut sink = sink(alloc);
+    let status = linker(
+        rt,
+        words.as_slice(),
+        &mut folder,
+        &mut net,
+        &mut clock,
+        &mut source,
+        &mut sink,
+    );
+    let mut written = String::new(alloc);
+    append(&mut written, sink.held())?;
+    Ok(Outcome {
+        written,
+        status,
+        given: given(alloc, &net)?,
+        dialed: dialed(alloc, &net)?,
+    })
+}

@@ -1,0 +1,88 @@
+//! Clients that are to be served beside one another.
+ghost use Rattle.std.specs.Prelude.{None};
+
+use line_base::{Failed, MemPeer, Peer};
+use std::sync::atomic::{AtomicBool, Ordering};
+use std::thread;
+
+/// How often a client looks whether the other one is there.
+const LOOKS: u32 = 100_000_000;
+
+/// How many looks there are from one that lets other threads go on to the next.
+const LOOKS_A_YIELD: u32 = 16;
+
+/// A client that asks only once another one is being read too. Where that one does not come, its reads fail.
+///
+/// It tells no content.
+#[derive(Drop)]
+pub(crate) struct Paired<'a> {
+    /// Raised at its first read.
+    here: &'a AtomicBool,
+    /// Raised at the first read of the other one.
+    there: &'a AtomicBool,
+    /// What it asks, and what it is answered.
+    client: MemPeer,
+    read_faults: u64,
+}
+
+impl<'a> Paired<'a> {
+    /// A client that has yet to be read.
+    pub(crate) fn of(here: &'a AtomicBool, there: &'a AtomicBool, client: MemPeer) -> Paired<'a> {
+        Paired {
+            here,
+            there,
+            client,
+            read_faults: 0,
+        }
+    }
+
+    /// What it asks, and what it is answered.
+    pub(crate) fn client(&self) -> &MemPeer {
+        &self.client
+    }
+}
+
+/// Whether a flag is raised, now or within many looks.
+fn comes_up(flag: &AtomicBool) -> bool {
+    for look in 0..LOOKS {
+        if flag.load(Ordering::SeqCst) {
+            return true;
+        }
+        if look % LOOKS_A_YIELD == 0 {
+            thread::yield_now();
+        }
+    }
+    false
+}
+
+impl Peer for Paired<'_> {
+    ghost line = { λ p. record {
+      left = None;
+      given = None;
+      read_faults = p.read_faults;
+      write_faults = p.client.sink.faults;
+      ends = p.client.source.ends;
+    } };
+
+    fn read(&mut self, into: &mut [u8]) -> Result<usize, Failed> {
+        if into.is_empty() {
+            return Ok(0);
+        }
+        self.here.store(true, Ordering::SeqCst);
+        if !comes_up(self.there) {
+            self.read_faults = self.read_faults.saturating_add(1);
+            return Err(Failed);
+        }
+        match self.client.read(into) {
+            Ok(count) => Ok(count),
+            Err(failed) => {
+                self.read_faults = self.read_faults.saturating_add(1);
+                Err(failed)
+            }
+        }
+    }
+
+    fn write(&mut self, bytes: &[u8]) -> Result<usize, Failed> {
+        self.client.write(bytes)
+    }
+}

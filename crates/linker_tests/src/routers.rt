@@ -1,0 +1,178 @@
+//! Routers that serve, and routers that don't.
+use crate::outside::{file, folder_of, net_of, served, visits};
+use crate::paired::Paired;
+use crate::running::{sink, source};
+use line_base::{MemFolder, MemNet, MemPeer};
+use std::alloc::{AllocError, AllocGlobal, Global};
+use std::sync::Wait;
+use std::sync::atomic::AtomicBool;
+use std::test::Fail;
+use std::thread::Threads;
+
+/// The services are those of a folder, and `/svc/web` names its service `web`.
+const WITH_SERVICES: &str =
+    "{\"namers\":[{\"kind\":\"io.l5d.fs\",\"rootDir\":\"disco\"}],\"routers\":[{\"protocol\":\"http\",\"dtab\":\"/svc => /#/io.l5d.fs\",\"servers\":[{\"port\":4140}]}]}";
+
+/// No table names anything, and there are two proxy jobs.
+const WITHOUT_TABLE: &str = "{\"routers\":[{\"protocol\":\"http\"}],\"workers\":2}";
+
+const FOR_WEB: &str = "GET / HTTP/1.1\r\nHost: web\r\n\r\n";
+
+/// A request that is routed twice, an edit and a shutdown. Where nothing more comes, a listener counts as closed.
+#[test]
+fn a_router_that_serves(rt: HostRuntime) -> Result<(), Fail> {
+    let alloc = rt.alloc();
+    let requests =
+        "GET / HTTP/1.1\r\nHost: web\r\nUser-Agent: curl/8.5.0\r\nAccept: */*\r\n\r\nGET / HTTP/1.1\r\nHost: web\r\nUser-Agent: curl/8.5.0\r\nAccept: */*\r\n\r\n";
+    let edit =
+        "POST /api/1/dtabs/default HTTP/1.1\r\nHost: n\r\nContent-Type: application/dtab\r\nContent-Length: 12\r\n\r\n/other => /x";
+    let shutdown = "POST /admin/shutdown HTTP/1.1\r\nHost: a\r\n\r\n";
+    let folder = folder_of(alloc, WITH_SERVICES, "127.0.0.1 9001\n", 1, &[])?;
+    let served = served(&rt, folder, net_of(alloc, requests, "", edit, shutdown)?)?;
+    assert_eq!(rt;
+        (served.written.as_str(), served.status),
+        (
+            "serving 127.0.0.1:4140 127.0.0.1:4180 127.0.0.1:9990\nclosed 2\n",
+            0
+        )
+    );
+    assert_eq!(rt;
+        served.given.as_str(),
+        "HTTP/1.1 200 OK\r\nContent-Length: 2\r\nVia: 1.1 linkerd\r\n\r\nhiHTTP/1.1 200 OK\r\nContent-Length: 2\r\nVia: 1.1 linkerd\r\n\r\nhiHTTP/1.1 204 No Content\r\nETag: \"1\"\r\n\r\nHTTP/1.1 200 OK\r\nContent-Type: text/plain\r\nContent-Length: 4\r\nConnection: close\r\n\r\nbye\n"
+    );
+    assert_eq!(rt;
+        served.dialed.as_str(),
+        "dial 7f000001 9001\nGET / HTTP/1.1\r\nHost: web\r\nUser-Agent: curl/8.5.0\r\nAccept: */*\r\nVia: 1.1 linkerd\r\nl5d-dst-service: /svc/web\r\nl5d-dst-client: /#/io.l5d.fs/web\r\nConnection: close\r\n\r\nhang\ndial 7f000001 9001\nGET / HTTP/1.1\r\nHost: web\r\nUser-Agent: curl/8.5.0\r\nAccept: */*\r\nVia: 1.1 linkerd\r\nl5d-dst-service: /svc/web\r\nl5d-dst-client: /#/io.l5d.fs/web\r\nConnection: close\r\n\r\nhang\n"
+    );
+    Ok(())
+}
+
+/// A net in which each of the router's first two listeners gets one client, and these ask only once both are read.
+fn net_of_pair<'a>(
+    alloc: Global,
+    first: &'a AtomicBool,
+    second: &'a AtomicBool,
+) -> Result<MemNet<Paired<'a>>, AllocError> {
+    let mut addresses = Vec::new(alloc);
+    for (here, there) in [(first, second), (second, first)] {
+        let client = MemPeer::of(source(alloc, FOR_WEB)?, sink(alloc));
+        let peers = vec![in alloc; Paired::of(here, there, client)]?;
+        addresses.push(visits(alloc, 4140, peers, Vec::new(alloc))?)?;
+    }
+    Ok(MemNet::of(alloc, addresses, Vec::new(alloc), Vec::new(alloc)))
+}
+
+/// Two requests that no table routes, each to a listener of its own. Each is asked only once the other's connection is read too, so both are served at once.
+#[test]
+fn two_clients_at_once(rt: HostRuntime) -> Result<(), Fail> {
+    let alloc = rt.alloc();
+    let (first, second) = (AtomicBool::new(false), AtomicBool::new(false));
+    let folder = folder_of(alloc, WITHOUT_TABLE, "", 0, &[])?;
+    let served = served(&rt, folder, net_of_pair(alloc, &first, &second)?)?;
+    assert_eq!(rt;
+        (served.written.as_str(), served.status),
+        (
+            "serving 127.0.0.1:4140 127.0.0.1:4180 127.0.0.1:9990\nclosed 0\n",
+            0
+        )
+    );
+    assert_eq!(rt;
+        served.given.as_str(),
+        "HTTP/1.1 502 Bad Gateway\r\nContent-Type: text/plain\r\nl5d-err: negative\r\nContent-Length: 9\r\n\r\nnegative\nHTTP/1.1 502 Bad Gateway\r\nContent-Type: text/plain\r\nl5d-err: negative\r\nContent-Length: 9\r\n\r\nnegative\n"
+    );
+    assert_eq!(rt; served.dialed.as_str(), "");
+    Ok(())
+}
+
+/// What `serve` writes, and its status, where these calls of the folder and of `listen` fail, and so many accepts of the router's first listener; and where the
+/// file of the service `web` has one line so many times.
+fn served_amiss<R: AllocGlobal + Threads + Wait + Sync>(
+    rt: &R,
+    reads: &[u64],
+    listens: &[u64],
+    accepts: u64,
+    line: &str,
+    lines: u32,
+) -> Result<(String, u8), Fail> {
+    let alloc = rt.alloc();
+    let mut failing = Vec::new(alloc);
+    for accept in 0..accepts {
+        failing.push(accept)?;
+    }
+    let none: Vec<MemPeer> = Vec::new(alloc);
+    let net = MemNet::of(
+        alloc,
+        vec![in alloc; visits(alloc, 4140, none, failing)?]?,
+        Vec::new(alloc),
+        Vec::from_slice(alloc, listens)?,
+    );
+    let folder = folder_of(alloc, WITH_SERVICES, line, lines, reads)?;
+    let served = served(rt, folder, net)?;
+    Ok((served.written, served.status))
+}
+
+/// A folder that can't be read, files that are refused, addresses that can't be listened on, and accepts that fail.
+#[test]
+fn routers_that_do_not_serve(rt: HostRuntime) -> Result<(), Fail> {
+    let line = "127.0.0.1 9001\n";
+    let rows: [(&[u64], &[u64], u64, &str, u32, &str, u8); 9] = [
+        (&[1], &[0], 0, line, 1, "error read\n", 4),
+        (&[2], &[0], 0, line, 1, "error read\n", 4),
+        // A file of 1,048,590 bytes is too long. Its fault comes before that of the net.
+        (&[], &[0], 0, "127.0.0.1\n", 1, "error file web\n", 3),
+        (&[], &[0], 0, line, 69_906, "error file web\n", 3),
+        (&[], &[0], 0, line, 1, "error net\n", 6),
+        (&[], &[1], 0, line, 1, "error net\n", 6),
+        (&[], &[2], 0, line, 1, "error net\n", 6),
+        // A listener is broken at a hundred faults in a row.
+        (
+            &[],
+            &[],
+            99,
+            line,
+            1,
+            "serving 127.0.0.1:4140 127.0.0.1:4180 127.0.0.1:9990\nclosed 1\n",
+            0,
+        ),
+        (
+            &[],
+            &[],
+            100,
+            line,
+            1,
+            "serving 127.0.0.1:4140 127.0.0.1:4180 127.0.0.1:9990\nerror net\n",
+            6,
+        ),
+    ];
+    for (reads, listens, accepts, line, lines, written, status) in rows {
+        let (text, ended) = served_amiss(&rt, reads, listens, accepts, line, lines)?;
+        assert_eq!(rt; (text.as_str(), ended), (written, status));
+    }
+    Ok(())
+}
+
+/// A folder with the configuration `conf/c.json`, and nine services at `disco` with a thousand addresses each, all of them different.
+fn folder_of_many(alloc: Global) -> Result<MemFolder, AllocError> {
+    let mut files = vec![in alloc; file(alloc, "conf", "c.json", WITH_SERVICES)?]?;
+    for service in 1..10 {
+        let mut text = String::new(alloc);
+        for port in 1..1001 {
+            write!(text, "127.0.0.{service} {port}\n")?;
+        }
+        let name = format!(in alloc; "s{service}")?;
+        files.push(file(alloc, "disco", name.as_str(), text.as_str())?)?;
+    }
+    Ok(MemFolder::of(alloc, files, Vec::new(alloc)))
+}
+
+/// There is room for 8,192 addresses.
+#[test]
+fn services_without_room(rt: HostRuntime) -> Result<(), Fail> {
+    let alloc = rt.alloc();
+    let served = served(&rt, folder_of_many(alloc)?, net_of(alloc, "", "", "", "")?)?;
+    assert_eq!(rt;
+        (served.written.as_str(), served.status),
+        ("error book\n", 3)
+    );
+    Ok(())
+}

@@ -1,5 +1,0 @@
-use Rattle.proxy_session.proofs.Hosts.{heads_to}
-use Rattle.proxy_session.proofs.onward.head_to.Goals as goal
-
-pub returns : goal.returns
-returns c = heads_to c.args.head.now _ c.forward_head_into.new.out.items c.forward_head_into.result c.forward_head_into.ensures.ok
