@@ -15,7 +15,7 @@ use Rattle.dtab_table.specs.declared.prefix.PrefixLabel.{PrefixLabel}
 use Rattle.dtab_table.specs.declared.entry.Entry.{Entry}
 use Rattle.dtab_check.specs.Live.{paths_of, some_leaf, reached_by}
 use Rattle.dtab_check.specs.Rounds.{holds}
-use Rattle.dtab_check.specs.Indexed.{prefix_at, AreOf, AreNoted, AreMet, Marks, label_in, labels_in}
+use Rattle.dtab_check.specs.Indexed.{prefix_at, AreOf, AreNoted, AreMet, Marks}
 use Rattle.dtab_check.proofs.Rounds.{both_true}
 
 pub contains_first : {X : Type 0} (x : X) (xs : List X) → Contains (x ∷ xs) x
@@ -233,10 +233,6 @@ pub label-more : {B C : Type 0} (f : PrefixLabel → B) (g : C → B) (made grow
     → grown ≡ made ++ x ∷ [] → map g made ≡ map f (take i labels) → map g grown ≡ map f (take (i + 1) labels)
 label-more f g made grown labels i label x within is value pushed stands =
     rw (take_more labels i label within, ← is, pushed, map-append, map-append, stands, value) refl
-
-pub labels_in-map : (labels : List PrefixLabel) → map (λ p. label_in (pattern_of p)) labels ≡ labels_in (map pattern_of labels)
-labels_in-map [] = refl
-labels_in-map (l ∷ ls) = ap (λ (ks : Labels). label_in (pattern_of l) ∷ ks) (labels_in-map ls)
 
 -- what is found are positions of entries
 pub found-within : (entries : List Entry) (index : List Placed) (labels : Labels) (found : List ℕ) (most : ℕ) → AreOf entries index → found ≡ matching index labels → most ≡ length entries → (k d : ℕ) → k < length found → get_or found k d < most

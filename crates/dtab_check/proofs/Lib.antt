@@ -2,6 +2,7 @@ pub mod Covering
 pub mod Indexing
 pub mod Links
 pub mod Lives
+pub mod Noting
 pub mod Replacing
 pub mod Rounds
 pub mod Searching

@@ -2,7 +2,7 @@
 use Rattle.std.specs.Prelude.{◌≡◌, ◌⊎◌, ℕ, zero, suc, ◌<◌, Bool, true, List, [], ◌∷◌, length, map}
 use Rattle.std.specs.Prelude.{Some, None, slice_index_or}
 use Rattle.std.specs.List.{Contains}
-use Rattle.name_tree.specs.Path.{Label, Labels}
+use Rattle.name_tree.specs.Path.{Labels}
 use Rattle.dtab_index.specs.Index.{Placed, matches}
 use Rattle.dtab_table.specs.Pattern.{Pattern}
 use Rattle.dtab_table.specs.declared.entry.Entry.{Entry}
@@ -45,11 +45,3 @@ pub record Marks (old new : List Bool) (places : List ℕ) : Type 0 where
   pub kept : (at : ℕ) → holds old at ≡ true → holds new at ≡ true
   pub marked : (at : ℕ) → Contains places at → holds new at ≡ true
   pub only : (at : ℕ) → holds new at ≡ true → (holds old at ≡ true) ⊎ Contains places at
-
--- a label of a prefix as a path's, where `*` is the label of no bytes
-abbrev pub label_in : Pattern → Label
-label_in None = []
-label_in (Some l) = l
-
-abbrev pub labels_in : List Pattern → Labels
-labels_in prefix = map label_in prefix

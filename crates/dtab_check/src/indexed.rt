@@ -8,7 +8,7 @@ ghost use Rattle.dtab_check.specs.Live.{paths_of, reached_by};
 
 use crate::Mem;
 use crate::found::is_set;
-use crate::prefixes::{are_same, labels_of, patterns_of};
+use crate::prefixes::{are_same, matched_path, patterns_of};
 use dtab_index::Index;
 use dtab_table::{Entry, Prefix};
 use name_tree::Path;
@@ -17,8 +17,8 @@ use std::alloc::Global;
 /// The entries of a table, and their prefixes in an index.
 ///
 /// Entries with the same prefix match the same paths. So a prefix stands in the index once, for the
-/// first entry that has it, and what matches a path is found by one look-up for each shape of
-/// prefix, however many entries have one.
+/// first entry that has it, and what matches a path is found by one look-up for each of its labels,
+/// however many entries there are.
 #[derive(Drop)]
 pub(crate) struct IndexedEntries<'a> {
     entries: &'a [Entry],
@@ -68,7 +68,7 @@ impl<'a> IndexedEntries<'a> {
     {
         let mut met = vec![in alloc; false; self.entries.len()]?;
         for leaf in leaves {
-            let found = self.index.matching(alloc, leaf.labels())?;
+            let found = self.index.matching(alloc, leaf)?;
             mark(&mut met, found.as_slice());
         }
         Ok(met)
@@ -102,8 +102,8 @@ fn find(alloc: Global, entries: &[Entry], index: &Index, prefix: &Prefix) -> Mem
     ensures { IfOk result (λ found. (place : _) → found ≡ Some place
         → Contains index.now (prefix.now, place)) }
 {
-    let labels = labels_of(alloc, prefix)?;
-    let covers = index.matching(alloc, labels.as_slice())?;
+    let path = matched_path(alloc, prefix)?;
+    let covers = index.matching(alloc, &path)?;
     for cover in &covers {
         let place = *cover as usize;
         if are_same(&entries[place].prefix, prefix) {

@@ -25,6 +25,10 @@
 //! That an entry is not named says nothing: a later entry may be sure for a reason that no table
 //! shows, as a service that is always there.
 //!
+//! [`notes_of`] is what else the text of a table shows to people who read it: exactly the notes of
+//! `specs/Notes.antt`, which say which entries lead to services, which have a branch of weight 0,
+//! and which have the same canonical text as a later one.
+//!
 //! # Example
 //! ```
 //! let dtab = read_dtab(alloc, b"/svc => /a; /svc/web => /b; /svc => /$/inet/127.0.0.1/80")?;
@@ -39,18 +43,25 @@ use std::alloc::AllocError;
 
 mod covers;
 mod entries;
+mod entry_text;
 mod found;
 mod hidden_list;
+mod idle;
 mod indexed;
 mod laws;
 mod live;
+mod note_list;
+mod notes;
 mod prefixes;
 mod search;
 mod sure;
 mod taking_out;
+mod texts;
 
 pub use hidden_list::{Hidden, HiddenList};
 pub use laws::hidden_entries_are_never_asked;
+pub use note_list::{Note, NoteList, Remark};
+pub use notes::notes_of;
 pub use search::hidden;
 pub use taking_out::taken_out;
 

@@ -1,12 +1,12 @@
 //! Prefixes as an index takes them.
-ghost use Rattle.std.specs.Prelude.{◌≡◌, ◌↔◌, IsTrue, IfOk, map};
+ghost use Rattle.std.specs.Prelude.{◌≡◌, ◌↔◌, ◌<◌, length, IsTrue, IfOk};
 ghost use Rattle.dtab_index.specs.Prefix.{pattern_of as indexed_pattern, patterns_of as indexed};
 ghost use Rattle.dtab_table.specs.Pattern.{pattern_of};
-ghost use Rattle.dtab_check.specs.Indexed.{label_in, labels_in};
 
 use crate::Mem;
 use crate::covers::is_cover;
 use dtab_table::{Prefix, PrefixLabel};
+use name_tree::Path;
 use std::alloc::Global;
 
 /// The labels of a prefix, where `None` is `*`.
@@ -31,26 +31,25 @@ fn pattern(alloc: Global, label: &PrefixLabel) -> Mem<Option<Vec<u8>>>
     }
 }
 
-/// The labels of a prefix, as if it were a path in which `*` is the label of no bytes. A prefix has
-/// no such label, so the prefixes that match this path are those that cover the prefix.
-pub(crate) fn labels_of(alloc: Global, prefix: &Prefix) -> Mem<Vec<Vec<u8>>>
-    ensures { IfOk result (λ labels. map (λ l. l.items) labels.items ≡ labels_in prefix.now) }
-{
-    let patterns = prefix.labels();
-    let mut labels = Vec::with_capacity(alloc, patterns.len())?;
-    for label in patterns {
-        labels.push(label_of(alloc, label)?)?;
+/// A path that a prefix matches, and with it each prefix that is the same: its labels, and some
+/// label in the place of each `*`.
+pub(crate) fn matched_path(alloc: Global, prefix: &Prefix) -> Mem<Path> {
+    let mut path = Path::new(alloc);
+    for label in prefix.labels() {
+        path.push(matched_label(alloc, label)?)?;
     }
-    Ok(labels)
+    Ok(path)
 }
 
-/// A label of a prefix, or the label of no bytes in place of `*`.
-fn label_of(alloc: Global, label: &PrefixLabel) -> Mem<Vec<u8>>
-    ensures { IfOk result (λ bytes. bytes.items ≡ label_in (pattern_of label.now)) }
+/// A label of a path that matches a label of a prefix, of which none is empty.
+fn matched_label(alloc: Global, label: &PrefixLabel) -> Mem<Vec<u8>>
+    ensures { IfOk result (λ bytes. 0 < length bytes.items) }
 {
     match label {
-        PrefixLabel::Star => Ok(Vec::new(alloc)),
-        PrefixLabel::Label(label) => Vec::from_slice(alloc, label.as_slice()),
+        PrefixLabel::Label(label) if !label.is_empty() => {
+            Vec::from_slice(alloc, label.as_slice())
+        }
+        PrefixLabel::Label(_) | PrefixLabel::Star => Vec::from_slice(alloc, b"*"),
     }
 }
 

@@ -13,7 +13,7 @@ use std::alloc::Global;
 /// Which entries of a table have a sure tree, entry by entry.
 ///
 /// Each leaf is looked up once in an index of the table's prefixes. That takes one look-up for each
-/// shape of prefix, and a step for each prefix that the leaf begins with.
+/// label, and a step for each prefix that the leaf begins with.
 pub(crate) fn sure_entries(alloc: Global, entries: &[Entry]) -> Mem<Vec<bool>>
     requires { length entries.now < 2 ^ 32 }
     ensures { IfOk result (λ sure. sure.items

@@ -1,8 +1,7 @@
-pub mod Filed
-pub mod Found
-pub mod Fronts
-pub mod Hashes
-pub mod Hashing
-pub mod Members
-pub mod Shapes
-pub mod There
+pub mod Filing
+pub mod Known
+pub mod Listed
+pub mod Matches
+pub mod PartLists
+pub mod Rows
+pub mod WordBits

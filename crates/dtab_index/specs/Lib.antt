@@ -1,4 +1,7 @@
-pub mod Filing
+pub mod Bits
+pub mod Columns
 pub mod Index
-pub mod Key
+pub mod Listed
+pub mod Part
+pub mod Parts
 pub mod Prefix

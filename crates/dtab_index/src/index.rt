@@ -1,21 +1,16 @@
 //! Prefixes of paths, and which of them match a path.
 
 use crate::Mem;
-use crate::filing::{candidates, gather, note_place, note_shape, some_found_at};
-use crate::key::{label_hashes, prefix_key};
-use crate::prefix::{Entry, Shape};
+use crate::part::Part;
+use crate::parts::{add_to, matches_any, part_with_room, put_matching};
+use name_tree::Path;
 use std::alloc::Global;
-use std::collections::HashMap;
 use std::marker::Model;
 
 /// Some prefixes of paths, each with its position, which contracts see as the list of what was added.
 #[derive(Debug, Drop)]
 pub struct Index {
-    entries: Vec<Entry>,
-    shapes: Vec<Shape>,
-    buckets: HashMap<u64, Vec<usize>>,
-    /// How many labels the longest prefix has.
-    longest: usize,
+    parts: Vec<Part>,
 }
 
 impl Model for Index {
@@ -23,13 +18,11 @@ impl Model for Index {
 
     ghost Value = { List (List (Option (List ℕ)) × ℕ) };
 
-    ghost use Rattle.std.specs.Prelude.{map};
-    ghost use Rattle.dtab_index.specs.Prefix.{placed_of, stars_of};
-    ghost use Rattle.dtab_index.specs.Filing.{AreRising, AreFiled, places_at};
+    ghost use Rattle.dtab_index.specs.Parts.{placed_by, AreKept};
 
-    ghost view = { λ x. map placed_of x.entries.items };
+    ghost view = { λ x. placed_by x.parts.items };
 
-    ghost invariant = { λ x. AreRising (map placed_of x.entries.items) × AreFiled (map placed_of x.entries.items) (map stars_of x.shapes.items) (places_at x.buckets) };
+    ghost invariant = { λ x. AreKept x.parts.items };
 }
 
 impl Index {
@@ -42,71 +35,46 @@ impl Index {
         ensures { result ≡ [] }
     {
         Index {
-            entries: Vec::new(alloc),
-            shapes: Vec::new(alloc),
-            buckets: HashMap::new(alloc),
-            longest: 0,
+            parts: Vec::new(alloc),
         }
     }
 
-    /// Puts a prefix, in which `None` is `*`, and its position behind the others. An `Err` changes nothing.
+    /// Puts a prefix, in which `None` is `*`, and its position behind the others. An `Err` changes
+    /// nothing.
     ///
-    /// The cost is one pass over the prefix, and a look at each shape that the index has.
+    /// The cost is one pass over the prefix. Of 1,024 prefixes, the index keeps two sets for each
+    /// position at which one of them has a label, and one for each label that they have there, with
+    /// the label; a set has 128 bytes.
     pub fn add(&mut self, prefix: Vec<Option<Vec<u8>>>, at: u32) -> Mem<()>
         requires { AreBelow at self.old }
         ensures ok { OnOk result (self.new ≡ self.old ++ (patterns_of prefix.items, at) ∷ []) }
         ensures err { OnErr result (self.new ≡ self.old) }
     {
-        let alloc = *self.entries.allocator();
-        note_shape(alloc, &mut self.shapes, prefix.as_slice())?;
-        let key = prefix_key(prefix.as_slice());
-        note_place(alloc, &mut self.buckets, key, self.entries.len())?;
-        let longest = self.longest.max(prefix.len());
-        self.entries.push(Entry { prefix, at })?;
-        self.longest = longest;
+        let place = part_with_room(&mut self.parts)?;
+        add_to(&mut self.parts, place, prefix, at)?;
         Ok(())
     }
 
-    /// The positions of the prefixes that match a path of these labels, the greatest first.
+    /// The positions of the prefixes that match a path, the greatest first.
     ///
-    /// The cost is one pass over the path, and for each shape that the index has one look-up and one
-    /// step for each of its labels; a comparison for each prefix that has the path's labels; the
-    /// memory of the answer, none where nothing matches; and where there are several shapes, memory
-    /// for a number for each label.
-    pub fn matching(&self, alloc: Global, path: &[Vec<u8>]) -> Mem<Vec<u32>>
-        ensures { IfOk result (λ found. found.items ≡ matching self.now (map (λ l. l.items) path.now)) }
+    /// The cost is, for every 1,024 prefixes, a look-up of each label of the path, as far as one of
+    /// them reaches, and a step for each prefix that matches; and the memory of the answer, none
+    /// where nothing matches.
+    pub fn matching(&self, alloc: Global, path: &Path) -> Mem<Vec<u32>>
+        ensures { IfOk result (λ found. found.items ≡ matching self.now path.now) }
     {
         let mut found = Vec::new(alloc);
-        let hashed = if self.shapes.len() > 1 {
-            self.longest
-        } else {
-            0
-        };
-        let hashes = label_hashes(alloc, path, hashed)?;
-        for shape in &self.shapes {
-            let stars = shape.stars.as_slice();
-            let places = candidates(&self.buckets, stars, path, hashes.as_slice());
-            gather(self.entries.as_slice(), places, path, &mut found)?;
-        }
-        found.sort_unstable();
-        found.dedup();
-        found.reverse();
+        put_matching(self.parts.as_slice(), path, &mut found)?;
         Ok(found)
     }
 
-    /// Whether one of the prefixes at the positions from one to before another matches a path of these labels. It takes no memory.
+    /// Whether one of the prefixes at the positions from one to before another matches a path. It
+    /// takes no memory.
     ///
-    /// The cost is one pass over the path and one look-up for each shape that the index has, and a comparison for each prefix that has
-    /// the path's labels, up to the first that is one of them.
-    pub fn matches_any(&self, from: u32, to: u32, path: &[Vec<u8>]) -> bool
-        ensures { result ≡ some_matches_there from to self.now (map (λ l. l.items) path.now) }
+    /// The cost is that of [`Index::matching`] at most, but for the memory.
+    pub fn matches_any(&self, from: u32, to: u32, path: &Path) -> bool
+        ensures { result ≡ some_matches_there from to self.now path.now }
     {
-        for shape in &self.shapes {
-            let places = candidates(&self.buckets, shape.stars.as_slice(), path, &[]);
-            if some_found_at(self.entries.as_slice(), places, from, to, path) {
-                return true;
-            }
-        }
-        false
+        matches_any(self.parts.as_slice(), from, to, path)
     }
 }

@@ -1,29 +1,34 @@
 //! An index over prefixes of paths: which of them match a path, found without a look at the others.
 //!
-//! An [`Index`] is a list of prefixes, each with its position. A prefix is a list of labels, of which some may be `*`; it matches a
-//! path that has at least as many labels, where each label of the prefix is the same as the path's or is `*`, which stands for any
-//! label. [`Index::matching`] gives the positions of all prefixes that match a path, the greatest first: exactly `matching` of
+//! An [`Index`] is a list of prefixes, each with its position. A prefix is a list of labels, of which
+//! some may be `*`; it matches a path that has at least as many labels, where each label of the prefix
+//! is the same as the path's or is `*`, which stands for any label. [`Index::matching`] gives the
+//! positions of all prefixes that match a path, the greatest first: exactly `matching` of
 //! `specs/Index.antt`, which is defined over the list alone.
 //!
-//! Prefixes of one shape, which have as many labels and `*` at the same places, are found together by a hash of their labels: an index
-//! of a thousand prefixes with one shape takes one look-up. Each prefix that a look-up gives is compared with the path, so equal
-//! hashes of different labels cost time and no answer.
+//! For each position of labels the index has an exact map from a label to a set of prefixes, a bit for
+//! each: those that have this label there. A look-up takes the set of all prefixes and, label by label
+//! of the path, leaves those that have the path's label there, `*`, or no label any more; what is left
+//! where the path or the longest prefix ends are the prefixes that match. So it costs one look-up in a
+//! map for each label, however many prefixes there are and whatever `*` they have.
 //!
 //! ```text
 //! let mut index = Index::new(alloc);
 //! index.add(vec![in alloc; Some(svc), Some(web)]?, 0)?;
 //! index.add(vec![in alloc; None]?, 1)?;
 //! // 1, 0 for `/svc/web/x`, and 1 for `/other`
-//! let places = index.matching(alloc, labels)?;
+//! let places = index.matching(alloc, &path)?;
 //! ```
 #![tactic(auto)]
 
 use std::alloc::AllocError;
 
-mod filing;
+mod bits;
+mod column;
+mod columns;
 mod index;
-mod key;
-mod prefix;
+mod part;
+mod parts;
 
 pub use index::Index;
 

@@ -7,7 +7,7 @@ use Rattle.std.proofs.lemmas.List.{append-nil, length-map, drop_all, take_all, t
 use Rattle.std.proofs.lemmas.Option.{get_or_from_slice_get}
 use Rattle.name_tree.specs.Path.{Label, Labels}
 use Rattle.dtab_index.specs.Index.{fits, matches}
-use Rattle.dtab_index.proofs.Fronts.{long_enough}
+use Rattle.dtab_index.proofs.Matches.{long_enough}
 use Rattle.dtab_table.specs.declared.entry.Entry.{Entry}
 use Rattle.dtab_table.specs.declared.prefix.PrefixLabel.{PrefixLabel}
 use Rattle.dtab_table.specs.Pattern.{Pattern, pattern_of, IsFilled, AreFilled}

@@ -86,10 +86,11 @@ impl Dtab {
         }
     }
 
-    /// Whether the prefix of some entry, from one place to before another, counted from 0, matches a path. It takes no memory.
+    /// Whether the prefix of some entry, from one place to before another, counted from 0, matches a
+    /// path. It takes no memory.
     ///
-    /// A few entries are compared with the path one by one. More are found by one look-up in the table's index for each shape of its
-    /// prefixes, however many they are.
+    /// A few entries are compared with the path one by one. Of more, up to 1,024, those that match are
+    /// found by one look-up in the table's index for each label of the path, however many they are.
     pub fn matches_any(&self, from: usize, to: usize, path: &Path) -> bool
         requires order { from ≤ to }
         requires within { to ≤ length (rules_of self.now) }
@@ -104,9 +105,9 @@ impl Dtab {
     /// The entries whose prefix matches a path, the last entry first. The prefix of each takes the first labels of the path, as many as it has
     /// itself, and the labels behind those are the rest. One call is one step.
     ///
-    /// The cost is one look-up in the table's index for each shape of its prefixes, or a comparison
-    /// with each of a few entries, and the memory of the answer, a reference for each entry that
-    /// matches. No tree is looked at, and none is copied.
+    /// The cost is, for every 1,024 entries, one look-up in the table's index for each label of the
+    /// path, or a comparison with each of a few entries, and the memory of the answer, a reference for
+    /// each entry that matches. No tree is looked at, and none is copied.
     pub fn matching<'a, L: Ledger>(
         &'a self,
         alloc: Global,

@@ -26,7 +26,7 @@ pub(crate) fn any_between(
     if to - from <= FEW_ENTRIES {
         return some_entry_matches(&entries[from..to], path);
     }
-    index.matches_any(from as u32, to as u32, path.labels())
+    index.matches_any(from as u32, to as u32, path)
 }
 
 /// Whether the prefix of some entry matches a path.

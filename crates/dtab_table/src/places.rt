@@ -46,7 +46,7 @@ pub(crate) fn places(alloc: Global, entries: &[Entry], index: &Index, path: &Pat
     if entries.len() <= FEW_ENTRIES {
         return compared(alloc, entries, path);
     }
-    index.matching(alloc, path.labels())
+    index.matching(alloc, path)
 }
 
 /// The places of the entries whose prefix matches a path, the last first. Each is compared with it.

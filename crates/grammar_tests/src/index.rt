@@ -1,11 +1,12 @@
 //! Prefixes that match, and those that do not.
 
 use dtab_index::{Index, Mem};
-use std::alloc::Global;
+use name_tree::read_path;
+use std::alloc::{AllocError, Global};
 use std::test::Fail;
 
 /// The labels of a text such as `/a/b`; those of `/` are none.
-fn path(alloc: Global, text: &[u8]) -> Mem<Vec<Vec<u8>>> {
+fn labels_of(alloc: Global, text: &[u8]) -> Mem<Vec<Vec<u8>>> {
     let mut labels = Vec::new(alloc);
     for label in text.split(|byte| *byte == b'/') {
         if !label.is_empty() {
@@ -18,7 +19,7 @@ fn path(alloc: Global, text: &[u8]) -> Mem<Vec<Vec<u8>>> {
 /// The labels of a text such as `/a/*`, in which `*` is any label.
 fn prefix(alloc: Global, text: &[u8]) -> Mem<Vec<Option<Vec<u8>>>> {
     let mut labels = Vec::new(alloc);
-    for label in path(alloc, text)? {
+    for label in labels_of(alloc, text)? {
         labels.push(if label.as_slice() == b"*".as_slice() {
             None
         } else {
@@ -42,7 +43,10 @@ fn five(alloc: Global) -> Mem<Index> {
 
 /// The positions of the prefixes that match a path.
 fn found(alloc: Global, index: &Index, text: &[u8]) -> Mem<Vec<u32>> {
-    index.matching(alloc, path(alloc, text)?.as_slice())
+    let Ok(path) = read_path(alloc, text) else {
+        return Err(AllocError);
+    };
+    index.matching(alloc, &path)
 }
 
 #[test]
@@ -66,17 +70,18 @@ fn numbered(alloc: Global, number: u32) -> Mem<Vec<u8>> {
     Ok(format!(in alloc; "/svc/s{number}")?.into_bytes())
 }
 
-/// The index of a thousand such prefixes.
-fn thousand(alloc: Global) -> Mem<Index> {
+/// The index of three thousand such prefixes.
+fn thousands(alloc: Global) -> Mem<Index> {
     let mut index = Index::new(alloc);
-    for at in 0..1000u32 {
+    for at in 0..3000u32 {
         let text = numbered(alloc, at)?;
         index.add(prefix(alloc, text.as_slice())?, at)?;
     }
     Ok(index)
 }
 
-/// The positions of the prefixes that match the path `/svc/s` with a number and one more label behind it.
+/// The positions of the prefixes that match the path `/svc/s` with a number and one more label behind
+/// it.
 fn found_behind(alloc: Global, index: &Index, number: u32) -> Mem<Vec<u32>> {
     let mut text = numbered(alloc, number)?;
     text.extend_from_slice(b"/x")?;
@@ -84,13 +89,13 @@ fn found_behind(alloc: Global, index: &Index, number: u32) -> Mem<Vec<u32>> {
 }
 
 #[test]
-fn finds_one_of_a_thousand(rt: HostRuntime) -> Result<(), Fail> {
-    let index = thousand(rt.alloc())?;
+fn finds_one_of_thousands(rt: HostRuntime) -> Result<(), Fail> {
+    let index = thousands(rt.alloc())?;
     assert!(rt; found(rt.alloc(), &index, b"/svc")?.is_empty());
-    for at in 0..1000u32 {
+    for at in 0..3000u32 {
         let found = found_behind(rt.alloc(), &index, at)?;
         assert!(rt; found.as_slice() == [at].as_slice(), "{at}");
     }
-    assert!(rt; found_behind(rt.alloc(), &index, 1000)?.is_empty());
+    assert!(rt; found_behind(rt.alloc(), &index, 3000)?.is_empty());
     Ok(())
 }

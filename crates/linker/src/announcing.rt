@@ -1,26 +1,41 @@
-//! What is told on standard error of a configuration that is checked, and of a router that serves.
+//! What the process is asked to do with a file, and what is told on standard error of a router that
+//! serves.
+use crate::warning::Expected;
 use linker_commands::{Command, read_words, words_behind_name};
 use net_edge::Refusal;
 use std::alloc::{AllocError, Global};
 use std::env::Args;
 use std::io;
 
-/// What the process is asked to do with a configuration.
+/// What the process is asked to do with a file.
 #[derive(Debug, Drop)]
 pub enum Asked {
-    /// To check it.
+    /// To check a configuration.
     Check,
-    /// To serve by the one at this path.
+    /// To serve by the configuration at this path.
     Serve(String),
+    /// To look a table through.
+    Lint,
 }
 
-/// What the arguments of the process ask to do with a configuration, as `read_words` reads them, if
-/// they ask that and there is memory to say so. The first of them is the program's name.
+impl Asked {
+    /// What the file is that is read first.
+    pub fn expected(&self) -> Expected {
+        match self {
+            Asked::Check | Asked::Serve(_) => Expected::Config,
+            Asked::Lint => Expected::Table,
+        }
+    }
+}
+
+/// What the arguments of the process ask to do with a file, as `read_words` reads them, if they ask
+/// that and there is memory to say so. The first of them is the program's name.
 pub fn asked_of(alloc: Global, arguments: io::Result<Args>) -> Option<Asked> {
     let words = words_behind_name(alloc, arguments.ok()?).ok()?;
     match read_words(words.as_slice()).ok()? {
         Command::Check(_) => Some(Asked::Check),
         Command::Serve(path) => Some(Asked::Serve(String::from_str(alloc, path).ok()?)),
+        Command::Lint(_) => Some(Asked::Lint),
         _ => None,
     }
 }

@@ -4,7 +4,8 @@
 //! `main` makes these of the file system, sockets, the system's clock and the standard streams,
 //! hands the arguments on, and ends with the code that it is given. What is told to people goes to
 //! standard error: how to call the program where the words fit no command, by which configuration
-//! it serves, why it ended, and that a configuration does what few want.
+//! it serves, why it ended, that a configuration does what few want, and what else the text of a
+//! table shows.
 //!
 //! # What is proved
 //! That the code to exit with is the status of the words is a clause of
@@ -30,6 +31,7 @@ use std::{env, io};
 use warning::WarningFolder;
 
 mod announcing;
+mod notes;
 mod warning;
 
 /// What is written to standard error where the words fit no command.
@@ -45,6 +47,9 @@ usage: linker serve CONFIG
 usage: linker lint FILE
   FILE is the path of a table. Its entries that are never asked are told, and the table without
   them.
+usage: linker follow A NS N
+  Asks the leader at the address A, as 127.0.0.1:4181, N times for the table of the namespace NS,
+  and tells each one that is later than those before it. N is at most 1000000.
 usage: linker storm N SEED
   Makes N generated changes and picks by the words of the generator with this seed, and sums them
   up in a line. N is at most 1000000.
@@ -59,7 +64,8 @@ fn main(rt: HostRuntime) -> ExitCode {
         return ExitCode::from(tell(&mut out, b"error memory\n", Status::Memory).code());
     };
     let asked = asked_of(rt.alloc(), env::args(&rt));
-    let mut folder = WarningFolder::of(&rt, FileSystem::of(&rt), asked.is_some());
+    let expected = asked.as_ref().map(Asked::expected);
+    let mut folder = WarningFolder::of(&rt, FileSystem::of(&rt), expected);
     let mut clock = SystemClock::of(&rt);
     let mut input = ReaderSource::of(rt.reader());
     if let Some(Asked::Serve(path)) = &asked {

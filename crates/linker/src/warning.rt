@@ -1,6 +1,8 @@
-//! What is told on standard error of a configuration that is right, and does what few want.
+//! What is told on standard error of a file that is read: of a configuration that is right, and
+//! does what few want, and of a table that is looked through.
 ghost use Rattle.std.specs.Prelude.{◌≡◌};
 
+use crate::notes::tell_notes;
 use line_base::{Folder, FolderFault, Found, NameList};
 use linker_config::read_config;
 use std::alloc::Global;
@@ -9,45 +11,62 @@ use std::alloc::Global;
 const COVERED: &str = "linker: an entry of routers[0].dtab covers routers[0].dstPrefix, so it is \
     tried before every entry of the namespace";
 
-/// A folder that warns of a configuration when that is read. It is the folder that it stands
-/// before in all that contracts say, and each file is read once.
+/// What a file is of which there may be something to tell.
+#[derive(Clone, Copy, Debug, PartialEq, Eq, Drop)]
+pub enum Expected {
+    /// A configuration.
+    Config,
+    /// A table.
+    Table,
+}
+
+/// A folder that tells what people should know of the first file when that is read. It is the
+/// folder that it stands before in all that contracts say, and each file is read once.
 #[derive(Drop)]
 pub struct WarningFolder<'a, R, F> {
     rt: &'a R,
     folder: F,
-    /// Whether the file that is read next is a configuration.
-    expects_config: bool,
+    /// What the file is that is read next, if there may be something to tell of it.
+    expected: Option<Expected>,
 }
 
-/// Whether a file is a right configuration whose table covers all that requests' paths begin with.
-fn is_covered(alloc: Global, found: &Found) -> bool {
-    match found {
-        Found::Bytes(text) => match read_config(alloc, text.as_slice()) {
-            Ok(config) => config.table_covers_prefix(),
-            Err(_) => false,
-        },
-        Found::Absent | Found::Longer => false,
+/// Whether a text is a right configuration whose table covers all that requests' paths begin with.
+fn is_covered(alloc: Global, text: &[u8]) -> bool {
+    match read_config(alloc, text) {
+        Ok(config) => config.table_covers_prefix(),
+        Err(_) => false,
+    }
+}
+
+/// Warns of a configuration whose table covers the prefix of requests' paths.
+fn warn_of_cover<R: Eprint + AllocGlobal>(rt: &R, text: &[u8]) {
+    if is_covered(rt.alloc(), text) {
+        let _ = eprintln!(rt; "{COVERED}");
     }
 }
 
 impl<'a, R: Eprint + AllocGlobal, F: Folder> WarningFolder<'a, R, F> {
-    /// This folder. The first file that is read in it is a configuration, or no file is one.
-    pub fn of(rt: &'a R, folder: F, expects_config: bool) -> WarningFolder<'a, R, F> {
+    /// This folder. The first file that is read in it is expected to be this, if anything.
+    pub fn of(rt: &'a R, folder: F, expected: Option<Expected>) -> WarningFolder<'a, R, F> {
         WarningFolder {
             rt,
             folder,
-            expects_config,
+            expected,
         }
     }
 
-    /// Warns of the first file that is found, where it is a configuration of which to warn.
-    fn warn_of(&mut self, found: &Found)
+    /// Tells of the first file that is found, where it is what was expected.
+    fn tell_of(&mut self, found: &Found)
         ensures { self.new.folder ≡ self.old.folder }
     {
-        if self.expects_config && is_covered(self.rt.alloc(), found) {
-            let _ = eprintln!(self.rt; "{COVERED}");
+        if let Found::Bytes(text) = found {
+            match self.expected {
+                Some(Expected::Config) => warn_of_cover(self.rt, text.as_slice()),
+                Some(Expected::Table) => tell_notes(self.rt, text.as_slice()),
+                None => {}
+            }
         }
-        self.expects_config = false;
+        self.expected = None;
     }
 }
 
@@ -61,7 +80,7 @@ impl<R: Eprint + AllocGlobal, F: Folder> Folder for WarningFolder<'_, R, F> {
     fn read(&mut self, path: &str, most: usize) -> Result<Found, FolderFault> {
         let read = self.folder.read(path, most);
         if let Ok(found) = &read {
-            self.warn_of(found);
+            self.tell_of(found);
         }
         read
     }

@@ -15,7 +15,11 @@ use Rattle.addr_book.specs.contracts.bound.BoundList as BoundList
 use Rattle.addr_book.specs.contracts.bound.Bound.TheKnot as bound
 use Rattle.addr_book.specs.declared.bound.Bound.TheBlock.{the_members as bound_members, member-Bound, member-BoundItem, member-BoundList}
 use Rattle.addr_book.proofs.leaf.Leaf.TheSendSync as leaf
-use Rattle.dtab_table.below.dtab_index.proofs.index.Index.TheSendSync as index
+use Rattle.dtab_table.below.dtab_index.proofs.column.Column.TheSendSync as column
+use Rattle.dtab_table.below.dtab_index.specs.contracts.index.Index as Index
+use Rattle.dtab_table.below.dtab_index.specs.contracts.index.Index.TheInside as IndexInside
+use Rattle.dtab_table.below.dtab_index.specs.contracts.part.Part as IndexPart
+use Rattle.dtab_table.below.dtab_index.specs.contracts.part.Entry as IndexEntry
 use Rattle.dtab_table.specs.contracts.dtab.Dtab as Dtab
 use Rattle.dtab_table.specs.contracts.entry.Entry as Entry
 use Rattle.dtab_table.specs.contracts.parts.Parts as Parts
@@ -66,6 +70,39 @@ tree_send = variants_send Tree.enum ((search (as_row_send, path.the_send, sendab
 tree_sync : IsSync Tree.the_row
 tree_sync = variants_sync Tree.enum ((search (as_row_sync, path.the_sync, sendable), tt), (tt, (tt, (tt, ((trees_sync, tt), ((branches_sync, tt), tt))))))
 
+-- ---- indexes
+index_entry_send : IsSend IndexEntry.the_row
+index_entry_send =
+    declared_send IndexEntry.the_type
+    (search (crosses, sendable) depth 40, (search sendable, tt))
+
+index_entry_sync : IsSync IndexEntry.the_row
+index_entry_sync =
+    declared_sync IndexEntry.the_type
+    (search (crosses, sendable) depth 40, (search sendable, tt))
+
+index_part_send : IsSend IndexPart.the_row
+index_part_send =
+    declared_send IndexPart.the_type (
+      search (as_row_send, index_entry_send, crosses, sendable) depth 40,
+      (search (as_row_send, column.the_send, crosses) depth 40, tt),
+    )
+
+index_part_sync : IsSync IndexPart.the_row
+index_part_sync =
+    declared_sync IndexPart.the_type (
+      search (as_row_sync, index_entry_sync, crosses, sendable) depth 40,
+      (search (as_row_sync, column.the_sync, crosses) depth 40, tt),
+    )
+
+index_send : IsSend Index.the_row
+index_send = view_send IndexInside.the_row _ _ _ _
+    (declared_send IndexInside.the_type (search (as_row_send, index_part_send, crosses) depth 40, tt))
+
+index_sync : IsSync Index.the_row
+index_sync = view_sync IndexInside.the_row _ _ _ _
+    (declared_sync IndexInside.the_type (search (as_row_sync, index_part_sync, crosses) depth 40, tt))
+
 -- ---- tables
 entry_send : IsSend Entry.the_row
 entry_send = declared_send Entry.the_type (prefix.the_send, (tree_send, tt))
@@ -75,11 +112,11 @@ entry_sync = declared_sync Entry.the_type (prefix.the_sync, (tree_sync, tt))
 
 parts_send : IsSend Parts.the_row
 parts_send = view_send Inside.the_row _ _ _ _
-    (declared_send Inside.the_type (search (as_row_send, entry_send, crosses) depth 40, (search (as_row_send, tree_send, crosses, sendable) depth 40, (index.the_send, tt))))
+    (declared_send Inside.the_type (search (as_row_send, entry_send, crosses) depth 40, (search (as_row_send, tree_send, crosses, sendable) depth 40, (index_send, tt))))
 
 parts_sync : IsSync Parts.the_row
 parts_sync = view_sync Inside.the_row _ _ _ _
-    (declared_sync Inside.the_type (search (as_row_sync, entry_sync, crosses) depth 40, (search (as_row_sync, tree_sync, crosses, sendable) depth 40, (index.the_sync, tt))))
+    (declared_sync Inside.the_type (search (as_row_sync, entry_sync, crosses) depth 40, (search (as_row_sync, tree_sync, crosses, sendable) depth 40, (index_sync, tt))))
 
 pub dtab_send : IsSend Dtab.the_row
 dtab_send = declared_send Dtab.the_type (search (as_row_send, parts_send, parts_sync, crosses, sendable) depth 40, tt)

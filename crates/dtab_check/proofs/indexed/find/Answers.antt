@@ -7,7 +7,7 @@ use Rattle.dtab_check.proofs.indexed.find.Goals as goal
 
 pub bounds-entries-place : goal.bounds-entries-place
 bounds-entries-place c =
-    let there = stands-at c.args.entries.now c.args.index.now (map (λ l. l.items) c.as_slice.result.now)
+    let there = stands-at c.args.entries.now c.args.index.now c.in_ok-path.path
     c.deref-cover-items.result.now c.loop-cover.cover-index
     (get_or c.deref-cover-items.result.now c.loop-cover.cover-index 0) c.requires
     (c.deref-cover-items.ensures.value ∙ c.in_ok-covers.ensures) c.loop-cover-test.true refl in
@@ -16,7 +16,7 @@ bounds-entries-place c =
 pub returns-then-are_same : goal.returns-then-are_same
 returns-then-are_same c = λ place is.
     let found = get_or c.deref-cover-items.result.now c.loop-cover.cover-index 0 in
-    let there = stands-at c.args.entries.now c.args.index.now (map (λ l. l.items) c.as_slice.result.now)
+    let there = stands-at c.args.entries.now c.args.index.now c.in_ok-path.path
     c.deref-cover-items.result.now c.loop-cover.cover-index found c.requires
     (c.deref-cover-items.ensures.value ∙ c.in_ok-covers.ensures) c.loop-cover-test.true refl in
     let same = prefix_at-read c.args.entries.now found c.index-entries-place.result there.0

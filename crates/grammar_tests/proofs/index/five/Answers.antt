@@ -1,6 +1,6 @@
 use Rattle.std.proofs.Common.{sym, subst, List, ◌+◌}
 use Rattle.dtab_index.specs.Index.{AreBelow, Placed}
-use Rattle.dtab_index.proofs.Filed.{below_more}
+use Rattle.dtab_index.proofs.Matches.{below_more}
 use Rattle.grammar_tests.proofs.index.five.Goals as goal
 
 pub loop-at-preserved : goal.loop-at-preserved

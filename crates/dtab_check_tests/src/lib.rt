@@ -1,0 +1,9 @@
+//! Tests of the entries of tables that are never asked, and of notes on tables.
+#![tactic(auto)]
+
+#[cfg(test)]
+mod drawn;
+#[cfg(test)]
+mod notes;
+#[cfg(test)]
+mod rows;

@@ -1,0 +1,102 @@
+//! Tables, the entries of them that are never asked, and what is left without those.
+
+use dtab_check::{Hidden, HiddenList, hidden, taken_out};
+use dtab_table::{read_dtab, write_dtab};
+use std::alloc::Global;
+use std::test::Fail;
+
+/// A table, its hidden entries, and the table without them.
+type Row = (&'static str, &'static [Hidden], &'static str);
+
+const FIRST_BY_THIRD: Hidden = Hidden { entry: 0, by: 2 };
+
+const SECOND_BY_THIRD: Hidden = Hidden { entry: 1, by: 2 };
+
+const FIRST_BY_SECOND: Hidden = Hidden { entry: 0, by: 1 };
+
+const ROWS: [Row; 16] = [
+    // Two entries are hidden by one that sends all of `/svc` to an address.
+    (
+        "/svc => /a; /svc/web => /b; /svc => /$/inet/127.0.0.1/80",
+        &[FIRST_BY_THIRD, SECOND_BY_THIRD],
+        "/svc=>/$/inet/127.0.0.1/80",
+    ),
+    // A label doesn't cover `*`, and `*` does cover a label.
+    ("/s/* => /a; /s/x => !", &[], "/s/*=>/a;/s/x=>!"),
+    ("/s/x => /a; /s/* => !", &[FIRST_BY_SECOND], "/s/*=>!"),
+    // A longer prefix covers no shorter one.
+    ("/s => /a; /s/x => !", &[], "/s=>/a;/s/x=>!"),
+    // A leaf is sure by an entry that matches it, wherever that stands, and not by one that leads
+    // back.
+    (
+        "/a => /x; /b => $; /a => /b/c",
+        &[FIRST_BY_THIRD],
+        "/b=>$;/a=>/b/c",
+    ),
+    (
+        "/a => /x; /a => /b/c; /b => $",
+        &[FIRST_BY_SECOND],
+        "/a=>/b/c;/b=>$",
+    ),
+    ("/a => /b; /b => /a; /a => /b", &[], "/a=>/b;/b=>/a;/a=>/b"),
+    // A service may be in no book, and four labels name an address.
+    (
+        "/a => /x; /a => /#/io.l5d.fs/web",
+        &[],
+        "/a=>/x;/a=>/#/io.l5d.fs/web",
+    ),
+    (
+        "/a => /x; /a => /$/inet/127.0.0.1",
+        &[],
+        "/a=>/x;/a=>/$/inet/127.0.0.1",
+    ),
+    (
+        "/a => /x; /a => /$/inet/127.0.0.1/0",
+        &[],
+        "/a=>/x;/a=>/$/inet/127.0.0.1/0",
+    ),
+    // One alternative or one branch with a weight is enough, and `~` is none.
+    (
+        "/a => /x; /a => ~ | /y | !",
+        &[FIRST_BY_SECOND],
+        "/a=>~ | /y | !",
+    ),
+    (
+        "/a => /x; /a => /y & $",
+        &[FIRST_BY_SECOND],
+        "/a=>1 * /y & 1 * $",
+    ),
+    (
+        "/a => /x; /a => /y & 0 * $",
+        &[],
+        "/a=>/x;/a=>1 * /y & 0 * $",
+    ),
+    ("/a => /x; /a => ~", &[], "/a=>/x;/a=>~"),
+    // The last of several covers is named, also for one that covers another.
+    (
+        "/a => /x; /a => !; / => $",
+        &[FIRST_BY_THIRD, SECOND_BY_THIRD],
+        "/=>$",
+    ),
+    ("", &[], ""),
+];
+
+/// The hidden entries of the table of a text, and the text of the table without them.
+fn checked(alloc: Global, text: &str) -> Result<(HiddenList, Vec<u8>), Fail> {
+    let dtab = read_dtab(alloc, text.as_bytes())?;
+    let list = hidden(alloc, &dtab)?;
+    let rest = taken_out(alloc, &dtab, &list)?;
+    Ok((list, write_dtab(alloc, &rest)?))
+}
+
+#[test]
+fn hidden_entries_are_named_and_taken_out(rt: HostRuntime) -> Result<(), Fail> {
+    for (text, want, rest) in ROWS {
+        let (list, left) = checked(rt.alloc(), text)?;
+        assert!(rt;
+            list.items() == want && left.as_slice() == rest.as_bytes(),
+            "{text}"
+        );
+    }
+    Ok(())
+}

@@ -1,0 +1,7 @@
+-- Sets of places, as bits.
+use Rattle.std.specs.Prelude.{ℕ, ◌/◌, ◌%◌, ◌==◌, Bool, List, slice_index}
+use Rattle.std.specs.Int.{bit_at}
+
+-- whether a set of places has one: its bit in the words
+abbrev pub has : List ℕ → ℕ → Bool
+has words place = bit_at (slice_index words (place / 64)) (place % 64) == 1

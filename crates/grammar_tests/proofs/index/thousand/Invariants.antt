@@ -1,5 +1,0 @@
-use Rattle.dtab_index.specs.Index.{AreBelow}
-use Rattle.grammar_tests.proofs.index.thousand.Given as goal
-
-abbrev pub invariant-loop-at : goal.invariant-loop-at
-invariant-loop-at l = AreBelow l.at l.index
