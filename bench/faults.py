@@ -294,4 +294,5 @@ async def main():
     return 1 if counts.wrong else 0
 
 
-sys.exit(asyncio.run(main()))
+if __name__ == "__main__":
+    sys.exit(asyncio.run(main()))

@@ -1,4 +1,5 @@
--- A connection of an interface: the requests that its bytes begin with, in order, what each is answered, and how it ends.
+-- A connection of an interface: the requests that its bytes begin with, in order, what each is
+-- answered, and how it ends.
 use Rattle.std.specs.Prelude.{◌≡◌, ◌≤◌, ◌⊎◌, ℕ, ◌+◌, ◌==◌, ◌||◌, Bool, true, false, if◌then◌else◌, List, [], ◌++◌, Option, Some, None}
 use Rattle.line_base.specs.Counts.{Rose, raised}
 use Rattle.http_wire.specs.declared.ended.Ended.{Ended}
@@ -12,10 +13,11 @@ use Rattle.router.specs.declared.naming.Naming.{Ghosts}
 use Rattle.router.specs.declared.pass.Pass.{Pass}
 use Rattle.ns_api.specs.declared.reply.ApiReply.{ApiReply}
 use Rattle.ns_api.specs.Answering.{AnswersBy, LeavesBy}
-use Rattle.ns_api.specs.Demand.{DemandValue, ns_demand}
+use Rattle.ns_api.specs.Demand.{ns_demand}
 use Rattle.ns_api.specs.Request.{closes}
+use Rattle.follow_feed.specs.Answering.{AnswersFeed, LeavesFeed}
 use Rattle.admin_api.specs.declared.serving.Which.{Which}
-use Rattle.admin_api.specs.declared.serving.Which.TheVariants.{Namerd, Admin}
+use Rattle.admin_api.specs.declared.serving.Which.TheVariants.{Namerd, Admin, Feed}
 use Rattle.admin_api.specs.Demand.{admin_demand}
 use Rattle.admin_api.specs.Requests.{IsRequest, HasOpenBody, IsRefusedAs, IsBetween, IsInside}
 use Rattle.admin_api.specs.Reading.{HasReadCauses}
@@ -23,11 +25,6 @@ use Rattle.admin_api.specs.Reading.{HasReadCauses}
 -- the most requests of one connection
 abbrev pub most_requests : ℕ
 most_requests = 10000
-
--- what a request asks for, by the interface, and by the target that goes on
-abbrev pub demand_of : Which → Head → List ℕ → List ℕ → DemandValue
-demand_of Namerd head body = λ line. ns_demand head line body
-demand_of Admin head body = λ line. admin_demand head line body
 
 -- the calls of a stop: one more where the program was stopped
 abbrev pub calls_after : ℕ → Bool → ℕ
@@ -39,55 +36,83 @@ end_behind true last = Some ended.Closed
 end_behind false true = Some ended.Spent
 end_behind false false = None
 
--- A reply is written, and says how the connection ends, if it does. The connection closes behind a reply that stops the program, and behind those that `closes` tells;
--- it is spent where that is because of the last request alone. The program is stopped where all of such a reply was written
+-- A reply is written, and says how the connection ends, if it does. The connection closes behind a
+-- reply that stops the program, and behind those that `closes` tells; it is spent where that is
+-- because of the last request alone. The program is stopped where all of such a reply was written
 abbrev pub IsDelivered : Head → Bool → ApiReply → List ℕ → Bool → Option Ended → Type 0
 IsDelivered head last reply written stopped None =
     ((reply.stops || closes head last) ≡ false) × (written ≡ reply.bytes.items) × (stopped ≡ false)
 IsDelivered head last reply written stopped (Some ended.Closed) =
-    ((reply.stops || closes head false) ≡ true) × (written ≡ reply.bytes.items) × (stopped ≡ reply.stops)
+    ((reply.stops || closes head false) ≡ true) × (written ≡ reply.bytes.items)
+    × (stopped ≡ reply.stops)
 IsDelivered head last reply written stopped (Some ended.Spent) =
-    ((reply.stops || closes head false) ≡ false) × (last ≡ true) × (written ≡ reply.bytes.items) × (stopped ≡ false)
-IsDelivered head last reply written stopped (Some ended.WriteFault) = IsFrontOf reply.bytes.items written × (stopped ≡ false)
+    ((reply.stops || closes head false) ≡ false) × (last ≡ true) × (written ≡ reply.bytes.items)
+    × (stopped ≡ false)
+IsDelivered head last reply written stopped (Some ended.WriteFault) =
+    IsFrontOf reply.bytes.items written × (stopped ≡ false)
 IsDelivered head last reply written stopped (Some ended.PeerEnded) = ⊥
 IsDelivered head last reply written stopped (Some ended.Cut) = ⊥
 IsDelivered head last reply written stopped (Some ended.ReadFault) = ⊥
 IsDelivered head last reply written stopped (Some ended.UpstreamCut) = ⊥
 IsDelivered head last reply written stopped (Some ended.OutOfMemory) = ⊥
 
--- How a connection ends with no further request that is answered, and what was written: a refusal, whole where it closes
+-- How a connection ends with no further request that is answered, and what was written: a refusal,
+-- whole where it closes
 abbrev pub EndsWithout : List ℕ → List ℕ → Ended → Type 0
 EndsWithout bytes written ended.PeerEnded = IsBetween bytes × (written ≡ [])
 EndsWithout bytes written ended.Cut = IsInside bytes × (written ≡ [])
-EndsWithout bytes written ended.ReadFault = (IsUnfinished bytes ⊎ HasOpenBody bytes) × (written ≡ [])
+EndsWithout bytes written ended.ReadFault =
+    (IsUnfinished bytes ⊎ HasOpenBody bytes) × (written ≡ [])
 EndsWithout bytes written ended.OutOfMemory = written ≡ []
 EndsWithout bytes written ended.Closed =
-    (err : OwnError) × (with_body : Bool) × IsRefusedAs bytes err with_body × (written ≡ reply_of err true with_body)
+    (err : OwnError) × (with_body : Bool) × IsRefusedAs bytes err with_body
+    × (written ≡ reply_of err true with_body)
 EndsWithout bytes written ended.WriteFault =
-    (err : OwnError) × (with_body : Bool) × IsRefusedAs bytes err with_body × IsFrontOf (reply_of err true with_body) written
+    (err : OwnError) × (with_body : Bool) × IsRefusedAs bytes err with_body
+    × IsFrontOf (reply_of err true with_body) written
 EndsWithout bytes written ended.Spent = ⊥
 EndsWithout bytes written ended.UpstreamCut = ⊥
 
 module _ {J : Type 0} {g : Ghosts J} where
+  -- a request was answered, by the interface
+  abbrev pub AnswersAs : Which → Head → Bool → List ℕ → Pass J g → Pass J g → ApiReply → Type 0
+  AnswersAs Namerd head last body old new reply =
+      AnswersBy head last (λ line. ns_demand head line body) old new reply
+  AnswersAs Admin head last body old new reply =
+      AnswersBy head last (λ line. admin_demand head line body) old new reply
+  AnswersAs (Feed run) head last body old new reply = AnswersFeed run head last old new reply
+
+  -- or memory was wanting, and what it asked for was done, or nothing
+  abbrev pub LeavesAs : Which → Head → List ℕ → Pass J g → Pass J g → Type 0
+  LeavesAs Namerd head body old new = LeavesBy head (λ line. ns_demand head line body) old new
+  LeavesAs Admin head body old new = LeavesBy head (λ line. admin_demand head line body) old new
+  LeavesAs (Feed run) head body old new = LeavesFeed head old new
+
   -- a request has its answer, which is delivered
-  pub record IsReplied (which : Which) (last : Bool) (head : Head) (body : List ℕ) (old new : Pass J g) (written : List ℕ) (stopped : Bool) (result : Option Ended) : Type 0 where
+  pub record IsReplied (which : Which) (last : Bool) (head : Head) (body : List ℕ)
+      (old new : Pass J g) (written : List ℕ) (stopped : Bool) (result : Option Ended)
+      : Type 0 where
     pub reply : ApiReply
-    pub answers : AnswersBy head last (demand_of which head body) old new reply
+    pub answers : AnswersAs which head last body old new reply
     pub delivered : IsDelivered head last reply written stopped result
 
   -- or memory was wanting, and what it asked for was done, or nothing
-  pub record IsWanting (which : Which) (head : Head) (body : List ℕ) (old new : Pass J g) (written : List ℕ) (stopped : Bool) (result : Option Ended) : Type 0 where
-    pub leaves : LeavesBy head (demand_of which head body) old new
+  pub record IsWanting (which : Which) (head : Head) (body : List ℕ) (old new : Pass J g)
+      (written : List ℕ) (stopped : Bool) (result : Option Ended) : Type 0 where
+    pub leaves : LeavesAs which head body old new
     pub nothing : written ≡ []
     pub goes_on : stopped ≡ false
     pub is : result ≡ Some ended.OutOfMemory
 
-  abbrev pub Answers : Which → Bool → Head → List ℕ → Pass J g → Pass J g → List ℕ → Bool → Option Ended → Type 0
+  abbrev pub Answers : Which → Bool → Head → List ℕ → Pass J g → Pass J g → List ℕ → Bool
+      → Option Ended → Type 0
   Answers which last head body old new written stopped result =
-      IsReplied which last head body old new written stopped result ⊎ IsWanting which head body old new written stopped result
+      IsReplied which last head body old new written stopped result
+      ⊎ IsWanting which head body old new written stopped result
 
   -- the connection ends behind a whole request, or with none
-  pub record EndsBehind (which : Which) (last : Bool) (bytes : List ℕ) (old new : Pass J g) (written : List ℕ) (stopped : Bool) (result : Ended) : Type 0 where
+  pub record EndsBehind (which : Which) (last : Bool) (bytes : List ℕ) (old new : Pass J g)
+      (written : List ℕ) (stopped : Bool) (result : Ended) : Type 0 where
     pub head : Head
     pub body : List ℕ
     pub behind : List ℕ
@@ -96,18 +121,25 @@ module _ {J : Type 0} {g : Ghosts J} where
 
   abbrev pub EndsWith : Which → Bool → List ℕ → Pass J g → Pass J g → List ℕ → Bool → Ended → Type 0
   EndsWith which last bytes old new written stopped result =
-      EndsBehind which last bytes old new written stopped result ⊎ ((new ≡ old) × (stopped ≡ false) × EndsWithout bytes written result)
+      EndsBehind which last bytes old new written stopped result
+      ⊎ ((new ≡ old) × (stopped ≡ false) × EndsWithout bytes written result)
 
-  -- Requests are answered, one after the other, and the connection goes on behind each: so many, with the pass, the bytes that are left, and those that were
-  -- written. The connection never goes on behind its last request
-  pub data Serves (which : Which) (old : Pass J g) (bytes : List ℕ) : ℕ → Pass J g → List ℕ → List ℕ → Type 0 where
+  -- Requests are answered, one after the other, and the connection goes on behind each: so many,
+  -- with the pass, the bytes that are left, and those that were written. The connection never goes
+  -- on behind its last request
+  pub data Serves (which : Which) (old : Pass J g) (bytes : List ℕ) : ℕ → Pass J g → List ℕ → List ℕ
+      → Type 0 where
     begun : Serves which old bytes 0 old bytes []
-    one_more : (count : ℕ) (mid new : Pass J g) (rest behind written sent : List ℕ) (head : Head) (body : List ℕ) → Serves which old bytes count mid rest written
-        → IsRequest rest head body behind → Answers which (count + 1 == most_requests) head body mid new sent false None
+    one_more : (count : ℕ) (mid new : Pass J g) (rest behind written sent : List ℕ) (head : Head)
+        (body : List ℕ) → Serves which old bytes count mid rest written
+        → IsRequest rest head body behind
+        → Answers which (count + 1 == most_requests) head body mid new sent false None
         → Serves which old bytes (count + 1) new behind (written ++ sent)
 
-  -- A connection is served: some requests are answered, and then it ends. `bytes` are those that came, and `written` those that it was given
-  pub record IsServing (which : Which) (old new : Pass J g) (bytes written : List ℕ) (stopped : Bool) (result : Ended) : Type 0 where
+  -- A connection is served: some requests are answered, and then it ends. `bytes` are those that
+  -- came, and `written` those that it was given
+  pub record IsServing (which : Which) (old new : Pass J g) (bytes written : List ℕ)
+      (stopped : Bool) (result : Ended) : Type 0 where
     pub count : ℕ
     pub mid : Pass J g
     pub rest : List ℕ
@@ -117,15 +149,20 @@ module _ {J : Type 0} {g : Ghosts J} where
     pub ends : EndsWith which (count + 1 == most_requests) rest mid new final stopped result
     pub all : written ≡ first ++ final
 
-  -- one turn: a request is answered and the connection goes on, whatever bytes follow it; or it ends
-  abbrev pub Turns : Which → Bool → Pass J g → Pass J g → List ℕ → List ℕ → List ℕ → Bool → Option Ended → Type 0
+  -- one turn: a request is answered and the connection goes on, whatever bytes follow it; or it
+  -- ends
+  abbrev pub Turns : Which → Bool → Pass J g → Pass J g → List ℕ → List ℕ → List ℕ → Bool
+      → Option Ended → Type 0
   Turns which last old new bytes kept written stopped None =
-      (stopped ≡ false) × ((head : Head) × (body : List ℕ) × ((more : List ℕ) → IsRequest (bytes ++ more) head body (kept ++ more))
+      (stopped ≡ false) × ((head : Head) × (body : List ℕ)
+      × ((more : List ℕ) → IsRequest (bytes ++ more) head body (kept ++ more))
       × Answers which last head body old new written false None)
-  Turns which last old new bytes kept written stopped (Some result) = EndsWith which last bytes old new written stopped result
+  Turns which last old new bytes kept written stopped (Some result) =
+      EndsWith which last bytes old new written stopped result
 
 -- the counts of a peer that tell why a connection ended: they never fall
-pub record HasCauses (ends_before ends_now reads_before reads_now writes_before writes_now : ℕ) (result : Option Ended) : Type 0 where
+pub record HasCauses (ends_before ends_now reads_before reads_now writes_before writes_now : ℕ)
+    (result : Option Ended) : Type 0 where
   pub reading : HasReadCauses ends_before ends_now reads_before reads_now result
   pub write_fault : result ≡ Some ended.WriteFault → Rose writes_before writes_now
   pub writes_later : writes_before ≤ writes_now

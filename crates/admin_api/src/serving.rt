@@ -4,14 +4,15 @@ ghost use Rattle.std.specs.Io.KnownBytes.{Appends, Consumes};
 ghost use Rattle.line_base.specs.Counts.{Rose};
 ghost use Rattle.line_base.specs.Lines.{IsUnread};
 ghost use Rattle.router.specs.Passes.{number_in};
-ghost use Rattle.ns_api.specs.Answering.{AnswersBy, IsTaken, LeavesBy};
-ghost use Rattle.admin_api.specs.Serving.{Answers, HasCauses, IsDelivered, IsServing, Turns, calls_after, demand_of, end_behind};
+ghost use Rattle.ns_api.specs.Answering.{IsTaken};
+ghost use Rattle.admin_api.specs.Serving.{Answers, AnswersAs, HasCauses, IsDelivered, IsServing, LeavesAs, Turns, calls_after, end_behind};
 
 use crate::answering::admin_answer;
 use crate::request::{Refused, Request, read_request};
 use crate::writing::refuse;
 use crate::{Bytes, Mem};
 use body_wire::write_all;
+use follow_feed::feed_answer;
 use http_wire::{Ended, Head, Rest};
 use line_base::{Peer, Stop};
 use ns_api::{ApiReply, closes, ns_answer};
@@ -22,17 +23,22 @@ use std::sync::Wait;
 /// The most requests of one connection.
 const MOST_REQUESTS: u32 = 10_000;
 
-/// Which of the two interfaces.
+/// Which of the interfaces.
 #[derive(Clone, Copy, Debug, PartialEq, Eq)]
 pub enum Which {
     /// namerd's.
     Namerd,
     /// The admin interface.
     Admin,
+    /// The feed that followers read.
+    Feed {
+        /// The number of this run of the program, greater than those of its earlier runs.
+        run: u64,
+    },
 }
 
-/// Serves a connection: its requests, one after another, until it ends or one closes it, and at most 10,000 of them. Behind the reply to a request that the program
-/// stop, it stops it.
+/// Serves a connection: its requests, one after another, until it ends or one closes it, and at
+/// most 10,000 of them. Behind the reply to a request that the program stop, it stops it.
 pub fn serve_admin<J: Naming, R: Wait, P: Peer, S: Stop>(
     rt: &R,
     alloc: Global,
@@ -43,9 +49,13 @@ pub fn serve_admin<J: Naming, R: Wait, P: Peer, S: Stop>(
     peer: &mut P,
 ) -> Ended
     ensures number { number_in pass.new ≡ number_in pass.old }
-    ensures serves { (came : List ℕ) × (gave : List ℕ) × (stopped : Bool) × Consumes (P.line peer.old).left (P.line peer.new).left came × Appends (P.line peer.old).given (P.line peer.new).given gave
-        × (S.calls stop.new ≡ calls_after (S.calls stop.old) stopped) × IsServing which pass.old pass.new came gave stopped result }
-    ensures causes { HasCauses (P.line peer.old).ends (P.line peer.new).ends (P.line peer.old).read_faults (P.line peer.new).read_faults (P.line peer.old).write_faults
+    ensures serves { (came : List ℕ) × (gave : List ℕ) × (stopped : Bool)
+        × Consumes (P.line peer.old).left (P.line peer.new).left came
+        × Appends (P.line peer.old).given (P.line peer.new).given gave
+        × (S.calls stop.new ≡ calls_after (S.calls stop.old) stopped)
+        × IsServing which pass.old pass.new came gave stopped result }
+    ensures causes { HasCauses (P.line peer.old).ends (P.line peer.new).ends
+        (P.line peer.old).read_faults (P.line peer.new).read_faults (P.line peer.old).write_faults
         (P.line peer.new).write_faults (Some result) }
 {
     let Ok(mut rest) = Rest::room(alloc) else {
@@ -83,9 +93,14 @@ fn serve_next<J: Naming, R: Wait, P: Peer, S: Stop>(
     rest: &mut Rest,
 ) -> Option<Ended>
     ensures number { number_in pass.new ≡ number_in pass.old }
-    ensures turn { (came : List ℕ) × (gave : List ℕ) × (stopped : Bool) × Consumes (P.line peer.old).left (P.line peer.new).left came × Appends (P.line peer.old).given (P.line peer.new).given gave
-        × (S.calls stop.new ≡ calls_after (S.calls stop.old) stopped) × Turns which last pass.old pass.new (rest.old ++ came) rest.new gave stopped result }
-    ensures causes { HasCauses (P.line peer.old).ends (P.line peer.new).ends (P.line peer.old).read_faults (P.line peer.new).read_faults (P.line peer.old).write_faults (P.line peer.new).write_faults result }
+    ensures turn { (came : List ℕ) × (gave : List ℕ) × (stopped : Bool)
+        × Consumes (P.line peer.old).left (P.line peer.new).left came
+        × Appends (P.line peer.old).given (P.line peer.new).given gave
+        × (S.calls stop.new ≡ calls_after (S.calls stop.old) stopped)
+        × Turns which last pass.old pass.new (rest.old ++ came) rest.new gave stopped result }
+    ensures causes { HasCauses (P.line peer.old).ends (P.line peer.new).ends
+        (P.line peer.old).read_faults (P.line peer.new).read_faults (P.line peer.old).write_faults
+        (P.line peer.new).write_faults result }
 {
     match read_request(alloc, peer, rest) {
         Ok(request) => reply_to(rt, alloc, router, pass, which, last, stop, peer, &request),
@@ -108,10 +123,14 @@ fn reply_to<J: Naming, R: Wait, P: Peer, S: Stop>(
 ) -> Option<Ended>
     requires { IsTaken request.now.head }
     ensures number { number_in pass.new ≡ number_in pass.old }
-    ensures answers { (gave : List ℕ) × (stopped : Bool) × Appends (P.line peer.old).given (P.line peer.new).given gave × (S.calls stop.new ≡ calls_after (S.calls stop.old) stopped)
-        × Answers which last request.now.head request.now.body.items pass.old pass.new gave stopped result }
+    ensures answers { (gave : List ℕ) × (stopped : Bool)
+        × Appends (P.line peer.old).given (P.line peer.new).given gave
+        × (S.calls stop.new ≡ calls_after (S.calls stop.old) stopped)
+        × Answers which last request.now.head request.now.body.items pass.old pass.new gave stopped
+        result }
     ensures others { IsUnread (P.line peer.old) (P.line peer.new) }
-    ensures cause { result ≡ Some Ended.WriteFault → Rose (P.line peer.old).write_faults (P.line peer.new).write_faults }
+    ensures cause { result ≡ Some Ended.WriteFault
+        → Rose (P.line peer.old).write_faults (P.line peer.new).write_faults }
     ensures later { (P.line peer.old).write_faults ≤ (P.line peer.new).write_faults }
 {
     match answer(
@@ -142,16 +161,19 @@ fn answer<J: Naming, R: Wait>(
 ) -> Mem<ApiReply>
     requires { IsTaken head.now }
     ensures number { number_in pass.new ≡ number_in pass.old }
-    ensures answered { IfOk result (AnswersBy head.now last (demand_of which head.now body.now.items) pass.old pass.new) }
-    ensures want { OnErr result (LeavesBy head.now (demand_of which head.now body.now.items) pass.old pass.new) }
+    ensures answered { IfOk result
+        (AnswersAs which head.now last body.now.items pass.old pass.new) }
+    ensures want { OnErr result (LeavesAs which head.now body.now.items pass.old pass.new) }
 {
     match which {
         Which::Namerd => ns_answer(rt, alloc, router, pass, head, body, last),
         Which::Admin => admin_answer(rt, alloc, router, pass, head, body, last),
+        Which::Feed { run } => feed_answer(rt, alloc, router, pass, run, head, last),
     }
 }
 
-/// Writes a reply, stops the program where it is to stop, and says how the connection ends behind it, if it does.
+/// Writes a reply, stops the program where it is to stop, and says how the connection ends behind
+/// it, if it does.
 fn deliver<P: Peer, S: Stop>(
     stop: &mut S,
     peer: &mut P,
@@ -159,10 +181,13 @@ fn deliver<P: Peer, S: Stop>(
     last: bool,
     reply: &ApiReply,
 ) -> Option<Ended>
-    ensures bytes { (gave : List ℕ) × (stopped : Bool) × Appends (P.line peer.old).given (P.line peer.new).given gave × (S.calls stop.new ≡ calls_after (S.calls stop.old) stopped)
+    ensures bytes { (gave : List ℕ) × (stopped : Bool)
+        × Appends (P.line peer.old).given (P.line peer.new).given gave
+        × (S.calls stop.new ≡ calls_after (S.calls stop.old) stopped)
         × IsDelivered head.now last reply.now gave stopped result }
     ensures others { IsUnread (P.line peer.old) (P.line peer.new) }
-    ensures cause { result ≡ Some Ended.WriteFault → Rose (P.line peer.old).write_faults (P.line peer.new).write_faults }
+    ensures cause { result ≡ Some Ended.WriteFault
+        → Rose (P.line peer.old).write_faults (P.line peer.new).write_faults }
     ensures later { (P.line peer.old).write_faults ≤ (P.line peer.new).write_faults }
 {
     match write_all(peer, reply.bytes.as_slice()) {

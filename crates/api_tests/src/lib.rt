@@ -1,4 +1,5 @@
-//! Tests of namerd's interface and of the admin interface: each reply, and how a connection ends, over connections in memory.
+//! Tests of namerd's interface, of the admin interface and of the feed: each reply, and how a
+//! connection ends, over connections in memory.
 #![tactic(auto)]
 
 #[cfg(test)]
@@ -7,6 +8,8 @@ mod admin;
 mod connections;
 #[cfg(test)]
 mod endings;
+#[cfg(test)]
+mod feed;
 #[cfg(test)]
 mod limits;
 #[cfg(test)]

@@ -18,7 +18,8 @@ const TOO_LONG: &str =
 const NO_ADDRS: &str =
     "400 Bad Request\r\nContent-Type: text/plain\r\nContent-Length: 6\r\n\r\naddrs\n";
 
-/// A body: a front, one part so many times, and an end. The reply to a POST of it as a new table, in JSON or not; or to a PUT of it as addresses.
+/// A body: a front, one part so many times, and an end. The reply to a POST of it as a new table,
+/// in JSON or not; or to a PUT of it as addresses.
 type Row = (
     Which,
     &'static str,
@@ -107,11 +108,13 @@ fn request_of(alloc: Global, row: &Row) -> Mem<Bytes> {
     let asks = match to {
         Namerd => "POST /api/1/dtabs/web",
         Admin => "PUT /api/1/addrs/web",
+        Which::Feed { .. } => "GET /feed/web",
     };
     request(alloc, asks, json, body.as_slice())
 }
 
-/// What a connection with these bytes is given, on a new router, how it ends, and how many bytes it was given.
+/// What a connection with these bytes is given, on a new router, how it ends, and how many bytes it
+/// was given.
 fn served<R: Wait>(
     rt: &R,
     alloc: Global,
@@ -131,7 +134,8 @@ fn served<R: Wait>(
     }
 }
 
-/// How many requests of a kind a new router takes, how many addresses each has, and the reply to one more.
+/// How many requests of a kind a new router takes, how many addresses each has, and the reply to
+/// one more.
 type Most = (Which, usize, usize, &'static str);
 
 const FULL: [Most; 3] = [
@@ -170,6 +174,7 @@ fn numbered(alloc: Global, to: Which, number: usize, count: usize) -> Mem<Bytes>
     let target = match to {
         Namerd => "POST /api/1/dtabs/n",
         Admin => "PUT /api/1/addrs/s",
+        Which::Feed { .. } => "GET /feed/n",
     };
     let asks = format!(in alloc; "{}{}", target, number)?;
     let body = addresses(alloc, number, count)?;
@@ -200,7 +205,9 @@ fn replies_to(alloc: Global, most: &Most) -> Mem<String> {
                     number.saturating_add(1)
                 )?
             }
-            Admin => String::from_str(alloc, "HTTP/1.1 204 No Content\r\n\r\n")?,
+            Admin | Which::Feed { .. } => {
+                String::from_str(alloc, "HTTP/1.1 204 No Content\r\n\r\n")?
+            }
         };
         replies.extend_from_slice(reply.as_bytes())?;
     }

@@ -112,8 +112,8 @@ impl Cache {
     /// the place of the first as the table of the proxy's namespace.
     ///
     /// It compares the rules that both have at their fronts and ends once. Then it asks for each path that was looked up for a binding
-    /// whether a rule between these matches it: a few rules are compared with the path, more take one look-up for each shape of the
-    /// table's prefixes.
+    /// whether a rule between these matches it: a few rules are compared with the path, more take one
+    /// look-up in the table's index for each label of the path.
     pub fn touch_table(&mut self, old: &Dtab, new: &Dtab)
         ensures { bindings_of self.new ≡ after_table (rules_of old.now) (rules_of new.now) (bindings_of self.old) }
     {

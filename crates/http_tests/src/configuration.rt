@@ -65,6 +65,18 @@ const TOP: &str = r#""telemetry":[],"usage":1 => ok
 "admin":1,"namerd":1 => admin bad
 "namerd":1,"namers":1 => namerd bad
 "workers":0,"seed":-1 => workers bad
+"seed":-1,"feed":1 => seed bad
+"feed":[] => feed bad
+"feed":{} => ok
+"feed":{"x":0} => feed.x unknown
+"feed":{"ip":"0.0.0.0","port":1,"run":0} => ok
+"feed":{"port":65535,"run":18446744073709551615} => ok
+"feed":{"ip":"localhost","port":0} => feed.ip bad
+"feed":{"port":0,"run":-1} => feed.port bad
+"feed":{"port":65536} => feed.port bad
+"feed":{"run":-1} => feed.run bad
+"feed":{"run":18446744073709551616} => feed.run bad
+"feed":{"run":"1"} => feed.run bad
 "#;
 
 /// Members of a router beside its protocol, and what is told of each.
@@ -89,6 +101,17 @@ const ROUTER: &str = r#""label":{},"httpAccessLog":null => ok
 "dtab":1,"dstPrefix":1 => routers[0].dtab bad
 "identifier":1,"servers":1 => routers[0].identifier bad
 "servers":1,"client":1 => routers[0].servers bad
+"client":1,"retries":1 => routers[0].client bad
+"retries":1 => routers[0].retries bad
+"retries":{} => ok
+"retries":{"budget":{}} => routers[0].retries.budget unknown
+"retries":{"percent":0,"reserve":0,"most":0} => ok
+"retries":{"percent":100,"reserve":100,"most":10} => ok
+"retries":{"percent":101,"reserve":101} => routers[0].retries.percent bad
+"retries":{"percent":-1} => routers[0].retries.percent bad
+"retries":{"reserve":101,"most":11} => routers[0].retries.reserve bad
+"retries":{"reserve":0.5} => routers[0].retries.reserve bad
+"retries":{"most":11} => routers[0].retries.most bad
 "#;
 
 /// What stands behind the kind of a count of failures, and what is told of each.
@@ -210,7 +233,8 @@ const USUAL: &str =
 const SAID: &str =
     r#"{"routers":[{"protocol":"http","dstPrefix":"/x","identifier":{"kind":"io.l5d.static","path":"a"},"client":{"failureAccrual":{"kind":"io.l5d.consecutiveFailures","failures":3}}}],"namerd":{"namespace":"web"},"seed":7}"#;
 
-/// The folder of a configuration, `-` where there is none, how many entries its table has, its line, and its prefix.
+/// The folder of a configuration, `-` where there is none, how many entries its table has, its
+/// line, and its prefix.
 fn values_text(alloc: Global, config: &Config) -> Mem<Bytes> {
     let root = match &config.root {
         Some(root) => root.as_str(),
@@ -253,6 +277,52 @@ fn values_that_are_said(rt: HostRuntime) -> Result<(), Fail> {
     Ok(())
 }
 
+/// How often a request may be tried again, and where the feed is served with the number of its run:
+/// `-` stands for what is not said.
+fn additions_text(alloc: Global, config: &Config) -> Mem<Bytes> {
+    let mut text = match config.retries {
+        Some(tries) => format!(in alloc; "{} {} {} ", tries.percent, tries.reserve, tries.most)?,
+        None => String::from_str(alloc, "- ")?,
+    };
+    match config.feed {
+        Some(feed) => {
+            let (ip, port) = (feed.port.ip, feed.port.port);
+            write!(text, "{ip:x} {port} ")?;
+            match feed.run {
+                Some(run) => write!(text, "{run}")?,
+                None => text.push('-')?,
+            }
+        }
+        None => text.push('-')?,
+    }
+    Ok(text.into_bytes())
+}
+
+#[test]
+fn additions(rt: HostRuntime) -> Result<(), Fail> {
+    let rows = [
+        (r#"{"routers":[{"protocol":"http"}]}"#, "- -"),
+        (
+            r#"{"routers":[{"protocol":"http","retries":{}}],"feed":{}}"#,
+            "20 10 3 7f000001 4181 -",
+        ),
+        (
+            r#"{"routers":[{"protocol":"http","retries":{"percent":1,"reserve":2,"most":4}}]}"#,
+            "1 2 4 -",
+        ),
+        (
+            r#"{"routers":[{"protocol":"http"}],"feed":{"ip":"10.0.0.1","port":5,"run":6}}"#,
+            "- a000001 5 6",
+        ),
+    ];
+    for (said, want) in rows {
+        let config = config_of(rt.alloc(), said)?;
+        let text = additions_text(rt.alloc(), &config)?;
+        assert!(rt; text.as_slice() == want.as_bytes(), "of {said}");
+    }
+    Ok(())
+}
+
 #[test]
 fn tables_that_cover_the_prefix(rt: HostRuntime) -> Result<(), Fail> {
     let rows = [
@@ -285,7 +355,8 @@ fn tables_that_cover_the_prefix(rt: HostRuntime) -> Result<(), Fail> {
     Ok(())
 }
 
-/// What loading a folder of these files comes to, a line each: a service with the number of its addresses, or the refusal.
+/// What loading a folder of these files comes to, a line each: a service with the number of its
+/// addresses, or the refusal.
 fn loaded<F: Folder>(alloc: Global, folder: &mut F) -> Mem<String> {
     let mut text = String::new(alloc);
     match load_folder(alloc, folder, "disco") {
@@ -345,7 +416,8 @@ fn told_last(alloc: Global, blanks: usize, bytes: &[u8], times: u32) -> Mem<Stri
     Ok(told)
 }
 
-/// How many blanks one file has, the bytes of another, how often the folder is loaded, and what the last time comes to.
+/// How many blanks one file has, the bytes of another, how often the folder is loaded, and what the
+/// last time comes to.
 const FOLDERS: [(usize, &str, u32, &str); 4] = [
     (1_048_576, "127.0.0.1 9001\n", 1, "api 0 web 1 "),
     (1_048_576, "127.0.0.1 9001\n", 2, "fault"),
@@ -353,8 +425,8 @@ const FOLDERS: [(usize, &str, u32, &str); 4] = [
     (1_048_577, "x", 1, "api long"),
 ];
 
-/// Services come in the order of their names; the first file that is refused decides, and a file of one byte too many is; a call that fails is
-/// told.
+/// Services come in the order of their names; the first file that is refused decides, and a file of
+/// one byte too many is; a call that fails is told.
 #[test]
 fn folders(rt: HostRuntime) -> Result<(), Fail> {
     for (blanks, bytes, times, want) in &FOLDERS {

@@ -3,9 +3,12 @@ use Rattle.std.proofs.Common.{◌≡◌, ℕ, ◌<◌, Bool, List, [], ◌∷◌
 use Rattle.std.proofs.Common.{ap, subst, ◌∙◌, arith, true, false, inl, inr, lit<}
 use Rattle.std.specs.Prelude.{Option, None, Some, Result, Ok, Err, ◌⊎◌, IsSome, IsErr, Contains}
 use Rattle.std.specs.Io.KnownBytes.{Consumes}
+use Rattle.addr_book.specs.declared.addr.Addr.{Addr}
 use Rattle.line_base.specs.Counts.{Rose}
+use Rattle.line_base.specs.Nets.{Returns}
 use Rattle.linker_config.specs.declared.config.Config.{Config}
 use Rattle.line_base.specs.Lines.{Line}
+use Rattle.serving.specs.Posts.{jobs_of}
 use Rattle.std.specs.declared.marker.Brand.{Brand}
 use Rattle.linker_commands.specs.Check.{TellsPath}
 use Rattle.linker_commands.specs.Generated.{storm_line, weave_line}
@@ -14,12 +17,15 @@ use Rattle.linker_commands.specs.Replay.{replay_of}
 use Rattle.line_base.specs.Files.{Filed}
 use Rattle.line_base.specs.Streams.{Input, Output}
 use Rattle.linker_commands.specs.Run.{Course, words_refused, read_failed, too_long, script_read}
-use Rattle.linker_commands.specs.Run.{line_told, no_memory, served, Linked, Reads, ReadsScript}
+use Rattle.linker_commands.specs.Run.{line_told, no_memory, served, followed, Follows, Linked}
+use Rattle.linker_commands.specs.Run.{Reads, ReadsScript}
 use Rattle.linker_commands.specs.Run.{Checks, Serves, Makes, Takes, Shows, ReadsLong, Ended}
-use Rattle.linker_commands.specs.Run.{EndsWhole, Ran, Yields, status_of, status_if, statuses}
+use Rattle.linker_commands.specs.Run.{AllBack, EndsWhole, Ran, Yields, status_of, status_if, statuses}
 use Rattle.linker_commands.specs.Served.{Finish, shut_down, broken, short, finish_code, IsConfig}
 use Rattle.linker_commands.specs.Served.{IsRefused, TellsNet, TellsServing}
-use Rattle.linker_commands.specs.Words.{Asked, replay, check, serve, lint, storm, weave, command_of}
+use Rattle.linker_commands.proofs.Serving.{jobs_by}
+use Rattle.linker_commands.specs.Words.{Asked, replay, check, serve, lint, storm, weave, follow}
+use Rattle.linker_commands.specs.Words.{command_of}
 
 module _ {P : Type 0} (line_of : P → Line) (moments : Option (List ℕ)) where
   -- a run that did not yield has the status of its course
@@ -63,6 +69,7 @@ module _ {P : Type 0} (line_of : P → Line) (moments : Option (List ℕ)) where
       ))
   long_script old new (line_told good line) some long took = absurd took
   long_script old new (served lines finish) some long took = absurd took
+  long_script old new (followed all lines) some long took = absurd took
   long_script old new no_memory some long took =
       absurd (omega (
         arith,
@@ -97,6 +104,9 @@ module _ {P : Type 0} (line_of : P → Line) (moments : Option (List ℕ)) where
   long_course (Ok (weave turns seed)) old new old_files new_files net net_after course some long
       took =
       absurd (not_read old new some long took.1)
+  long_course (Ok (follow leader space polls)) old new old_files new_files net net_after course some
+      long took =
+      absurd (not_read old new some long took.1)
 
   -- the input's count rose only where a read failed
   failed_script : (old new : Input) (course : Course) → old.faults < new.faults
@@ -107,6 +117,7 @@ module _ {P : Type 0} (line_of : P → Line) (moments : Option (List ℕ)) where
   failed_script old new (script_read script) rose took = absurd (omega (arith, took.4, rose))
   failed_script old new (line_told good line) rose took = absurd took
   failed_script old new (served lines finish) rose took = absurd took
+  failed_script old new (followed all lines) rose took = absurd took
   failed_script old new no_memory rose took = absurd (omega (arith, took.1, rose))
 
   failed_input : (asked : Result Asked ℕ) (old new : Input) (old_files new_files : Filed)
@@ -127,6 +138,9 @@ module _ {P : Type 0} (line_of : P → Line) (moments : Option (List ℕ)) where
       absurd (omega (arith, ap (λ (i : Input). i.faults) took.1, rose))
   failed_input (Ok (weave turns seed)) old new old_files new_files net net_after course rose took =
       absurd (omega (arith, ap (λ (i : Input). i.faults) took.1, rose))
+  failed_input (Ok (follow leader space polls)) old new old_files new_files net net_after course rose
+      took =
+      absurd (omega (arith, ap (λ (i : Input). i.faults) took.1, rose))
 
   -- the folder's count rose only where it could not be read
   failed_config : (TellsFile : Bool → List ℕ → Type 0) (old new : Filed) (course : Course)
@@ -138,6 +152,7 @@ module _ {P : Type 0} (line_of : P → Line) (moments : Option (List ℕ)) where
   failed_config TellsFile old new (line_told good line) rose took =
       absurd (omega (arith, took.1, rose))
   failed_config TellsFile old new (served lines finish) rose took = absurd took
+  failed_config TellsFile old new (followed all lines) rose took = absurd took
   failed_config TellsFile old new no_memory rose took = absurd (omega (arith, took, rose))
 
   -- a folder that serving could not read
@@ -155,6 +170,7 @@ module _ {P : Type 0} (line_of : P → Line) (moments : Option (List ℕ)) where
       absurd (omega (arith, took.0, rose))
   failed_serving path old new net net_after (served lines finish) rose took =
       absurd (omega (arith, took.4, rose))
+  failed_serving path old new net net_after (followed all lines) rose took = absurd took
 
   failed_folder : (asked : Result Asked ℕ) (old new : Input) (old_files new_files : Filed)
       (net net_after : Linked P) (course : Course) → old_files.faults < new_files.faults
@@ -173,6 +189,9 @@ module _ {P : Type 0} (line_of : P → Line) (moments : Option (List ℕ)) where
   failed_folder (Ok (storm turns seed)) old new old_files new_files net net_after course rose took =
       absurd (omega (arith, ap (λ (f : Filed). f.faults) took.2, rose))
   failed_folder (Ok (weave turns seed)) old new old_files new_files net net_after course rose took =
+      absurd (omega (arith, ap (λ (f : Filed). f.faults) took.2, rose))
+  failed_folder (Ok (follow leader space polls)) old new old_files new_files net net_after course
+      rose took =
       absurd (omega (arith, ap (λ (f : Filed). f.faults) took.2, rose))
 
   -- words that fit no command are refused
@@ -206,6 +225,7 @@ module _ {P : Type 0} (line_of : P → Line) (moments : Option (List ℕ)) where
       (script, took, same_good (replay_of script).1 good is)
   shown_script good old new (line_told right line) is took = absurd took
   shown_script good old new (served lines finish) is took = absurd took
+  shown_script good old new (followed all lines) is took = absurd took
   shown_script good old new no_memory is took =
       absurd (apart 7 good (λ p. omega (arith, p)) (λ p. omega (arith, p)) is)
 
@@ -220,6 +240,7 @@ module _ {P : Type 0} (line_of : P → Line) (moments : Option (List ℕ)) where
   shown_config TellsFile good old new (line_told right line) is took =
       (line, subst (λ (b : Bool). TellsFile b line) (same_good right good is) took.0)
   shown_config TellsFile good old new (served lines finish) is took = absurd took
+  shown_config TellsFile good old new (followed all lines) is took = absurd took
   shown_config TellsFile good old new no_memory is took =
       absurd (apart 7 good (λ p. omega (arith, p)) (λ p. omega (arith, p)) is)
 
@@ -266,6 +287,26 @@ module _ {P : Type 0} (line_of : P → Line) (moments : Option (List ℕ)) where
       absurd (apart 7 good (λ p. omega (arith, p)) (λ p. omega (arith, p)) is)
   shown_serving good path old new files files_after net net_after (served lines finish) is took =
       shown_router good path took.0 old new files (not_right good finish is) took.1
+  shown_serving good path old new files files_after net net_after (followed all lines) is took =
+      absurd took
+
+  seven_apart : (good : Bool) → 7 ≡ status_if good → ⊥
+  seven_apart good is = apart 7 good (λ p. omega (arith, p)) (λ p. omega (arith, p)) is
+
+  shown_followed : (good : Bool) (told : Option (Returns P)) (leader : Addr) (space : List ℕ)
+      (polls : ℕ) (course : Course) → status_of course ≡ status_if good
+      → Follows told leader space polls course → good ≡ true
+  shown_followed good told leader space polls (words_refused place) is took = absurd took
+  shown_followed good told leader space polls read_failed is took = absurd took
+  shown_followed good told leader space polls too_long is took = absurd took
+  shown_followed good told leader space polls (script_read script) is took = absurd took
+  shown_followed good told leader space polls (line_told right line) is took = absurd took
+  shown_followed good told leader space polls no_memory is took = absurd (seven_apart good is)
+  shown_followed good told leader space polls (served lines finish) is took = absurd took
+  shown_followed good told leader space polls (followed true lines) is took =
+      sym (same_good true good is)
+  shown_followed good told leader space polls (followed false lines) is took =
+      absurd (seven_apart good is)
 
   shown : (good : Bool) (asked : Result Asked ℕ) (old new : Input) (old_files new_files : Filed)
       (net net_after : Linked P) (course : Course) → status_of course ≡ status_if good
@@ -286,6 +327,9 @@ module _ {P : Type 0} (line_of : P → Line) (moments : Option (List ℕ)) where
       shown_made good (storm_line turns seed) course is took.0
   shown good (Ok (weave turns seed)) old new old_files new_files net net_after course is took =
       shown_made good (weave_line turns seed) course is took.0
+  shown good (Ok (follow leader space polls)) old new old_files new_files net net_after course is
+      took =
+      shown_followed good net.state.told leader space polls course is took.0
 
   -- a router served, and all its listeners and stops came back
   back_router : (path lines : List ℕ) (config : Config) (files : Filed) (net net_after : Linked P)
@@ -294,15 +338,14 @@ module _ {P : Type 0} (line_of : P → Line) (moments : Option (List ℕ)) where
       → EndsWhole (Ok (serve path)) files net net_after
   back_router path lines config files net net_after shut_down is right told =
       let by = told.is_last.1 in
-      let w = by.whole in (
-        config,
-        right,
-        record {
-          clean = w.clean;
-          given = w.stops_given;
-          returned = w.stops_returned;
-        },
-      )
+      let w = by.whole in
+      let Back : ℕ → Type 0 = λ n. AllBack n net.state net_after.state in
+      let all : Back (jobs_of by.site) = record {
+        clean = w.clean;
+        given = w.stops_given;
+        returned = w.stops_returned;
+      } in
+      (config, right, subst Back (jobs_by moments config by.site by.site_is) all)
   back_router path lines config files net net_after broken is right told =
       absurd (omega (arith, is))
   back_router path lines config files net net_after short is right told = absurd (omega (arith, is))
@@ -320,6 +363,7 @@ module _ {P : Type 0} (line_of : P → Line) (moments : Option (List ℕ)) where
   back_serving path old new net net_after no_memory is took = absurd (omega (arith, is))
   back_serving path old new net net_after (served lines finish) is took =
       back_router path lines took.0 old net net_after finish is took.1 took.2
+  back_serving path old new net net_after (followed all lines) is took = absurd took
 
   back_all : (asked : Result Asked ℕ) (old new : Input) (old_files new_files : Filed)
       (net net_after : Linked P) (course : Course) → status_of course ≡ 0
@@ -333,6 +377,9 @@ module _ {P : Type 0} (line_of : P → Line) (moments : Option (List ℕ)) where
       back_serving path old_files new_files net net_after course is took.0
   back_all (Ok (storm turns seed)) old new old_files new_files net net_after course is took = tt
   back_all (Ok (weave turns seed)) old new old_files new_files net net_after course is took = tt
+  back_all (Ok (follow leader space polls)) old new old_files new_files net net_after course is took
+      =
+      tt
 
   status_there : (good : Bool) → Contains statuses (status_if good)
   status_there true = (0, lit< tt, refl)
@@ -351,6 +398,8 @@ module _ {P : Type 0} (line_of : P → Line) (moments : Option (List ℕ)) where
   course_status (line_told good line) = status_there good
   course_status no_memory = (6, lit< tt, refl)
   course_status (served lines finish) = finish_there finish
+  course_status (followed true lines) = (0, lit< tt, refl)
+  course_status (followed false lines) = (6, lit< tt, refl)
 
   -- the status of a broken net is no other
   good_code : (good : Bool) → status_if good ≡ 6 → ⊥
@@ -371,6 +420,7 @@ module _ {P : Type 0} (line_of : P → Line) (moments : Option (List ℕ)) where
   no_net_script old new (line_told good line) is took = took
   no_net_script old new no_memory is took = omega (arith, is)
   no_net_script old new (served lines finish) is took = took
+  no_net_script old new (followed all lines) is took = took
 
   no_net_config : (TellsFile : Bool → List ℕ → Type 0) (old new : Filed) (course : Course)
       → status_of course ≡ 6 → Checks TellsFile old new course → ⊥
@@ -381,10 +431,23 @@ module _ {P : Type 0} (line_of : P → Line) (moments : Option (List ℕ)) where
   no_net_config TellsFile old new (line_told good line) is took = good_code good is
   no_net_config TellsFile old new no_memory is took = omega (arith, is)
   no_net_config TellsFile old new (served lines finish) is took = took
+  no_net_config TellsFile old new (followed all lines) is took = took
 
   no_net_made : (line : List ℕ) (course : Course) → status_of course ≡ 6 → Makes line course → ⊥
   no_net_made line course is (inl told) = omega (arith, sym (ap status_of told) ∙ is)
   no_net_made line course is (inr wanting) = omega (arith, sym (ap status_of wanting) ∙ is)
+
+  no_net_followed : (told : Option (Returns P)) (leader : Addr) (space : List ℕ) (polls : ℕ)
+      (course : Course) → status_of course ≡ 6 → Follows told leader space polls course → ⊥
+  no_net_followed told leader space polls (words_refused place) is took = took
+  no_net_followed told leader space polls read_failed is took = took
+  no_net_followed told leader space polls too_long is took = took
+  no_net_followed told leader space polls (script_read script) is took = took
+  no_net_followed told leader space polls (line_told right line) is took = took
+  no_net_followed told leader space polls no_memory is took = omega (arith, is)
+  no_net_followed told leader space polls (served lines finish) is took = took
+  no_net_followed told leader space polls (followed true lines) is took = omega (arith, is)
+  no_net_followed told leader space polls (followed false lines) is took = omega (arith, is)
 
   broken_serving : (path : List ℕ) (old new : Filed) (net net_after : Linked P) (course : Course)
       → status_of course ≡ 6 → Serves line_of moments path old new net net_after course
@@ -399,6 +462,7 @@ module _ {P : Type 0} (line_of : P → Line) (moments : Option (List ℕ)) where
   broken_serving path old new net net_after no_memory is took = absurd (omega (arith, is))
   broken_serving path old new net net_after (served lines finish) is took =
       took.3.rose (broken_is finish is)
+  broken_serving path old new net net_after (followed all lines) is took = absurd took
 
   broken_net : (asked : Result Asked ℕ) (old new : Input) (old_files new_files : Filed)
       (net net_after : Linked P) (course : Course) → status_of course ≡ 6
@@ -419,6 +483,9 @@ module _ {P : Type 0} (line_of : P → Line) (moments : Option (List ℕ)) where
       absurd (no_net_made (storm_line turns seed) course is took.0)
   broken_net (Ok (weave turns seed)) old new old_files new_files net net_after course is took =
       absurd (no_net_made (weave_line turns seed) course is took.0)
+  broken_net (Ok (follow leader space polls)) old new old_files new_files net net_after course is
+      took =
+      absurd (no_net_followed net.state.told leader space polls course is took.0)
 
   -- the net's count rose only where it is broken
   rose_finish : (before now : ℕ) (finish : Finish) → before < now → TellsNet before now finish
@@ -441,6 +508,7 @@ module _ {P : Type 0} (line_of : P → Line) (moments : Option (List ℕ)) where
   rose_serving path old new net net_after no_memory rose took = absurd (omega (arith, took.1, rose))
   rose_serving path old new net net_after (served lines finish) rose took =
       ap finish_code (rose_finish net.faults net_after.faults finish rose took.3)
+  rose_serving path old new net net_after (followed all lines) rose took = absurd took
 
   rose_net : (asked : Result Asked ℕ) (old new : Input) (old_files new_files : Filed)
       (net net_after : Linked P) (course : Course) → net.faults < net_after.faults
@@ -460,6 +528,130 @@ module _ {P : Type 0} (line_of : P → Line) (moments : Option (List ℕ)) where
       absurd (omega (arith, ap (λ (n : Linked P). n.faults) took.3, rose))
   rose_net (Ok (weave turns seed)) old new old_files new_files net net_after course rose took =
       absurd (omega (arith, ap (λ (n : Linked P). n.faults) took.3, rose))
+  rose_net (Ok (follow leader space polls)) old new old_files new_files net net_after course rose
+      took =
+      absurd (omega (arith, ap (λ (n : Linked P). n.faults) took.3, rose))
+
+  -- which course has a status that no other has
+  two_if : (good : Bool) → status_if good ≡ 2 → ⊥
+  two_if true is = omega (arith, is)
+  two_if false is = omega (arith, is)
+
+  four_if : (good : Bool) → status_if good ≡ 4 → ⊥
+  four_if true is = omega (arith, is)
+  four_if false is = omega (arith, is)
+
+  eight_if : (good : Bool) → status_if good ≡ 8 → ⊥
+  eight_if true is = omega (arith, is)
+  eight_if false is = omega (arith, is)
+
+  few_finish : (finish : Finish) (n : ℕ) → finish_code finish ≡ n → (n ≡ 0 → ⊥) → (n ≡ 6 → ⊥)
+      → (n ≡ 7 → ⊥) → ⊥
+  few_finish shut_down n is zero six seven = zero (sym is)
+  few_finish broken n is zero six seven = six (sym is)
+  few_finish short n is zero six seven = seven (sym is)
+
+  refused_is : (course : Course) → status_of course ≡ 2
+      → (place : ℕ) × (course ≡ words_refused place)
+  refused_is (words_refused place) is = (place, refl)
+  refused_is read_failed is = absurd (omega (arith, is))
+  refused_is too_long is = absurd (omega (arith, is))
+  refused_is (script_read script) is = absurd (two_if (replay_of script).1 is)
+  refused_is (line_told good line) is = absurd (two_if good is)
+  refused_is no_memory is = absurd (omega (arith, is))
+  refused_is (served lines finish) is =
+      absurd (few_finish finish 2 is (λ p. omega (arith, p)) (λ p. omega (arith, p))
+      (λ p. omega (arith, p)))
+  refused_is (followed true lines) is = absurd (omega (arith, is))
+  refused_is (followed false lines) is = absurd (omega (arith, is))
+
+  failed_is : (course : Course) → status_of course ≡ 4 → course ≡ read_failed
+  failed_is (words_refused place) is = absurd (omega (arith, is))
+  failed_is read_failed is = refl
+  failed_is too_long is = absurd (omega (arith, is))
+  failed_is (script_read script) is = absurd (four_if (replay_of script).1 is)
+  failed_is (line_told good line) is = absurd (four_if good is)
+  failed_is no_memory is = absurd (omega (arith, is))
+  failed_is (served lines finish) is =
+      absurd (few_finish finish 4 is (λ p. omega (arith, p)) (λ p. omega (arith, p))
+      (λ p. omega (arith, p)))
+  failed_is (followed true lines) is = absurd (omega (arith, is))
+  failed_is (followed false lines) is = absurd (omega (arith, is))
+
+  long_is : (course : Course) → status_of course ≡ 8 → course ≡ too_long
+  long_is (words_refused place) is = absurd (omega (arith, is))
+  long_is read_failed is = absurd (omega (arith, is))
+  long_is too_long is = refl
+  long_is (script_read script) is = absurd (eight_if (replay_of script).1 is)
+  long_is (line_told good line) is = absurd (eight_if good is)
+  long_is no_memory is = absurd (omega (arith, is))
+  long_is (served lines finish) is =
+      absurd (few_finish finish 8 is (λ p. omega (arith, p)) (λ p. omega (arith, p))
+      (λ p. omega (arith, p)))
+  long_is (followed true lines) is = absurd (omega (arith, is))
+  long_is (followed false lines) is = absurd (omega (arith, is))
+
+  -- what is made takes none of them
+  not_refused : (line : List ℕ) (place : ℕ) → Makes line (words_refused place) → ⊥
+  not_refused line place (inl told) = cc told
+  not_refused line place (inr wanting) = cc wanting
+
+  not_failed : (line : List ℕ) → Makes line read_failed → ⊥
+  not_failed line (inl told) = cc told
+  not_failed line (inr wanting) = cc wanting
+
+  not_long : (line : List ℕ) → Makes line too_long → ⊥
+  not_long line (inl told) = cc told
+  not_long line (inr wanting) = cc wanting
+
+  -- the commands that take them
+  refuses : (asked : Result Asked ℕ) (old new : Input) (old_files new_files : Filed)
+      (net net_after : Linked P) (place : ℕ)
+      → Takes line_of moments asked old new old_files new_files net net_after (words_refused place)
+      → IsErr asked
+  refuses (Err at) old new old_files new_files net net_after place took = refl
+  refuses (Ok replay) old new old_files new_files net net_after place took = absurd took.0
+  refuses (Ok (check path)) old new old_files new_files net net_after place took = absurd took.0
+  refuses (Ok (lint path)) old new old_files new_files net net_after place took = absurd took.0
+  refuses (Ok (serve path)) old new old_files new_files net net_after place took = absurd took.0
+  refuses (Ok (storm turns seed)) old new old_files new_files net net_after place took =
+      absurd (not_refused (storm_line turns seed) place took.0)
+  refuses (Ok (weave turns seed)) old new old_files new_files net net_after place took =
+      absurd (not_refused (weave_line turns seed) place took.0)
+  refuses (Ok (follow leader space polls)) old new old_files new_files net net_after place took =
+      absurd took.0
+
+  fails : (asked : Result Asked ℕ) (old new : Input) (old_files new_files : Filed)
+      (net net_after : Linked P)
+      → Takes line_of moments asked old new old_files new_files net net_after read_failed
+      → Rose old.faults new.faults ⊎ Rose old_files.faults new_files.faults
+  fails (Err at) old new old_files new_files net net_after took = cc took.0
+  fails (Ok replay) old new old_files new_files net net_after took = inl took.0.0
+  fails (Ok (check path)) old new old_files new_files net net_after took = inr took.0
+  fails (Ok (lint path)) old new old_files new_files net net_after took = inr took.0
+  fails (Ok (serve path)) old new old_files new_files net net_after took = inr took.0.0
+  fails (Ok (storm turns seed)) old new old_files new_files net net_after took =
+      absurd (not_failed (storm_line turns seed) took.0)
+  fails (Ok (weave turns seed)) old new old_files new_files net net_after took =
+      absurd (not_failed (weave_line turns seed) took.0)
+  fails (Ok (follow leader space polls)) old new old_files new_files net net_after took =
+      absurd took.0
+
+  runs_long : (asked : Result Asked ℕ) (old new : Input) (old_files new_files : Filed)
+      (net net_after : Linked P)
+      → Takes line_of moments asked old new old_files new_files net net_after too_long
+      → ReadsLong old new
+  runs_long (Err at) old new old_files new_files net net_after took = cc took.0
+  runs_long (Ok replay) old new old_files new_files net net_after took = took.0.0
+  runs_long (Ok (check path)) old new old_files new_files net net_after took = absurd took.0
+  runs_long (Ok (lint path)) old new old_files new_files net net_after took = absurd took.0
+  runs_long (Ok (serve path)) old new old_files new_files net net_after took = absurd took.0
+  runs_long (Ok (storm turns seed)) old new old_files new_files net net_after took =
+      absurd (not_long (storm_line turns seed) took.0)
+  runs_long (Ok (weave turns seed)) old new old_files new_files net net_after took =
+      absurd (not_long (weave_line turns seed) took.0)
+  runs_long (Ok (follow leader space polls)) old new old_files new_files net net_after took =
+      absurd took.0
 
   module _ (words : List (List ℕ)) (old new : Input) (old_files new_files : Filed)
       (net net_after : Linked P) (old_out new_out : Output) (status : ℕ)
@@ -559,3 +751,41 @@ module _ {P : Type 0} (line_of : P → Line) (moments : Option (List ℕ)) where
         ended (inl is) = subst (Contains statuses) (sym is) (course_status ran.0)
         ended (inr (inl memory)) = subst (Contains statuses) (sym memory) (6, lit< tt, refl)
         ended (inr (inr failed)) = subst (Contains statuses) (sym failed.0) (4, lit< tt, refl)
+
+    -- the words, the reading or the length where their statuses say so
+    pub words_due : status ≡ 2 → IsErr (command_of words)
+    words_due is = ended (ended_code ran.0 old_out new_out status ran.2)
+      where
+        ended : (status ≡ status_of ran.0) ⊎ Yields status old_out new_out
+            → IsErr (command_of words)
+        ended (inl code) =
+            let at = refused_is ran.0 (sym code ∙ is) in
+            refuses (command_of words) old new old_files new_files net net_after at.0
+            (subst (λ (k : Course). Takes line_of moments (command_of words) old new old_files
+            new_files net net_after k) at.1 ran.1)
+        ended (inr (inl memory)) = absurd (omega (arith, memory, is))
+        ended (inr (inr failed)) = absurd (omega (arith, failed.0, is))
+
+    pub read_due : status ≡ 4 → Rose old.faults new.faults
+        ⊎ Rose old_files.faults new_files.faults
+    read_due is = ended (ended_code ran.0 old_out new_out status ran.2)
+      where
+        ended : (status ≡ status_of ran.0) ⊎ Yields status old_out new_out
+            → Rose old.faults new.faults ⊎ Rose old_files.faults new_files.faults
+        ended (inl code) =
+            fails (command_of words) old new old_files new_files net net_after
+            (subst (λ (k : Course). Takes line_of moments (command_of words) old new old_files
+            new_files net net_after k) (failed_is ran.0 (sym code ∙ is)) ran.1)
+        ended (inr (inl memory)) = absurd (omega (arith, memory, is))
+        ended (inr (inr failed)) = absurd (omega (arith, failed.0, is))
+
+    pub long_due : status ≡ 8 → ReadsLong old new
+    long_due is = ended (ended_code ran.0 old_out new_out status ran.2)
+      where
+        ended : (status ≡ status_of ran.0) ⊎ Yields status old_out new_out → ReadsLong old new
+        ended (inl code) =
+            runs_long (command_of words) old new old_files new_files net net_after
+            (subst (λ (k : Course). Takes line_of moments (command_of words) old new old_files
+            new_files net net_after k) (long_is ran.0 (sym code ∙ is)) ran.1)
+        ended (inr (inl memory)) = absurd (omega (arith, memory, is))
+        ended (inr (inr failed)) = absurd (omega (arith, failed.0, is))

@@ -2,4 +2,5 @@ pub mod Known
 pub mod Plays
 pub mod Runs
 pub mod Causes
+pub mod Follows
 pub mod Serving

@@ -12,10 +12,12 @@ use Rattle.line_base.specs.Lines.{Line}
 use Rattle.line_base.specs.Files.{Filed}
 use Rattle.line_base.specs.Streams.{Input, Output}
 use Rattle.linker_commands.specs.Run.{AppendsFront, Course, words_refused, read_failed, too_long}
-use Rattle.linker_commands.specs.Run.{script_read, line_told, no_memory, served, Begins, Linked}
+use Rattle.linker_commands.specs.Run.{script_read, line_told, no_memory, served, followed, Begins}
+use Rattle.linker_commands.specs.Run.{Linked}
 use Rattle.linker_commands.specs.Run.{Takes, Ended, Ran, output_of, status_of}
 use Rattle.linker_commands.specs.Served.{memory_line}
-use Rattle.linker_commands.specs.Words.{Asked, replay, check, serve, lint, storm, weave, command_of}
+use Rattle.linker_commands.specs.Words.{Asked, replay, check, serve, lint, storm, weave, follow}
+use Rattle.linker_commands.specs.Words.{command_of}
 use Rattle.linker_commands.specs.Told.{code_of, Tells}
 use Rattle.linker_commands.proofs.Plays.{front_of, rose_later}
 
@@ -61,6 +63,7 @@ begins_nothing too_long = refl
 begins_nothing (line_told good line) = refl
 begins_nothing no_memory = refl
 begins_nothing (served lines finish) = refl
+begins_nothing (followed all lines) = tt
 
 -- memory was wanting before anything was written
 pub tells_memory_first : (course : Course) (result : Status) (old new : Output)
@@ -87,6 +90,8 @@ nothing_read line_of moments (Ok (storm turns seed)) input files net =
     (no_memory, (inr refl, refl, refl, refl))
 nothing_read line_of moments (Ok (weave turns seed)) input files net =
     (no_memory, (inr refl, refl, refl, refl))
+nothing_read line_of moments (Ok (follow leader space polls)) input files net =
+    (no_memory, (tt, refl, refl, refl))
 
 -- memory was wanting for the words themselves
 pub no_words : {P : Type 0} (line_of : P → Line) (moments : Option (List ℕ)) (words : List (List ℕ))

@@ -1,7 +1,7 @@
 -- How a run ends that was to serve.
 use Rattle.std.proofs.Common.{◌≡◌, ℕ, ◌+◌, List, ◌++◌, refl, sym, ap, subst, ◌∙◌, inl, inr, false}
 use Rattle.std.proofs.Common.{arith}
-use Rattle.std.specs.Prelude.{Option, None, Some, Result, Ok, Err, codes}
+use Rattle.std.specs.Prelude.{Option, None, Some, option_map, Result, Ok, Err, codes}
 use Rattle.std.specs.Io.KnownBytes.{Appends}
 use Rattle.std.specs.declared.vec.Vec.{Vec}
 use Rattle.std.specs.declared.alloc.Global.{Global}
@@ -13,13 +13,17 @@ use Rattle.machine.specs.Values.{SettingsValue}
 use Rattle.router.specs.declared.naming.Naming.{Ghosts}
 use Rattle.router.specs.declared.pass.Pass.{Pass}
 use Rattle.serving.specs.declared.running.Served.{Served}
+use Rattle.serving.specs.declared.site.Feeding.{Feeding}
 use Rattle.serving.specs.declared.site.Site.{Site}
 use Rattle.serving.specs.Ending.{HasServed}
+use Rattle.serving.specs.Posts.{feed_jobs, jobs_of}
 use Rattle.serving.specs.Returning.{listened}
 use Rattle.serving.specs.Services.{BookRefuses}
 use Rattle.line_base.specs.Lines.{Line}
 use Rattle.std.specs.declared.marker.Brand.{Brand}
 use Rattle.linker_config.specs.declared.config.Config.{Config}
+use Rattle.linker_config.specs.declared.config.FeedAt.{FeedAt}
+use Rattle.linker_config.specs.declared.config.Port.{Port}
 use Rattle.linker_config.specs.declared.loaded.LoadFault.{LoadFault}
 use Rattle.linker_config.specs.declared.loaded.LoadFault.TheVariants.{BadFile, FolderFault}
 use Rattle.linker_config.specs.declared.loaded.LoadFault.TheVariants.{LongFile, OutOfMemory}
@@ -35,14 +39,16 @@ use Rattle.line_base.specs.Streams.{Output}
 use Rattle.linker_commands.specs.Run.{AppendsFront, Course, line_told, no_memory, served}
 use Rattle.linker_commands.specs.Run.{EndsServing, Ended, Linked, Serves}
 use Rattle.linker_commands.specs.Served.{Finish, broken, short, finish_code, AreLoaded, IsConfig}
-use Rattle.linker_commands.specs.Served.{IsLast, IsMadeBy, LoadsRoot, RefusesBook, RefusesService}
+use Rattle.linker_commands.specs.Served.{IsFeeding, IsLast, IsMadeBy, IsSiteOf, LoadsRoot}
+use Rattle.linker_commands.specs.Served.{RefusesBook, RefusesService, feed_jobs_in, feed_port}
+use Rattle.linker_commands.specs.Served.{jobs_in, line_of_ports, site_line}
 use Rattle.linker_commands.specs.Served.{ServedBy, TellsEnd, TellsNet, TellsServing, router_of}
-use Rattle.linker_commands.specs.Served.{file_line, memory_line, serving_line, shut_down, site_of}
+use Rattle.linker_commands.specs.Served.{file_line, memory_line, serving_line, shut_down}
 use Rattle.linker_commands.specs.Told.{Tells, code_of}
 use Rattle.linker_commands.proofs.Runs.{tells_end, tells_behind, tells_memory_first, fails_before}
 
 -- a net that tells the same
-linked_same : {P : Type 0} (a b : Linked P) → b.state ≡ a.state → b.faults ≡ a.faults → b ≡ a
+pub linked_same : {P : Type 0} (a b : Linked P) → b.state ≡ a.state → b.faults ≡ a.faults → b ≡ a
 linked_same a b state faults = λ i. record { state = state i; faults = faults i }
 
 module _ (J : Type 0) {P : Type 0} (line_of : P → Line) (moments : Option (List ℕ))
@@ -50,7 +56,7 @@ module _ (J : Type 0) {P : Type 0} (line_of : P → Line) (moments : Option (Lis
   -- the book has no room for a service
   pub no_room : (settings : SettingsValue) (loaded : List LoadedItem) (site : Site)
       (net net_after : Linked P) (old new : Output) (result : Status)
-      → IsMadeBy files c site settings loaded
+      → IsMadeBy moments files c site settings loaded
       → BookRefuses settings loaded × (net_after.state ≡ net.state) → net_after.faults ≡ net.faults
       → Tells (codes "error book\n") status.Wrong old new result
       → EndsServing J line_of moments files c net net_after old new (code_of result)
@@ -144,18 +150,17 @@ module _ {J P : Type 0} (line_of : P → Line) (moments : Option (List ℕ))
 
   -- it served by the configuration
   pub served_by : {g : Ghosts J} (site : Site) (loaded : List LoadedItem) (passes : List (Pass J g))
-      (net mid net_after : Networking P) (end : Served) → IsMadeBy files c site g.settings loaded
-      → mid ≡ listened (c.workers + 4) net → HasServed line_of site moments loaded passes mid
+      (net mid net_after : Networking P) (end : Served)
+      → IsMadeBy moments files c site g.settings loaded
+      → mid ≡ listened (jobs_of site) net → HasServed line_of site moments loaded passes mid
       net_after end → ServedBy J line_of moments files c net net_after end
   served_by {g} site loaded passes net mid net_after end made listening whole =
-      let At : Site → Networking P → Type 0 =
-      λ s n. HasServed line_of s moments loaded passes n net_after end in
-      let sited : At (site_of c) (listened (c.workers + 4) net) = subst
-      (λ (n : Networking P). At (site_of c) n) listening
-      (subst (λ (s : Site). At s mid) made.site_is whole) in
+      let At : Networking P → Type 0 =
+      λ n. HasServed line_of site moments loaded passes n net_after end in
+      let sited : At (listened (jobs_of site) net) = subst At listening whole in
       let Over : SettingsValue → Type 0 =
       λ s. (ps : List (Pass J (router_of J g.cell s g.words g.seats)))
-      × HasServed line_of (site_of c) moments loaded ps (listened (c.workers + 4) net) net_after
+      × HasServed line_of site moments loaded ps (listened (jobs_of site) net) net_after
       end in
       let over : Over g.settings = (passes, sited) in
       let settled = subst Over made.settings_are over in
@@ -166,12 +171,36 @@ module _ {J P : Type 0} (line_of : P → Line) (moments : Option (List ℕ))
         words = g.words;
         seats = g.seats;
         passes = settled.0;
+        site = site;
+        site_is = made.site_is;
         whole = settled.1;
       }
 
-pub listening_by : {P : Type 0} (site : Site) (c : Config) (net mid : Networking P)
-    → site ≡ site_of c → mid ≡ listened (site.workers + 4) net → mid ≡ listened (c.workers + 4) net
-listening_by site c net mid same is = is ∙ ap (λ (s : Site). listened (s.workers + 4) net) same
+-- the feed is served where the configuration says
+feed_ports : (moments : Option (List ℕ)) (at : Option FeedAt) (feeding : Option Feeding)
+    → IsFeeding moments at feeding
+    → feed_port feeding ≡ option_map (λ (a : FeedAt). a.port) at
+feed_ports moments None feeding is = ap feed_port is
+feed_ports moments (Some at) feeding is = ap feed_port is.2
+
+-- the line of a router that serves by a configuration
+pub line_by : (moments : Option (List ℕ)) (c : Config) (site : Site) → IsSiteOf moments c site
+    → site_line site ≡ serving_line c
+line_by moments c site by =
+    let feed = feed_ports moments c.feed site.feed by.feed in
+    λ i. line_of_ports (by.server i) (by.namerd i) (by.admin i) (feed i)
+
+feed_count : (moments : Option (List ℕ)) (at : Option FeedAt) (feeding : Option Feeding)
+    → IsFeeding moments at feeding → feed_jobs feeding ≡ feed_jobs_in at
+feed_count moments None feeding is = ap feed_jobs is
+feed_count moments (Some at) feeding is = ap feed_jobs is.2
+
+-- how many listeners it has
+pub jobs_by : (moments : Option (List ℕ)) (c : Config) (site : Site) → IsSiteOf moments c site
+    → jobs_of site ≡ jobs_in c
+jobs_by moments c site by =
+    let feed = feed_count moments c.feed site.feed by.feed in
+    λ i. by.workers i + 4 + feed i
 
 -- a refusal of services comes from the folder that is named
 named_root : (files : Option (List File)) (root : Option (List ℕ)) (fault : LoadFault)

@@ -11,21 +11,24 @@ use Rattle.std.specs.Fmt.{decimal}
 use Rattle.std.specs.Io.KnownBytes.{Appends, Consumes, IsAtEnd}
 use Rattle.line_base.specs.Counts.{Rose}
 use Rattle.line_base.specs.Files.{File, Filed}
-use Rattle.line_base.specs.Nets.{Networking}
+use Rattle.line_base.specs.Nets.{Networking, Returns}
 use Rattle.line_base.specs.Streams.{Input, Output}
 use Rattle.line_base.specs.Lines.{Line}
 use Rattle.workers.specs.Served.{raised_by}
+use Rattle.addr_book.specs.declared.addr.Addr.{Addr}
 use Rattle.addr_book.specs.FileLine.{lines_of}
 use Rattle.machine.specs.State.{opening}
 use Rattle.linker_config.specs.declared.config.Config.{Config}
 use Rattle.linker_commands.specs.Check.{TellsPath}
+use Rattle.linker_commands.specs.Follow.{IsFollowed}
 use Rattle.linker_commands.specs.Generated.{storm_line, weave_line}
 use Rattle.linker_commands.specs.Lint.{TellsTablePath}
 use Rattle.linker_commands.specs.Replay.{played, replay_of}
 use Rattle.linker_commands.specs.Served.{Finish, shut_down, broken, short, finish_code, IsConfig}
 use Rattle.linker_commands.specs.Served.{IsRefused, RefusesBook, TellsNet, TellsServing}
-use Rattle.linker_commands.specs.Served.{memory_line}
-use Rattle.linker_commands.specs.Words.{Asked, replay, check, serve, lint, storm, weave, command_of}
+use Rattle.linker_commands.specs.Served.{jobs_in, memory_line}
+use Rattle.linker_commands.specs.Words.{Asked, replay, check, serve, lint, storm, weave, follow}
+use Rattle.linker_commands.specs.Words.{command_of}
 
 -- the most bytes of a script
 abbrev pub most_script : ℕ
@@ -54,6 +57,8 @@ pub data Course : Type 0 where
   no_memory : Course
   -- a router was to serve: these lines tell of it, and how it ended
   served : List ℕ → Finish → Course
+  -- a leader was polled, and these lines tell of it, of all polls or of those that could be made
+  followed : Bool → List ℕ → Course
 
 -- what a course writes, and the status that it ends with
 abbrev pub output_of : Course → List ℕ
@@ -64,6 +69,8 @@ output_of (script_read script) = (replay_of script).0
 output_of (line_told good line) = line
 output_of no_memory = memory_line
 output_of (served lines finish) = lines
+output_of (followed true lines) = lines
+output_of (followed false lines) = lines ++ memory_line
 
 -- the status where what was read is right, or is not
 abbrev pub status_if : Bool → ℕ
@@ -78,6 +85,8 @@ status_of (script_read script) = status_if (replay_of script).1
 status_of (line_told good line) = status_if good
 status_of no_memory = 7
 status_of (served lines finish) = finish_code finish
+status_of (followed true lines) = 0
+status_of (followed false lines) = 7
 
 -- so many bytes were read, and no more than a script may have
 abbrev pub ReadsFew : Input → Input → Type 0
@@ -101,6 +110,7 @@ Reads old new (script_read script) =
 Reads old new (line_told good line) = ⊥
 Reads old new no_memory = ReadsFew old new × (new.faults ≡ old.faults)
 Reads old new (served lines finish) = ⊥
+Reads old new (followed all lines) = ⊥
 
 -- the course of a file that the folder shows, of which so is told whether it is right: the folder's
 -- count of faults rose exactly where it could not be read
@@ -112,6 +122,7 @@ Checks TellsFile old new (script_read script) = ⊥
 Checks TellsFile old new (line_told good line) = TellsFile good line × (new.faults ≡ old.faults)
 Checks TellsFile old new no_memory = new.faults ≡ old.faults
 Checks TellsFile old new (served lines finish) = ⊥
+Checks TellsFile old new (followed all lines) = ⊥
 
 -- what the net tells of itself: what came back to it, with its numbers, and its faults
 pub record Linked (P : Type 0) : Type 0 where
@@ -121,6 +132,18 @@ pub record Linked (P : Type 0) : Type 0 where
 -- the course of a line that rests on nothing that is read: only memory may be wanting for it
 abbrev pub Makes : List ℕ → Course → Type 0
 Makes line course = (course ≡ line_told true line) ⊎ (course ≡ no_memory)
+
+-- the course of following a leader, over a net that tells so much: only memory may be wanting for it
+abbrev pub Follows : {P : Type 0} → Option (Returns P) → Addr → List ℕ → ℕ → Course → Type 0
+Follows told leader space polls (words_refused place) = ⊥
+Follows told leader space polls read_failed = ⊥
+Follows told leader space polls too_long = ⊥
+Follows told leader space polls (script_read script) = ⊥
+Follows told leader space polls (line_told good line) = ⊥
+Follows told leader space polls no_memory = Unit {0}
+Follows told leader space polls (served lines finish) = ⊥
+Follows told leader space polls (followed all lines) =
+    IsFollowed told leader space polls all lines
 
 -- a run, over a net whose peers tell so much, and with a clock whose forks have these moments to
 -- come
@@ -141,6 +164,7 @@ module _ {P : Type 0} (line_of : P → Line) (moments : Option (List ℕ)) where
       (config : Config) × IsConfig old.files path config
       × TellsServing Brand line_of moments old.files config net.state net_after.state lines finish
       × TellsNet net.faults net_after.faults finish × (new.faults ≡ old.faults)
+  Serves path old new net net_after (followed all lines) = ⊥
 
   -- the course that the words show, with the input and the folder before and after the run: a
   -- command reads what it is about and nothing else, and nothing is read where the words fit none
@@ -166,6 +190,9 @@ module _ {P : Type 0} (line_of : P → Line) (moments : Option (List ℕ)) where
   Takes (Ok (weave turns seed)) old_in new_in old_files new_files net net_after course =
       Makes (weave_line turns seed) course × (new_in ≡ old_in) × (new_files ≡ old_files)
       × (net_after ≡ net)
+  Takes (Ok (follow leader space polls)) old_in new_in old_files new_files net net_after course =
+      Follows net.state.told leader space polls course × (new_in ≡ old_in)
+      × (new_files ≡ old_files) × (net_after ≡ net)
 
 -- known bytes grow by a front of these
 abbrev pub AppendsFront : Option (List ℕ) → Option (List ℕ) → List ℕ → Type 0
@@ -173,7 +200,7 @@ AppendsFront old new bytes =
     (front : List ℕ) × (rest : List ℕ) × (bytes ≡ front ++ rest) × Appends old new front
 
 -- what a course may have written where memory is then wanting: of a script the whole replies to its
--- first lines, each of them good, and else nothing
+-- first lines, each of them good; of polls any front of what tells of them; and else nothing
 abbrev pub Begins : Course → List ℕ → Type 0
 Begins (script_read script) front =
     (count : ℕ) × (played opening 1 (take count (lines_of script)) ≡ (front, true))
@@ -183,6 +210,7 @@ Begins too_long front = front ≡ []
 Begins (line_told good line) front = front ≡ []
 Begins no_memory front = front ≡ []
 Begins (served lines finish) front = front ≡ []
+Begins (followed all lines) front = Unit {0}
 
 -- the bytes are such a front of what the course writes, and then the line that tells that memory is
 -- wanting
@@ -226,12 +254,12 @@ module _ {P : Type 0} (line_of : P → Line) (moments : Option (List ℕ)) where
       course
       × Ended course old_out new_out status
 
--- all listeners of a router with so many workers came back clean, and the numbers of stops that
--- were handed out and of those that came back rose alike
-pub record AllBack {P : Type 0} (workers : ℕ) (net net_after : Networking P) : Type 0 where
-  pub clean : net_after.clean ≡ raised_by (workers + 4) net.clean
-  pub given : net_after.stops_given ≡ raised_by (workers + 4) net.stops_given
-  pub returned : net_after.stops_returned ≡ raised_by (workers + 4) net.stops_returned
+-- so many listeners came back clean, and the numbers of stops that were handed out and of those that
+-- came back rose alike
+pub record AllBack {P : Type 0} (jobs : ℕ) (net net_after : Networking P) : Type 0 where
+  pub clean : net_after.clean ≡ raised_by jobs net.clean
+  pub given : net_after.stops_given ≡ raised_by jobs net.stops_given
+  pub returned : net_after.stops_returned ≡ raised_by jobs net.stops_returned
 
 -- so they did, where a router served
 abbrev pub EndsWhole : {P : Type 0} → Result Asked ℕ → Filed → Linked P → Linked P → Type 0
@@ -241,9 +269,10 @@ EndsWhole (Ok (check path)) files net net_after = Unit {0}
 EndsWhole (Ok (lint path)) files net net_after = Unit {0}
 EndsWhole (Ok (serve path)) files net net_after =
     (config : Config) × IsConfig files.files path config
-    × AllBack config.workers net.state net_after.state
+    × AllBack (jobs_in config) net.state net_after.state
 EndsWhole (Ok (storm turns seed)) files net net_after = Unit {0}
 EndsWhole (Ok (weave turns seed)) files net net_after = Unit {0}
+EndsWhole (Ok (follow leader space polls)) files net net_after = Unit {0}
 
 -- memory was wanting, or a write failed: each status yields to these two
 abbrev pub Yields : ℕ → Output → Output → Type 0
@@ -255,7 +284,7 @@ ReadsScript good old new =
     (script : List ℕ) × Reads old new (script_read script) × ((replay_of script).1 ≡ good)
 
 -- what the command is about was read, and is right, or is not. What is made from the words alone is
--- right
+-- right, and so is what a leader says
 abbrev pub Shows : Result Asked ℕ → Input → Input → Filed → Bool → Type 0
 Shows (Err place) old new files good = ⊥
 Shows (Ok replay) old new files good = ReadsScript good old new
@@ -266,6 +295,7 @@ Shows (Ok (serve path)) old new files true = (config : Config) × IsConfig files
 Shows (Ok (serve path)) old new files false = (line : List ℕ) × IsRefused files.files path line
 Shows (Ok (storm turns seed)) old new files good = good ≡ true
 Shows (Ok (weave turns seed)) old new files good = good ≡ true
+Shows (Ok (follow leader space polls)) old new files good = good ≡ true
 
 -- the course of a whole script
 abbrev pub course_of : List ℕ → Course

@@ -1,6 +1,7 @@
 -- What `serve` writes, and why it ends.
 use Rattle.std.specs.Prelude.{◌≡◌, ◌⊎◌, ℕ, ◌+◌, Bool, true, false, if◌then◌else◌, List, [], ◌∷◌}
-use Rattle.std.specs.Prelude.{◌++◌, codes, Option, None, Some, Ok, Err}
+use Rattle.std.specs.Prelude.{◌++◌, codes, Option, None, Some, option_map, Ok, Err}
+use Rattle.line_base.specs.Clocks.{Begins, Tells as ClockTells}
 use Rattle.line_base.specs.Counts.{Rose}
 use Rattle.line_base.specs.Nets.{Networking}
 use Rattle.machine.specs.Code.{settings_of}
@@ -14,8 +15,10 @@ use Rattle.router.specs.declared.pass.Pass.{Pass}
 use Rattle.router.specs.declared.update.Update.{Update}
 use Rattle.serving.specs.declared.running.Served.{Served}
 use Rattle.serving.specs.Ending.{HasServed}
+use Rattle.serving.specs.Posts.{jobs_of}
 use Rattle.serving.specs.Returning.{listened}
 use Rattle.serving.specs.Services.{BookRefuses}
+use Rattle.serving.specs.declared.site.Feeding.{Feeding}
 use Rattle.serving.specs.declared.site.Site.{Site}
 use Rattle.linker_config.specs.declared.loaded.LoadedItem.{LoadedItem}
 use Rattle.std.specs.Fmt.{decimal}
@@ -23,6 +26,8 @@ use Rattle.line_base.specs.declared.folder.Found.{Found}
 use Rattle.line_base.specs.declared.folder.Found.TheVariants.{Bytes, Absent, Longer}
 use Rattle.line_base.specs.Files.{File, FindsAt}
 use Rattle.linker_config.specs.declared.config.Config.{Config}
+use Rattle.linker_config.specs.declared.config.FeedAt.{FeedAt}
+use Rattle.linker_config.specs.declared.config.Port.{Port}
 use Rattle.linker_config.specs.declared.loaded.LoadFault.TheVariants.{BadFile, LongFile}
 use Rattle.linker_config.specs.Answers.{Reads}
 use Rattle.linker_config.specs.Folder.{Loads, Services}
@@ -92,26 +97,62 @@ IsRefused files path line =
     TellsPath files path false line
     ⊎ ((config : Config) × IsConfig files path config × RefusesService files config line)
 
--- where a router serves by a configuration, and how
-abbrev pub site_of : Config → Site
-site_of c =
-    record {
-      server = c.server;
-      namerd = c.namerd;
-      admin = c.admin;
-      rule = c.rule;
-      workers = c.workers;
-      seed = c.seed;
-    }
+-- the number of a run: the one that is said, or else the first moment of a clock's fork
+abbrev pub IsRun : Option (List ℕ) → Option ℕ → ℕ → Type 0
+IsRun moments (Some said) run = run ≡ said
+IsRun moments None run =
+    (clock : Option (List ℕ)) × (left : Option (List ℕ)) × Begins moments clock
+    × ClockTells clock left run
 
--- the line that tells where a router serves: its own address, and those of the two interfaces
+-- where the feed of a configuration is served, and the number of the run that it tells
+abbrev pub IsFeeding : Option (List ℕ) → Option FeedAt → Option Feeding → Type 0
+IsFeeding moments None feeding = feeding ≡ None
+IsFeeding moments (Some at) feeding =
+    (run : ℕ) × IsRun moments at.run run × (feeding ≡ Some (record { port = at.port; run = run }))
+
+-- where a router serves by a configuration, and how
+pub record IsSiteOf (moments : Option (List ℕ)) (c : Config) (site : Site) : Type 0 where
+  pub server : site.server ≡ c.server
+  pub namerd : site.namerd ≡ c.namerd
+  pub admin : site.admin ≡ c.admin
+  pub rule : site.policy.rule ≡ c.rule
+  pub retries : site.policy.retries ≡ c.retries
+  pub workers : site.workers ≡ c.workers
+  pub seed : site.seed ≡ c.seed
+  pub feed : IsFeeding moments c.feed site.feed
+
+-- where the feed is served, behind a blank
+abbrev pub feed_words : Option Port → List ℕ
+feed_words None = []
+feed_words (Some port) = 32 ∷ port_text port
+
+abbrev pub feed_port : Option Feeding → Option Port
+feed_port feeding = option_map (λ f. f.port) feeding
+
+-- the line that tells where a router serves: its own address, those of the two interfaces, and that
+-- of the feed, if it is served
+abbrev pub main_words : Port → Port → Port → List ℕ
+main_words server namerd admin =
+    codes "serving " ++ port_text server ++ 32 ∷ port_text namerd ++ 32 ∷ port_text admin
+
+abbrev pub line_of_ports : Port → Port → Port → Option Port → List ℕ
+line_of_ports server namerd admin feed =
+    main_words server namerd admin ++ feed_words feed ++ 10 ∷ []
+
 abbrev pub site_line : Site → List ℕ
-site_line s =
-    codes "serving " ++ port_text s.server ++ 32 ∷ port_text s.namerd ++ 32 ∷ port_text s.admin ++
-    10 ∷ []
+site_line s = line_of_ports s.server s.namerd s.admin (feed_port s.feed)
 
 abbrev pub serving_line : Config → List ℕ
-serving_line c = site_line (site_of c)
+serving_line c =
+    line_of_ports c.server c.namerd c.admin (option_map (λ (at : FeedAt). at.port) c.feed)
+
+-- how many listeners a router has by a configuration
+abbrev pub feed_jobs_in : Option FeedAt → ℕ
+feed_jobs_in None = 0
+feed_jobs_in (Some at) = 1
+
+abbrev pub jobs_in : Config → ℕ
+jobs_in c = c.workers + 4 + feed_jobs_in c.feed
 
 -- the line that tells how many changes there were
 abbrev pub closed_line : ℕ → List ℕ
@@ -139,7 +180,9 @@ module _ (J : Type 0) {P : Type 0} (line_of : P → Line) (moments : Option (Lis
     pub words : Option Words
     pub seats : ℕ
     pub passes : List (Pass J (router_of J cell (settings_of c.settings) words seats))
-    pub whole : HasServed line_of (site_of c) moments loaded passes (listened (c.workers + 4) net)
+    pub site : Site
+    pub site_is : IsSiteOf moments c site
+    pub whole : HasServed line_of site moments loaded passes (listened (jobs_of site) net)
         net_after end
 
   -- what is told last: how many changes there were, behind which it is told where memory was
@@ -180,8 +223,8 @@ TellsEnd end last short =
     ⊎ ((end.lacked_memory ≡ true) × (last ≡ closed_line end.place ++ memory_line))
 
 -- a router is made by a configuration
-pub record IsMadeBy (files : Option (List File)) (c : Config) (site : Site)
-    (settings : SettingsValue) (loaded : List LoadedItem) : Type 0 where
-  pub site_is : site ≡ site_of c
+pub record IsMadeBy (moments : Option (List ℕ)) (files : Option (List File)) (c : Config)
+    (site : Site) (settings : SettingsValue) (loaded : List LoadedItem) : Type 0 where
+  pub site_is : IsSiteOf moments c site
   pub settings_are : settings ≡ settings_of c.settings
   pub loads : LoadsRoot files c.root (Ok loaded)

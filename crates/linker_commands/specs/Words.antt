@@ -3,7 +3,8 @@ use Rattle.std.specs.Prelude.{ℕ, nat_eq, if◌then◌else◌, List, [], ◌∷
 use Rattle.std.specs.Prelude.{Result, Ok, Err}
 use Rattle.std.specs.Str.{bytes_eq}
 use Rattle.addr_book.specs.Addr.{at_most}
-use Rattle.script.specs.Words.{number_of}
+use Rattle.addr_book.specs.declared.addr.Addr.{Addr}
+use Rattle.script.specs.Words.{addr_in, name_of, number_of}
 use Rattle.linker_commands.specs.declared.words.Command.{Command}
 use Rattle.linker_commands.specs.declared.words.Command.TheVariants as command
 
@@ -21,6 +22,8 @@ pub data Asked : Type 0 where
   storm : ℕ → ℕ → Asked
   -- make so many generated turns by a seed, of four passes
   weave : ℕ → ℕ → Asked
+  -- ask the leader at this address for the feed of a namespace, so many times
+  follow : Addr → List ℕ → ℕ → Asked
 
 -- a command as the code has it
 abbrev pub asked_by : Command → Asked
@@ -30,6 +33,7 @@ asked_by (command.Serve path) = serve path.now
 asked_by (command.Lint path) = lint path.now
 asked_by (command.Storm run) = storm run.turns run.seed
 asked_by (command.Weave run) = weave run.turns run.seed
+asked_by (command.Follow f) = follow f.leader f.space.now f.polls
 
 -- a word that is a path: it is not empty and does not begin with `-`
 abbrev pub path_word : List ℕ → Option (List ℕ)
@@ -51,7 +55,7 @@ abbrev pub path_words : (List ℕ → Asked) → List (List ℕ) → Result Aske
 path_words command [] = Err 2
 path_words command (w ∷ ws) = path_at command (path_word w) ws
 
--- the most turns of a generated run
+-- the most turns of a generated run, and the most polls of a leader
 abbrev pub most_turns : ℕ
 most_turns = 1000000
 
@@ -82,6 +86,34 @@ abbrev pub of_run : (ℕ → ℕ → Asked) → Result (ℕ × ℕ) ℕ → Resu
 of_run command (Ok run) = Ok (command run.0 run.1)
 of_run command (Err place) = Err place
 
+-- the number of polls, which is the fourth word and the last
+abbrev pub polls_at : Addr → List ℕ → Option ℕ → List (List ℕ) → Result Asked ℕ
+polls_at leader space None others = Err 4
+polls_at leader space (Some polls) others = alone 5 (follow leader space polls) others
+
+abbrev pub polls_words : Addr → List ℕ → List (List ℕ) → Result Asked ℕ
+polls_words leader space [] = Err 4
+polls_words leader space (w ∷ ws) = polls_at leader space (at_most most_turns (number_of w)) ws
+
+-- the name of the namespace, which is the third word, and what is behind it
+abbrev pub space_at : Addr → Option (List ℕ) → List (List ℕ) → Result Asked ℕ
+space_at leader None others = Err 3
+space_at leader (Some space) others = polls_words leader space others
+
+abbrev pub space_words : Addr → List (List ℕ) → Result Asked ℕ
+space_words leader [] = Err 3
+space_words leader (w ∷ ws) = space_at leader (name_of w) ws
+
+-- the address of the leader, which is the second word, and what is behind it
+abbrev pub leader_at : Option Addr → List (List ℕ) → Result Asked ℕ
+leader_at None others = Err 2
+leader_at (Some leader) others = space_words leader others
+
+-- the words behind `follow`
+abbrev pub leader_words : List (List ℕ) → Result Asked ℕ
+leader_words [] = Err 2
+leader_words (w ∷ ws) = leader_at (addr_in w) ws
+
 -- what the words ask for; or the place of the first that fits no command, counted from 1, and one
 -- more than there are where a word is missing
 abbrev pub command_of : List (List ℕ) → Result Asked ℕ
@@ -93,4 +125,5 @@ command_of (w ∷ ws) =
     else if bytes_eq w (codes "lint") then path_words lint ws
     else if bytes_eq w (codes "storm") then of_run storm (turns_words ws)
     else if bytes_eq w (codes "weave") then of_run weave (turns_words ws)
+    else if bytes_eq w (codes "follow") then leader_words ws
     else Err 1

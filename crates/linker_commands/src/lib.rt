@@ -7,7 +7,9 @@
 //! a table are never asked; the crate `dtab_check` finds them. `serve CONFIG` serves by it until it
 //! is shut down: a router and its two interfaces, which the crate `serving` runs. `storm N SEED`
 //! makes a run of N generated changes and picks on one state, and `weave N SEED` one of four
-//! passes, whose answers come later than their questions.
+//! passes, whose answers come later than their questions. `follow A NS N` asks another router, the
+//! leader at A, N times for the table of its namespace NS, and tells each that is later than those
+//! before it; the crate `follow_feed` does that.
 //!
 //! [`run_arguments`] calls it with the arguments of a process and gives the code to exit with. The
 //! program is a `main` that makes the folder, the net, the clock and the streams of the machine: so
@@ -19,7 +21,8 @@
 //! as `specs/Check.antt` says, or by what is told of a table, as `specs/Lint.antt` has it, or by
 //! the line of the generated run, as `specs/Generated.antt` has it, or by the lines that tell where
 //! a router served and how many changes there were, as `specs/Served.antt` has them: that router
-//! did what `serving` says of a run, with all its listeners clean. Each other status has its cause;
+//! did what `serving` says of a run, with all its listeners clean; or by the lines that tell what a
+//! leader's feeds came to, as `specs/Follow.antt` says. Each other status has its cause;
 //! and where nothing fails, a script is carried out in full, and a configuration, a table and a
 //! generated run are told of. These are clauses of [`linker`]. The code to exit with is the status
 //! for exactly the words after the program's name: a clause of [`run_arguments`].
@@ -37,7 +40,9 @@ use std::alloc::AllocError;
 
 mod check;
 mod ends;
+mod follow;
 mod generated;
+mod leader;
 mod lint;
 mod player;
 mod program;
@@ -50,7 +55,7 @@ mod words;
 pub use program::linker;
 pub use run::{Status, tell};
 pub use start::{Exit, run_arguments, words_behind_name};
-pub use words::{Command, Generated, read_words};
+pub use words::{Command, Following, Generated, read_words};
 
 /// A value, unless there was no memory for it.
 pub type Mem<T> = Result<T, AllocError>;

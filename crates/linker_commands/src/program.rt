@@ -33,10 +33,13 @@ use std::thread::Threads;
 ///   with this seed, on one state, and writes the line that sums them up.
 /// - `weave N SEED` makes N generated steps of four passes, each a change, a question, an answer to
 ///   an earlier one, or what passes learn or keep, and writes the line that sums them up.
+/// - `follow A NS N` asks the leader at the address A, as `host:port`, N times for the feed of the
+///   namespace NS, and writes a line for each feed that is later than those before it, and a line
+///   that counts the polls. A poll that is lost is one of them.
 ///
-/// A path is a word that is not empty and does not begin with `-`. N is at most 1,000,000 and SEED
-/// at most 2^64 - 1, both in decimal digits without leading zeros. Where something is wrong, the
-/// last line that is written tells what.
+/// A path is a word that is not empty and does not begin with `-`, and NS is a name. N is at most
+/// 1,000,000 and SEED at most 2^64 - 1, both in decimal digits without leading zeros. Where
+/// something is wrong, the last line that is written tells what.
 ///
 /// | status | where | last line |
 /// |---|---|---|

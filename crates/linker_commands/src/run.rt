@@ -10,6 +10,7 @@ ghost use Rattle.linker_commands.specs.Told.{code_of, Tells};
 
 use crate::check::{CheckEnd, check};
 use crate::ends::{ReadEnd, read_all, write_all};
+use crate::follow::follow;
 use crate::generated::{storm_line, weave_line};
 use crate::lint::lint;
 use crate::player::{PlayEnd, play};
@@ -222,6 +223,7 @@ where
         Ok(Command::Serve(path)) => serve(rt, alloc, folder, path, net, clock, out),
         Ok(Command::Storm(run)) => tell_made(out, storm_line(alloc, run)),
         Ok(Command::Weave(run)) => tell_made(out, weave_line(alloc, run, &mut steps)),
+        Ok(Command::Follow(following)) => follow(alloc, net, following, out),
         Err(place) => refuse_words(alloc, out, place),
     }
 }

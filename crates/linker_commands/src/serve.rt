@@ -1,6 +1,6 @@
 //! `serve`: a router with its interfaces, from its configuration until it is stopped.
-ghost use Rattle.std.specs.Prelude.{◌≡◌, ◌+◌, ◌≤◌, ℕ, List, Option, Some, IfOk, false, length};
-ghost use Rattle.std.specs.Prelude.{string_bytes};
+ghost use Rattle.std.specs.Prelude.{◌≡◌, ◌+◌, ◌≤◌, ◌++◌, ℕ, List, Option, Some, IfOk, OnOk, false};
+ghost use Rattle.std.specs.Prelude.{length, string_bytes};
 ghost use Rattle.line_base.specs.Files.{File};
 ghost use Rattle.line_base.specs.Nets.{Networking};
 ghost use Rattle.line_base.specs.Files.{Filed};
@@ -8,12 +8,14 @@ ghost use Rattle.line_base.specs.Streams.{Output};
 ghost use Rattle.linker_commands.specs.Run.{Course, Ended, EndsServing, Linked, Serves, line_told};
 ghost use Rattle.linker_commands.specs.Served.{Finish, IsConfig, IsLast, IsMadeBy, LoadsRoot};
 ghost use Rattle.linker_commands.specs.Served.{TellsEnd, TellsNet, file_line, finish_code, last_of};
-ghost use Rattle.linker_commands.specs.Served.{site_line};
+ghost use Rattle.linker_commands.specs.Served.{IsFeeding, IsRun, feed_port, feed_words};
+ghost use Rattle.linker_commands.specs.Served.{main_words, site_line};
 ghost use Rattle.linker_commands.specs.Told.{Tells, code_of};
 ghost use Rattle.linker_config.specs.declared.loaded.LoadedItem.{LoadedItem};
 ghost use Rattle.linker_config.specs.Loading.{HasLoadCause};
 ghost use Rattle.load_words.specs.Seats.{words_of};
 ghost use Rattle.router.specs.Values.{settings_in};
+ghost use Rattle.serving.specs.Posts.{jobs_of};
 ghost use Rattle.serving.specs.Services.{HaveSeen};
 ghost use Rattle.serving.specs.Returning.{listened};
 ghost use Rattle.serving.specs.Running.{IsReady, Listens, bound_of, passes_of};
@@ -25,9 +27,9 @@ use crate::run::{Status, tell};
 use crate::{Bytes, Mem};
 use addr_book::Name;
 use line_base::{Clock, Folder, Listener, Net, Sink};
-use linker_config::{Config, LoadFault, Loaded, Text, append_port, load_folder};
+use linker_config::{Config, FeedAt, LoadFault, Loaded, Text, append_port, load_folder};
 use router::{Naming, Opened, open};
-use serving::{RunFault, Served, Serving, Site, StartFault, start};
+use serving::{Feeding, Policy, RunFault, Served, Serving, Site, StartFault, start};
 use std::alloc::Global;
 use std::marker::Brand;
 use std::sync::Wait;
@@ -55,9 +57,10 @@ fn refused_line(alloc: Global, name: &Name) -> Mem<Bytes>
     Ok(line)
 }
 
-/// The line that tells where a router serves: its own address, and those of the two interfaces.
-fn site_text(alloc: Global, site: &Site) -> Mem<Bytes>
-    ensures { IfOk result (λ line. line.items ≡ site_line site.now) }
+/// The words that tell where a router serves, but for the feed.
+fn main_text(alloc: Global, site: &Site) -> Mem<Bytes>
+    ensures { IfOk result (λ line. line.items
+        ≡ main_words site.now.server site.now.namerd site.now.admin) }
 {
     let mut line = Vec::from_slice(alloc, b"serving ")?;
     append_port(site.server, &mut line)?;
@@ -65,8 +68,55 @@ fn site_text(alloc: Global, site: &Site) -> Mem<Bytes>
     append_port(site.namerd, &mut line)?;
     line.push(b' ')?;
     append_port(site.admin, &mut line)?;
+    Ok(line)
+}
+
+/// The line that tells where a router serves: its own address, those of the two interfaces, and that
+/// of the feed, if it is served.
+fn site_text(alloc: Global, site: &Site) -> Mem<Bytes>
+    ensures { IfOk result (λ line. line.items ≡ site_line site.now) }
+{
+    let mut line = main_text(alloc, site)?;
+    append_feed(site.feed, &mut line)?;
     line.push(b'\n')?;
     Ok(line)
+}
+
+/// Puts where the feed is served behind a line, with a blank before it, if it is served.
+fn append_feed(feed: Option<Feeding>, line: &mut Bytes) -> Mem<()>
+    ensures { OnOk result (line.new.items ≡ line.old.items ++ feed_words (feed_port feed)) }
+{
+    let Some(feeding) = feed else {
+        return Ok(());
+    };
+    line.push(b' ')?;
+    append_port(feeding.port, line)
+}
+
+/// The number of this run of the router: the one that is said, or else the moment now.
+fn run_number<C: Clock + Drop>(said: Option<u64>, clock: &C) -> u64
+    ensures { IsRun (C.of_fork clock.now) said result }
+{
+    match said {
+        Some(run) => run,
+        None => {
+            let mut now = clock.fork();
+            now.now()
+        }
+    }
+}
+
+/// Where the feed is served, and which run it tells, if it is served.
+fn feeding<C: Clock + Drop>(feed: Option<FeedAt>, clock: &C) -> Option<Feeding>
+    ensures { IsFeeding (C.of_fork clock.now) feed result }
+{
+    match feed {
+        Some(at) => Some(Feeding {
+            port: at.port,
+            run: run_number(at.run, clock),
+        }),
+        None => None,
+    }
 }
 
 /// What is told last: how many changes there were, and whether memory was wanting in a session.
@@ -128,11 +178,13 @@ where
     <N::L as Listener>::P: Send,
     requires ready { IsReady serving }
     requires listens { Listens N.L.state (N.state net.old).told site.now (bound_of serving) }
-    requires seats { length (passes_of serving) ≡ site.now.workers + 5 }
+    requires seats { length (passes_of serving) ≡ jobs_of site.now + 1 }
     requires parts { J.parts ≡ J.seats }
     ensures { (files : Option (List File)) → (c : Config) → (before : Networking N.L.P)
-        → (loaded : List LoadedItem) → IsMadeBy files c site.now J.settings loaded
-        → HaveSeen loaded (passes_of serving) → N.state net.old ≡ listened (c.workers + 4) before
+        → (loaded : List LoadedItem)
+        → IsMadeBy (C.of_fork clock.now) files c site.now J.settings loaded
+        → HaveSeen loaded (passes_of serving)
+        → N.state net.old ≡ listened (jobs_of site.now) before
         → (last : List ℕ) × (finish : Finish) × (end : Status)
         × IsLast J N.L.P.line (C.of_fork clock.now) files c before (N.state net.new) last finish
         × TellsNet (N.faults net.old) (N.faults net.new) finish × (code_of end ≡ finish_code finish)
@@ -169,9 +221,10 @@ where
     requires words { Some (words_of opened.loads) ≡ J.words }
     requires name { opened.blank.name ≡ J.name }
     requires parts { (opened.blank.parts ≡ J.parts) × (J.parts ≡ J.seats) }
-    requires seats { (opened.seats ≡ J.seats) × (opened.seats ≡ site.now.workers + 5) }
-    ensures { (files : Option (List File)) → (c : Config) → IsMadeBy files c site.now J.settings
-        loaded → EndsServing J N.L.P.line (C.of_fork clock.now) files c
+    requires seats { (opened.seats ≡ J.seats) × (opened.seats ≡ jobs_of site.now + 1) }
+    ensures { (files : Option (List File)) → (c : Config)
+        → IsMadeBy (C.of_fork clock.now) files c site.now J.settings loaded
+        → EndsServing J N.L.P.line (C.of_fork clock.now) files c
         (record { state = N.state net.old; faults = N.faults net.old })
         (record { state = N.state net.new; faults = N.faults net.new }) (K.output out.old)
         (K.output out.new) (code_of result) }
@@ -222,8 +275,10 @@ where
         root,
         rule,
         settings,
+        retries,
         workers,
         seed,
+        feed,
     } = config;
     let loaded = match load(alloc, folder, &root) {
         Ok(loaded) => loaded,
@@ -236,9 +291,10 @@ where
         server,
         namerd,
         admin,
-        rule,
+        policy: Policy { rule, retries },
         workers,
         seed,
+        feed: feeding(feed, clock),
     };
     let Ok(opened) = open(rt, alloc, settings, site.seats()) else {
         return tell(out, b"error memory\n", Status::Memory);

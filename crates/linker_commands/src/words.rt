@@ -6,7 +6,10 @@ ghost use Rattle.script.specs.Words.{number_of};
 ghost use Rattle.linker_commands.specs.Words.{asked_by, command_of, replay, storm, weave, alone};
 ghost use Rattle.linker_commands.specs.Words.{path_word, path_words, check, serve, lint, Asked};
 ghost use Rattle.linker_commands.specs.Words.{of_run, most_turns, turns_words, seed_words};
+ghost use Rattle.linker_commands.specs.Words.{leader_words, polls_words, space_words};
 
+use crate::leader::{is_name, read_addr};
+use addr_book::Addr;
 use script::read_number;
 
 /// The most turns of a generated run.
@@ -28,6 +31,20 @@ pub enum Command<'a> {
     /// `weave N SEED`: make a generated run of four passes, whose answers come later than their
     /// questions, and sum it up.
     Weave(Generated),
+    /// `follow A NS N`: ask the leader at an address for the feed of a namespace, again and again,
+    /// and tell each that is later than those before it.
+    Follow(Following<'a>),
+}
+
+/// What is followed, and how often the leader is asked.
+#[derive(Clone, Copy, Debug, PartialEq, Eq)]
+pub struct Following<'a> {
+    /// Where the leader serves its feed.
+    pub leader: Addr,
+    /// The name of the namespace.
+    pub space: &'a str,
+    /// How often it is asked, at most 1,000,000 times.
+    pub polls: u32,
 }
 
 /// What a generated run goes by.
@@ -53,6 +70,7 @@ pub fn read_words(words: &[String]) -> Result<Command<'_>, usize>
         [word, others @ ..] if word.as_str() == "lint" => read_lint(others),
         [word, others @ ..] if word.as_str() == "storm" => read_storm(others),
         [word, others @ ..] if word.as_str() == "weave" => read_weave(others),
+        [word, others @ ..] if word.as_str() == "follow" => read_follow(others),
         _ => Err(1),
     }
 }
@@ -183,6 +201,56 @@ fn read_seed(turns: u32, others: &[String]) -> Result<Generated, usize>
             None => Err(3),
         },
         [] => Err(3),
+    }
+}
+
+/// `follow` with the words behind it.
+fn read_follow(others: &[String]) -> Result<Command<'_>, usize>
+    ensures { MatchResult result
+        (λ command. leader_words (map string_bytes others.now) ≡ Ok (asked_by command))
+        (λ place. leader_words (map string_bytes others.now) ≡ Err place) }
+{
+    match others {
+        [leader, others @ ..] => match read_addr(leader.as_bytes()) {
+            Some(leader) => read_space(leader, others),
+            None => Err(2),
+        },
+        [] => Err(2),
+    }
+}
+
+/// The name of the namespace behind the address of its leader.
+fn read_space(leader: Addr, others: &[String]) -> Result<Command<'_>, usize>
+    ensures { MatchResult result
+        (λ command. space_words leader (map string_bytes others.now) ≡ Ok (asked_by command))
+        (λ place. space_words leader (map string_bytes others.now) ≡ Err place) }
+{
+    match others {
+        [space, others @ ..] if is_name(space.as_str()) => {
+            read_polls(leader, space.as_str(), others)
+        }
+        _ => Err(3),
+    }
+}
+
+/// The number of polls behind the name of a namespace.
+fn read_polls<'a>(leader: Addr, space: &'a str, others: &[String]) -> Result<Command<'a>, usize>
+    ensures { MatchResult result
+        (λ command. polls_words leader space.now (map string_bytes others.now)
+        ≡ Ok (asked_by command))
+        (λ place. polls_words leader space.now (map string_bytes others.now) ≡ Err place) }
+{
+    match others {
+        [polls, others @ ..] => match read_turns(polls.as_bytes()) {
+            Some(polls) if others.is_empty() => Ok(Command::Follow(Following {
+                leader,
+                space,
+                polls,
+            })),
+            Some(_) => Err(5),
+            None => Err(4),
+        },
+        [] => Err(4),
     }
 }
 

@@ -1,5 +1,6 @@
 -- What a configuration says.
-use Rattle.std.specs.Prelude.{◌≡◌, ℕ, ◌^◌, ◌-◌, List, [], ◌∷◌, codes, Option, None, Some, Ok, IsUtf8}
+use Rattle.std.specs.Prelude.{◌≡◌, ℕ, ◌^◌, ◌-◌, List, [], ◌∷◌, codes, Option, None, Some, Ok}
+use Rattle.std.specs.Prelude.{IsUtf8}
 use Rattle.serde_json.specs.Data.{Data}
 use Rattle.serde_json.specs.Read.{read}
 use Rattle.serde_json.specs.Find.{get}
@@ -7,17 +8,21 @@ use Rattle.dtab_table.specs.Dtab.{rules_of}
 use Rattle.dtab_table.specs.Rules.{Rule as TableRule}
 use Rattle.identifier.specs.declared.rule.Rule.{Rule}
 use Rattle.choose_core.specs.declared.mark.Limits.{Limits}
+use Rattle.retry_budget.specs.declared.tries.Tries.{Tries}
 use Rattle.linker_config.specs.declared.config.Config.{Config}
+use Rattle.linker_config.specs.declared.config.FeedAt.{FeedAt}
 use Rattle.linker_config.specs.declared.config.Port.{Port}
 use Rattle.linker_config.specs.declared.fault.ConfigFault.TheVariants.{Bad}
 use Rattle.linker_config.specs.Keys.{Told, and_then, keys_told, or_fault}
-use Rattle.linker_config.specs.Values.{number_at, or_default}
-use Rattle.linker_config.specs.Listening.{admin_told, loopback, namerd_told}
+use Rattle.linker_config.specs.Values.{if_there, number_at, or_default}
+use Rattle.linker_config.specs.Feed.{feed_told}
+use Rattle.linker_config.specs.Listening.{admin_told, namerd_told, usual_admin, usual_named}
 use Rattle.linker_config.specs.Namers.{namers_told}
 use Rattle.linker_config.specs.Router.{routers_told}
 
--- what a configuration says: where to listen, the folder of the services, how requests are named, the router's settings, the number of the
--- workers, and the seed of the choices
+-- what a configuration says: where to listen, the folder of the services, how requests are named,
+-- the router's settings, how often a request may be tried again, the number of the workers, the
+-- seed of the choices, and where the feed of the namespaces is served
 pub record Configured : Type 0 where
   pub admin : Port
   pub namerd : Port
@@ -27,8 +32,10 @@ pub record Configured : Type 0 where
   pub space : List ℕ
   pub base : List TableRule
   pub limits : Limits
+  pub retries : Option Tries
   pub workers : ℕ
   pub seed : ℕ
+  pub feed : Option FeedAt
 
 -- a configuration as a value
 abbrev pub said_of : Config → Configured
@@ -41,13 +48,16 @@ said_of c = record {
   space = c.settings.space;
   base = rules_of c.settings.base;
   limits = c.settings.limits;
+  retries = c.retries;
   workers = c.workers;
   seed = c.seed;
+  feed = c.feed;
 }
 
 abbrev pub top_keys : List (List ℕ)
 top_keys =
-    codes "admin" ∷ codes "namerd" ∷ codes "namers" ∷ codes "routers" ∷ codes "workers" ∷ codes "seed"
+    codes "admin" ∷ codes "namerd" ∷ codes "namers" ∷ codes "routers" ∷ codes "workers"
+    ∷ codes "seed" ∷ codes "feed"
     -- these two say nothing
     ∷ codes "telemetry" ∷ codes "usage" ∷ []
 
@@ -55,12 +65,14 @@ top_keys =
 unfoldable pub config_of : Data → Told Configured
 config_of d =
     and_then (keys_told [] top_keys (codes "routers" ∷ []) d) (λ _.
-    and_then (or_default (record { ip = loopback; port = 9990 }) admin_told (get (codes "admin") d)) (λ admin.
-    and_then (or_default (record { port = record { ip = loopback; port = 4180 }; space = codes "default" }) namerd_told (get (codes "namerd") d)) (λ named.
+    and_then (or_default usual_admin admin_told (get (codes "admin") d)) (λ admin.
+    and_then (or_default usual_named namerd_told (get (codes "namerd") d)) (λ named.
     and_then (or_default None namers_told (get (codes "namers") d)) (λ root.
-    and_then (and_then (or_fault (Bad (codes "routers")) (get (codes "routers") d)) routers_told) (λ routed.
+    and_then (and_then (or_fault (Bad (codes "routers")) (get (codes "routers") d)) routers_told)
+    (λ routed.
     and_then (number_at [] (codes "workers") 16 1 256 d) (λ workers.
     and_then (number_at [] (codes "seed") 0 0 (2 ^ 64 - 1) d) (λ seed.
+    and_then (if_there feed_told (get (codes "feed") d)) (λ feed.
     Ok (record {
       admin = admin;
       namerd = named.port;
@@ -70,9 +82,11 @@ config_of d =
       space = named.space;
       base = routed.base;
       limits = routed.limits;
+      retries = routed.retries;
       workers = workers;
       seed = seed;
-    }))))))))
+      feed = feed;
+    })))))))))
 
 -- the text is JSON
 abbrev pub IsJson : List ℕ → Type 0

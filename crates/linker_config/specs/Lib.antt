@@ -2,6 +2,7 @@ pub mod Answers
 pub mod Client
 pub mod Config
 pub mod Covering
+pub mod Feed
 pub mod Folder
 pub mod Identifier
 pub mod Keys
@@ -9,5 +10,6 @@ pub mod Lines
 pub mod Listening
 pub mod Loading
 pub mod Namers
+pub mod Retries
 pub mod Router
 pub mod Values

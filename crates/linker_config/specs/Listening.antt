@@ -1,5 +1,6 @@
 -- Where the router, the namer's interface and the administrator's listen.
-use Rattle.std.specs.Prelude.{ℕ, ◌&&◌, ◌==◌, Bool, nat_le, if◌then◌else◌, List, [], ◌∷◌, length, map, codes, Option, Some, None, Ok}
+use Rattle.std.specs.Prelude.{ℕ, ◌&&◌, ◌==◌, Bool, nat_le, if◌then◌else◌, List, [], ◌∷◌, length}
+use Rattle.std.specs.Prelude.{map, codes, Option, Some, None, Ok}
 use Rattle.std.specs.List.{list_all, slice_split}
 use Rattle.serde_json.specs.Data.{Data}
 use Rattle.addr_book.specs.Addr.{ip_of_octets, octet_value}
@@ -29,6 +30,10 @@ admin_told d =
     and_then (keys_told (codes "admin") (codes "ip" ∷ codes "port" ∷ []) [] d) (λ _.
     port_told (codes "admin") 9990 d)
 
+-- where nothing is said of the administrator's interface
+abbrev pub usual_admin : Port
+usual_admin = record { ip = loopback; port = 9990 }
+
 -- 1 to 255 bytes that may stand in a name
 abbrev pub is_name : List ℕ → Bool
 is_name text = nat_le 1 (length text) && nat_le (length text) 255 && list_all is_name_byte text
@@ -44,16 +49,27 @@ pub record Named : Type 0 where
 abbrev pub named_of : code.Named → Named
 named_of n = record { port = n.port; space = n.space }
 
+-- where nothing is said of the interface to the namespaces
+abbrev pub usual_named : Named
+usual_named = record { port = record { ip = loopback; port = 4180 }; space = codes "default" }
+
 unfoldable pub namerd_told : Data → Told Named
 namerd_told d =
-    and_then (keys_told (codes "namerd") (codes "ip" ∷ codes "port" ∷ codes "namespace" ∷ []) [] d) (λ _.
+    and_then (keys_told (codes "namerd") (codes "ip" ∷ codes "port" ∷ codes "namespace" ∷ []) [] d)
+    (λ _.
     and_then (port_told (codes "namerd") 4180 d) (λ port.
-    and_then (text_at (codes "namerd") (codes "namespace") (codes "default") name_value d) (λ space.
+    and_then (text_at (codes "namerd") (codes "namespace") (codes "default") name_value d)
+    (λ space.
     Ok (record { port = port; space = space }))))
+
+-- where nothing is said of where the router listens
+abbrev pub usual_server : Port
+usual_server = record { ip = loopback; port = 4140 }
 
 unfoldable pub server_told : Data → Told Port
 server_told d =
-    and_then (keys_told (codes "routers[0].servers[0]") (codes "ip" ∷ codes "port" ∷ []) [] d) (λ _.
+    and_then (keys_told (codes "routers[0].servers[0]") (codes "ip" ∷ codes "port" ∷ []) [] d)
+    (λ _.
     port_told (codes "routers[0].servers[0]") 4140 d)
 
 unfoldable pub servers_told : Data → Told Port

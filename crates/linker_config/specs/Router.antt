@@ -1,5 +1,5 @@
 -- The router of a configuration.
-use Rattle.std.specs.Prelude.{ℕ, List, [], ◌∷◌, codes, Ok}
+use Rattle.std.specs.Prelude.{ℕ, List, [], ◌∷◌, codes, Option, Ok}
 use Rattle.serde_json.specs.Data.{Data}
 use Rattle.serde_json.specs.Find.{get}
 use Rattle.name_tree.specs.Path.{Labels}
@@ -10,13 +10,16 @@ use Rattle.dtab_table.specs.Rules.{Rule as TableRule}
 use Rattle.identifier.specs.declared.rule.Kind.{Kind}
 use Rattle.identifier.specs.declared.rule.Kind.TheVariants.{Token}
 use Rattle.choose_core.specs.declared.mark.Limits.{Limits}
+use Rattle.retry_budget.specs.declared.tries.Tries.{Tries}
 use Rattle.linker_config.specs.declared.config.Port.{Port}
 use Rattle.linker_config.specs.declared.routed.Routed as code
 use Rattle.linker_config.specs.Keys.{Told, and_then, keys_told}
-use Rattle.linker_config.specs.Values.{element, exactly, needed_text, or_default, text_at}
-use Rattle.linker_config.specs.Listening.{loopback, servers_told}
+use Rattle.linker_config.specs.Values.{element, exactly, if_there, needed_text, or_default}
+use Rattle.linker_config.specs.Values.{text_at}
+use Rattle.linker_config.specs.Listening.{servers_told, usual_server}
 use Rattle.linker_config.specs.Identifier.{identifier_told}
 use Rattle.linker_config.specs.Client.{client_told, usual_limits}
+use Rattle.linker_config.specs.Retries.{retries_told}
 
 -- what a router says
 pub record Routed : Type 0 where
@@ -25,16 +28,26 @@ pub record Routed : Type 0 where
   pub kind : Kind
   pub server : Port
   pub limits : Limits
+  pub retries : Option Tries
 
 abbrev pub routed_of : code.Routed → Routed
-routed_of r = record { base = rules_of r.base; prefix = r.prefix; kind = r.kind; server = r.server; limits = r.limits }
+routed_of r =
+    record {
+      base = rules_of r.base;
+      prefix = r.prefix;
+      kind = r.kind;
+      server = r.server;
+      limits = r.limits;
+      retries = r.retries;
+    }
 
 abbrev pub router_place : List ℕ
 router_place = codes "routers[0]"
 
 abbrev pub router_keys : List (List ℕ)
 router_keys =
-    codes "protocol" ∷ codes "dtab" ∷ codes "dstPrefix" ∷ codes "identifier" ∷ codes "servers" ∷ codes "client"
+    codes "protocol" ∷ codes "dtab" ∷ codes "dstPrefix" ∷ codes "identifier" ∷ codes "servers"
+    ∷ codes "client" ∷ codes "retries"
     -- these two say nothing
     ∷ codes "label" ∷ codes "httpAccessLog" ∷ []
 
@@ -44,10 +57,19 @@ router_told d =
     and_then (needed_text router_place (codes "protocol") (exactly (codes "http")) d) (λ _.
     and_then (text_at router_place (codes "dtab") [] table_of d) (λ base.
     and_then (text_at router_place (codes "dstPrefix") (codes "svc" ∷ []) path_of d) (λ prefix.
-    and_then (or_default (Token (codes "Host")) identifier_told (get (codes "identifier") d)) (λ kind.
-    and_then (or_default (record { ip = loopback; port = 4140 }) servers_told (get (codes "servers") d)) (λ server.
+    and_then (or_default (Token (codes "Host")) identifier_told (get (codes "identifier") d))
+    (λ kind.
+    and_then (or_default usual_server servers_told (get (codes "servers") d)) (λ server.
     and_then (or_default usual_limits client_told (get (codes "client") d)) (λ limits.
-    Ok (record { base = base; prefix = prefix; kind = kind; server = server; limits = limits }))))))))
+    and_then (if_there retries_told (get (codes "retries") d)) (λ retries.
+    Ok (record {
+      base = base;
+      prefix = prefix;
+      kind = kind;
+      server = server;
+      limits = limits;
+      retries = retries;
+    })))))))))
 
 unfoldable pub routers_told : Data → Told Routed
 routers_told d = and_then (element (codes "routers") d) router_told

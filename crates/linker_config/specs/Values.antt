@@ -1,15 +1,21 @@
 -- The values under the keys of an object.
-use Rattle.std.specs.Prelude.{⊤, ℕ, ◌&&◌, nat_le, if◌then◌else◌, List, [], ◌∷◌, Option, Some, None, option_and_then, Ok}
+use Rattle.std.specs.Prelude.{⊤, ℕ, ◌&&◌, nat_le, if◌then◌else◌, List, [], ◌∷◌, Option, Some, None}
+use Rattle.std.specs.Prelude.{option_and_then, Ok}
 use Rattle.std.specs.Str.{bytes_eq}
 use Rattle.serde_json.specs.Data.{Data, Items, no_items, item}
 use Rattle.serde_json.specs.Find.{get, as_array, as_number, as_str, as_u64}
 use Rattle.linker_config.specs.declared.fault.ConfigFault.TheVariants.{Bad}
-use Rattle.linker_config.specs.Keys.{Told, inside, or_fault}
+use Rattle.linker_config.specs.Keys.{Told, and_then, inside, or_fault}
 
 -- what a value says, or the default where there is none
 abbrev pub or_default : {V : Type 0} → V → (Data → Told V) → Option Data → Told V
 or_default default told None = Ok default
 or_default default told (Some d) = told d
+
+-- what a value says, if there is one
+abbrev pub if_there : {V : Type 0} → (Data → Told V) → Option Data → Told (Option V)
+if_there told None = Ok None
+if_there told (Some d) = and_then (told d) (λ v. Ok (Some v))
 
 -- a number between two others, both included
 abbrev pub between : ℕ → ℕ → ℕ → Option ℕ
@@ -25,15 +31,18 @@ text_by reader d = option_and_then reader (as_str d)
 
 -- the number under a key of the object at a place
 unfoldable pub number_at : List ℕ → List ℕ → ℕ → ℕ → ℕ → Data → Told ℕ
-number_at place key default low high d = or_default default (λ v. or_fault (Bad (inside place key)) (number_in low high v)) (get key d)
+number_at place key default low high d =
+    or_default default (λ v. or_fault (Bad (inside place key)) (number_in low high v)) (get key d)
 
 -- the text under a key of the object at a place, by its reader
 unfoldable pub text_at : {V : Type 0} → List ℕ → List ℕ → V → (List ℕ → Option V) → Data → Told V
-text_at place key default reader d = or_default default (λ v. or_fault (Bad (inside place key)) (text_by reader v)) (get key d)
+text_at place key default reader d =
+    or_default default (λ v. or_fault (Bad (inside place key)) (text_by reader v)) (get key d)
 
 -- the text under a key that has to be there
 unfoldable pub needed_text : {V : Type 0} → List ℕ → List ℕ → (List ℕ → Option V) → Data → Told V
-needed_text place key reader d = or_fault (Bad (inside place key)) (option_and_then (text_by reader) (get key d))
+needed_text place key reader d =
+    or_fault (Bad (inside place key)) (option_and_then (text_by reader) (get key d))
 
 -- this word and no other text
 abbrev pub exactly : List ℕ → List ℕ → Option ⊤

@@ -1,8 +1,11 @@
 //! A router's configuration.
 ghost use Rattle.std.specs.Prelude.{◌≡◌, string_bytes};
+ghost use Rattle.std.specs.Option.{ForSome};
+ghost use Rattle.retry_budget.specs.Budget.{AreAllowed};
 
 use identifier::Rule;
 use machine::Settings;
+use retry_budget::Tries;
 use std::marker::Model;
 
 /// An IPv4 address and a port to listen on.
@@ -44,6 +47,16 @@ impl Text {
     }
 }
 
+/// Where the feed of the namespaces is served, and by which run number.
+#[derive(Clone, Copy, Debug, PartialEq, Eq)]
+pub struct FeedAt {
+    /// Where it listens.
+    pub port: Port,
+    /// The number of this run, if the configuration says one. Followers tell one run of a router
+    /// from another by it.
+    pub run: Option<u64>,
+}
+
 /// What a router is configured to do.
 #[derive(Debug, Drop)]
 pub struct Config {
@@ -53,14 +66,21 @@ pub struct Config {
     pub namerd: Port,
     /// Where the router listens.
     pub server: Port,
-    /// The folder that has the addresses of the services, if there is one: a text of one or more bytes.
+    /// The folder that has the addresses of the services, if there is one: a text of one or more
+    /// bytes.
     pub root: Option<Text>,
     /// How requests are named.
     pub rule: Rule,
-    /// The namespace whose table the router follows, its own table, and when a replica counts as dead.
+    /// The namespace whose table the router follows, its own table, and when a replica counts as
+    /// dead.
     pub settings: Settings,
+    /// How often a request may be tried again on another replica, if it may be.
+    pub retries: Option<Tries>,
     /// How many connections are served at a time, 1 to 256.
     pub workers: u32,
     /// What the random words of the router's choices begin with.
     pub seed: u64,
+    /// Where the feed of the namespaces is served, if it is.
+    pub feed: Option<FeedAt>,
+    ghost allowed: { ForSome retries (λ tries. AreAllowed tries) },
 }

@@ -1,7 +1,9 @@
 //! Where something listens.
 ghost use Rattle.std.specs.Prelude.{◌≡◌, ◌≤◌, codes, Ok};
 ghost use Rattle.serde_json.specs.View.{view};
-ghost use Rattle.linker_config.specs.Listening.{admin_told, ip_value, name_value, named_of, namerd_told, port_told, server_told, servers_told};
+ghost use Rattle.linker_config.specs.Listening.{admin_told, ip_value, name_value, named_of};
+ghost use Rattle.linker_config.specs.Listening.{namerd_told, port_told, server_told, servers_told};
+ghost use Rattle.linker_config.specs.Listening.{usual_named};
 ghost use Rattle.linker_config.specs.Values.{text_at, text_by};
 ghost use Rattle.linker_config.specs.Keys.{or_fault};
 ghost use Rattle.linker_config.specs.Listening.{loopback as loopback_ip};
@@ -48,9 +50,10 @@ pub(crate) fn namerd(alloc: Global, value: &Value) -> Result<Named, ConfigFault>
     Ok(Named { port, space })
 }
 
-/// Where the interface to the namespaces listens, and the router's namespace, where nothing is said of them.
+/// Where the interface to the namespaces listens, and the router's namespace, where nothing is said
+/// of them.
 pub(crate) fn usual_namerd(alloc: Global) -> Result<Named, ConfigFault>
-    ensures { SaysBy named_of (Ok (record { port = record { ip = loopback_ip; port = 4180 }; space = codes "default" })) result }
+    ensures { SaysBy named_of (Ok usual_named) result }
 {
     let port = Port {
         ip: LOOPBACK,
@@ -74,7 +77,8 @@ fn usual_space(alloc: Global) -> Result<Name, ConfigFault>
 /// The namespace of the router.
 #[tactic(auto, unfolding(crate::specs::Values::text_at))]
 fn space(alloc: Global, object: &Value) -> Result<Name, ConfigFault>
-    ensures { Says (text_at (codes "namerd") (codes "namespace") (codes "default") name_value (view object.now)) result }
+    ensures { Says (text_at (codes "namerd") (codes "namespace") (codes "default") name_value
+        (view object.now)) result }
 {
     match object.get("namespace") {
         Some(value) => match value.as_str() {
@@ -87,7 +91,8 @@ fn space(alloc: Global, object: &Value) -> Result<Name, ConfigFault>
 
 /// The name of this text.
 fn name(alloc: Global, text: &str) -> Result<Name, ConfigFault>
-    ensures { Says (or_fault (ConfigFault.Bad (codes "namerd.namespace")) (name_value text.now)) result }
+    ensures { Says (or_fault (ConfigFault.Bad (codes "namerd.namespace"))
+        (name_value text.now)) result }
 {
     match Name::of(alloc, text.as_bytes()) {
         Ok(name) => Ok(name),
@@ -118,7 +123,12 @@ fn server(alloc: Global, value: &Value) -> Result<Port, ConfigFault>
 
 /// The address and the port of the object at a place.
 #[tactic(auto, unfolding(crate::specs::Listening::port_told))]
-fn port(alloc: Global, place: &str, object: &Value, default: u16) -> Result<Port, ConfigFault>
+pub(crate) fn port(
+    alloc: Global,
+    place: &str,
+    object: &Value,
+    default: u16,
+) -> Result<Port, ConfigFault>
     requires { 1 ≤ default }
     ensures { Says (port_told place.now default (view object.now)) result }
 {

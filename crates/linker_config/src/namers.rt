@@ -28,7 +28,8 @@ pub(crate) fn namers(alloc: Global, value: &Value) -> Result<Option<Text>, Confi
 
 /// The one element of an array, if there is one; nothing where there are more.
 fn few_of(value: &Value) -> Option<Option<&Value>>
-    ensures { option_map (λ o. option_map (λ v. view v.now) o) result ≡ option_and_then at_most_one (as_array (view value.now)) }
+    ensures { option_map (λ o. option_map (λ v. view v.now) o) result
+        ≡ option_and_then at_most_one (as_array (view value.now)) }
 {
     match value.as_array() {
         Some(list) => few_of_list(list),
@@ -38,7 +39,8 @@ fn few_of(value: &Value) -> Option<Option<&Value>>
 
 /// The one element of a list, if there is one; nothing where there are more.
 fn few_of_list(list: &Vec<Value>) -> Option<Option<&Value>>
-    ensures { option_map (λ o. option_map (λ v. view v.now) o) result ≡ at_most_one (items_view list.now.items) }
+    ensures { option_map (λ o. option_map (λ v. view v.now) o) result
+        ≡ at_most_one (items_view list.now.items) }
 {
     match list.len() {
         0 => Some(None),
@@ -66,7 +68,8 @@ fn namer(alloc: Global, value: &Value) -> Result<Text, ConfigFault>
 /// The text of one or more bytes that names a folder.
 #[tactic(auto, unfolding(crate::specs::Values::needed_text))]
 fn root(alloc: Global, object: &Value) -> Result<Text, ConfigFault>
-    ensures { Says (needed_text (codes "namers[0]") (codes "rootDir") non_empty (view object.now)) result }
+    ensures { Says (needed_text (codes "namers[0]") (codes "rootDir") non_empty
+        (view object.now)) result }
 {
     match object.get("rootDir") {
         Some(value) => root_in(alloc, value),
@@ -76,7 +79,8 @@ fn root(alloc: Global, object: &Value) -> Result<Text, ConfigFault>
 
 /// The text of one or more bytes that names a folder.
 fn root_in(alloc: Global, value: &Value) -> Result<Text, ConfigFault>
-    ensures { Says (or_fault (ConfigFault.Bad (codes "namers[0].rootDir")) (text_by non_empty (view value.now))) result }
+    ensures { Says (or_fault (ConfigFault.Bad (codes "namers[0].rootDir"))
+        (text_by non_empty (view value.now))) result }
 {
     match value.as_str() {
         Some(text) if !text.is_empty() => Ok(Text::of(String::from_str(alloc, text)?)),

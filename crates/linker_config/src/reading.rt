@@ -3,15 +3,18 @@ ghost use Rattle.std.specs.Prelude.{◌≤◌, [], ◌∷◌, codes, None, Some,
 ghost use Rattle.serde_json.specs.View.{view};
 ghost use Rattle.serde_json.specs.Find.{get};
 ghost use Rattle.linker_config.specs.Keys.{and_then, keys_told, or_fault};
-ghost use Rattle.linker_config.specs.Values.{or_default};
-ghost use Rattle.linker_config.specs.Listening.{admin_told, loopback, named_of, namerd_told};
+ghost use Rattle.linker_config.specs.Values.{if_there, or_default};
+ghost use Rattle.linker_config.specs.Listening.{admin_told, named_of, namerd_told};
+ghost use Rattle.linker_config.specs.Listening.{usual_admin, usual_named};
+ghost use Rattle.linker_config.specs.Feed.{feed_told};
 ghost use Rattle.linker_config.specs.Namers.{namers_told};
 ghost use Rattle.linker_config.specs.Router.{routed_of, routers_told};
 ghost use Rattle.linker_config.specs.Config.{config_of, said_of, top_keys};
 ghost use Rattle.linker_config.specs.Answers.{Reads, Says, SaysBy};
 
-use crate::config::{Config, Port, Text};
+use crate::config::{Config, FeedAt, Port, Text};
 use crate::fault::ConfigFault;
+use crate::feed::feed;
 use crate::keys::check_keys;
 use crate::listening::{LOOPBACK, Named, admin, namerd, usual_namerd};
 use crate::namers::namers;
@@ -23,16 +26,19 @@ use machine::Settings;
 use serde_json::Value;
 use std::alloc::Global;
 
-/// Reads a configuration from its JSON text, in UTF-8. `docs/CONFIGURATION.md` has the keys, with their ranges and defaults; they are those of a
-/// Linkerd 1 configuration, as far as this router has them.
+/// Reads a configuration from its JSON text, in UTF-8. `docs/CONFIGURATION.md` has the keys, with
+/// their ranges and defaults; they are those of a Linkerd 1 configuration, as far as this router
+/// has them.
 ///
-/// The text is parsed once, and each member of an object with known keys is looked at once. It takes memory for the tree, and for what the configuration
-/// says, which is copied once.
+/// The text is parsed once, and each member of an object with known keys is looked at once. It
+/// takes memory for the tree, and for what the configuration says, which is copied once.
 ///
 /// # Errors
-/// [`ConfigFault::BadJson`] exactly where the text is no JSON. Otherwise the first fault in this order: the whole first, and each object inside a known
-/// key when that key is reached; in an object, that it is none ([`ConfigFault::Bad`]); the first of its keys, in the order of their bytes, that there is
-/// none of ([`ConfigFault::Unknown`]); the first key that is required and missing ([`ConfigFault::Missing`]); and then the values, in the order of the table
+/// [`ConfigFault::BadJson`] exactly where the text is no JSON. Otherwise the first fault in this
+/// order: the whole first, and each object inside a known key when that key is reached; in an
+/// object, that it is none ([`ConfigFault::Bad`]); the first of its keys, in the order of their
+/// bytes, that there is none of ([`ConfigFault::Unknown`]); the first key that is required and
+/// missing ([`ConfigFault::Missing`]); and then the values, in the order of the table
 /// ([`ConfigFault::Bad`]).
 pub fn read_config(alloc: Global, text: &[u8]) -> Result<Config, ConfigFault>
     ensures reads { Reads text.now result }
@@ -63,6 +69,7 @@ fn config(alloc: Global, tree: &Value) -> Result<Config, ConfigFault>
     let routed = needed_routers(alloc, tree)?;
     let workers = number_at(alloc, "", tree, "workers", 16, 1, 256)?;
     let seed = number_at(alloc, "", tree, "seed", 0, 0, u64::MAX)?;
+    let feed = feed_or_none(alloc, tree)?;
     Ok(Config {
         admin,
         namerd: named.port,
@@ -77,8 +84,10 @@ fn config(alloc: Global, tree: &Value) -> Result<Config, ConfigFault>
             base: routed.base,
             limits: routed.limits,
         },
+        retries: routed.retries,
         workers: workers as u32,
         seed,
+        feed,
     })
 }
 
@@ -93,6 +102,7 @@ fn check_top_keys(alloc: Global, tree: &Value) -> Result<(), ConfigFault>
         "routers",
         "workers",
         "seed",
+        "feed",
         "telemetry",
         "usage",
     ];
@@ -101,7 +111,8 @@ fn check_top_keys(alloc: Global, tree: &Value) -> Result<(), ConfigFault>
 
 /// Where the administrator's interface listens.
 fn admin_or_usual(alloc: Global, tree: &Value) -> Result<Port, ConfigFault>
-    ensures { Says (or_default (record { ip = loopback; port = 9990 }) admin_told (get (codes "admin") (view tree.now))) result }
+    ensures { Says (or_default usual_admin admin_told (get (codes "admin") (view tree.now)))
+        result }
 {
     match tree.get("admin") {
         Some(value) => admin(alloc, value),
@@ -114,7 +125,8 @@ fn admin_or_usual(alloc: Global, tree: &Value) -> Result<Port, ConfigFault>
 
 /// Where the interface to the namespaces listens, and the router's namespace.
 fn namerd_or_usual(alloc: Global, tree: &Value) -> Result<Named, ConfigFault>
-    ensures { SaysBy named_of (or_default (record { port = record { ip = loopback; port = 4180 }; space = codes "default" }) namerd_told (get (codes "namerd") (view tree.now))) result }
+    ensures { SaysBy named_of
+        (or_default usual_named namerd_told (get (codes "namerd") (view tree.now))) result }
 {
     match tree.get("namerd") {
         Some(value) => namerd(alloc, value),
@@ -134,10 +146,22 @@ fn root_or_none(alloc: Global, tree: &Value) -> Result<Option<Text>, ConfigFault
 
 /// The router, which has to be there.
 fn needed_routers(alloc: Global, tree: &Value) -> Result<Routed, ConfigFault>
-    ensures { SaysBy routed_of (and_then (or_fault (ConfigFault.Bad (codes "routers")) (get (codes "routers") (view tree.now))) routers_told) result }
+    ensures { SaysBy routed_of (and_then
+        (or_fault (ConfigFault.Bad (codes "routers")) (get (codes "routers") (view tree.now)))
+        routers_told) result }
 {
     match tree.get("routers") {
         Some(value) => routers(alloc, value),
         None => Err(bad(alloc, "", "routers")),
+    }
+}
+
+/// Where the feed of the namespaces is served, if it is.
+fn feed_or_none(alloc: Global, tree: &Value) -> Result<Option<FeedAt>, ConfigFault>
+    ensures { Says (if_there feed_told (get (codes "feed") (view tree.now))) result }
+{
+    match tree.get("feed") {
+        Some(value) => Ok(Some(feed(alloc, value)?)),
+        None => Ok(None),
     }
 }

@@ -1,5 +1,7 @@
 //! What a router is told.
 ghost use Rattle.std.specs.Prelude.{◌≤◌};
+ghost use Rattle.std.specs.Option.{ForSome};
+ghost use Rattle.retry_budget.specs.Budget.{AreAllowed};
 ghost use Rattle.dtab_table.specs.Dtab.{rules_of};
 ghost use Rattle.dtab_table.specs.TableCanon.{AreSoundRules};
 ghost use Rattle.machine.specs.Sound.{AreSoundRules-prop};
@@ -9,6 +11,7 @@ use choose_core::Limits;
 use dtab_table::Dtab;
 use identifier::Kind;
 use name_tree::Path;
+use retry_budget::Tries;
 
 /// What a router is told.
 #[derive(Debug, Drop)]
@@ -23,6 +26,9 @@ pub(crate) struct Routed {
     pub(crate) server: Port,
     /// When a replica counts as dead.
     pub(crate) limits: Limits,
+    /// How often a request may be tried again, if it may be.
+    pub(crate) retries: Option<Tries>,
     ghost sound: { AreSoundRules (rules_of base) } by { AreSoundRules-prop (rules_of base) },
     ghost failures: { 1 ≤ limits.failures },
+    ghost allowed: { ForSome retries (λ tries. AreAllowed tries) },
 }

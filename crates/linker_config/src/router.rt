@@ -7,11 +7,15 @@ ghost use Rattle.dtab_table.specs.Computed.{table_of};
 ghost use Rattle.dtab_table.specs.Dtab.{rules_of};
 ghost use Rattle.dtab_table.specs.TableCanon.{AreSoundRules};
 ghost use Rattle.linker_config.specs.Keys.{inside, keys_told, or_fault};
-ghost use Rattle.linker_config.specs.Values.{or_default, text_at};
-ghost use Rattle.linker_config.specs.Listening.{loopback, servers_told};
+ghost use Rattle.std.specs.Option.{ForSome};
+ghost use Rattle.retry_budget.specs.Budget.{AreAllowed};
+ghost use Rattle.linker_config.specs.Values.{if_there, or_default, text_at};
+ghost use Rattle.linker_config.specs.Listening.{servers_told, usual_server};
+ghost use Rattle.linker_config.specs.Retries.{retries_told};
 ghost use Rattle.linker_config.specs.Identifier.{identifier_told};
 ghost use Rattle.linker_config.specs.Client.{client_told, usual_limits};
-ghost use Rattle.linker_config.specs.Router.{router_keys, router_place, router_told, routers_told, routed_of};
+ghost use Rattle.linker_config.specs.Router.{router_keys, router_place, router_told};
+ghost use Rattle.linker_config.specs.Router.{routers_told, routed_of};
 ghost use Rattle.linker_config.specs.Answers.{Says, SaysBy};
 
 use crate::client::{USUAL_LIMITS, client};
@@ -20,6 +24,7 @@ use crate::fault::ConfigFault;
 use crate::keys::check_keys;
 use crate::listening::{LOOPBACK, servers};
 use crate::naming::identifier;
+use crate::retries::retries;
 use crate::routed::Routed;
 use crate::value::{bad, bad_key, needed_word, only_element};
 use choose_core::Limits;
@@ -27,6 +32,7 @@ use dtab_table::{Dtab, DtabFault, read_dtab};
 use http_wire::FieldName;
 use identifier::Kind;
 use name_tree::{Path, TextFault, read_path};
+use retry_budget::Tries;
 use serde_json::Value;
 use std::alloc::Global;
 
@@ -56,18 +62,21 @@ fn router(alloc: Global, value: &Value) -> Result<Routed, ConfigFault>
     let kind = kind_or_usual(alloc, value)?;
     let server = server_or_usual(alloc, value)?;
     let limits = limits_or_usual(alloc, value)?;
+    let retries = retries_or_none(alloc, value)?;
     Ok(Routed {
         base,
         prefix,
         kind,
         server,
         limits,
+        retries,
     })
 }
 
 /// Checks the keys of a router.
 fn check_router_keys(alloc: Global, value: &Value) -> Result<(), ConfigFault>
-    ensures { Says (keys_told router_place router_keys (codes "protocol" ∷ []) (view value.now)) result }
+    ensures { Says (keys_told router_place router_keys (codes "protocol" ∷ [])
+        (view value.now)) result }
 {
     let known = [
         "protocol",
@@ -76,6 +85,7 @@ fn check_router_keys(alloc: Global, value: &Value) -> Result<(), ConfigFault>
         "identifier",
         "servers",
         "client",
+        "retries",
         "label",
         "httpAccessLog",
     ];
@@ -86,7 +96,8 @@ fn check_router_keys(alloc: Global, value: &Value) -> Result<(), ConfigFault>
 #[tactic(auto, unfolding(crate::specs::Values::text_at))]
 fn table(alloc: Global, object: &Value) -> Result<Dtab, ConfigFault>
     ensures sound { IfOk result (λ dtab. AreSoundRules (rules_of dtab)) }
-    ensures told { SaysBy rules_of (text_at router_place (codes "dtab") [] table_of (view object.now)) result }
+    ensures told { SaysBy rules_of
+        (text_at router_place (codes "dtab") [] table_of (view object.now)) result }
 {
     match object.get("dtab") {
         Some(value) => match value.as_str() {
@@ -100,7 +111,8 @@ fn table(alloc: Global, object: &Value) -> Result<Dtab, ConfigFault>
 /// The table of a text.
 fn table_in(alloc: Global, text: &[u8]) -> Result<Dtab, ConfigFault>
     ensures sound { IfOk result (λ dtab. AreSoundRules (rules_of dtab)) }
-    ensures told { SaysBy rules_of (or_fault (ConfigFault.Bad (inside router_place (codes "dtab"))) (table_of text.now)) result }
+    ensures told { SaysBy rules_of (or_fault
+        (ConfigFault.Bad (inside router_place (codes "dtab"))) (table_of text.now)) result }
 {
     match read_dtab(alloc, text) {
         Ok(dtab) => Ok(dtab),
@@ -112,7 +124,8 @@ fn table_in(alloc: Global, text: &[u8]) -> Result<Dtab, ConfigFault>
 /// What each path begins with.
 #[tactic(auto, unfolding(crate::specs::Values::text_at))]
 fn prefix(alloc: Global, object: &Value) -> Result<Path, ConfigFault>
-    ensures { Says (text_at router_place (codes "dstPrefix") (codes "svc" ∷ []) path_of (view object.now)) result }
+    ensures { Says (text_at router_place (codes "dstPrefix") (codes "svc" ∷ []) path_of
+        (view object.now)) result }
 {
     match object.get("dstPrefix") {
         Some(value) => match value.as_str() {
@@ -125,7 +138,8 @@ fn prefix(alloc: Global, object: &Value) -> Result<Path, ConfigFault>
 
 /// The path of a text.
 fn prefix_in(alloc: Global, text: &[u8]) -> Result<Path, ConfigFault>
-    ensures { Says (or_fault (ConfigFault.Bad (inside router_place (codes "dstPrefix"))) (path_of text.now)) result }
+    ensures { Says (or_fault (ConfigFault.Bad (inside router_place (codes "dstPrefix")))
+        (path_of text.now)) result }
 {
     match read_path(alloc, text) {
         Ok(path) => Ok(path),
@@ -145,7 +159,8 @@ fn usual_prefix(alloc: Global) -> Result<Path, ConfigFault>
 
 /// What requests are named by.
 fn kind_or_usual(alloc: Global, object: &Value) -> Result<Kind, ConfigFault>
-    ensures { Says (or_default (Kind.Token (codes "Host")) identifier_told (get (codes "identifier") (view object.now))) result }
+    ensures { Says (or_default (Kind.Token (codes "Host")) identifier_told
+        (get (codes "identifier") (view object.now))) result }
 {
     match object.get("identifier") {
         Some(value) => identifier(alloc, value),
@@ -155,7 +170,8 @@ fn kind_or_usual(alloc: Global, object: &Value) -> Result<Kind, ConfigFault>
 
 /// Where the router listens.
 fn server_or_usual(alloc: Global, object: &Value) -> Result<Port, ConfigFault>
-    ensures { Says (or_default (record { ip = loopback; port = 4140 }) servers_told (get (codes "servers") (view object.now))) result }
+    ensures { Says (or_default usual_server servers_told
+        (get (codes "servers") (view object.now))) result }
 {
     match object.get("servers") {
         Some(value) => servers(alloc, value),
@@ -169,10 +185,22 @@ fn server_or_usual(alloc: Global, object: &Value) -> Result<Port, ConfigFault>
 /// When a replica counts as dead.
 fn limits_or_usual(alloc: Global, object: &Value) -> Result<Limits, ConfigFault>
     ensures failures { IfOk result (λ limits. 1 ≤ limits.failures) }
-    ensures told { Says (or_default usual_limits client_told (get (codes "client") (view object.now))) result }
+    ensures told { Says (or_default usual_limits client_told
+        (get (codes "client") (view object.now))) result }
 {
     match object.get("client") {
         Some(value) => client(alloc, value),
         None => Ok(USUAL_LIMITS),
+    }
+}
+
+/// How often a request may be tried again, if it may be.
+fn retries_or_none(alloc: Global, object: &Value) -> Result<Option<Tries>, ConfigFault>
+    ensures told { Says (if_there retries_told (get (codes "retries") (view object.now))) result }
+    ensures allowed { IfOk result (λ tries. ForSome tries (λ t. AreAllowed t)) }
+{
+    match object.get("retries") {
+        Some(value) => Ok(Some(retries(alloc, value)?)),
+        None => Ok(None),
     }
 }

@@ -3,7 +3,8 @@ ghost use Rattle.std.specs.Prelude.{◌≡◌, ◌≢◌, ◌≤◌, option_map,
 ghost use Rattle.serde_json.specs.Find.{as_array, as_str};
 ghost use Rattle.serde_json.specs.View.{items_view, view};
 ghost use Rattle.linker_config.specs.Keys.{inside};
-ghost use Rattle.linker_config.specs.Values.{exactly, needed_text, number_at as number_at_key, number_in as number_of, only as only_of, text_by};
+ghost use Rattle.linker_config.specs.Values.{exactly, needed_text, number_at as number_at_key};
+ghost use Rattle.linker_config.specs.Values.{number_in as number_of, only as only_of, text_by};
 ghost use Rattle.linker_config.specs.Answers.{Says};
 
 use crate::fault::ConfigFault;
@@ -14,7 +15,8 @@ use std::alloc::Global;
 /// That the value under a key is bad.
 pub(crate) fn bad(alloc: Global, place: &str, key: &str) -> ConfigFault
     ensures json { result ≢ ConfigFault.BadJson }
-    ensures bad { result ≢ ConfigFault.OutOfMemory → result ≡ ConfigFault.Bad (inside place.now key.now) }
+    ensures bad { result ≢ ConfigFault.OutOfMemory
+        → result ≡ ConfigFault.Bad (inside place.now key.now) }
 {
     match key_in(alloc, place, key) {
         Ok(key) => ConfigFault::Bad(key),
@@ -34,7 +36,7 @@ pub(crate) fn bad_key(alloc: Global, key: &str) -> ConfigFault
 }
 
 /// A number between two others, both included.
-fn number_in(low: u64, high: u64, value: &Value) -> Option<u64>
+pub(crate) fn number_in(low: u64, high: u64, value: &Value) -> Option<u64>
     ensures { result ≡ number_of low high (view value.now) }
 {
     match value.as_u64() {
@@ -56,7 +58,8 @@ pub(crate) fn number_at(
 ) -> Result<u64, ConfigFault>
     requires low { low ≤ default }
     requires high { default ≤ high }
-    ensures number { Says (number_at_key place.now key.now default low high (view object.now)) result }
+    ensures number { Says (number_at_key place.now key.now default low high
+        (view object.now)) result }
     ensures low { IfOk result (λ number. low ≤ number) }
     ensures high { IfOk result (λ number. number ≤ high) }
 {
@@ -98,7 +101,8 @@ fn is_word(value: &Value, word: &str) -> bool
 
 /// The one element of an array.
 pub(crate) fn only_element(value: &Value) -> Option<&Value>
-    ensures { option_map (λ v. view v.now) result ≡ option_and_then only_of (as_array (view value.now)) }
+    ensures { option_map (λ v. view v.now) result
+        ≡ option_and_then only_of (as_array (view value.now)) }
 {
     match value.as_array() {
         Some(list) => only_of_list(list),

@@ -56,6 +56,17 @@ fn configurations(rt: HostRuntime) -> Result<(), Fail> {
             "ok router 192.168.1.2:80 namerd 10.0.0.255:65535 admin 0.0.0.0:1\n",
             0,
         ),
+        // The address of the feed is not told.
+        (
+            "{\"feed\":{\"port\":5},\"routers\":[{\"protocol\":\"http\",\"retries\":{\"most\":0}}]}",
+            GOOD_LINE,
+            0,
+        ),
+        (
+            "{\"routers\":[{\"protocol\":\"http\",\"retries\":{\"most\":11}}]}",
+            "error config routers[0].retries.most bad\n",
+            3,
+        ),
         ("{}", "error config routers missing\n", 3),
         ("{\"routerz\":[]}", "error config routerz unknown\n", 3),
         (

@@ -8,6 +8,8 @@ mod configurations;
 #[cfg(test)]
 mod faults;
 #[cfg(test)]
+mod following;
+#[cfg(test)]
 mod limits;
 #[cfg(test)]
 mod lints;

@@ -2,7 +2,8 @@
 use crate::paired::Paired;
 use crate::running::{append, sink, source};
 use line_base::{
-    DialEvent, MemAddress, MemClock, MemDials, MemFile, MemFolder, MemNet, MemPeer, MemVisits, Peer,
+    DialEvent, Listener, MemAddress, MemClock, MemDials, MemFile, MemFolder, MemNet, MemPeer,
+    MemVisits, Net, Peer,
 };
 use linker_commands::linker;
 use std::alloc::{AllocError, AllocGlobal, Global};
@@ -23,7 +24,8 @@ pub(crate) fn file(
     ))
 }
 
-/// What comes to a listener of a port: a connection that gives these bytes, and none where there are no bytes.
+/// What comes to a listener of a port: a connection that gives these bytes, and none where there are
+/// no bytes.
 fn visit(alloc: Global, port: u16, bytes: &str) -> Result<MemAddress<MemPeer>, AllocError> {
     let mut peers = Vec::new(alloc);
     if !bytes.is_empty() {
@@ -32,7 +34,8 @@ fn visit(alloc: Global, port: u16, bytes: &str) -> Result<MemAddress<MemPeer>, A
     visits(alloc, port, peers, Vec::new(alloc))
 }
 
-/// What comes to a listener of a port: these connections. The accepts whose numbers are in `failing` fail.
+/// What comes to a listener of a port: these connections. The accepts whose numbers are in `failing`
+/// fail.
 pub(crate) fn visits<P: Drop>(
     alloc: Global,
     port: u16,
@@ -46,7 +49,8 @@ pub(crate) fn visits<P: Drop>(
     })
 }
 
-/// A net with these connections: to the router's first two listeners, and to one of each interface. Its first dialer is answered twice, with `hi`.
+/// A net with these connections: to the router's first two listeners, and to one of each interface.
+/// Its first dialer is answered twice, with `hi`.
 pub(crate) fn net_of(
     alloc: Global,
     first: &str,
@@ -71,8 +75,8 @@ pub(crate) fn net_of(
     Ok(MemNet::of(alloc, addresses, vec![in alloc; dials]?, Vec::new(alloc)))
 }
 
-/// A folder with the configuration `conf/c.json`, and the service `web` at `disco`, whose file has one line so many times. The calls whose numbers are in
-/// `failing` fail.
+/// A folder with the configuration `conf/c.json`, and the service `web` at `disco`, whose file has
+/// one line so many times. The calls whose numbers are in `failing` fail.
 pub(crate) fn folder_of(
     alloc: Global,
     config: &str,
@@ -119,7 +123,8 @@ fn given<P: Peer + Drop + Answered>(alloc: Global, net: &MemNet<P>) -> Result<St
     Ok(text)
 }
 
-/// Puts what a dialer did behind a text: a line where it opened a connection and where it ended one, and the bytes that it sent.
+/// Puts what a dialer did behind a text: a line where it opened a connection and where it ended one,
+/// and the bytes that it sent.
 fn append_event(text: &mut String, event: &DialEvent) -> Result<(), AllocError> {
     match event {
         DialEvent::Dialed(ip, port) => write!(text, "dial {ip:x} {port}\n")?,
@@ -154,19 +159,21 @@ pub(crate) struct Outcome {
     pub(crate) dialed: String,
 }
 
-/// Serves by the configuration `conf/c.json`.
-pub(crate) fn served<R: AllocGlobal + Threads + Wait + Sync, P: Peer + Drop + Send + Answered>(
+/// Serves over a net by the configuration `conf/c.json`: what is written, and the status.
+pub(crate) fn served_over<R: AllocGlobal + Threads + Wait + Sync, N: Net + Send>(
     rt: &R,
     folder: MemFolder,
-    net: MemNet<P>,
-) -> Result<Outcome, AllocError> {
+    net: &mut N,
+) -> Result<(String, u8), AllocError>
+where
+    <N::L as Listener>::P: Send,
+{
     let alloc = rt.alloc();
     let words = vec![in alloc;
         String::from_str(alloc, "serve")?,
         String::from_str(alloc, "conf/c.json")?,
     ]?;
     let mut folder = folder;
-    let mut net = net;
     let mut clock = MemClock::of(alloc, Vec::new(alloc))?;
     let mut source = source(alloc, "")?;
     let mut sink = sink(alloc);
@@ -174,13 +181,25 @@ pub(crate) fn served<R: AllocGlobal + Threads + Wait + Sync, P: Peer + Drop + Se
         rt,
         words.as_slice(),
         &mut folder,
-        &mut net,
+        net,
         &mut clock,
         &mut source,
         &mut sink,
     );
     let mut written = String::new(alloc);
     append(&mut written, sink.held())?;
+    Ok((written, status))
+}
+
+/// Serves by the configuration `conf/c.json`.
+pub(crate) fn served<R: AllocGlobal + Threads + Wait + Sync, P: Peer + Drop + Send + Answered>(
+    rt: &R,
+    folder: MemFolder,
+    net: MemNet<P>,
+) -> Result<Outcome, AllocError> {
+    let alloc = rt.alloc();
+    let mut net = net;
+    let (written, status) = served_over(rt, folder, &mut net)?;
     Ok(Outcome {
         written,
         status,

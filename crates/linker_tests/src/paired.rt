@@ -43,7 +43,7 @@ impl<'a> Paired<'a> {
 }
 
 /// Whether a flag is raised, now or within many looks.
-fn comes_up(flag: &AtomicBool) -> bool {
+pub(crate) fn comes_up(flag: &AtomicBool) -> bool {
     for look in 0..LOOKS {
         if flag.load(Ordering::SeqCst) {
             return true;

@@ -2,7 +2,7 @@
 use crate::outside::{file, folder_of, net_of, served, visits};
 use crate::paired::Paired;
 use crate::running::{sink, source};
-use line_base::{MemFolder, MemNet, MemPeer};
+use line_base::{MemDials, MemFolder, MemNet, MemPeer};
 use std::alloc::{AllocError, AllocGlobal, Global};
 use std::sync::Wait;
 use std::sync::atomic::AtomicBool;
@@ -147,6 +147,101 @@ fn routers_that_do_not_serve(rt: HostRuntime) -> Result<(), Fail> {
     for (reads, listens, accepts, line, lines, written, status) in rows {
         let (text, ended) = served_amiss(&rt, reads, listens, accepts, line, lines)?;
         assert_eq!(rt; (text.as_str(), ended), (written, status));
+    }
+    Ok(())
+}
+
+/// A router with one job for clients, and the feed.
+const WITH_FEED: &str =
+    "{\"routers\":[{\"protocol\":\"http\"}],\"workers\":1,\"feed\":{\"run\":7}}";
+
+/// The same, where no run is said.
+const WITH_SOME_RUN: &str = "{\"routers\":[{\"protocol\":\"http\"}],\"workers\":1,\"feed\":{}}";
+
+/// What a router that serves a feed writes, and what it answers two requests for it.
+fn fed<R: AllocGlobal + Threads + Wait + Sync>(
+    rt: &R,
+    config: &str,
+) -> Result<(String, String, u8), Fail> {
+    let alloc = rt.alloc();
+    let requests =
+        "GET /feed/default HTTP/1.1\r\nHost: f\r\n\r\nHEAD /feed/a/b HTTP/1.1\r\nHost: f\r\n\r\n";
+    let client = MemPeer::of(source(alloc, requests)?, sink(alloc));
+    let address = visits(alloc, 4181, vec![in alloc; client]?, Vec::new(alloc))?;
+    let net = MemNet::of(
+        alloc,
+        vec![in alloc; address]?,
+        Vec::new(alloc),
+        Vec::new(alloc),
+    );
+    let served = served(rt, folder_of(alloc, config, "", 0, &[])?, net)?;
+    Ok((served.written, served.given, served.status))
+}
+
+/// A feed with a run that is said, and with one that is the first moment of the clock.
+#[test]
+fn feeds_of_routers(rt: HostRuntime) -> Result<(), Fail> {
+    let rows = [(WITH_FEED, "7"), (WITH_SOME_RUN, "0")];
+    for (config, run) in rows {
+        let (written, given, status) = fed(&rt, config)?;
+        let want = format!(in rt.alloc();
+            "HTTP/1.1 200 OK\r\nContent-Type: application/json\r\nContent-Length: 19\r\n\r\n{{\"place\":0,\"run\":{run}}}HTTP/1.1 404 Not Found\r\nContent-Type: text/plain\r\nContent-Length: 5\r\n\r\n"
+        )?;
+        assert_eq!(rt;
+            (written.as_str(), given.as_str(), status),
+            (
+                "serving 127.0.0.1:4140 127.0.0.1:4180 127.0.0.1:9990 127.0.0.1:4181\nclosed 0\n",
+                want.as_str(),
+                0
+            )
+        );
+    }
+    Ok(())
+}
+
+/// What the clients of a router are given, and what its dialer did, where its first dial fails.
+fn tried<R: AllocGlobal + Threads + Wait + Sync>(
+    rt: &R,
+    config: &str,
+) -> Result<(String, String), Fail> {
+    let alloc = rt.alloc();
+    let client = MemPeer::of(source(alloc, FOR_WEB)?, sink(alloc));
+    let address = visits(alloc, 4140, vec![in alloc; client]?, Vec::new(alloc))?;
+    let reply = b"HTTP/1.1 200 OK\r\nContent-Length: 2\r\n\r\nhi";
+    let dials = MemDials {
+        replies: vec![in alloc; Vec::from_slice(alloc, reply)?]?,
+        sizes: Vec::new(alloc),
+        failing: vec![in alloc; 0]?,
+    };
+    let net = MemNet::of(
+        alloc,
+        vec![in alloc; address]?,
+        vec![in alloc; dials]?,
+        Vec::new(alloc),
+    );
+    let served = served(rt, folder_of(alloc, config, "", 0, &[])?, net)?;
+    Ok((served.given, served.dialed))
+}
+
+/// A request whose first dial fails is tried again where the configuration says so.
+#[test]
+fn requests_that_are_tried_again(rt: HostRuntime) -> Result<(), Fail> {
+    let alloc = rt.alloc();
+    let head = "{\"routers\":[{\"protocol\":\"http\",\"dtab\":\"/svc => /$/inet/127.0.0.1/9001\"";
+    let failed =
+        "HTTP/1.1 502 Bad Gateway\r\nContent-Type: text/plain\r\nl5d-err: dial\r\nContent-Length: 5\r\n\r\ndial\n";
+    let replied = "HTTP/1.1 200 OK\r\nContent-Length: 2\r\nVia: 1.1 linkerd\r\n\r\nhi";
+    let rows = [
+        ("", failed),
+        (",\"retries\":{}", replied),
+        (",\"retries\":{\"most\":0}", failed),
+        (",\"retries\":{\"percent\":99,\"reserve\":0}", failed),
+        (",\"retries\":{\"percent\":100,\"reserve\":0}", replied),
+    ];
+    for (retries, want) in rows {
+        let config = format!(in alloc; "{head}{retries}}}],\"workers\":1}}")?;
+        let (given, _dialed) = tried(&rt, config.as_str())?;
+        assert_eq!(rt; given.as_str(), want, "with {retries}");
     }
     Ok(())
 }

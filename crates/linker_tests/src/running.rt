@@ -32,6 +32,21 @@ pub(crate) fn run_with<R: AllocGlobal + Threads + Wait + Sync>(
     sink: MemSink,
 ) -> Result<(MemSink, u8), AllocError> {
     let alloc = rt.alloc();
+    let net: MemNet<MemPeer> = MemNet::of(alloc, Vec::new(alloc), Vec::new(alloc), Vec::new(alloc));
+    run_over(rt, words, folder, net, source, sink)
+}
+
+/// What is written over a net, and the status.
+pub(crate) fn run_over<R: AllocGlobal + Threads + Wait + Sync>(
+    rt: &R,
+    words: &[&str],
+    folder: MemFolder,
+    net: MemNet<MemPeer>,
+    source: MemSource,
+    sink: MemSink,
+) -> Result<(MemSink, u8), AllocError> {
+    let alloc = rt.alloc();
+    let mut net = net;
     let mut owned = Vec::new(alloc);
     for word in words {
         owned.push(String::from_str(alloc, word)?)?;
@@ -39,12 +54,6 @@ pub(crate) fn run_with<R: AllocGlobal + Threads + Wait + Sync>(
     let mut folder = folder;
     let mut source = source;
     let mut sink = sink;
-    let mut net: MemNet<MemPeer> = MemNet::of(
-        alloc,
-        Vec::new(alloc),
-        Vec::new(alloc),
-        Vec::new(alloc),
-    );
     let mut clock = MemClock::of(alloc, Vec::new(alloc))?;
     let status = linker(
         rt,

@@ -1,13 +1,17 @@
-//! namerd's interface: the tables of namespaces, over HTTP; and what it shares with the admin interface.
+//! namerd's interface: the tables of namespaces, over HTTP; and what it shares with the admin
+//! interface.
 //!
-//! [`ns_answer`] answers a request: it lists the namespaces, and shows, makes, puts and deletes the table of one. What the request asks for is a [`Demand`], which
-//! [`carry_out`] carries out on a [`Router`](router::Router), with one change or one look; the reply of the router's state becomes a [`Response`], and that its bytes.
-//! `docs/API.md` has each path with its answers.
+//! [`ns_answer`] answers a request: it lists the namespaces, and shows, makes, puts and deletes the
+//! table of one. What the request asks for is a [`Demand`], which [`carry_out`] carries out on a
+//! [`Router`](router::Router), with one change or one look; the reply of the router's state becomes
+//! a [`Response`], and that its bytes. `docs/API.md` has each path with its answers.
 //!
 //! # What is proved
-//! What a request asks for is a function of its head, the target that goes on, and its body: `ns_demand` of `specs/Demand.antt`. [`ns_answer`] makes exactly the one change or
-//! look, or none where the request is refused before; it answers the bytes of the response to the reply that the router's state gives at that call's point
-//! (`specs/Answering.antt`, `Telling.antt`, `Response.antt`). After want of memory what was asked for was done, or nothing was.
+//! What a request asks for is a function of its head, the target that goes on, and its body:
+//! `ns_demand` of `specs/Demand.antt`. [`ns_answer`] makes exactly the one change or look, or none
+//! where the request is refused before; it answers the bytes of the response to the reply that the
+//! router's state gives at that call's point (`specs/Answering.antt`, `Telling.antt`,
+//! `Response.antt`). After want of memory what was asked for was done, or nothing was.
 //!
 //! # Example
 //! ```text
@@ -38,6 +42,7 @@ pub use reply::ApiReply;
 pub use request::{closes, has_body, is_path, path_in, query_in, read_name, segment_behind};
 pub use response::{Content, Media, Response, Status};
 pub use telling::response_to;
+pub use texts::{put_number, put_string};
 pub use verb::{Methods, Verb, verb_of};
 
 /// A value, unless there was no memory for it.

@@ -19,7 +19,8 @@ use std::alloc::Global;
 /// What the six decimals of a weight are worth, in millionths.
 const UNITS: [u64; 6] = [100_000, 10_000, 1_000, 100, 10, 1];
 
-/// A table as JSON: an array of objects with the canonical texts of its trees and prefixes, in order.
+/// A table as JSON: an array of objects with the canonical texts of its trees and prefixes, in
+/// order.
 pub fn table_text(alloc: Global, dtab: &Dtab) -> Mem<Bytes>
     ensures { IfOk result (λ text. text.items ≡ table_text (rules_of dtab.now)) }
 {
@@ -66,8 +67,9 @@ fn put_rule(entry: &Entry, out: &mut Bytes) -> Mem<()>
     out.extend_from_slice(b"}")
 }
 
-/// Puts a text behind some bytes, as a JSON string.
-fn put_string(text: &[u8], out: &mut Bytes) -> Mem<()>
+/// Puts a text behind some bytes, as a JSON string. The text has no quotation mark. An `Err` may
+/// leave a part there.
+pub fn put_string(text: &[u8], out: &mut Bytes) -> Mem<()>
     ensures { OnOk result (out.new.items ≡ out.old.items ++ json_string text.now) }
 {
     out.push(b'"')?;
@@ -199,7 +201,7 @@ fn put_decimals(millionths: u64, out: &mut Bytes) -> Mem<()>
 }
 
 /// Puts a number behind some bytes, in decimal digits.
-fn put_number(number: u64, out: &mut Bytes) -> Mem<()>
+pub fn put_number(number: u64, out: &mut Bytes) -> Mem<()>
     ensures { OnOk result (out.new.items ≡ out.old.items ++ decimal number) }
 {
     let text = format!(in *out.allocator(); "{number}")?;

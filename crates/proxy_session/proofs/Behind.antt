@@ -1,5 +1,5 @@
 -- What the parts of an ask come to.
-use Rattle.std.proofs.Common.{◌≡◌, ℕ, List, [], append-nil, refl, sym, subst, inl, inr, Option, Result, Ok, Err, IfOk, OnErr}
+use Rattle.std.proofs.Common.{◌≡◌, [], append-nil, refl, sym, subst, inr, Option, Result, Ok, Err, IfOk, OnErr}
 use Rattle.std.specs.declared.alloc.AllocError.{AllocError}
 use Rattle.name_tree.specs.Path.{Labels, canon_path}
 use Rattle.bind_cache.specs.declared.binding.Binding.{Binding}

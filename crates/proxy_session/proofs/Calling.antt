@@ -1,16 +1,15 @@
 -- What the router's calls do to a pass, over plain lists.
-use Rattle.std.proofs.Common.{◌≡◌, ◌≢◌, ℕ, Bool, true, false, List, refl, sym, subst, ap, ◌∙◌, inl, inr, Option, Some, None, length}
+use Rattle.std.proofs.Common.{◌≡◌, ℕ, Bool, true, false, refl, sym, subst, ◌∙◌, inl, inr, Option, Some, None, length}
 use Rattle.std.specs.Prelude.{IfSome, ◌<◌}
 use Rattle.bind_cache.specs.Stored.{kept_of}
 use Rattle.bind_cache.specs.Kept.{Kept}
 use Rattle.bind_cache.specs.declared.binding.Binding.{Binding}
 use Rattle.addr_book.specs.declared.addr.Addr.{Addr}
 use Rattle.machine.specs.Choosing.{offer_of, pick_of}
-use Rattle.machine.specs.Values.{SettingsValue, AskValue, ChangeValue, PickValue, Replica, replica, none, report}
+use Rattle.machine.specs.Values.{SettingsValue, AskValue, PickValue, replica, none, report}
 use Rattle.machine.specs.declared.chosen.Why.{Why}
 use Rattle.machine.specs.declared.reply.Reply.{Reply}
-use Rattle.router_log.specs.Operation.{Operation}
-use Rattle.router_log.specs.Call.{Call, asked, changing}
+use Rattle.router_log.specs.Call.{asked}
 use Rattle.router_log.specs.Value.{value_of}
 use Rattle.router.specs.declared.answer.Answer.{Answer}
 use Rattle.router.specs.declared.answer.Answer.TheVariants as answer
@@ -23,17 +22,16 @@ use Rattle.router.specs.declared.pass.Pass.{Pass}
 use Rattle.router.specs.Chosen.{HasWord}
 use Rattle.router.specs.Asking.{IsPeeked, IsPicked, Picks as PicksOf}
 use Rattle.router.specs.Changing.{IsChanged, IsRemembered}
-use Rattle.router.specs.Names.{client_text, residual_text}
 use Rattle.router.specs.Loads.{MayHaveRead}
 use Rattle.router.specs.Passes.{Entered, NotLetIn, SawMore, Unanswered, number_in, seen_in, reads_in}
-use Rattle.router.specs.Peeked.{IsHit, IsSaid}
-use Rattle.router.specs.Picked.{IsAnswer, IsFresh, is_kept_for, loads_by, said_by, fresh_by}
+use Rattle.router.specs.Peeked.{IsSaid}
+use Rattle.router.specs.Picked.{IsFresh, is_kept_for, loads_by, said_by, fresh_by}
 use Rattle.proxy_session.specs.declared.asking.Picked.{Picked}
 use Rattle.proxy_session.specs.declared.asking.Picked.TheVariants as picked
 use Rattle.proxy_session.specs.declared.asking.Seen.TheVariants as seen
-use Rattle.proxy_session.specs.Asking.{Finding, FindingAnew, StopsAnew}
-use Rattle.proxy_session.specs.Callers.{Caller, Asks, Finds, Misses, Reports, Returns, SameSlots, SeesMore, caller_of}
-use Rattle.proxy_session.specs.Found.{IsReplica, Picks, PicksOnce, ReturnsSome, Sees, StopsPick, fresh_in, picked_of, said_in}
+use Rattle.proxy_session.specs.Asking.{FindingAnew, StopsAnew}
+use Rattle.proxy_session.specs.Callers.{Caller, Asks, Finds, Misses, Reports, Returns, SeesMore, caller_of}
+use Rattle.proxy_session.specs.Found.{Picks, PicksOnce, ReturnsSome, Sees, StopsPick, fresh_in, picked_of, said_in}
 
 -- two views of a pass that agree are one
 pub same_caller : (a b : Caller) → a.number ≡ b.number → a.seen ≡ b.seen → a.items ≡ b.items

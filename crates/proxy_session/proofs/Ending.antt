@@ -1,7 +1,6 @@
 -- How a session ends, and what it leaves as it was.
-use Rattle.std.proofs.Common.{◌≡◌, ◌≢◌, ℕ, zero, suc, ◌+◌, ◌≤◌, eqb, Bool, true, false, List, refl, sym, subst, ap, ◌∙◌, inl, inr, Option, Some, None, Result, Ok, Err, arith}
+use Rattle.std.proofs.Common.{◌≡◌, ◌≢◌, ℕ, zero, suc, ◌+◌, eqb, Bool, true, false, List, refl, sym, subst, ap, ◌∙◌, inl, inr, Option, Some, None, Result, Ok, Err, arith}
 use Rattle.std.proofs.lemmas.Bool.Decides.{nat_tests}
-use Rattle.line_base.specs.Counts.{Rose}
 use Rattle.http_wire.specs.declared.ended.Ended.{Ended}
 use Rattle.http_wire.specs.declared.ended.Ended.TheVariants as ended
 use Rattle.http_wire.specs.declared.head.Head.{Head}
@@ -11,14 +10,15 @@ use Rattle.machine.specs.Values.{SettingsValue}
 use Rattle.proxy_session.specs.Answering.{Writes, end_behind}
 use Rattle.proxy_session.specs.Callers.{Caller}
 use Rattle.proxy_session.specs.Causes.{CauseOf, FitsLast, HasCauseOf, IsNoFault, NoneFailed, NoneFell}
-use Rattle.proxy_session.specs.Exchange.{Exchanges, Standing}
+use Rattle.proxy_session.specs.Exchange.{Standing}
+use Rattle.proxy_session.specs.Requests.{Requests}
+use Rattle.retry_budget.specs.Budget.{BudgetValue}
 use Rattle.line_base.specs.Dials.{Upstream}
 use Rattle.line_base.specs.Lines.{Line, Rests}
-use Rattle.proxy_session.specs.Session.{AnswersEnd, EndsWithout, Reads, Served, Serves, ServesNext, Sessions, SessionsTo, Spends, begun, most_requests, ended_of_end, own_of_end}
-use Rattle.proxy_session.proofs.Fitting.{exchange_fits}
-use Rattle.proxy_session.proofs.Lasting.{exchange_closed, exchange_number}
+use Rattle.proxy_session.specs.Session.{AnswersEnd, EndsWithout, Reads, Served, Serves, Sessions, SessionsTo, Spends, begun, ended_of_end, own_of_end}
+use Rattle.proxy_session.proofs.Splitting.{request_cause, request_closed, request_fell, request_fits, request_number}
 use Rattle.proxy_session.proofs.Resting.{rests_same}
-use Rattle.proxy_session.proofs.Rising.{cause_on, exchange_done, later_below, later_same, none_fell_on, rests_fell, rose_before, rose_behind, rose_by, writes_fell}
+use Rattle.proxy_session.proofs.Rising.{cause_on, later_below, later_same, none_fell_on, rests_fell, rose_before, rose_behind, rose_by, writes_fell}
 
 -- what lasts from one moment of a session to a later one
 pub record Lasts (old new : Standing) : Type 0 where
@@ -52,30 +52,36 @@ reads_last old new r x = record {
 }
 
 module _ (settings : SettingsValue) (rule : Rule) where
-  exchange_lasts : (head : Head) (last : Bool) (old new : Standing) (r : Option Ended)
-      → Exchanges settings rule head last old new r → Lasts old new
-  exchange_lasts head last old new r x = record {
-    fell = (exchange_done settings rule head last old new r x).0;
-    closed = exchange_closed settings rule head last old new r x;
-    number = exchange_number settings rule head last old new r x;
+  request_lasts : (head : Head) (last : Bool) (n : ℕ) (before behind : Option BudgetValue)
+      (old new : Standing) (r : Option Ended)
+      → Requests settings rule head last n before behind old new r → Lasts old new
+  request_lasts head last n before behind old new r x = record {
+    fell = request_fell settings rule head last n before behind old new r x;
+    closed = request_closed settings rule head last n before behind old new r x;
+    number = request_number settings rule head last n before behind old new r x;
   }
 
-  serves_last : (last : Bool) (old new : Standing) (r : Option Ended)
-      → Serves settings rule last old new r → Lasts old new
-  serves_last last old new r (mid, head, reads, exchanges) =
+  serves_last : (last : Bool) (n : ℕ) (before behind : Option BudgetValue) (old new : Standing)
+      (r : Option Ended) → Serves settings rule last n before behind old new r → Lasts old new
+  serves_last last n before behind old new r (mid, head, reads, request) =
       lasts_on old mid new (reads_last old mid (Ok head) reads)
-      (exchange_lasts head last mid new r exchanges)
+      (request_lasts head last n before behind mid new r request)
 
-  serves_cause : (last : Bool) (old new : Standing) (r : Option Ended)
-      → Serves settings rule last old new r → HasCauseOf r old.line new.line
-  serves_cause last old new r (mid, head, reads, exchanges) =
+  serves_cause : (last : Bool) (n : ℕ) (before behind : Option BudgetValue) (old new : Standing)
+      (r : Option Ended) → Serves settings rule last n before behind old new r
+      → HasCauseOf r old.line new.line
+  serves_cause last n before behind old new r (mid, head, reads, request) =
       cause_on old.line mid.line new.line r (reads_last old mid (Ok head) reads).fell
-      (exchange_done settings rule head last mid new r exchanges).1
+      (request_cause settings rule head last n before behind mid new r request)
 
-  served_lasts : (n : ℕ) (old new : Standing) → Served settings rule n old new → Lasts old new
-  served_lasts zero old new served = subst (Lasts old) (sym served) (lasts_same old)
-  served_lasts (suc n) old new (mid, before, next) =
-      lasts_on old mid new (served_lasts n old mid before) (serves_last _ mid new None next)
+  served_lasts : (n retries : ℕ) (before behind : Option BudgetValue) (old new : Standing)
+      (r : Option Ended) → Served settings rule n retries before behind old new r → Lasts old new
+  served_lasts zero retries before behind old new r served =
+      subst (Lasts old) (sym served.1) (lasts_same old)
+  served_lasts (suc n) retries before behind old new r
+      (mid, between, earlier, more, served, next, all) =
+      lasts_on old mid new (served_lasts n earlier before between old mid None served)
+      (serves_last _ more between behind mid new r next)
 
 -- ---- the end
 
@@ -88,6 +94,9 @@ cause_some ended.ReadFault old new x = x
 cause_some ended.WriteFault old new x = x
 cause_some ended.UpstreamCut old new x = x
 cause_some ended.OutOfMemory old new x = x
+
+some_never : (e : Ended) → Some e ≡ None → ⊥
+some_never e is = cc
 
 some_same : {a b : Ended} → Some a ≡ Some b → a ≡ b
 some_same is = cc
@@ -200,43 +209,67 @@ ending_by old mid new result first second cause =
       number = all.number;
     }
 
-ending_of : (settings : SettingsValue) (rule : Rule) (old new : Standing) (result : Ended)
-    → Sessions settings rule old new result → Ending old new.line new.upstream new.caller result
-ending_of settings rule old new result (n, mid, served, inl x) =
-    ending_by old mid new result (served_lasts settings rule n old mid served)
+ending_of : (settings : SettingsValue) (rule : Rule) (n retries : ℕ)
+    (before behind : Option BudgetValue) (old new : Standing) (result : Ended)
+    → Sessions settings rule n retries before behind old new result
+    → Ending old new.line new.upstream new.caller result
+ending_of settings rule n retries before behind old new result (inl (mid, served, x)) =
+    ending_by old mid new result
+    (served_lasts settings rule n retries before behind old mid None served)
     (without_lasts mid new result x)
     (ends_without x.end mid x.mid new result x.reads x.answers).0
-ending_of settings rule old new result (n, mid, served, inr x) =
-    ending_by old mid new result (served_lasts settings rule n old mid served)
-    (serves_last settings rule _ mid new (Some result) x)
-    (cause_some result mid.line new.line (serves_cause settings rule _ mid new (Some result) x))
+ending_of settings rule zero retries before behind old new result (inr served) =
+    absurd (some_never result served.2)
+ending_of settings rule (suc n) retries before behind old new result
+    (inr (mid, between, earlier, more, served, next, all)) =
+    ending_by old mid new result
+    (served_lasts settings rule n earlier before between old mid None served)
+    (serves_last settings rule _ more between behind mid new (Some result) next)
+    (cause_some result mid.line new.line
+    (serves_cause settings rule _ more between behind mid new (Some result) next))
 
-pub session_ending : (settings : SettingsValue) (rule : Rule) (old new : Standing) (result : Ended)
-    → SessionsTo settings rule old new result → Ending old new.line new.upstream new.caller result
-session_ending settings rule old new result (n, mid, served, next) =
-    let e = ending_of settings rule (begun old) new result (n, mid, served, next) in
+pub session_ending : (settings : SettingsValue) (rule : Rule) (before behind : Option BudgetValue)
+    (old new : Standing) (result : Ended)
+    → SessionsTo settings rule before behind old new result
+    → Ending old new.line new.upstream new.caller result
+session_ending settings rule before behind old new result x =
+    let e = ending_of settings rule x.requests x.retries before behind (begun old) new result
+    x.serves in
     record { cause = e.cause; closed = e.closed; number = e.number }
 
-all_of : (n : ℕ) → eqb (n + 1) 10000 ≡ true → n + 1 ≡ 10000
+all_of : (n : ℕ) → eqb (n + 1) 10000 ≡ true → suc n ≡ 10000
 all_of n is = grind (arith, nat_tests)
 
 spent_last : (last : Bool) (e : Ended) → e ≡ ended.Spent → FitsLast last (Some e) → last ≡ true
 spent_last last e is fits = subst (λ (x : Ended). FitsLast last (Some x)) is fits
 
-pub session_spent : (settings : SettingsValue) (rule : Rule) (old new : Standing) (result : Ended)
-    → SessionsTo settings rule old new result → result ≡ ended.Spent → Spends settings rule old new
-session_spent settings rule old new result (n, mid, served, inl x) is =
+spends_by : (settings : SettingsValue) (rule : Rule) (n retries : ℕ)
+    (before behind : Option BudgetValue) (old new : Standing) (result : Ended)
+    → Sessions settings rule n retries before behind (begun old) new result
+    → result ≡ ended.Spent → Spends settings rule before behind old new
+spends_by settings rule n retries before behind old new result (inl (mid, served, x)) is =
     absurd ((ends_without x.end mid x.mid new result x.reads x.answers).2 is)
-session_spent settings rule old new result (n, mid, served, inr x) is =
+spends_by settings rule zero retries before behind old new result (inr served) is =
+    absurd (some_never result served.2)
+spends_by settings rule (suc n) retries before behind old new result
+    (inr (mid, between, earlier, more, served, next, all)) is =
     let last : eqb (n + 1) 10000 ≡ true = spent_last _ result is
-    (exchange_fits settings rule x.1 _ x.0 new (Some result) x.3) in (
-      n,
-      mid,
+    (request_fits settings rule next.1 _ more between behind next.0 new (Some result) next.3) in (
+      suc n,
+      retries,
       all_of n last,
-      served,
-      subst (λ (e : Ended). Serves settings rule true mid new (Some e)) is
-          (subst (λ (b : Bool). Serves settings rule b mid new (Some result)) last x),
+      subst
+          (λ (e : Ended). Served settings rule (suc n) retries before behind (begun old) new
+          (Some e)) is
+          (mid, between, earlier, more, served, next, all),
     )
+
+pub session_spent : (settings : SettingsValue) (rule : Rule) (before behind : Option BudgetValue)
+    (old new : Standing) (result : Ended)
+    → SessionsTo settings rule before behind old new result → result ≡ ended.Spent
+    → Spends settings rule before behind old new
+session_spent settings rule before behind old new result x is =
+    spends_by settings rule x.requests x.retries before behind old new result x.serves is
 
 -- where no call failed, none is the end
 pub no_fault : (result : Ended) (old new : Line) → CauseOf result old new → NoneFailed old new

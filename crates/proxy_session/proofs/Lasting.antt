@@ -1,5 +1,5 @@
 -- What each exchange and each session leaves as it was.
-use Rattle.std.proofs.Common.{◌≡◌, ℕ, Bool, false, List, refl, sym, subst, ap, ◌∙◌, inl, inr, ◌⊎◌, Option, Some, None}
+use Rattle.std.proofs.Common.{◌≡◌, ℕ, Bool, false, List, ap, ◌∙◌, inl, inr, ◌⊎◌, Option, Some, None}
 use Rattle.addr_book.specs.declared.addr.Addr.{Addr}
 use Rattle.http_wire.specs.declared.ended.Ended.{Ended}
 use Rattle.http_wire.specs.declared.head.Head.{Head}
@@ -13,7 +13,7 @@ use Rattle.proxy_session.specs.Exchange.{Exchanges, ReportDone, ReportFails, Set
 use Rattle.line_base.specs.Lines.{Line}
 
 module _ (settings : SettingsValue) (old new : Caller) where
-  finding_number : (ask : AskValue) (said : PickValue) → Finding settings old new ask said
+  pub finding_number : (ask : AskValue) (said : PickValue) → Finding settings old new ask said
       → new.number ≡ old.number
   finding_number ask said (inl finds) = finds.asks.number
   finding_number ask said (inr (mid, misses, inl finds)) = finds.asks.number ∙ misses.asks.number
@@ -30,7 +30,7 @@ module _ (settings : SettingsValue) (old new : Caller) where
   asked_number ask (inl stops) = stopping_number ask stops
   asked_number ask (inr (said, finds)) = finding_number ask said finds
 
-  done_number : (r : Option Bool) (addr : Addr) (m n : Option (List ℕ))
+  pub done_number : (r : Option Bool) (addr : Addr) (m n : Option (List ℕ))
       → ReportDone settings r addr old new m n → new.number ≡ old.number
   done_number None addr m n done = ap (λ (c : Caller). c.number) done.0
   done_number (Some good) addr m n done = done.2.number

@@ -7,10 +7,13 @@ pub mod Writing
 pub mod Hosts
 pub mod Calling
 pub mod Behind
-pub mod Settling
+pub mod Untouched
 pub mod Slots
 pub mod Holding
 pub mod Exchanging
+pub mod Attempting
+pub mod Splitting
+pub mod Bounding
 pub mod Serving
 pub mod Rising
 pub mod Lasting

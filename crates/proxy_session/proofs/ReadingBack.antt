@@ -1,5 +1,5 @@
 -- What goes on of a request that was read is read as it was meant.
-use Rattle.std.proofs.Common.{◌≡◌, ◌<◌, ◌≤◌, ◌^◌, ◌⊎◌, ℕ, Bool, true, List, [], ◌∷◌, ◌++◌, length, map, refl, sym, ap, subst, ◌∙◌, inl, inr, IsUtf8, append-nil, Option, Some, None, Result, Ok, Err}
+use Rattle.std.proofs.Common.{◌≡◌, ◌<◌, ◌≤◌, ◌^◌, ◌⊎◌, ℕ, zero, suc, Bool, true, List, [], ◌∷◌, ◌++◌, length, map, refl, sym, ap, subst, ◌∙◌, inl, inr, IsUtf8, append-nil, Option, Some, None, Result, Ok, Err}
 use Rattle.std.specs.List.{concat}
 use Rattle.httparse.specs.Grammar.{AllPass, is_uri_byte, is_value_byte, trim_ows}
 use Rattle.name_tree.specs.Canon.{AreByteLabels}
@@ -31,13 +31,18 @@ use Rattle.forward.specs.Laws.{table_texts, IsPlainWay, IsRequestFraming, ReadsB
 use Rattle.forward.proofs.CanonBytes.{path_text}
 use Rattle.forward.proofs.Written.{heads_read_back as written_reads_back}
 use Rattle.proxy_session.specs.declared.tried.Tried.{Tried}
-use Rattle.proxy_session.specs.Exchange.{Routes, Standing}
-use Rattle.proxy_session.specs.Laws.{ExchangesReadBack, HeadsReadBack, SendsHead, IsByteReplica, IsByteRule, ReadsAs, WasRead}
+use Rattle.proxy_session.specs.Attempts.{Failed, FailedAttempt}
+use Rattle.proxy_session.specs.Exchange.{Exchanges, Routes, Standing}
+use Rattle.proxy_session.specs.Requests.{TriesAgain}
+use Rattle.retry_budget.specs.Budget.{BudgetValue}
+use Rattle.proxy_session.specs.Laws.{ExchangesReadBack, HeadsReadBack, RequestsReadBack, SendsAgain, SendsHead, IsByteReplica, IsByteRule, ReadsAs, WasRead}
 use Rattle.proxy_session.specs.Onward.{IsForwarded, host_for}
 use Rattle.line_base.specs.Dials.{Grows, Upstream}
 use Rattle.line_base.specs.Lines.{Line}
 use Rattle.proxy_session.specs.Trying.{Converses, GoesOn, Tries}
 use Rattle.proxy_session.specs.Seeking.{by_framing, by_host, by_path, by_table, Seeks, Sought}
+use Rattle.proxy_session.proofs.Attempting.{last_routes}
+use Rattle.proxy_session.proofs.Growing.{grows_nothing}
 use Rattle.proxy_session.proofs.Addresses.{addr_field}
 use Rattle.proxy_session.proofs.Asked.{asked_form, asked_host, IsByteTarget}
 use Rattle.proxy_session.proofs.Bodies.{front_of_body}
@@ -301,3 +306,63 @@ exchanges_read_back settings rule head last old new result of_bytes was
     (inr (inr (sought, seeks, routes))) =
     let read = was_received head was in routed settings rule head last sought old new result read
     (seeks_well rule head sought of_bytes read seeks) seeks routes
+
+-- ---- requests that are tried again
+
+module _ (settings : SettingsValue) (rule : Rule) (head : Head) (last : Bool) (sought : Sought)
+    (read : IsReceived head) (well : MayGoOn sought) (seeks : Seeks rule head (Ok sought)) where
+  attempted : (fewer : Bool) (budget : Option BudgetValue) (old new : Standing)
+      → FailedAttempt settings head last sought fewer budget old new
+      → Grows old.upstream.log new.upstream.log [] ⊎ SendsHead rule head old.upstream new.upstream
+  attempted fewer budget old new (moment, moments, draws, x) =
+      tried rule head sought x.to x.sent.onward last old.line new.line old.kept new.kept
+      old.upstream new.upstream x.sent.how read well seeks x.sent.is_head x.sent.tries
+
+  failed : (n : ℕ) (before behind : Option BudgetValue) (old new : Standing)
+      → Failed settings head last sought n before behind old new
+      → SendsAgain rule head n old.upstream new.upstream
+  failed zero before behind old new none =
+      subst (λ (s : Standing). SendsAgain rule head zero old.upstream s.upstream) (sym none.1)
+      (grows_nothing old.upstream.log)
+  failed (suc n) before behind old new (mid, between, first, attempt, charged) =
+      (mid.upstream, failed n before between old mid first, attempted _ between mid new attempt)
+
+-- with no retry
+once : (settings : SettingsValue) (rule : Rule) (head : Head) (last : Bool) (n : ℕ)
+    (old new : Standing) (result : Option Ended) → IsByteRule rule → WasRead head → n ≡ 0
+    → Exchanges settings rule head last old new result
+    → SendsAgain rule head (suc n) old.upstream new.upstream
+once settings rule head last n old new result of_bytes was none exchange =
+    subst (λ (k : ℕ). SendsAgain rule head (suc k) old.upstream new.upstream) (sym none) (
+      old.upstream,
+      grows_nothing old.upstream.log,
+      exchanges_read_back settings rule head last old new result of_bytes was exchange,
+    )
+
+tries_read_back : (settings : SettingsValue) (rule : Rule) (head : Head) (last : Bool) (n : ℕ)
+    (before behind : Option BudgetValue) (old new : Standing) (result : Option Ended)
+    → IsByteRule rule → WasRead head
+    → TriesAgain settings rule head last n before behind old new result
+    → SendsAgain rule head (suc n) old.upstream new.upstream
+tries_read_back settings rule head last n before behind old new result of_bytes was
+    (inl (inl x, untried)) =
+    once settings rule head last n old new result of_bytes was untried.none (inl x)
+tries_read_back settings rule head last n before behind old new result of_bytes was
+    (inl (inr x, untried)) =
+    once settings rule head last n old new result of_bytes was untried.none (inr (inl x))
+tries_read_back settings rule head last n before behind old new result of_bytes was
+    (inr (sought, seeks, (mid, first, way))) =
+    let read = was_received head was in
+    let well = seeks_well rule head sought of_bytes read seeks in (
+      mid.upstream,
+      failed settings rule head last sought read well seeks n before behind old mid first,
+      routed settings rule head last sought mid new result read well seeks
+          (last_routes settings head last sought _ behind mid new result way),
+    )
+
+pub requests_read_back : RequestsReadBack
+requests_read_back settings rule head last n None behind old new result of_bytes was
+    (untried, exchange) =
+    once settings rule head last n old new result of_bytes was untried.none exchange
+requests_read_back settings rule head last n (Some b) behind old new result of_bytes was tries =
+    tries_read_back settings rule head last n _ behind old new result of_bytes was tries

@@ -1,5 +1,5 @@
 -- Which counts rise in an exchange and in a session.
-use Rattle.std.proofs.Common.{◌≡◌, ◌≢◌, ℕ, ◌+◌, ◌-◌, ◌^◌, ◌≤◌, eqb, min, Bool, true, false, List, refl, sym, subst, ap, ◌∙◌, inl, inr, Option, Some, None, Result, Ok, Err, arith}
+use Rattle.std.proofs.Common.{◌≡◌, ℕ, ◌≤◌, Bool, true, false, List, refl, sym, subst, inl, inr, Option, Some, None, Result, Ok, Err, arith}
 use Rattle.line_base.specs.Counts.{Rose, raised}
 use Rattle.addr_book.specs.declared.addr.Addr.{Addr}
 use Rattle.body_wire.specs.declared.end.BodyEnd.{BodyEnd}
@@ -18,10 +18,10 @@ use Rattle.proxy_session.specs.declared.tried.Tried.{Tried}
 use Rattle.proxy_session.specs.declared.tried.Tried.TheVariants as tried
 use Rattle.proxy_session.specs.Answering.{Ends, Refuses, Writes, end_behind, end_of}
 use Rattle.proxy_session.specs.Callers.{Caller}
-use Rattle.proxy_session.specs.Causes.{CauseOf, HasCauseOf, Later, NoneFell}
+use Rattle.proxy_session.specs.Causes.{HasCauseOf, Later, NoneFell}
 use Rattle.proxy_session.specs.Exchange.{Exchanges, Settles, Standing}
 use Rattle.line_base.specs.Dials.{Upstream}
-use Rattle.line_base.specs.Lines.{Gives, Line, Rests}
+use Rattle.line_base.specs.Lines.{Line, Rests}
 use Rattle.proxy_session.specs.Trying.{Backs, Converses, GoesBack, GoesOn, Replies, Tries, tried_of_back, tried_of_body, tried_of_head}
 
 pub later_same : (a b : ℕ) → b ≡ a → Later a b

@@ -22,7 +22,10 @@ use Rattle.line_base.specs.Dials.{Upstream}
 use Rattle.line_base.specs.Lines.{Line, Rests}
 use Rattle.proxy_session.specs.Session.{Reads}
 use Rattle.proxy_session.specs.Trying.{Converses, GoesOn, Replies, Tries}
+use Rattle.proxy_session.specs.Requests.{Requests}
+use Rattle.retry_budget.specs.Budget.{BudgetValue}
 use Rattle.proxy_session.proofs.FieldTexts.{back, front}
+use Rattle.proxy_session.proofs.Splitting.{request_split}
 
 abbrev IsByte : ℕ → Type 0
 IsByte b = b < 256
@@ -158,7 +161,7 @@ stays : (old new : Standing) → GivesBytes old → HasBytes new.line.left → n
     → GivesBytes new
 stays old new gives left is = put new (left, subst (All IsByte) (sym is) gives.kept)
 
-pub exchange_supplies : (settings : SettingsValue) (rule : Rule) (head : Head) (last : Bool)
+exchange_supplies : (settings : SettingsValue) (rule : Rule) (head : Head) (last : Bool)
     (old new : Standing) (result : Option Ended) → GivesBytes old
     → Exchanges settings rule head last old new result → GivesBytes new
 exchange_supplies settings rule head last old new result gives (inl x) =
@@ -183,6 +186,18 @@ exchange_supplies settings rule head last old new result gives
           s.between new.line result behind.0 s.settles,
       behind.1,
     )
+
+-- ---- requests
+
+pub request_supplies : (settings : SettingsValue) (rule : Rule) (head : Head) (last : Bool) (n : ℕ)
+    (before behind : Option BudgetValue) (old new : Standing) (result : Option Ended)
+    → GivesBytes old → Requests settings rule head last n before behind old new result
+    → GivesBytes new
+request_supplies settings rule head last n before behind old new result gives request =
+    let split = request_split settings rule head last n before behind old new result request in
+    exchange_supplies settings rule head last split.0 new result
+    (stays old split.0 gives (rests old.line split.0.line gives.left split.1.line) split.1.kept)
+    split.2
 
 -- ---- heads
 

@@ -1,16 +1,31 @@
 -- What the dialer does in a session.
-use Rattle.std.proofs.Common.{◌≡◌, ◌⊎◌, ℕ, zero, suc, ◌+◌, eqb, Bool, [], subst, sym, inl, inr, Option, Some, None}
+use Rattle.std.proofs.Common.{◌≡◌, ◌⊎◌, ℕ, zero, suc, ◌+◌, eqb, Bool, List, [], append-nil, subst, sym, inl, inr, Option, Some, None, arith}
 use Rattle.http_wire.specs.declared.ended.Ended.{Ended}
 use Rattle.http_wire.specs.declared.head.Head.{Head}
 use Rattle.identifier.specs.declared.rule.Rule.{Rule}
-use Rattle.machine.specs.Values.{SettingsValue}
-use Rattle.proxy_session.specs.Exchange.{Standing}
-use Rattle.proxy_session.specs.Laws.{GivesBytes, IsByteRule, SendsHead, SendsHeads, SessionsReadBack, Visits, WasRead}
+use Rattle.line_base.specs.declared.dialer.DialEvent.{DialEvent}
 use Rattle.line_base.specs.Dials.{Grows, Upstream}
-use Rattle.proxy_session.specs.Session.{Served, Serves, ServesNext, Sessions, most_requests}
+use Rattle.machine.specs.Values.{SettingsValue}
+use Rattle.retry_budget.specs.Budget.{BudgetValue}
+use Rattle.proxy_session.specs.Exchange.{Standing}
+use Rattle.proxy_session.specs.Laws.{GivesBytes, IsByteRule, SendsAgain, SendsHead, SendsHeads, SessionsReadBack, Visits, WasRead}
+use Rattle.proxy_session.specs.Session.{Served, Serves, Sessions, most_requests}
 use Rattle.proxy_session.proofs.Growing.{grows_nothing, grows_on}
-use Rattle.proxy_session.proofs.ReadingBack.{exchanges_read_back}
-use Rattle.proxy_session.proofs.Supplying.{exchange_supplies, head_supplies}
+use Rattle.proxy_session.proofs.ReadingBack.{requests_read_back}
+use Rattle.proxy_session.proofs.Supplying.{head_supplies, request_supplies}
+
+with_none : (m : ℕ) → m ≡ m + 0
+with_none m = omega arith
+
+with_one : (m n : ℕ) → suc (m + n) ≡ m + suc n
+with_one m n = omega arith
+
+none_of : (retries : ℕ) → retries ≡ 0 → 0 ≡ 0 + retries
+none_of retries is = omega (arith, is)
+
+all_of : (n retries earlier more : ℕ) → retries ≡ earlier + more
+    → n + earlier + suc more ≡ suc n + retries
+all_of n retries earlier more is = omega (arith, is)
 
 module _ (settings : SettingsValue) (rule : Rule) (of_bytes : IsByteRule rule) where
   -- behind calls that the log does not show
@@ -44,50 +59,116 @@ module _ (settings : SettingsValue) (rule : Rule) (of_bytes : IsByteRule rule) w
   with_head head old new was (inl nothing) = inl nothing
   with_head head old new was (inr sends) = inr (head, was, sends)
 
-  serves : (last : Bool) (old new : Standing) (result : Option Ended) → GivesBytes old
-      → Serves settings rule last old new result → GivesBytes new
-      × Visits rule old.upstream new.upstream
-  serves last old new result gives (mid, head, reads, exchange) =
+  with_heads : (n : ℕ) (head : Head) (old new : Upstream) → WasRead head
+      → SendsAgain rule head n old new → SendsHeads rule n old new
+  with_heads zero head old new was none = none
+  with_heads (suc n) head old new was (mid, first, more) =
+      (mid, with_heads n head old mid was first, with_head head mid new was more)
+
+  -- before and behind calls that the log does not show
+  sends_behind : (n : ℕ) (old mid new : Upstream) → Grows old.log mid.log []
+      → SendsHeads rule n mid new → SendsHeads rule n old new
+  sends_behind zero old mid new quiet none =
+      grows_on old.log mid.log new.log [] [] quiet none
+  sends_behind (suc zero) old mid new quiet (between, none, visit) = (
+    old,
+    grows_nothing old.log,
+    visits_behind old between new (grows_on old.log mid.log
+        between.log [] [] quiet none) visit,
+  )
+  sends_behind (suc (suc n)) old mid new quiet (between, first, visit) =
+      (between, sends_behind (suc n) old mid between quiet first, visit)
+
+  visits_before : (old mid new : Upstream) → Visits rule old mid → Grows mid.log new.log []
+      → Visits rule old new
+  visits_before old mid new (inl nothing) quiet =
+      inl (grows_on old.log mid.log new.log [] [] nothing quiet)
+  visits_before old mid new (inr (head, was, sends)) quiet =
+      inr (
+        head,
+        was,
+        record {
+          sought = sends.sought;
+          seeks = sends.seeks;
+          to = sends.to;
+          onward = sends.onward;
+          reads = sends.reads;
+          sent = sends.sent;
+          got = sends.got;
+          log =
+              subst (λ (events : List DialEvent). Grows old.log new.log events) (append-nil _)
+              (grows_on old.log mid.log new.log _ [] sends.log quiet);
+          taken = sends.taken;
+          behind = sends.behind;
+          count = sends.count;
+          body = sends.body;
+          front = sends.front;
+        },
+      )
+
+  sends_before : (n : ℕ) (old mid new : Upstream) → SendsHeads rule n old mid
+      → Grows mid.log new.log [] → SendsHeads rule n old new
+  sends_before zero old mid new none quiet = grows_on old.log mid.log new.log [] [] none quiet
+  sends_before (suc n) old mid new (between, first, visit) quiet =
+      (between, first, visits_before between mid new visit quiet)
+
+  sends_on : (m n : ℕ) (old mid new : Upstream) → SendsHeads rule m old mid
+      → SendsHeads rule n mid new → SendsHeads rule (m + n) old new
+  sends_on m zero old mid new first none =
+      subst (λ (k : ℕ). SendsHeads rule k old new) (with_none m)
+      (sends_before m old mid new first none)
+  sends_on m (suc n) old mid new first (between, more, visit) =
+      subst (λ (k : ℕ). SendsHeads rule k old new) (with_one m n)
+      (between, sends_on m n old mid between first more, visit)
+
+  serves : (last : Bool) (n : ℕ) (before behind : Option BudgetValue) (old new : Standing)
+      (result : Option Ended) → GivesBytes old
+      → Serves settings rule last n before behind old new result
+      → GivesBytes new × SendsHeads rule (suc n) old.upstream new.upstream
+  serves last n before behind old new result gives (mid, head, reads, request) =
       let supplied = head_supplies old mid head gives reads in (
-        exchange_supplies settings rule head last mid new result supplied.0 exchange,
-        visits_behind old.upstream mid.upstream new.upstream reads.upstream.log
-            (with_head head mid.upstream new.upstream supplied.1
-            (exchanges_read_back settings rule head last mid new result of_bytes supplied.1
-            exchange)),
+        request_supplies settings rule head last n before behind mid new result supplied.0 request,
+        sends_behind (suc n) old.upstream mid.upstream new.upstream reads.upstream.log
+            (with_heads (suc n) head mid.upstream new.upstream supplied.1
+            (requests_read_back settings rule head last n before behind mid new result of_bytes
+            supplied.1 request)),
       )
 
-  served : (n : ℕ) (old new : Standing) → GivesBytes old → Served settings rule n old new
-      → GivesBytes new × SendsHeads rule n old.upstream new.upstream
-  served zero old new gives is =
+  served : (n retries : ℕ) (before behind : Option BudgetValue) (old new : Standing)
+      (result : Option Ended) → GivesBytes old
+      → Served settings rule n retries before behind old new result
+      → GivesBytes new × SendsHeads rule (n + retries) old.upstream new.upstream
+  served zero retries before behind old new result gives (untried, is, none) =
       let same : old ≡ new = sym is in
-      subst (λ (s : Standing). GivesBytes s
-      × SendsHeads rule zero old.upstream s.upstream) same
-      (gives, grows_nothing old.upstream.log)
-  served (suc n) old new gives (mid, before, next) =
-      let first = served n old mid gives before in
-      let second = serves (eqb (n + 1) most_requests) mid new None first.0 next in
-      (second.0, (mid.upstream, first.1, second.1))
-
-  next_serves : (last : Bool) (old new : Standing) (end : Ended) → GivesBytes old
-      → ServesNext settings rule last old new (Some end) → Visits rule old.upstream new.upstream
-  next_serves last old new end gives (inl without) =
-      inl (grows_on old.upstream.log without.mid.upstream.log new.upstream.log [] []
-      without.reads.upstream.log without.nothing.away.upstream.log)
-  next_serves last old new end gives (inr more) = (serves last old new (Some end) gives more).1
-
-  session : (old new : Standing) (end : Ended) → GivesBytes old → Sessions settings rule old new end
-      → (n : ℕ) × SendsHeads rule n old.upstream new.upstream
-  session old new end gives (n, mid, before, next) =
-      let first = served n old mid gives before in (
-        suc n,
-        (
-          mid.upstream,
-          first.1,
-          next_serves (eqb (n + 1) most_requests) mid new end first.0
-              next,
-        ),
+      subst (λ (k : ℕ). GivesBytes new × SendsHeads rule k old.upstream new.upstream)
+      (none_of retries untried.none)
+      (subst (λ (s : Standing). GivesBytes s × SendsHeads rule zero old.upstream s.upstream) same
+      (gives, grows_nothing old.upstream.log))
+  served (suc n) retries before behind old new result gives
+      (mid, between, earlier, more, before_it, next, all) =
+      let first = served n earlier before between old mid None gives before_it in
+      let second = serves (eqb (n + 1) most_requests) more between behind mid new result first.0
+      next in (
+        second.0,
+        subst (λ (k : ℕ). SendsHeads rule k old.upstream new.upstream)
+            (all_of n retries earlier more all)
+            (sends_on (n + earlier) (suc more) old.upstream mid.upstream new.upstream first.1
+            second.1),
       )
+
+  session : (requests retries : ℕ) (before behind : Option BudgetValue) (old new : Standing)
+      (end : Ended) → GivesBytes old
+      → Sessions settings rule requests retries before behind old new end
+      → SendsHeads rule (requests + retries) old.upstream new.upstream
+  session requests retries before behind old new end gives (inl (mid, all, without)) =
+      sends_before (requests + retries) old.upstream mid.upstream new.upstream
+      (served requests retries before behind old mid None gives all).1
+      (grows_on mid.upstream.log without.mid.upstream.log new.upstream.log [] []
+      without.reads.upstream.log without.nothing.away.upstream.log)
+  session requests retries before behind old new end gives (inr all) =
+      (served requests retries before behind old new (Some end) gives all).1
 
 pub sessions_read_back : SessionsReadBack
-sessions_read_back settings rule old new result of_bytes gives sessions =
-    session settings rule of_bytes old new result gives sessions
+sessions_read_back settings rule requests retries before behind old new result of_bytes gives
+    sessions =
+    session settings rule of_bytes requests retries before behind old new result gives sessions

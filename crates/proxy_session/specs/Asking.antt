@@ -1,5 +1,5 @@
 -- How an exchange asks for a replica.
-use Rattle.std.specs.Prelude.{◌≡◌, ℕ, ◌⊎◌, Bool, true, false, List}
+use Rattle.std.specs.Prelude.{ℕ, ◌⊎◌, Bool, true, false, List}
 use Rattle.rand_pcg.specs.Lcg.{Lcg}
 use Rattle.rand_pcg.specs.Pcg.{pcg64}
 use Rattle.name_tree.specs.Path.{Labels}

@@ -137,12 +137,6 @@ pub record IsSent
       result
   pub words_are : new.words ≡ old.words
 
--- so it is tried, unless there was no memory for the head
-abbrev pub Sends : SettingsValue → Head → Bool → Framing → Addr → Option ℕ → (List ℕ → Type 0)
-    → Standing → Standing → Option Ended → Type 0
-Sends settings head last framing addr slot IsHead old new result =
-    StopsShort old new result ⊎ IsSent settings head last framing addr slot IsHead old new result
-
 -- a server that has asked for a replica: its pass is this one then, and the clock and the generator
 -- have moved on
 abbrev pub having_asked : Standing → Caller → Option (List ℕ) → Lcg → Standing

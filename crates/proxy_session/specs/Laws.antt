@@ -1,5 +1,5 @@
 -- What is read of a head that goes on to a replica.
-use Rattle.std.specs.Prelude.{◌≡◌, ◌⊎◌, ◌<◌, ◌≤◌, ◌^◌, ℕ, zero, suc, Bool, true, List, [], ◌∷◌, ◌++◌, length, map, codes, All, IsSomeAnd, Option, Ok}
+use Rattle.std.specs.Prelude.{◌≡◌, ◌⊎◌, ◌+◌, ◌<◌, ◌≤◌, ◌^◌, ℕ, zero, suc, Bool, true, List, [], ◌∷◌, ◌++◌, length, map, codes, All, IsSomeAnd, Option, Ok}
 use Rattle.std.specs.List.{concat}
 use Rattle.httparse.specs.Grammar.{trim_ows}
 use Rattle.line_base.specs.declared.dialer.DialEvent.TheVariants.{Dialed, Sent, Got, Hung}
@@ -20,7 +20,9 @@ use Rattle.proxy_session.specs.Exchange.{Exchanges, Standing}
 use Rattle.proxy_session.specs.Onward.{IsForwarded, host_for}
 use Rattle.line_base.specs.Dials.{Grows, Upstream}
 use Rattle.proxy_session.specs.Seeking.{Seeks, Sought}
+use Rattle.proxy_session.specs.Requests.{Requests}
 use Rattle.proxy_session.specs.Session.{Sessions}
+use Rattle.retry_budget.specs.Budget.{BudgetValue}
 
 -- a head that was read off some bytes
 pub record WasRead (head : Head) : Type 0 where
@@ -100,6 +102,22 @@ ExchangesReadBack =
     → IsByteRule rule → WasRead head → Exchanges settings rule head last old new result
     → Grows old.upstream.log new.upstream.log [] ⊎ SendsHead rule head old.upstream new.upstream
 
+-- so often, for one head
+abbrev pub SendsAgain : Rule → Head → ℕ → Upstream → Upstream → Type 0
+SendsAgain rule head zero old new = Grows old.log new.log []
+SendsAgain rule head (suc n) old new =
+    (mid : Upstream) × SendsAgain rule head n old mid
+    × (Grows mid.log new.log [] ⊎ SendsHead rule head mid new)
+
+-- in a request whose head was read the dialer did just this, at most once more than it has retries
+abbrev pub RequestsReadBack : Type 0
+RequestsReadBack =
+    (settings : SettingsValue) (rule : Rule) (head : Head) (last : Bool) (retries : ℕ)
+    (before behind : Option BudgetValue) (old new : Standing) (result : Option Ended)
+    → IsByteRule rule → WasRead head
+    → Requests settings rule head last retries before behind old new result
+    → SendsAgain rule head (suc retries) old.upstream new.upstream
+
 -- the bytes of a client that were read and not used yet, and those that it has yet to give, which
 -- are known
 pub record GivesBytes (s : Standing) : Type 0 where
@@ -116,9 +134,12 @@ abbrev pub SendsHeads : Rule → ℕ → Upstream → Upstream → Type 0
 SendsHeads rule zero old new = Grows old.log new.log []
 SendsHeads rule (suc n) old new = (mid : Upstream) × SendsHeads rule n old mid × Visits rule mid new
 
--- in a session over the bytes of a client the dialer did nothing else
+-- in a session over the bytes of a client the dialer did nothing else, at most once for each request
+-- and once for each retry
 abbrev pub SessionsReadBack : Type 0
 SessionsReadBack =
-    (settings : SettingsValue) (rule : Rule) (old new : Standing) (result : Ended)
-    → IsByteRule rule → GivesBytes old → Sessions settings rule old new result
-    → (n : ℕ) × SendsHeads rule n old.upstream new.upstream
+    (settings : SettingsValue) (rule : Rule) (requests retries : ℕ)
+    (before behind : Option BudgetValue) (old new : Standing) (result : Ended)
+    → IsByteRule rule → GivesBytes old
+    → Sessions settings rule requests retries before behind old new result
+    → SendsHeads rule (requests + retries) old.upstream new.upstream

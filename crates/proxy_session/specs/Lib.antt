@@ -8,6 +8,8 @@ pub mod Heads
 pub mod Trying
 pub mod Answering
 pub mod Exchange
+pub mod Attempts
+pub mod Requests
 pub mod Standing
 pub mod Sending
 pub mod Session

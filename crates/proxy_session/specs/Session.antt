@@ -1,6 +1,6 @@
 -- The requests of a connection, one after another.
-use Rattle.std.specs.Prelude.{◌≡◌, ◌⊎◌, ℕ, zero, suc, ◌+◌, ◌==◌, Bool, true, List, [], Option, Some, None, Result, Ok, Err}
-use Rattle.std.specs.Io.KnownBytes.{Consumes, Keeps}
+use Rattle.std.specs.Prelude.{◌≡◌, ◌⊎◌, ℕ, zero, suc, ◌+◌, ◌*◌, ◌/◌, ◌≤◌, ◌==◌, Bool, true, [], Option, Some, None, Result, Ok, Err}
+use Rattle.std.specs.Io.KnownBytes.{Keeps}
 use Rattle.http_wire.specs.declared.ended.Ended.{Ended}
 use Rattle.http_wire.specs.declared.ended.Ended.TheVariants as ended
 use Rattle.http_wire.specs.declared.head.Head.{Head}
@@ -12,7 +12,9 @@ use Rattle.own_reply.specs.declared.error.OwnError.{OwnError}
 use Rattle.own_reply.specs.declared.error.OwnError.TheVariants as own
 use Rattle.own_reply.specs.Reply.{reply_of}
 use Rattle.proxy_session.specs.Answering.{Writes, end_behind}
-use Rattle.proxy_session.specs.Exchange.{AsksNothing, Exchanges, Standing}
+use Rattle.proxy_session.specs.Exchange.{AsksNothing, Standing}
+use Rattle.proxy_session.specs.Requests.{IsUntried, Requests}
+use Rattle.retry_budget.specs.Budget.{BudgetValue}
 use Rattle.line_base.specs.Dials.{IsIdle}
 use Rattle.line_base.specs.Lines.{Line, Rests}
 
@@ -44,11 +46,12 @@ pub record Reads (old new : Standing) (result : Result Head HeadEnd) : Type 0 wh
   pub moments : new.moments ≡ old.moments
   pub words : new.words ≡ old.words
 
--- a request: its head was read, and then it had its exchange
-abbrev pub Serves : SettingsValue → Rule → Bool → Standing → Standing → Option Ended → Type 0
-Serves settings rule last old new result =
+-- a request: its head was read, and then it was served, with so many retries
+abbrev pub Serves : SettingsValue → Rule → Bool → ℕ → Option BudgetValue → Option BudgetValue
+    → Standing → Standing → Option Ended → Type 0
+Serves settings rule last retries before behind old new result =
     (mid : Standing) × (head : Head) × Reads old mid (Ok head)
-    × Exchanges settings rule head last mid new result
+    × Requests settings rule head last retries before behind mid new result
 
 -- a session ended with no head: the bytes of the client ended, or are none, or could not be read
 abbrev pub own_of_end : HeadEnd → Option OwnError
@@ -85,34 +88,57 @@ pub record EndsWithout (old new : Standing) (result : Ended) : Type 0 where
   pub nothing : AsksNothing mid new
   pub answers : AnswersEnd (own_of_end end) mid.line new.line (ended_of_end end) result
 
--- so many requests were served, behind none of which the connection closed
-abbrev pub Served : SettingsValue → Rule → ℕ → Standing → Standing → Type 0
-Served settings rule zero old new = new ≡ old
-Served settings rule (suc n) old new =
-    (mid : Standing) × Served settings rule n old mid
-    × Serves settings rule (n + 1 == most_requests) mid new None
+-- so many requests were served, with so many retries. The last of them ended so, and behind each
+-- other one the connection went on
+abbrev pub Served : SettingsValue → Rule → ℕ → ℕ → Option BudgetValue → Option BudgetValue
+    → Standing → Standing → Option Ended → Type 0
+Served settings rule zero retries before behind old new end =
+    IsUntried retries before behind × (new ≡ old) × (end ≡ None)
+Served settings rule (suc n) retries before behind old new end =
+    (mid : Standing) × (between : Option BudgetValue) × (earlier : ℕ) × (more : ℕ)
+    × Served settings rule n earlier before between old mid None
+    × Serves settings rule (n + 1 == most_requests) more between behind mid new end
+    × (retries ≡ earlier + more)
 
 -- a further request, or that there is none
-abbrev pub ServesNext : SettingsValue → Rule → Bool → Standing → Standing → Option Ended → Type 0
-ServesNext settings rule last old new None = Serves settings rule last old new None
-ServesNext settings rule last old new (Some end) =
-    EndsWithout old new end ⊎ Serves settings rule last old new (Some end)
+abbrev pub ServesNext : SettingsValue → Rule → Bool → ℕ → Option BudgetValue → Option BudgetValue
+    → Standing → Standing → Option Ended → Type 0
+ServesNext settings rule last retries before behind old new None =
+    Serves settings rule last retries before behind old new None
+ServesNext settings rule last retries before behind old new (Some end) =
+    (EndsWithout old new end × IsUntried retries before behind)
+    ⊎ Serves settings rule last retries before behind old new (Some end)
 
--- the connection's first requests, each with its exchange, and then the one that ends the session,
--- or that there is none
-abbrev pub Sessions : SettingsValue → Rule → Standing → Standing → Ended → Type 0
-Sessions settings rule old new result =
-    (n : ℕ) × (mid : Standing) × Served settings rule n old mid
-    × ServesNext settings rule (n + 1 == most_requests) mid new (Some result)
+-- so many requests, with so many retries: the last one ended the session, or there was no further
+-- one
+abbrev pub Sessions : SettingsValue → Rule → ℕ → ℕ → Option BudgetValue → Option BudgetValue
+    → Standing → Standing → Ended → Type 0
+Sessions settings rule requests retries before behind old new result =
+    ((mid : Standing) × Served settings rule requests retries before behind old mid None
+    × EndsWithout mid new result)
+    ⊎ Served settings rule requests retries before behind old new (Some result)
 
--- a session: it begins with no byte of its client read, whatever is kept of the connection before
--- it
-abbrev pub SessionsTo : SettingsValue → Rule → Standing → Standing → Ended → Type 0
-SessionsTo settings rule old new result = Sessions settings rule (begun old) new result
+-- as many retries as so many requests have out of a budget, at most: what its balance was and what
+-- they paid in, in whole retries
+abbrev pub most_retries : Option BudgetValue → ℕ → ℕ
+most_retries None requests = 0
+most_retries (Some b) requests = (b.balance + b.tries.percent * requests) / 100
 
--- as many requests as a connection may carry had their exchanges, and the last one closed it by
--- being the last alone
-abbrev pub Spends : SettingsValue → Rule → Standing → Standing → Type 0
-Spends settings rule old new =
-    (n : ℕ) × (mid : Standing) × (n + 1 ≡ most_requests) × Served settings rule n (begun old) mid
-    × Serves settings rule true mid new (Some ended.Spent)
+-- A session: it begins with no byte of its client read, whatever is kept of the connection before
+-- it. Over all its requests the attempts behind the first of each are no more than its budget had
+pub record SessionsTo
+    (settings : SettingsValue) (rule : Rule) (before behind : Option BudgetValue)
+    (old new : Standing) (result : Ended)
+    : Type 0 where
+  pub requests : ℕ
+  pub retries : ℕ
+  pub serves : Sessions settings rule requests retries before behind (begun old) new result
+  pub bounded : retries ≤ most_retries before requests
+
+-- as many requests as a connection may carry were served, and the last one closed it by being the
+-- last alone
+abbrev pub Spends : SettingsValue → Rule → Option BudgetValue → Option BudgetValue → Standing
+    → Standing → Type 0
+Spends settings rule before behind old new =
+    (n : ℕ) × (retries : ℕ) × (n ≡ most_requests)
+    × Served settings rule n retries before behind (begun old) new (Some ended.Spent)

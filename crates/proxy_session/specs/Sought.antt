@@ -11,8 +11,8 @@ use Rattle.proxy_session.specs.Seeking.{Seeks, Sought}
 
 abbrev pub sought_of : Request → Sought
 sought_of r = record {
-  path = r.path;
-  rules = rules_of r.local;
+  path = r.ask.path;
+  rules = rules_of r.ask.local;
   framing = r.framing;
   host = r.host.items;
   line = r.target.line.items;

@@ -1,6 +1,5 @@
 -- A server and a connection that it serves.
 use Rattle.std.specs.Prelude.{ℕ, List, Option}
-use Rattle.rand_pcg.specs.Lcg.{Lcg}
 use Rattle.line_base.specs.Dials.{Upstream}
 use Rattle.line_base.specs.Lines.{Line}
 use Rattle.router.specs.declared.naming.Naming.{Ghosts}

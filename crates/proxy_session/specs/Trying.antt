@@ -1,15 +1,12 @@
 -- A try of a replica: the request goes on, and the reply goes back.
-use Rattle.std.specs.Prelude.{◌≡◌, ◌≢◌, ◌⊎◌, ℕ, ◌==◌, ◌||◌, Bool, true, false, not, List, [], ◌∷◌, ◌++◌, map, filter, codes, Result, Ok, Err}
-use Rattle.std.specs.List.{concat, list_any, slice_split}
-use Rattle.httparse.specs.Ascii.{comma}
-use Rattle.httparse.specs.Grammar.{trim_ows}
+use Rattle.std.specs.Prelude.{◌≡◌, ◌≢◌, ◌⊎◌, ℕ, ◌==◌, ◌||◌, Bool, true, false, not, List, [], ◌∷◌, ◌++◌, map, Result, Ok, Err}
+use Rattle.std.specs.List.{concat}
 use Rattle.std.specs.Io.KnownBytes.{Appends, Consumes, Keeps}
 use Rattle.line_base.specs.Counts.{raised}
 use Rattle.line_base.specs.declared.dialer.DialEvent.TheVariants.{Dialed, Sent, Got, Hung}
 use Rattle.addr_book.specs.declared.addr.Addr.{Addr}
 use Rattle.http_wire.specs.declared.frames.Framing.{Framing}
 use Rattle.http_wire.specs.declared.head.Head.{Head}
-use Rattle.http_wire.specs.declared.head.Field.{Field}
 use Rattle.http_wire.specs.declared.head.ReplyHead.{ReplyHead}
 use Rattle.http_wire.specs.Fields.{names_close}
 use Rattle.body_wire.specs.declared.end.BodyEnd.{BodyEnd}

@@ -1,9 +1,10 @@
 //! What follows a try: the report on the replica, and the answer to the client.
-ghost use Rattle.std.specs.Prelude.{◌≡◌};
-ghost use Rattle.proxy_session.specs.Answering.{Ends};
+ghost use Rattle.std.specs.Prelude.{◌≡◌, OnOk, OnErr};
+ghost use Rattle.proxy_session.specs.Answering.{Ends, report_of};
 ghost use Rattle.proxy_session.specs.Callers.{caller_of};
-ghost use Rattle.proxy_session.specs.Exchange.{Settles};
+ghost use Rattle.proxy_session.specs.Exchange.{ReportDone, ReportFails};
 
+use crate::Mem;
 use crate::closing::end_of;
 use crate::context::Context;
 use crate::refusing::refuse;
@@ -18,31 +19,28 @@ use std::alloc::Global;
 use std::sync::Wait;
 
 impl Try<'_> {
-    /// Reports on the replica, where a report is due, and then answers the client, where no reply
-    /// went back.
-    pub(crate) fn settle<J: Naming, P: Peer, C: Clock, R: Wait>(
+    /// Reports on the replica, where a report is due.
+    pub(crate) fn report_on<J: Naming, C: Clock, R: Wait>(
         &self,
         context: &Context<'_, J, R>,
         pass: &mut Pass<J>,
         tried: Tried,
-        peer: &mut P,
         clock: &mut C,
-    ) -> Option<Ended>
-        ensures { Settles J.settings self.now.head.now self.now.last self.now.addr tried
-            (caller_of pass.old) (caller_of pass.new) (C.to_come clock.old) (C.to_come clock.new)
-            (P.line peer.old) (P.line peer.new) result }
+    ) -> Mem<()>
+        ensures ok { OnOk result (ReportDone J.settings (report_of tried) self.now.addr
+            (caller_of pass.old) (caller_of pass.new) (C.to_come clock.old)
+            (C.to_come clock.new)) }
+        ensures err { OnErr result (ReportFails (report_of tried) (caller_of pass.old)
+            (caller_of pass.new) (C.to_come clock.old) (C.to_come clock.new)) }
     {
         match tried.report() {
-            None => self.answer(context.alloc, tried, peer),
-            Some(good) => match report(context, pass, clock, self.addr, good) {
-                Ok(()) => self.answer(context.alloc, tried, peer),
-                Err(_) => Some(Ended::OutOfMemory),
-            },
+            None => Ok(()),
+            Some(good) => report(context, pass, clock, self.addr, good),
         }
     }
 
-    /// Answers the client, and says how the request ends.
-    fn answer<P: Peer>(&self, alloc: Global, tried: Tried, peer: &mut P) -> Option<Ended>
+    /// Answers the client, where no reply went back, and says how the request ends.
+    pub(crate) fn answer<P: Peer>(&self, alloc: Global, tried: Tried, peer: &mut P) -> Option<Ended>
         ensures { Ends tried self.now.head.now self.now.last (P.line peer.old) (P.line peer.new)
             result }
     {

@@ -2,7 +2,6 @@
 ghost use Rattle.std.specs.Prelude.{◌≡◌, ◌<◌, IfOk, IfSome, OnOk, OnErr};
 ghost use Rattle.bind_cache.specs.Stored.{kept_of};
 ghost use Rattle.dtab_table.specs.Dtab.{rules_of};
-ghost use Rattle.dtab_table.specs.TableCanon.{AreSoundRules};
 ghost use Rattle.line_base.specs.Clocks.{Tells};
 ghost use Rattle.machine.specs.Code.{ask_of};
 ghost use Rattle.machine.specs.Values.{PickValue};
@@ -16,7 +15,6 @@ ghost use Rattle.proxy_session.specs.Found.{Picks, PicksOnce, ReturnsSome, Says,
 use crate::context::Context;
 use crate::{Bytes, Mem};
 use bind_cache::Binding;
-use dtab_table::Dtab;
 use line_base::Clock;
 use machine::{Ask, Why};
 use name_tree::{Path, write_path};
@@ -118,22 +116,20 @@ enum Seen {
     Miss,
 }
 
-/// The ask for a path, by the generator's next three words and at the clock's next moment.
-pub(crate) fn draw<C: Clock>(path: Path, local: Dtab, clock: &mut C, words: &mut Pcg64) -> Ask
-    requires { AreSoundRules (rules_of local) }
-    ensures told { Tells (C.to_come clock.old) (C.to_come clock.new) result.moment }
+/// Draws an ask anew: with the generator's next three words, and at the clock's next moment.
+pub(crate) fn draw<C: Clock>(ask: &mut Ask, clock: &mut C, words: &mut Pcg64)
+    ensures told { Tells (C.to_come clock.old) (C.to_come clock.new) ask.new.moment }
     ensures words { words.new ≡ behind_draw words.old }
-    ensures ask { ask_of result ≡ drawn path (rules_of local) result.moment words.old }
+    ensures ask { ask_of ask.new ≡ drawn ask.old.path (rules_of ask.old.local) ask.new.moment
+        words.old }
+    ensures path { ask.new.path ≡ ask.old.path }
+    ensures local { ask.new.local ≡ ask.old.local }
 {
     let branch = words.next_word();
     let first = words.next_word();
     let second = words.next_word();
-    Ask {
-        path,
-        local,
-        moment: clock.now(),
-        words: [branch, first, second],
-    }
+    ask.words = [branch, first, second];
+    ask.moment = clock.now();
 }
 
 /// Finds a replica: by what is kept for the ask, and else by a second ask, which works it out. What

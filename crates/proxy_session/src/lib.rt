@@ -8,15 +8,24 @@
 //! all requests of a [`Connection`], one after another, up to 10,000. What does not change in these
 //! calls is one [`Context`]. `docs/HTTP.md` has a table of what a client sees.
 //!
+//! A connection with a budget of retries ([`Connection::trying`]) sends a request to another replica
+//! where one fails it before a byte of a reply; one without ([`Connection::of`]) has one try for each
+//! request. Take a budget where replicas come and go, and give it no more than the replicas that are
+//! left can carry: over a session the attempts behind the first of each request are at most
+//! `reserve + percent * requests / 100`.
+//!
 //! # What is proved
 //! One exchange is a relation over plain lists (`Exchanges` of `specs/Exchange.antt`): what a
 //! request seeks or why it is refused (`Seeks`), how a replica is asked for (`Finding`), how it is
 //! tried (`Tries`, whose ways have a variant of `Tried` each), and how that is settled (`Settles`).
-//! A session is a list of exchanges, each with its head read off the bytes that the one before it
-//! left, and then an end (`Sessions` of `specs/Session.antt`). Both hold over any cutting of the
-//! bytes and every failing call; where memory is wanting, or a call of the client's connection
-//! fails, what was moved until then is a front of what would have been. Behind each no slot is
-//! held, and behind each try the connection to the replica is ended.
+//! A request is one exchange where its connection has no budget (`Requests` of
+//! `specs/Requests.antt`); with one it is a list of attempts, each with words and a moment of its
+//! own (`Attempts` of `specs/Attempts.antt`), of which the client sees the last alone. A session is a
+//! list of requests, each with its head read off the bytes that the one before it left, and then an
+//! end (`SessionsTo` of `specs/Session.antt`), and its retries are bounded by its budget. All hold
+//! over any cutting of the bytes and every failing call; where memory is wanting, or a call of the
+//! client's connection fails, what was moved until then is a front of what would have been. Behind
+//! each no slot is held, and behind each try the connection to the replica is ended.
 //!
 //! [`heads_that_go_on_are_read_back`] is the law that what these send of a head that was read is
 //! itself read as it was meant.
@@ -36,6 +45,7 @@
 
 mod answering;
 mod asking;
+mod attempt;
 mod closing;
 mod connection;
 mod context;
@@ -44,6 +54,7 @@ mod final_head;
 mod laws;
 mod onward;
 mod refusing;
+mod repeating;
 mod reporting;
 mod room;
 mod seeking;

@@ -19,6 +19,10 @@ use std::alloc::Global;
 pub(crate) struct Onward<'a> {
     /// Its head.
     pub(crate) head: &'a Head,
+    /// Whether it is the last request of its connection.
+    pub(crate) last: bool,
+    /// Whether it has fewer retries than it may have.
+    pub(crate) fewer: bool,
     /// How its body is framed.
     pub(crate) framing: Framing,
     /// Its target, in the form in which it goes on.

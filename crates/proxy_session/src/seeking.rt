@@ -1,21 +1,19 @@
 //! What a request seeks.
-ghost use Rattle.std.specs.Prelude.{◌≡◌, ◌≢◌, codes, IfOk};
+ghost use Rattle.std.specs.Prelude.{◌≡◌, ◌≢◌, codes};
 ghost use Rattle.http_wire.specs.Framing.{framing_of};
 ghost use Rattle.http_wire.specs.Host.{host_of};
 ghost use Rattle.http_wire.specs.Target.{IsServed, form_of};
-ghost use Rattle.dtab_table.specs.Dtab.{rules_of};
-ghost use Rattle.dtab_table.specs.TableCanon.{AreSoundRules};
 ghost use Rattle.identifier.specs.Naming.{IsTaken, identified};
 ghost use Rattle.identifier.specs.Local.{local_rules};
 ghost use Rattle.proxy_session.specs.Seeking.{by_host, by_path, by_table, sought_by};
 ghost use Rattle.proxy_session.specs.Sought.{SeeksAs, TestedAs};
 
 use crate::Bytes;
-use dtab_table::Dtab;
 use http_wire::{
     Framing, FramingFault, Head, HostFault, Target, TargetFault, framing, read_host, read_target,
 };
 use identifier::{IdentifyFault, LocalFault, Rule, identify, local_dtab};
+use machine::Ask;
 use name_tree::Path;
 use own_reply::OwnError;
 use std::alloc::Global;
@@ -29,10 +27,9 @@ pub(crate) struct Request {
     pub(crate) target: Target,
     /// Whom it asks. Empty where it names nobody.
     pub(crate) host: Bytes,
-    /// The path that it names.
-    pub(crate) path: Path,
-    /// The table that it brings along.
-    pub(crate) local: Dtab,
+    /// What is asked for it: the path that it names, and the table that it brings along. Each
+    /// attempt draws the moment and the words anew.
+    pub(crate) ask: Ask,
 }
 
 /// Why a request is not routed.
@@ -48,7 +45,6 @@ pub(crate) enum Refusal {
 /// its host, the path that it names, and the table that it brings along.
 pub(crate) fn seek(alloc: Global, rule: &Rule, head: &Head) -> Result<Request, Refusal>
     ensures seeks { SeeksAs rule.now head.now result }
-    ensures sound { IfOk result (λ r. AreSoundRules (rules_of r.local)) }
 {
     match read_target(alloc, head) {
         Ok(target) => framed(alloc, rule, head, target),
@@ -63,7 +59,6 @@ fn framed(alloc: Global, rule: &Rule, head: &Head, target: Target) -> Result<Req
     requires other { head.now.method ≢ codes "CONNECT" }
     requires served { IsServed head.now.method head.now.target (form_of target) }
     ensures tested { TestedAs (sought_by rule.now head.now (form_of target)) result }
-    ensures sound { IfOk result (λ r. AreSoundRules (rules_of r.local)) }
 {
     match framing(head) {
         Ok(framing) => hosted(alloc, rule, head, target, framing),
@@ -84,7 +79,6 @@ fn hosted(
     requires served { IsServed head.now.method head.now.target (form_of target) }
     ensures tested { TestedAs (by_host rule.now head.now framing target.line.items
         (host_of head.now.version head.now.fields (form_of target).authority)) result }
-    ensures sound { IfOk result (λ r. AreSoundRules (rules_of r.local)) }
 {
     match read_host(alloc, head, &target) {
         Ok(host) => identified_by(alloc, rule, head, target, framing, host),
@@ -106,7 +100,6 @@ fn identified_by(
     requires served { IsServed head.now.method head.now.target (form_of target) }
     ensures tested { TestedAs (by_path head.now framing host.items target.line.items
         (identified rule.now head.now host.items target.line.items)) result }
-    ensures sound { IfOk result (λ r. AreSoundRules (rules_of r.local)) }
 {
     match identify(alloc, rule, head, host.as_slice()) {
         Ok(path) => with_table(alloc, head, target, framing, host, path),
@@ -126,15 +119,18 @@ fn with_table(
 ) -> Result<Request, Refusal>
     ensures tested { TestedAs (by_table framing host.items target.line.items path
         (local_rules head.now.fields)) result }
-    ensures sound { IfOk result (λ r. AreSoundRules (rules_of r.local)) }
 {
     match local_dtab(alloc, head) {
         Ok(local) => Ok(Request {
             framing,
             target,
             host,
-            path,
-            local,
+            ask: Ask {
+                path,
+                local,
+                moment: 0,
+                words: [0; 3],
+            },
         }),
         Err(LocalFault::BadDtab) => Err(Refusal::Own(OwnError::Dtab)),
         Err(LocalFault::OutOfMemory) => Err(Refusal::OutOfMemory),

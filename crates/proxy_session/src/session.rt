@@ -1,5 +1,5 @@
 //! The requests of a connection, one after another.
-ghost use Rattle.std.specs.Prelude.{◌≡◌, ◌+◌, ◌<◌, ◌==◌, false, None, Some};
+ghost use Rattle.std.specs.Prelude.{◌≡◌, ◌+◌, ◌<◌, ◌==◌, ℕ, false, None, Some};
 ghost use Rattle.router.specs.Passes.{number_in, slot_in};
 ghost use Rattle.proxy_session.specs.Causes.{CauseOf, IsNoFault, NoneFailed};
 ghost use Rattle.proxy_session.specs.Session.{AnswersEnd, Reads, ServesNext, SessionsTo, Spends, ended_of_end, most_requests, own_of_end};
@@ -23,6 +23,10 @@ impl<J: Naming, D: Dialer, C: Clock> Server<J, D, C> {
     /// Serves a connection: its requests, one after another, until it ends or one closes it, and at
     /// most 10,000 of them. The gate is told when each begins and when it is answered.
     ///
+    /// Where the connection has a budget of retries, it is that of all its requests: over the whole
+    /// session the attempts behind the first of each request are at most
+    /// `reserve + percent * requests / 100`.
+    ///
     /// It gives `PeerEnded` and `Cut` only where a read gave the end, and `ReadFault` and
     /// `WriteFault` only where a read or a write failed. So where none does, every request that the
     /// client's bytes begin with is answered, up to one that closes, unless memory is wanting.
@@ -37,14 +41,15 @@ impl<J: Naming, D: Dialer, C: Clock> Server<J, D, C> {
         requires free { slot_in self.old.pass ≡ None }
         requires new { connection.old.served ≡ 0 }
         ensures session { let at = standing P.line D.upstream C.to_come in SessionsTo J.settings
-            context.now.rule.now (at connection.old self.old) (at connection.new self.new) result }
+            context.now.rule.now connection.old.budget connection.new.budget
+            (at connection.old self.old) (at connection.new self.new) result }
         ensures slot { slot_in self.new.pass ≡ None }
         ensures cause { CauseOf result (P.line connection.old.peer) (P.line connection.new.peer) }
         ensures complete { NoneFailed (P.line connection.old.peer) (P.line connection.new.peer)
             → IsNoFault result }
         ensures spent { let at = standing P.line D.upstream C.to_come in result ≡ Ended.Spent
-            → Spends J.settings context.now.rule.now (at connection.old self.old)
-            (at connection.new self.new) }
+            → Spends J.settings context.now.rule.now connection.old.budget connection.new.budget
+            (at connection.old self.old) (at connection.new self.new) }
         ensures closed { (D.upstream self.old.way.dialer).is_open ≡ false
             → (D.upstream self.new.way.dialer).is_open ≡ false }
         ensures number { number_in self.new.pass ≡ number_in self.old.pass }
@@ -69,6 +74,7 @@ impl<J: Naming, D: Dialer, C: Clock> Server<J, D, C> {
             (at connection.old self.old) (at connection.new self.new) result }
         ensures slot { slot_in self.new.pass ≡ slot_in self.old.pass }
         ensures served { connection.new.served ≡ connection.old.served }
+        ensures budget { connection.new.budget ≡ connection.old.budget }
     {
         read_request_head(alloc, &mut connection.peer, &mut self.rest)
     }
@@ -84,9 +90,11 @@ impl<J: Naming, D: Dialer, C: Clock> Server<J, D, C> {
     ) -> Option<Ended>
         requires free { slot_in self.old.pass ≡ None }
         requires few { connection.old.served < 10000 }
-        ensures serves { let at = standing P.line D.upstream C.to_come in ServesNext J.settings
-            context.now.rule.now (connection.old.served + 1 == most_requests)
-            (at connection.old self.old) (at connection.new self.new) result }
+        ensures serves { let at = standing P.line D.upstream C.to_come in (retries : ℕ)
+            × ServesNext J.settings context.now.rule.now
+            (connection.old.served + 1 == most_requests) retries connection.old.budget
+            connection.new.budget (at connection.old self.old) (at connection.new self.new)
+            result }
         ensures slot { slot_in self.new.pass ≡ None }
         ensures counts { result ≡ None → connection.new.served ≡ connection.old.served + 1 }
     {

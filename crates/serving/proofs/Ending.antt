@@ -8,7 +8,7 @@ use Rattle.line_base.specs.declared.listener.Endpoint.{Endpoint}
 use Rattle.line_base.specs.Nets.{Ended, Networking, Returns, is_clean}
 use Rattle.one_history.specs.Order.{Distinct}
 use Rattle.workers.specs.Served.{raised_by}
-use Rattle.identifier.specs.declared.rule.Rule.{Rule}
+use Rattle.serving.specs.declared.policy.Policy.{Policy}
 use Rattle.linker_config.specs.declared.loaded.LoadedItem.{LoadedItem}
 use Rattle.router.specs.declared.naming.Naming.{Ghosts}
 use Rattle.router.specs.declared.pass.Pass.{Pass}
@@ -19,7 +19,7 @@ use Rattle.serving.specs.declared.running.Served.{Served}
 use Rattle.serving.specs.declared.site.Site.{Site}
 use Rattle.serving.specs.Ending.{HasServed}
 use Rattle.serving.specs.Services.{HaveSeen}
-use Rattle.serving.specs.Posts.{Post, clients, interface, posts_of}
+use Rattle.serving.specs.Posts.{Post, clients, interface, jobs_of, posts_of}
 use Rattle.serving.specs.Returning.{with_all, with_stops}
 use Rattle.serving.specs.Running.{HasRun}
 use Rattle.serving.specs.Shifts.{IsTended, ServesPost, Shift}
@@ -49,28 +49,28 @@ module _ {J P : Type 0} {g : Ghosts J} where
       let even : (l.finished == l.accepted) ≡ true = grind (arith, nat_tests, same) in
       both_true (nat_lt 0 l.closes) (l.finished == l.accepted) some even
 
-  kept_clean : (line_of : P → Line) (rule : Rule) (moments : Option (List ℕ)) (told : Option (Returns P)) (post : Post) (s : Shift J P g) → ServesPost line_of rule moments told post s
+  kept_clean : (line_of : P → Line) (policy : Policy) (moments : Option (List ℕ)) (told : Option (Returns P)) (post : Post) (s : Shift J P g) → ServesPost line_of policy moments told post s
       → is_clean s.ended.listener ≡ true
-  kept_clean line_of rule moments told (clients endpoint seed) s k = tended_clean told endpoint s k.tended
-  kept_clean line_of rule moments told (interface which endpoint) s k = tended_clean told endpoint s k.tended
+  kept_clean line_of policy moments told (clients endpoint seed) s k = tended_clean told endpoint s k.tended
+  kept_clean line_of policy moments told (interface which endpoint) s k = tended_clean told endpoint s k.tended
 
-  all_clean : (line_of : P → Line) (rule : Rule) (moments : Option (List ℕ)) (told : Option (Returns P)) (posts : List Post) (shifts : List (Shift J P g))
-      → AllZip (ServesPost line_of rule moments told) posts shifts → AllByRecursion (λ (e : Ended P). is_clean e.listener ≡ true) (map (λ (s : Shift J P g). s.ended) shifts)
-  all_clean line_of rule moments told [] [] all = tt
-  all_clean line_of rule moments told [] (s ∷ ss) all = absurd all
-  all_clean line_of rule moments told (p ∷ ps) [] all = absurd all
-  all_clean line_of rule moments told (p ∷ ps) (s ∷ ss) all = (kept_clean line_of rule moments told p s all.0, all_clean line_of rule moments told ps ss all.1)
+  all_clean : (line_of : P → Line) (policy : Policy) (moments : Option (List ℕ)) (told : Option (Returns P)) (posts : List Post) (shifts : List (Shift J P g))
+      → AllZip (ServesPost line_of policy moments told) posts shifts → AllByRecursion (λ (e : Ended P). is_clean e.listener ≡ true) (map (λ (s : Shift J P g). s.ended) shifts)
+  all_clean line_of policy moments told [] [] all = tt
+  all_clean line_of policy moments told [] (s ∷ ss) all = absurd all
+  all_clean line_of policy moments told (p ∷ ps) [] all = absurd all
+  all_clean line_of policy moments told (p ∷ ps) (s ∷ ss) all = (kept_clean line_of policy moments told p s all.0, all_clean line_of policy moments told ps ss all.1)
 
   pub has_served : (line_of : P → Line) (site : Site) (moments : Option (List ℕ)) (loaded : List LoadedItem) (passes last : List (Pass J g)) (net net_after : Networking P) (served : Served)
-      → Distinct (numbers_of passes) → HaveSeen loaded passes → IfSome net.told (λ r. site.workers + 4 ≤ r.room)
+      → Distinct (numbers_of passes) → HaveSeen loaded passes → IfSome net.told (λ r. jobs_of site ≤ r.room)
       → HasRun line_of site moments passes last net net_after served.lacked_memory → IsClosed served.place last
       → HasServed line_of site moments loaded passes net net_after served
   has_served line_of site moments loaded passes last net net_after served apart seen room ran closed =
-      let n = site.workers + 4 in
+      let n = jobs_of site in
       let ends = map (λ (s : Shift J P g). s.ended) ran.shifts in
       let mid = with_stops n net in
-      let clean = all_clean line_of site.rule moments net.told (posts_of site) ran.shifts ran.served in
-      let count : length ends ≡ n = map_length (λ (s : Shift J P g). s.ended) ran.shifts ∙ (zip_count (ServesPost line_of site.rule moments net.told) (posts_of site) ran.shifts ran.served ∙ all_posts site) in
+      let clean = all_clean line_of site.policy moments net.told (posts_of site) ran.shifts ran.served in
+      let count : length ends ≡ n = map_length (λ (s : Shift J P g). s.ended) ran.shifts ∙ (zip_count (ServesPost line_of site.policy moments net.told) (posts_of site) ran.shifts ran.served ∙ all_posts site) in
       let behind = map (λ (s : Shift J P g). s.behind) ran.shifts in
       let first = map (λ (s : Shift J P g). s.before) ran.shifts in
       let all = subst (All (IsOf closed.ops)) ran.behind closed.passes_are in

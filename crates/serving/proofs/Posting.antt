@@ -7,11 +7,13 @@ use Rattle.line_base.specs.Nets.{AreNew, IsNew, Networking, Returns, after_stopp
 use Rattle.linker_config.specs.declared.config.Port.{Port}
 use Rattle.line_base.specs.declared.listener.Endpoint.{Endpoint}
 use Rattle.admin_api.specs.declared.serving.Which.TheVariants.{Namerd, Admin}
-use Rattle.serving.specs.Posts.{Post, client_post, endpoint_at, interface_post, posts_at, posts_of}
+use Rattle.serving.specs.Posts.{Post, client_post, endpoint_at, feed_jobs, interface_post, jobs_of}
+use Rattle.serving.specs.Posts.{main_posts, posts_at}
 use Rattle.serving.specs.Returning.{listened, with_stops}
 use Rattle.serving.specs.declared.bound.Bound.{Bound}
+use Rattle.serving.specs.declared.site.Feeding.{Feeding}
 use Rattle.serving.specs.declared.site.Site.{Site}
-use Rattle.serving.specs.Running.{AreNewFrom, Listens}
+use Rattle.serving.specs.Running.{AreNewFeed, AreNewFrom, Listens}
 use Rattle.serving.proofs.Returning.{given_told, listened_more, more_stops, room_made}
 
 module _ {P L : Type 0} (state : L → Listening P) (told : Option (Returns P)) (port : Port) where
@@ -46,21 +48,58 @@ later_new : {P L : Type 0} (state : L → Listening P) (port : Port) (ls : List 
     → AreNewFrom state new.told port 0 ls
 later_new state port ls k old new is all = subst (λ (n : Networking _). AreNewFrom state n.told port 0 ls) (sym is) (all_still_new (with_room k) state old.told port 0 ls all)
 
-pub all_listened : {P : Type 0} (first second third last : Networking P) (k : ℕ) → second ≡ listened k first → third ≡ listened 2 second → last ≡ listened 2 third → last ≡ listened (k + 4) first
-all_listened first second third last k a b c =
+main_listened : {P : Type 0} (first second third fourth : Networking P) (k : ℕ)
+    → second ≡ listened k first → third ≡ listened 2 second → fourth ≡ listened 2 third
+    → fourth ≡ listened (k + 4) first
+main_listened first second third fourth k a b c =
     c ∙ (ap (listened 2) b ∙ (ap (λ (n : Networking _). listened 2 (listened 2 n)) a ∙ (ap (listened 2) (listened_more k 2 (k + 2) first refl) ∙ listened_more (k + 2) 2 (k + 4) first (omega arith))))
 
-pub listens : {P L : Type 0} (state : L → Listening P) (first second third last : Networking P) (site : Site) (b : Bound L) → second ≡ listened site.workers first → third ≡ listened 2 second
-    → last ≡ listened 2 third → AreNewFrom state first.told site.server 0 b.server.items → AreNewFrom state second.told site.namerd 0 b.namerd.items → AreNewFrom state third.told site.admin 0 b.admin.items
-    → (length b.server.items ≡ site.workers) × (length b.namerd.items ≡ 2) × (length b.admin.items ≡ 2) → site.workers < 2 ^ 32 → Listens state last.told site b
-listens state first second third last site b one two three server namerd admin count few = record {
-  server = later_new state site.server b.server.items 2 third last three (later_new state site.server b.server.items 2 second third two (later_new state site.server b.server.items site.workers first second one server));
-  namerd = later_new state site.namerd b.namerd.items 2 third last three (later_new state site.namerd b.namerd.items 2 second third two namerd);
-  admin = later_new state site.admin b.admin.items 2 third last three admin;
-  count = count;
-  few = few;
-  room = room_made (site.workers + 4) first last (all_listened first second third last site.workers one two three);
-}
+pub all_listened : {P : Type 0} (first second third fourth last : Networking P) (site : Site)
+    → second ≡ listened site.workers first → third ≡ listened 2 second → fourth ≡ listened 2 third
+    → last ≡ listened (feed_jobs site.feed) fourth → last ≡ listened (jobs_of site) first
+all_listened first second third fourth last site a b c d =
+    d ∙ (ap (listened (feed_jobs site.feed)) (main_listened first second third fourth site.workers a b c)
+    ∙ listened_more (site.workers + 4) (feed_jobs site.feed) (jobs_of site) first refl)
+
+-- the listeners of the feed are new for a net that can tell more
+feed_still_new : {P L : Type 0} (state : L → Listening P) (feed : Option Feeding) (ls : List L)
+    (k : ℕ) (old new : Networking P) → new ≡ listened k old → AreNewFeed state old.told feed ls
+    → AreNewFeed state new.told feed ls
+feed_still_new state None ls k old new is all = tt
+feed_still_new state (Some f) ls k old new is all = later_new state f.port ls k old new is all
+
+-- what listening on the four addresses gave, one after another
+pub record Bindings {P L : Type 0} (state : L → Listening P) (first second third fourth last : Networking P)
+    (site : Site) (b : Bound L) : Type 0 where
+  pub one : second ≡ listened site.workers first
+  pub two : third ≡ listened 2 second
+  pub three : fourth ≡ listened 2 third
+  pub four : last ≡ listened (feed_jobs site.feed) fourth
+  pub server : AreNewFrom state first.told site.server 0 b.server.items
+  pub namerd : AreNewFrom state second.told site.namerd 0 b.namerd.items
+  pub admin : AreNewFrom state third.told site.admin 0 b.admin.items
+  pub feed : AreNewFeed state fourth.told site.feed b.feed.items
+
+pub listens : {P L : Type 0} (state : L → Listening P) (first second third fourth last : Networking P)
+    (site : Site) (b : Bound L) → Bindings state first second third fourth last site b
+    → (length b.server.items ≡ site.workers) × (length b.namerd.items ≡ 2) × (length b.admin.items ≡ 2)
+    × (length b.feed.items ≡ feed_jobs site.feed)
+    → site.workers < 2 ^ 32 → Listens state last.told site b
+listens state first second third fourth last site b all count few =
+    let k = feed_jobs site.feed in
+    let twice = λ (port : Port) (ls : List _) (new : AreNewFrom state third.told port 0 ls).
+    later_new state port ls k fourth last all.four (later_new state port ls 2 third fourth all.three new) in
+    record {
+      server = twice site.server b.server.items (later_new state site.server b.server.items 2 second third all.two
+          (later_new state site.server b.server.items site.workers first second all.one all.server));
+      namerd = twice site.namerd b.namerd.items (later_new state site.namerd b.namerd.items 2 second third all.two all.namerd);
+      admin = twice site.admin b.admin.items all.admin;
+      feed = feed_still_new state site.feed b.feed.items k fourth last all.four all.feed;
+      count = count;
+      few = few;
+      room = room_made (jobs_of site) first last
+          (all_listened first second third fourth last site all.one all.two all.three all.four);
+    }
 
 -- a stop that is handed out changes nothing of what is told
 pub told_kept : {P : Type 0} (k : ℕ) (old new : Networking P) → new ≡ with_stops k old → new.told ≡ old.told
@@ -72,20 +111,28 @@ pub stops_moved : {P L : Type 0} (whole rest : List L) (l : L) (old new all : Ne
 stops_moved whole rest l old new all cut is same =
     ap (λ (n : Networking _). with_stops (length rest) n) is ∙ (ap (λ (ls : List _). with_stops (length ls) old) (sym cut) ∙ same)
 
-pub all_stops : {P : Type 0} (first second third last : Networking P) (a b c k : ℕ) → second ≡ with_stops a first → third ≡ with_stops b second → last ≡ with_stops c third → a + b + c ≡ k
-    → last ≡ with_stops k first
-all_stops first second third last a b c k one two three sum =
+main_stops : {P : Type 0} (first second third last : Networking P) (a b c k : ℕ)
+    → second ≡ with_stops a first → third ≡ with_stops b second → last ≡ with_stops c third
+    → a + b + c ≡ k → last ≡ with_stops k first
+main_stops first second third last a b c k one two three sum =
     three ∙ (ap (with_stops c) two ∙ (ap (λ (n : Networking _). with_stops c (with_stops b n)) one
     ∙ (ap (with_stops c) (more_stops a b first) ∙ (more_stops (a + b) c first ∙ ap (λ (i : ℕ). with_stops i first) sum))))
 
--- the jobs of all listeners, whatever is known of them
-pub all_posted : {A P : Type 0} (R : Option (Returns P) → Post → A → Type 0) (site : Site) (told told_1 told_2 : Option (Returns P)) (a b c : ℕ) (first second third last : List A)
+pub all_stops : {P : Type 0} (first second third fourth last : Networking P) (a b c d k : ℕ)
+    → second ≡ with_stops a first → third ≡ with_stops b second → fourth ≡ with_stops c third
+    → last ≡ with_stops d fourth → a + b + c + d ≡ k → last ≡ with_stops k first
+all_stops first second third fourth last a b c d k one two three four sum =
+    four ∙ (ap (with_stops d) (main_stops first second third fourth a b c (a + b + c) one two three refl)
+    ∙ (more_stops (a + b + c) d first ∙ ap (λ (i : ℕ). with_stops i first) sum))
+
+-- the jobs of the listeners that every router has, whatever is known of them
+pub main_posted : {A P : Type 0} (R : Option (Returns P) → Post → A → Type 0) (site : Site) (told told_1 told_2 : Option (Returns P)) (a b c : ℕ) (first second third last : List A)
     → told_1 ≡ told → told_2 ≡ told → a ≡ site.workers → b ≡ 2 → c ≡ 2 → first ≡ []
     → ((ps : List Post) → AllZip (R told) ps first → AllZip (R told) (ps ++ posts_at (client_post site) a) second)
     → ((ps : List Post) → AllZip (R told_1) ps second → AllZip (R told_1) (ps ++ posts_at (interface_post Namerd site.namerd) b) third)
     → ((ps : List Post) → AllZip (R told_2) ps third → AllZip (R told_2) (ps ++ posts_at (interface_post Admin site.admin) c) last)
-    → AllZip (R told) (posts_of site) last
-all_posted {A} {P} R site told told_1 told_2 a b c first second third last same_1 same_2 proxies namerd admin none one two three =
+    → AllZip (R told) (main_posts site) last
+main_posted {A} {P} R site told told_1 told_2 a b c first second third last same_1 same_2 proxies namerd admin none one two three =
     let By : Option (Returns P) → List Post → List A → Type 0 = λ t ps js. AllZip (R t) ps js in
     let nobody : By told [] first = subst (By told []) (sym none) tt in
     let at_proxies = posts_at (client_post site) in

@@ -9,8 +9,8 @@ use denote.Param.SendFields.{as_row_send, declared_send, variants_send}
 use Rattle.std.proofs.Crossing.{crosses}
 use Rattle.std.specs.declared.sync.ledger.Ledger as ledger
 use Rattle.admin_api.specs.contracts.serving.Which as Which
-use Rattle.identifier.proofs.rule.Rule.TheSendSync as rule
-use Rattle.identifier.specs.contracts.rule.Rule as Rule
+use Rattle.serving.proofs.policy.Policy.TheSendSync as policy
+use Rattle.serving.specs.contracts.policy.Policy as Policy
 use Rattle.router.specs.contracts.router.Router as Router
 use Rattle.router.specs.declared.naming.Naming as naming
 use Rattle.serving.specs.contracts.interface.ApiServer as ApiServer
@@ -34,7 +34,7 @@ module _ (a : NamedLft) (J L D C S : RattleType) (n : naming.Ghosts J.Denot) (l 
     (
       shared_send a (Router.the_row J n l) tt (router_sync J n l j),
       (
-        shared_send a Rule.the_row tt rule.the_sync,
+        shared_send a Policy.the_row tt policy.the_sync,
         (server_send J D C n l j d c, (search sendable, tt)),
       ),
     ),
@@ -46,7 +46,7 @@ module _ (a : NamedLft) (J L D C S : RattleType) (n : naming.Ghosts J.Denot) (l 
     (
       shared_send a (Router.the_row J n l) tt (router_sync J n l j),
       (
-        variants_send Which.enum (tt, (tt, tt)),
+        variants_send Which.enum (tt, (tt, ((search sendable, tt), tt))),
         (
           pass_send J n l j,
           (own_send S s, (search sendable, tt)),

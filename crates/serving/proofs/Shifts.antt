@@ -1,5 +1,5 @@
 -- From the jobs that ran to what came of each listener.
-use Rattle.std.proofs.Common.{◌≡◌, ℕ, ◌+◌, ◌||◌, Bool, false, List, [], ◌∷◌, ◌++◌, length, length-append, map, refl, sym, ap, subst, ◌∙◌, arith, None}
+use Rattle.std.proofs.Common.{◌≡◌, ℕ, ◌+◌, ◌||◌, Bool, false, List, [], ◌∷◌, ◌++◌, length, length-append, map, refl, sym, ap, subst, ◌∙◌, arith, None, Some}
 use Rattle.std.proofs.lemmas.Bool.Decides.{nat_tests}
 use Rattle.std.specs.Prelude.{Option, nat_le}
 use Rattle.std.specs.List.{AllZip, list_any}
@@ -14,7 +14,7 @@ use Rattle.workers.specs.declared.accepting.Accepting.{Accepting}
 use Rattle.workers.specs.declared.accepting.Accepting.TheVariants as accepting
 use Rattle.workers.specs.Runs.{ComesBack}
 use Rattle.workers.specs.Served.{Ends, Lends, ServesEach}
-use Rattle.identifier.specs.declared.rule.Rule.{Rule}
+use Rattle.serving.specs.declared.policy.Policy.{Policy}
 use Rattle.router.specs.declared.naming.Naming.{Ghosts}
 use Rattle.router.specs.declared.pass.Pass.{Pass}
 use Rattle.router.specs.Passes.{number_in}
@@ -28,10 +28,12 @@ use Rattle.serving.specs.declared.job.ApiJob.{ApiJob}
 use Rattle.serving.specs.declared.job.ProxyJob.{ProxyJob}
 use Rattle.serving.specs.declared.job.ServingJob.{ServingJob}
 use Rattle.serving.specs.declared.job.ServingJob.TheVariants as job
+use Rattle.serving.specs.declared.site.Feeding.{Feeding}
 use Rattle.serving.specs.declared.site.Site.{Site}
 use Rattle.serving.specs.Interfaces.{AnswersNext, standing_of}
 use Rattle.serving.specs.Jobs.{ComeBack, IsApiPosted, IsPosted, IsProxyPosted, Runs, RunsApi, RunsProxy, ended_of, going_of, lacked_of, pass_of, passes_of_jobs, stops_behind}
-use Rattle.serving.specs.Posts.{Post, clients, interface, client_post, interface_post, posts_at, posts_of}
+use Rattle.serving.specs.Posts.{Post, clients, interface, client_post, feed_jobs, feed_posts, interface_post}
+use Rattle.serving.specs.Posts.{jobs_of, main_posts, posts_at, posts_of}
 use Rattle.serving.specs.Returning.{all_ended, is_broken, with_stops}
 use Rattle.serving.specs.Running.{HasRun}
 use Rattle.serving.specs.Sessions.{Attends, Going}
@@ -56,24 +58,24 @@ module _ {J P : Type 0} {g : Ghosts J} where
       let closed = closed_end end first s.ended.listener ends whole in
       (record { first = first; new = new; lends = lends; closes = closed.1.0 ∙ ap raised new.closes; run = closed.1.1; number = number }, closed.0)
 
-module _ {J L D C S P : Type 0} {g : Ghosts J} (line_of : P → Line) (state : L → Listening P) (upstream : D → Upstream) (to_come : C → Option (List ℕ)) (calls : S → ℕ) (rule : Rule)
+module _ {J L D C S P : Type 0} {g : Ghosts J} (line_of : P → Line) (state : L → Listening P) (upstream : D → Upstream) (to_come : C → Option (List ℕ)) (calls : S → ℕ) (policy : Policy)
     (moments : Option (List ℕ)) (told : Option (Returns P)) where
   abbrev shift_of : List (P × P) → ServingJob J L D C S g → ServingJob J L D C S g → Shift J P g
   shift_of served old new =
       record { before = pass_of old; behind = pass_of new; served = served; ended = ended_of state upstream calls new; lacked_memory = lacked_of new }
 
-  with_sessions : (endpoint : Endpoint) (seed : ℕ) (old new : ProxyJob J L D C S g) (end : Accepting) → IsProxyPosted state upstream to_come calls rule moments told endpoint seed old
+  with_sessions : (endpoint : Endpoint) (seed : ℕ) (old new : ProxyJob J L D C S g) (end : Accepting) → IsProxyPosted state upstream to_come calls policy moments told endpoint seed old
       → (runs : RunsProxy line_of state upstream to_come calls old new end) → nat_le 100 (state new.listener).run ≡ false
-      → HasSessions line_of rule moments told endpoint seed (shift_of runs.served (job.Proxy old) (job.Proxy new))
+      → HasSessions line_of policy moments told endpoint seed (shift_of runs.served (job.Proxy old) (job.Proxy new))
   with_sessions endpoint seed old new end posted runs whole =
       let s : Shift J P g = shift_of runs.served (job.Proxy old) (job.Proxy new) in
       let closed = tended told endpoint s (state old.listener) end posted.listener runs.lends runs.ends whole runs.number in
       let final = going_of upstream to_come new.server in
-      let By : Rule → Going → Type 0 = λ r first. ServesEach (λ a p q b. Attends g.settings r a (line_of p) (line_of q) b) first runs.served final in
+      let By : Policy → Going → Type 0 = λ r first. ServesEach (λ a p q b. Attends g.settings r a (line_of p) (line_of q) b) first runs.served final in
       let start : Lcg → Bool → Going = λ w lacked. record { upstream = upstream old.server.server.way.dialer; caller = caller_of old.server.server.pass; moments = to_come old.server.server.clock; words = w; lacked_memory = lacked } in
-      let ruled = subst (λ (r : Rule). By r (start old.server.server.words old.server.lacked_memory)) posted.rule_is runs.sessions in
-      let worded = subst (λ (w : Lcg). By rule (start w old.server.lacked_memory)) posted.words ruled in
-      let sessions = subst (λ (b : Bool). By rule (start (pcg64_of_seed (pcg32_seed 32 seed)) b)) posted.lacked worded in
+      let ruled = subst (λ (r : Policy). By r (start old.server.server.words old.server.lacked_memory)) posted.policy_is runs.sessions in
+      let worded = subst (λ (w : Lcg). By policy (start w old.server.lacked_memory)) posted.words ruled in
+      let sessions = subst (λ (b : Bool). By policy (start (pcg64_of_seed (pcg32_seed 32 seed)) b)) posted.lacked worded in
       record {
         tended = closed.0;
         dialer = upstream old.server.server.way.dialer;
@@ -107,13 +109,13 @@ module _ {J L D C S P : Type 0} {g : Ghosts J} (line_of : P → Line) (state : L
   -- a job that was posted, and ran
   record One (post : Post) (old new : ServingJob J L D C S g) : Type 0 where
     shift : Shift J P g
-    keeps : ServesPost line_of rule moments told post shift
+    keeps : ServesPost line_of policy moments told post shift
     before : shift.before ≡ pass_of old
     behind : shift.behind ≡ pass_of new
     ended : shift.ended ≡ ended_of state upstream calls new
     lacked : shift.lacked_memory ≡ lacked_of new
 
-  one : (post : Post) (old new : ServingJob J L D C S g) (end : Accepting) → IsPosted state upstream to_come calls rule moments told post old → Runs line_of state upstream to_come calls old new end
+  one : (post : Post) (old new : ServingJob J L D C S g) (end : Accepting) → IsPosted state upstream to_come calls policy moments told post old → Runs line_of state upstream to_come calls old new end
       → is_broken (ended_of state upstream calls new) ≡ false → One post old new
   one (clients endpoint seed) (job.Proxy old) (job.Proxy new) end posted runs whole = record {
     shift = shift_of runs.served (job.Proxy old) (job.Proxy new);
@@ -136,14 +138,14 @@ module _ {J L D C S P : Type 0} {g : Ghosts J} (line_of : P → Line) (state : L
   -- all of them
   record Gathered (posts : List Post) (jobs : List (ServingJob J L D C S g)) (back : List (ServingJob J L D C S g × Accepting)) : Type 0 where
     shifts : List (Shift J P g)
-    served : AllZip (ServesPost line_of rule moments told) posts shifts
+    served : AllZip (ServesPost line_of policy moments told) posts shifts
     before : map (λ (s : Shift J P g). s.before) shifts ≡ passes_of_jobs jobs
     behind : map (λ (s : Shift J P g). s.behind) shifts ≡ map (λ (b : ServingJob J L D C S g × Accepting). pass_of b.0) back
     ended : map (λ (s : Shift J P g). s.ended) shifts ≡ map (λ (b : ServingJob J L D C S g × Accepting). ended_of state upstream calls b.0) back
     lacked : list_any (λ (s : Shift J P g). s.lacked_memory) shifts ≡ list_any (λ (b : ServingJob J L D C S g × Accepting). lacked_of b.0) back
 
   gather : (posts : List Post) (jobs : List (ServingJob J L D C S g)) (back : List (ServingJob J L D C S g × Accepting))
-      → AllZip (IsPosted state upstream to_come calls rule moments told) posts jobs → AllZip (ComesBack (Runs line_of state upstream to_come calls)) jobs back
+      → AllZip (IsPosted state upstream to_come calls policy moments told) posts jobs → AllZip (ComesBack (Runs line_of state upstream to_come calls)) jobs back
       → list_any (λ (b : ServingJob J L D C S g × Accepting). is_broken (ended_of state upstream calls b.0)) back ≡ false → Gathered posts jobs back
   gather [] [] [] posted ran whole = record { shifts = []; served = tt; before = refl; behind = refl; ended = refl; lacked = refl }
   gather [] [] (b ∷ bs) posted ran whole = absurd ran
@@ -186,12 +188,12 @@ single (x ∷ y ∷ xs) one = let no : ⊥ = omega (arith, one) in absurd no
 module _ {J L D C S P : Type 0} {g : Ghosts J} (line_of : P → Line) (state : L → Listening P) (upstream : D → Upstream) (to_come : C → Option (List ℕ)) (calls : S → ℕ) where
   -- the jobs of a site were posted, ran, and were taken back, and one pass is left
   pub has_run : (site : Site) (moments : Option (List ℕ)) (jobs : List (ServingJob J L D C S g)) (passes rest first ran all : List (Pass J g)) (net mid net_after : Networking P) (failed lacked : Bool)
-      → AllZip (IsPosted state upstream to_come calls site.rule moments net.told) (posts_of site) jobs → passes_of_jobs jobs ++ rest ≡ passes → length rest ≡ 1
-      → mid ≡ with_stops (site.workers + 4) net → failed ≡ false → first ≡ []
+      → AllZip (IsPosted state upstream to_come calls site.policy moments net.told) (posts_of site) jobs → passes_of_jobs jobs ++ rest ≡ passes → length rest ≡ 1
+      → mid ≡ with_stops (jobs_of site) net → failed ≡ false → first ≡ []
       → ComeBack (Runs line_of state upstream to_come calls) state upstream calls jobs first ran mid net_after failed lacked → all ≡ ran ++ rest
       → HasRun line_of site moments passes all net net_after lacked
   has_run site moments jobs passes rest first ran all net mid net_after failed lacked posted begun left handed good none came ended =
-      let g' = gather line_of state upstream to_come calls site.rule moments net.told (posts_of site) jobs came.back posted came.ran (sym came.failed_is ∙ good) in
+      let g' = gather line_of state upstream to_come calls site.policy moments net.told (posts_of site) jobs came.back posted came.ran (sym came.failed_is ∙ good) in
       let last = single rest left in
       let back = map (λ (b : ServingJob J L D C S g × Accepting). pass_of b.0) came.back in
       let returned : ran ≡ back = came.passes_are ∙ ap (λ (ps : List (Pass J g)). ps ++ back) none in
@@ -206,8 +208,14 @@ module _ {J L D C S P : Type 0} {g : Ghosts J} (line_of : P → Line) (state : L
       }
 
 -- as many posts as there are listeners
-pub all_posts : (site : Site) → length (posts_of site) ≡ site.workers + 4
+feed_count : (feed : Option Feeding) → length (feed_posts feed) ≡ feed_jobs feed
+feed_count None = refl
+feed_count (Some f) = refl
+
+pub all_posts : (site : Site) → length (posts_of site) ≡ jobs_of site
 all_posts site =
+    let feed = feed_count site.feed in
+    let whole = length-append (main_posts site) (feed_posts site.feed) in
     let proxies = posts_at (client_post site) site.workers in
     let namerd = posts_at (interface_post Namerd site.namerd) 2 in
     let admin = posts_at (interface_post Admin site.admin) 2 in
@@ -216,4 +224,4 @@ all_posts site =
     let first = posts_count (client_post site) site.workers in
     let second = posts_count (interface_post Namerd site.namerd) 2 in
     let third = posts_count (interface_post Admin site.admin) 2 in
-    omega (arith, outer, inner, first, second, third)
+    omega (arith, whole, feed, outer, inner, first, second, third)

@@ -12,6 +12,7 @@ use Rattle.serving.specs.declared.running.Served.{Served}
 use Rattle.serving.specs.declared.site.Site.{Site}
 use Rattle.serving.specs.Services.{HaveSeen}
 use Rattle.serving.specs.Returning.{with_all}
+use Rattle.serving.specs.Posts.{jobs_of}
 use Rattle.serving.specs.Running.{HasRun}
 
 module _ {J P : Type 0} {g : Ghosts J} where
@@ -24,8 +25,8 @@ module _ {J P : Type 0} {g : Ghosts J} where
     pub last : List (Pass J g)
     pub ran : HasRun line_of site moments passes last net net_after served.lacked_memory
     pub closed : IsClosed served.place last
-    pub clean : net_after.clean ≡ raised_by (site.workers + 4) net.clean
-    pub stops_given : net_after.stops_given ≡ raised_by (site.workers + 4) net.stops_given
-    pub stops_returned : net_after.stops_returned ≡ raised_by (site.workers + 4) net.stops_returned
+    pub clean : net_after.clean ≡ raised_by (jobs_of site) net.clean
+    pub stops_given : net_after.stops_given ≡ raised_by (jobs_of site) net.stops_given
+    pub stops_returned : net_after.stops_returned ≡ raised_by (jobs_of site) net.stops_returned
     pub told : net_after.told ≡ option_map (with_all (map (λ s. s.ended) ran.shifts)) net.told
     pub place : length loaded ≤ served.place

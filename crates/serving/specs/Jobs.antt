@@ -12,7 +12,7 @@ use Rattle.workers.specs.declared.accepting.Accepting.{Accepting}
 use Rattle.workers.specs.declared.accepting.Accepting.TheVariants.{Closed, Failing}
 use Rattle.workers.specs.Runs.{ComesBack}
 use Rattle.workers.specs.Served.{Ends, Lends, ServesEach}
-use Rattle.identifier.specs.declared.rule.Rule.{Rule}
+use Rattle.serving.specs.declared.policy.Policy.{Policy}
 use Rattle.router.specs.declared.naming.Naming.{Ghosts}
 use Rattle.router.specs.declared.pass.Pass.{Pass}
 use Rattle.router.specs.Passes.{number_in}
@@ -55,7 +55,7 @@ module _ {J L S P : Type 0} {g : Ghosts J} (state : L → Listening P) (calls : 
     pub lacked : j.server.lacked_memory ≡ false
     pub stops : calls j.server.stop ≡ 0
 
-module _ {J L D C S P : Type 0} {g : Ghosts J} (state : L → Listening P) (upstream : D → Upstream) (to_come : C → Option (List ℕ)) (calls : S → ℕ) (rule : Rule) (moments : Option (List ℕ))
+module _ {J L D C S P : Type 0} {g : Ghosts J} (state : L → Listening P) (upstream : D → Upstream) (to_come : C → Option (List ℕ)) (calls : S → ℕ) (policy : Policy) (moments : Option (List ℕ))
     (told : Option (Returns P)) where
   -- a new job for the connections of clients
   pub record IsProxyPosted (endpoint : Endpoint) (seed : ℕ) (j : ProxyJob J L D C S g) : Type 0 where
@@ -64,7 +64,7 @@ module _ {J L D C S P : Type 0} {g : Ghosts J} (state : L → Listening P) (upst
     pub hung : (upstream j.server.server.way.dialer).is_open ≡ false
     pub clock : Begins moments (to_come j.server.server.clock)
     pub words : j.server.server.words ≡ pcg64_of_seed (pcg32_seed 32 seed)
-    pub rule_is : j.server.rule.now ≡ rule
+    pub policy_is : j.server.policy.now ≡ policy
     pub lacked : j.server.lacked_memory ≡ false
     pub stops : calls j.stop ≡ 0
 
@@ -101,7 +101,7 @@ module _ {J L D C S P : Type 0} {g : Ghosts J} (line_of : P → Line) (state : L
   -- a job ran that serves clients: each peer that its listener handed out had its session, and was given back, until the listener was closed or broke
   pub record RunsProxy (old new : ProxyJob J L D C S g) (end : Accepting) : Type 0 where
     pub served : List (P × P)
-    pub sessions : ServesEach (λ s p q t. Attends g.settings old.server.rule.now s (line_of p) (line_of q) t) (going_of upstream to_come old.server) served (going_of upstream to_come new.server)
+    pub sessions : ServesEach (λ s p q t. Attends g.settings old.server.policy.now s (line_of p) (line_of q) t) (going_of upstream to_come old.server) served (going_of upstream to_come new.server)
     pub lends : Lends served (state old.listener) (state new.listener)
     pub ends : Ends end (state old.listener) (state new.listener)
     pub stops : calls new.stop ≡ stops_behind end (calls old.stop)

@@ -1,5 +1,5 @@
 -- A router that is ready to serve, and how it ends.
-use Rattle.std.specs.Prelude.{◌≡◌, ℕ, suc, ◌+◌, ◌≤◌, ◌<◌, ◌^◌, Bool, List, [], ◌∷◌, ◌++◌, length, map, Option, IfSome}
+use Rattle.std.specs.Prelude.{◌≡◌, ℕ, suc, ◌≤◌, ◌<◌, ◌^◌, Bool, List, [], ◌∷◌, ◌++◌, length, map, Option, None, Some, IfSome}
 use Rattle.std.specs.List.{AllZip, list_any}
 use Rattle.one_history.specs.Order.{Distinct}
 use Rattle.line_base.specs.Accepts.{Listening}
@@ -11,9 +11,10 @@ use Rattle.router.specs.Closing.{numbers_of}
 use Rattle.line_base.specs.Lines.{Line}
 use Rattle.serving.specs.declared.bound.Bound.{Bound}
 use Rattle.serving.specs.declared.running.Serving.{Serving}
+use Rattle.serving.specs.declared.site.Feeding.{Feeding}
 use Rattle.serving.specs.declared.site.Site.{Site}
 use Rattle.serving.specs.Passes.{AreFree}
-use Rattle.serving.specs.Posts.{endpoint_at, posts_of}
+use Rattle.serving.specs.Posts.{endpoint_at, feed_jobs, jobs_of, posts_of}
 use Rattle.serving.specs.Returning.{all_ended, with_stops}
 use Rattle.serving.specs.Shifts.{ServesPost, Shift}
 
@@ -21,16 +22,24 @@ module _ {P L : Type 0} (state : L → Listening P) (told : Option (Returns P)) 
   -- new listeners at an address, for this place and those behind it
   abbrev pub AreNewFrom : Port → ℕ → List L → Type 0
   AreNewFrom port place [] = Unit {0}
-  AreNewFrom port place (l ∷ ls) = IsNew told (endpoint_at port place) (state l) × AreNewFrom port (suc place) ls
+  AreNewFrom port place (l ∷ ls) =
+      IsNew told (endpoint_at port place) (state l) × AreNewFrom port (suc place) ls
+
+  -- those of the feed, where it is served
+  abbrev pub AreNewFeed : Option Feeding → List L → Type 0
+  AreNewFeed None ls = Unit {0}
+  AreNewFeed (Some f) ls = AreNewFrom f.port 0 ls
 
   -- there is a new listener for each post of a site, and the net can tell when they come back
   pub record Listens (site : Site) (b : Bound L) : Type 0 where
     pub server : AreNewFrom site.server 0 b.server.items
     pub namerd : AreNewFrom site.namerd 0 b.namerd.items
     pub admin : AreNewFrom site.admin 0 b.admin.items
-    pub count : (length b.server.items ≡ site.workers) × (length b.namerd.items ≡ 2) × (length b.admin.items ≡ 2)
+    pub feed : AreNewFeed site.feed b.feed.items
+    pub count : (length b.server.items ≡ site.workers) × (length b.namerd.items ≡ 2)
+        × (length b.admin.items ≡ 2) × (length b.feed.items ≡ feed_jobs site.feed)
     pub few : site.workers < 2 ^ 32
-    pub room : IfSome told (λ r. site.workers + 4 ≤ r.room)
+    pub room : IfSome told (λ r. jobs_of site ≤ r.room)
 
 module _ {J L : Type 0} {g : Ghosts J} where
   -- the passes of its router, and its listeners
@@ -54,6 +63,6 @@ module _ {J P : Type 0} {g : Ghosts J} where
     pub rest : Pass J g
     pub before : passes ≡ map (λ s. s.before) shifts ++ rest ∷ []
     pub behind : passes_after ≡ map (λ s. s.behind) shifts ++ rest ∷ []
-    pub served : AllZip (ServesPost line_of site.rule moments net.told) (posts_of site) shifts
-    pub net_is : net_after ≡ all_ended (map (λ s. s.ended) shifts) (with_stops (site.workers + 4) net)
+    pub served : AllZip (ServesPost line_of site.policy moments net.told) (posts_of site) shifts
+    pub net_is : net_after ≡ all_ended (map (λ s. s.ended) shifts) (with_stops (jobs_of site) net)
     pub lacked : lacked_memory ≡ list_any (λ s. s.lacked_memory) shifts

@@ -7,7 +7,7 @@ use Rattle.line_base.specs.Accepts.{Listening}
 use Rattle.line_base.specs.Clocks.{Begins}
 use Rattle.line_base.specs.Nets.{Ended, IsNew, IsNewLog, Returns}
 use Rattle.workers.specs.Served.{Lends, ServesEach}
-use Rattle.identifier.specs.declared.rule.Rule.{Rule}
+use Rattle.serving.specs.declared.policy.Policy.{Policy}
 use Rattle.router.specs.declared.naming.Naming.{Ghosts}
 use Rattle.router.specs.declared.pass.Pass.{Pass}
 use Rattle.router.specs.Passes.{number_in}
@@ -44,14 +44,14 @@ module _ {J P : Type 0} {g : Ghosts J} where
 
   -- each connection of a client was a session, with what the one before it left: the first one with a new dialer, a fork of a clock with these moments, and a generator with this
   -- seed. Its stop was never called
-  pub record HasSessions (line_of : P → Line) (rule : Rule) (moments : Option (List ℕ)) (told : Option (Returns P)) (endpoint : Endpoint) (seed : ℕ) (s : Shift J P g) : Type 0 where
+  pub record HasSessions (line_of : P → Line) (policy : Policy) (moments : Option (List ℕ)) (told : Option (Returns P)) (endpoint : Endpoint) (seed : ℕ) (s : Shift J P g) : Type 0 where
     pub tended : IsTended told endpoint s
     pub dialer : Upstream
     pub new_dialer : IsNewLog told dialer.log × (dialer.is_open ≡ false)
     pub clock : Option (List ℕ)
     pub forked : Begins moments clock
     pub final : Going
-    pub sessions : ServesEach (λ old p q new. Attends g.settings rule old (line_of p) (line_of q) new) (beginning (caller_of s.before) dialer clock seed) s.served final
+    pub sessions : ServesEach (λ old p q new. Attends g.settings policy old (line_of p) (line_of q) new) (beginning (caller_of s.before) dialer clock seed) s.served final
     pub caller : final.caller ≡ caller_of s.behind
     pub log : s.ended.log ≡ final.upstream.log
     pub lacked : s.lacked_memory ≡ final.lacked_memory
@@ -65,6 +65,6 @@ module _ {J P : Type 0} {g : Ghosts J} where
     pub log : s.ended.log ≡ None
 
   -- a listener's connections were served as its post says
-  abbrev pub ServesPost : (P → Line) → Rule → Option (List ℕ) → Option (Returns P) → Post → Shift J P g → Type 0
-  ServesPost line_of rule moments told (clients endpoint seed) s = HasSessions line_of rule moments told endpoint seed s
-  ServesPost line_of rule moments told (interface which endpoint) s = IsAnswered line_of told which endpoint s
+  abbrev pub ServesPost : (P → Line) → Policy → Option (List ℕ) → Option (Returns P) → Post → Shift J P g → Type 0
+  ServesPost line_of policy moments told (clients endpoint seed) s = HasSessions line_of policy moments told endpoint seed s
+  ServesPost line_of policy moments told (interface which endpoint) s = IsAnswered line_of told which endpoint s

@@ -1,12 +1,14 @@
 //! The listeners of a router's addresses.
-ghost use Rattle.std.specs.Prelude.{◌≡◌, ◌+◌, ◌<◌, ◌^◌, length, IfOk};
+ghost use Rattle.std.specs.Prelude.{◌≡◌, ◌<◌, ◌^◌, length, IfOk};
 ghost use Rattle.line_base.specs.Nets.{HasNetCause};
 ghost use Rattle.serving.specs.Returning.{listened};
-ghost use Rattle.serving.specs.Running.{AreNewFrom, Listens};
+ghost use Rattle.serving.specs.Posts.{feed_jobs, jobs_of};
+ghost use Rattle.serving.specs.Running.{AreNewFeed, AreNewFrom, Listens};
 
-use crate::site::{API_JOBS, Site};
+use crate::site::{API_JOBS, FEED_JOBS, Feeding, Site};
 use line_base::{Net, NetFault};
 use linker_config::Port;
+use std::alloc::Global;
 
 /// The listeners of a router, one for each job.
 #[derive(Drop)]
@@ -17,6 +19,8 @@ pub struct Bound<L> {
     pub namerd: Vec<L>,
     /// Those of the administrator's interface.
     pub admin: Vec<L>,
+    /// Those of the feed, none where it is not served.
+    pub feed: Vec<L>,
 }
 
 /// The listeners of an address.
@@ -33,10 +37,30 @@ fn listen<N: Net>(net: &mut N, port: Port, copies: u32) -> Result<Vec<N::L>, Net
     }
 }
 
-/// Listens on the router's address, and on those of the two interfaces, in this order.
-pub(crate) fn bind<N: Net>(net: &mut N, site: &Site) -> Result<Bound<N::L>, NetFault>
+/// The listeners of the feed, where it is served.
+fn listen_for_feed<N: Net>(
+    alloc: Global,
+    net: &mut N,
+    feed: Option<Feeding>,
+) -> Result<Vec<N::L>, NetFault>
+    ensures count { IfOk result (λ ls. length ls.items ≡ feed_jobs feed) }
+    ensures new { IfOk result (λ ls. AreNewFeed N.L.state (N.state net.old).told feed ls.items) }
+    ensures state { IfOk result (λ _. N.state net.new ≡ listened (feed_jobs feed)
+        (N.state net.old)) }
+    ensures cause { HasNetCause (N.faults net.old) (N.faults net.new) result }
+{
+    match feed {
+        Some(feeding) => listen(net, feeding.port, FEED_JOBS),
+        None => Ok(Vec::new(alloc)),
+    }
+}
+
+/// Listens on the router's address, on those of the two interfaces, and on the feed's, in this
+/// order.
+pub(crate) fn bind<N: Net>(alloc: Global, net: &mut N, site: &Site) -> Result<Bound<N::L>, NetFault>
     ensures listens { IfOk result (λ b. Listens N.L.state (N.state net.new).told site.now b) }
-    ensures state { IfOk result (λ _. N.state net.new ≡ listened (site.now.workers + 4) (N.state net.old)) }
+    ensures state { IfOk result (λ _. N.state net.new ≡ listened (jobs_of site.now)
+        (N.state net.old)) }
     ensures cause { HasNetCause (N.faults net.old) (N.faults net.new) result }
 {
     let server = match listen(net, site.server, site.workers) {
@@ -51,9 +75,14 @@ pub(crate) fn bind<N: Net>(net: &mut N, site: &Site) -> Result<Bound<N::L>, NetF
         Ok(listeners) => listeners,
         Err(fault) => return Err(fault),
     };
+    let feed = match listen_for_feed(alloc, net, site.feed) {
+        Ok(listeners) => listeners,
+        Err(fault) => return Err(fault),
+    };
     Ok(Bound {
         server,
         namerd,
         admin,
+        feed,
     })
 }

@@ -2,13 +2,14 @@
 ghost use Rattle.std.specs.Prelude.{◌≡◌, ℕ, ◌+◌, ◌≤◌, ◌<◌, ◌^◌, ◌++◌, [], List, Option, length, vec_len, vec_capacity, IfOk};
 ghost use Rattle.std.specs.List.{AllZip};
 ghost use Rattle.std.specs.Vec.Iter.{into_iter_items};
-ghost use Rattle.identifier.specs.declared.rule.Rule.{Rule};
+ghost use Rattle.serving.specs.declared.policy.Policy.{Policy};
 ghost use Rattle.linker_config.specs.declared.config.Port.{Port};
 ghost use Rattle.serving.specs.Jobs.{IsPosted, passes_of_jobs};
 ghost use Rattle.serving.specs.Passes.{AreFree};
-ghost use Rattle.serving.specs.Posts.{Post, client_post, interface_post, posts_at, posts_of};
+ghost use Rattle.serving.specs.Posts.{Post, client_post, feed_jobs, feed_posts, interface_post};
+ghost use Rattle.serving.specs.Posts.{jobs_of, posts_at, posts_of};
 ghost use Rattle.serving.specs.Returning.{with_stops};
-ghost use Rattle.serving.specs.Running.{AreNewFrom, Listens};
+ghost use Rattle.serving.specs.Running.{AreNewFeed, AreNewFrom, Listens};
 
 use crate::bound::Bound;
 use crate::interface::ApiServer;
@@ -70,9 +71,9 @@ fn add_proxy_jobs<'a, J: Naming, N: Net, C: Clock>(
     ensures room { vec_capacity jobs.new ≡ vec_capacity jobs.old }
     ensures free { AreFree (into_iter_items passes.new) }
     ensures posted { (posts : List Post)
-        → AllZip (IsPosted N.L.state N.D.upstream C.to_come N.S.calls setup.now.site.now.rule (C.of_fork clock.now)
+        → AllZip (IsPosted N.L.state N.D.upstream C.to_come N.S.calls setup.now.site.now.policy (C.of_fork clock.now)
         (N.state net.old).told) posts jobs.old.items
-        → AllZip (IsPosted N.L.state N.D.upstream C.to_come N.S.calls setup.now.site.now.rule (C.of_fork clock.now) (N.state net.old).told)
+        → AllZip (IsPosted N.L.state N.D.upstream C.to_come N.S.calls setup.now.site.now.policy (C.of_fork clock.now) (N.state net.old).told)
         (posts ++ posts_at (client_post setup.now.site.now) (length listeners.items)) jobs.new.items }
     ensures stops { N.state net.new ≡ with_stops (length listeners.items) (N.state net.old) }
     ensures kept { N.faults net.new ≡ N.faults net.old }
@@ -96,7 +97,7 @@ fn add_proxy_jobs<'a, J: Naming, N: Net, C: Clock>(
         let server = ProxyServer {
             alloc: setup.alloc,
             router: setup.router,
-            rule: &site.rule,
+            policy: &site.policy,
             server: Server::of(room, parts),
             lacked_memory: false,
         };
@@ -128,10 +129,10 @@ fn add_api_jobs<'a, J: Naming, N: Net, C: Clock>(
     ensures rest { length (into_iter_items passes.new) + length listeners.items ≡ length (into_iter_items passes.old) }
     ensures room { vec_capacity jobs.new ≡ vec_capacity jobs.old }
     ensures free { AreFree (into_iter_items passes.new) }
-    ensures posted { (port : Port) → AreNewFrom N.L.state (N.state net.old).told port 0 listeners.items → (rule : Rule) → (moments : Option (List ℕ))
+    ensures posted { (port : Port) → AreNewFrom N.L.state (N.state net.old).told port 0 listeners.items → (policy : Policy) → (moments : Option (List ℕ))
         → (posts : List Post) → AllZip
-        (IsPosted N.L.state N.D.upstream C.to_come N.S.calls rule moments (N.state net.old).told) posts jobs.old.items
-        → AllZip (IsPosted N.L.state N.D.upstream C.to_come N.S.calls rule moments (N.state net.old).told)
+        (IsPosted N.L.state N.D.upstream C.to_come N.S.calls policy moments (N.state net.old).told) posts jobs.old.items
+        → AllZip (IsPosted N.L.state N.D.upstream C.to_come N.S.calls policy moments (N.state net.old).told)
         (posts ++ posts_at (interface_post which port) (length listeners.items)) jobs.new.items }
     ensures stops { N.state net.new ≡ with_stops (length listeners.items) (N.state net.old) }
     ensures kept { N.faults net.new ≡ N.faults net.old }
@@ -158,7 +159,47 @@ fn add_api_jobs<'a, J: Naming, N: Net, C: Clock>(
     }
 }
 
-/// A job for each listener, with the next of these passes: first the router's, then those of the interface to the namespaces, then the administrator's.
+/// A job for each listener of the feed, where it is served. Each has the next pass.
+fn add_feed_jobs<'a, J: Naming, N: Net, C: Clock>(
+    setup: &Setup<'a, J>,
+    first: u32,
+    net: &mut N,
+    listeners: Vec<N::L>,
+    passes: &mut IntoIter<Pass<J>>,
+    jobs: &mut Jobs<'a, J, N, C>,
+)
+    requires enough { length listeners.items ≤ length (into_iter_items passes.old) }
+    requires room { vec_len jobs.old + length listeners.items ≤ vec_capacity jobs.old }
+    requires free { AreFree (into_iter_items passes.old) }
+    requires one { length listeners.items ≡ feed_jobs setup.now.site.now.feed }
+    requires new { AreNewFeed N.L.state (N.state net.old).told setup.now.site.now.feed
+        listeners.items }
+    ensures passes { passes_of_jobs jobs.new.items ++ into_iter_items passes.new
+        ≡ passes_of_jobs jobs.old.items ++ into_iter_items passes.old }
+    ensures count { vec_len jobs.new ≡ vec_len jobs.old + length listeners.items }
+    ensures rest { length (into_iter_items passes.new) + length listeners.items
+        ≡ length (into_iter_items passes.old) }
+    ensures room { vec_capacity jobs.new ≡ vec_capacity jobs.old }
+    ensures free { AreFree (into_iter_items passes.new) }
+    ensures posted { (policy : Policy) → (moments : Option (List ℕ)) → (posts : List Post)
+        → AllZip (IsPosted N.L.state N.D.upstream C.to_come N.S.calls policy moments
+        (N.state net.old).told) posts jobs.old.items
+        → AllZip (IsPosted N.L.state N.D.upstream C.to_come N.S.calls policy moments
+        (N.state net.old).told) (posts ++ feed_posts setup.now.site.now.feed) jobs.new.items }
+    ensures stops { N.state net.new ≡ with_stops (length listeners.items) (N.state net.old) }
+    ensures kept { N.faults net.new ≡ N.faults net.old }
+{
+    match setup.site.feed {
+        Some(feeding) => {
+            let which = Which::Feed { run: feeding.run };
+            add_api_jobs(setup, which, first, net, listeners, passes, jobs);
+        }
+        None => {}
+    }
+}
+
+/// A job for each listener, with the next of these passes: first the router's, then those of the
+/// interface to the namespaces, then the administrator's, and last that of the feed.
 pub(crate) fn add_jobs<'a, J: Naming, N: Net, C: Clock>(
     setup: &Setup<'a, J>,
     net: &mut N,
@@ -168,31 +209,35 @@ pub(crate) fn add_jobs<'a, J: Naming, N: Net, C: Clock>(
     passes: &mut IntoIter<Pass<J>>,
     jobs: &mut Jobs<'a, J, N, C>,
 )
-    requires enough { setup.now.site.now.workers + 4 ≤ length (into_iter_items passes.old) }
-    requires room { vec_len jobs.old + (setup.now.site.now.workers + 4) ≤ vec_capacity jobs.old }
+    requires enough { jobs_of setup.now.site.now ≤ length (into_iter_items passes.old) }
+    requires room { vec_len jobs.old + jobs_of setup.now.site.now ≤ vec_capacity jobs.old }
     requires free { AreFree (into_iter_items passes.old) }
     requires rooms { setup.now.site.now.workers ≤ length rooms.items }
     requires none_yet { jobs.old.items ≡ [] }
     requires listens { Listens N.L.state (N.state net.old).told setup.now.site.now bound }
     ensures passes { passes_of_jobs jobs.new.items ++ into_iter_items passes.new ≡ into_iter_items passes.old }
-    ensures rest { length (into_iter_items passes.new) + (setup.now.site.now.workers + 4) ≡ length (into_iter_items passes.old) }
-    ensures count { vec_len jobs.new ≡ setup.now.site.now.workers + 4 }
+    ensures rest { length (into_iter_items passes.new) + jobs_of setup.now.site.now
+        ≡ length (into_iter_items passes.old) }
+    ensures count { vec_len jobs.new ≡ jobs_of setup.now.site.now }
     ensures room { vec_capacity jobs.new ≡ vec_capacity jobs.old }
     ensures free { AreFree (into_iter_items passes.new) }
     ensures posted { AllZip
-        (IsPosted N.L.state N.D.upstream C.to_come N.S.calls setup.now.site.now.rule (C.of_fork clock.now)
+        (IsPosted N.L.state N.D.upstream C.to_come N.S.calls setup.now.site.now.policy (C.of_fork clock.now)
         (N.state net.old).told) (posts_of setup.now.site.now) jobs.new.items }
-    ensures stops { N.state net.new ≡ with_stops (setup.now.site.now.workers + 4) (N.state net.old) }
+    ensures stops { N.state net.new ≡ with_stops (jobs_of setup.now.site.now)
+        (N.state net.old) }
     ensures kept { N.faults net.new ≡ N.faults net.old }
 {
     let Bound {
         server,
         namerd,
         admin,
+        feed,
     } = bound;
     let workers = setup.site.workers;
     add_proxy_jobs(setup, net, clock, server, rooms, passes, jobs);
     add_api_jobs(setup, Which::Namerd, workers, net, namerd, passes, jobs);
     let number = workers.wrapping_add(2);
     add_api_jobs(setup, Which::Admin, number, net, admin, passes, jobs);
+    add_feed_jobs(setup, workers.wrapping_add(4), net, feed, passes, jobs);
 }

@@ -11,6 +11,7 @@ ghost use Rattle.serving.specs.Faults.{TellsFaults};
 ghost use Rattle.serving.specs.Jobs.{ComeBack, Runs, passes_of_jobs};
 ghost use Rattle.serving.specs.Services.{BookRefuses, HaveSeen};
 ghost use Rattle.serving.specs.Passes.{AreFree};
+ghost use Rattle.serving.specs.Posts.{jobs_of};
 ghost use Rattle.serving.specs.Returning.{listened};
 ghost use Rattle.serving.specs.Running.{HasRun, IsReady, Listens, bound_of, passes_of};
 ghost use Rattle.std.specs.Vec.Iter.{into_iter_items};
@@ -94,12 +95,13 @@ pub fn start<J: Naming, R: Wait, N: Net>(
     requires words { Some (words_of opened.loads) ≡ J.words }
     requires name { opened.blank.name ≡ J.name }
     requires parts { (opened.blank.parts ≡ J.parts) × (J.parts ≡ J.seats) }
-    requires seats { (opened.seats ≡ J.seats) × (opened.seats ≡ site.now.workers + 5) }
+    requires seats { (opened.seats ≡ J.seats) × (opened.seats ≡ jobs_of site.now + 1) }
     ensures ready { IfOk result (λ s. IsReady s) }
     ensures listens { IfOk result (λ s. Listens N.L.state (N.state net.new).told site.now (bound_of s)) }
-    ensures seats { IfOk result (λ s. length (passes_of s) ≡ site.now.workers + 5) }
+    ensures seats { IfOk result (λ s. length (passes_of s) ≡ jobs_of site.now + 1) }
     ensures seen { IfOk result (λ s. HaveSeen loaded (passes_of s)) }
-    ensures net { IfOk result (λ _. N.state net.new ≡ listened (site.now.workers + 4) (N.state net.old)) }
+    ensures net { IfOk result (λ _. N.state net.new ≡ listened (jobs_of site.now)
+        (N.state net.old)) }
     ensures refused { result ≡ Err StartFault.Book → BookRefuses J.settings loaded × (N.state net.new ≡ N.state net.old) }
     ensures broken { result ≡ Err StartFault.Net → Rose (N.faults net.old) (N.faults net.new) }
     ensures kept { (result ≡ Err StartFault.Net → ⊥) → N.faults net.new ≡ N.faults net.old }
@@ -124,7 +126,7 @@ pub fn start<J: Naming, R: Wait, N: Net>(
             return Err(StartFault::OutOfMemory);
         }
     }
-    match bind(net, site) {
+    match bind(alloc, net, site) {
         Ok(bound) => Ok(Serving {
             router,
             passes,
@@ -211,7 +213,7 @@ fn run_jobs<
 ) -> Returned<J>
 where
     <N::L as Listener>::P: Send,
-    requires seats { length passes.items ≡ setup.now.site.now.workers + 5 }
+    requires seats { length passes.items ≡ jobs_of setup.now.site.now + 1 }
     requires free { AreFree passes.items }
     requires listens { Listens N.L.state (N.state net.old).told setup.now.site.now bound }
     ensures numbers { numbers_of result.passes.items ≡ numbers_of passes.items }
@@ -255,7 +257,7 @@ impl<J: Naming + Send + Sync, L: Listener> Serving<J, L> {
         L::P: Send,
         requires ready { IsReady self }
         requires listens { Listens L.state (N.state net.old).told site.now (bound_of self) }
-        requires seats { length (passes_of self) ≡ site.now.workers + 5 }
+        requires seats { length (passes_of self) ≡ jobs_of site.now + 1 }
         requires parts { J.parts ≡ J.seats }
         ensures broken { result ≡ Err RunFault.Net → Rose (N.faults net.old) (N.faults net.new) }
         ensures kept { (result ≡ Err RunFault.Net → ⊥) → N.faults net.new ≡ N.faults net.old }

@@ -1,16 +1,28 @@
 //! Where a router serves, and how.
 ghost use Rattle.std.specs.Prelude.{◌≡◌, ◌+◌, ◌≤◌};
+ghost use Rattle.serving.specs.Posts.{jobs_of};
 
-use identifier::Rule;
+use crate::policy::Policy;
 use linker_config::Port;
-
-/// How many seats there are beside those of the proxy jobs: two for each interface, and one that sets the services.
-pub(crate) const OTHER_SEATS: u32 = 5;
 
 /// How many jobs serve each interface.
 pub(crate) const API_JOBS: u32 = 2;
 
-/// Where a router and its interfaces listen, how requests are named, how many connections are served at a time, and what the random words begin with.
+/// How many jobs serve the feed, where it is served.
+pub(crate) const FEED_JOBS: u32 = 1;
+
+/// Where the feed of the namespaces is served, and the number of the run of the router that it
+/// tells.
+#[derive(Clone, Copy, Debug, PartialEq, Eq)]
+pub struct Feeding {
+    /// Where it listens.
+    pub port: Port,
+    /// The number of the run.
+    pub run: u64,
+}
+
+/// Where a router and its interfaces listen, how requests are handled, how many connections are
+/// served at a time, and what the random words begin with.
 #[derive(Debug, Drop)]
 pub struct Site {
     /// Where the router listens.
@@ -19,20 +31,34 @@ pub struct Site {
     pub namerd: Port,
     /// Where the administrator's interface listens.
     pub admin: Port,
-    /// How requests are named.
-    pub rule: Rule,
+    /// How requests are named, and how often they may be tried again.
+    pub policy: Policy,
     /// How many proxy jobs there are.
     pub workers: u32,
     /// What the words of the first proxy job begin with.
     pub seed: u64,
+    /// Where the feed of the namespaces is served, if it is.
+    pub feed: Option<Feeding>,
 }
 
 impl Site {
-    /// How many passes its router has.
+    /// How many jobs there are: those for clients, those of the two interfaces, and that of the feed.
+    fn jobs(&self) -> u32
+        requires few { self.now.workers ≤ 256 }
+        ensures { result ≡ jobs_of self.now }
+    {
+        let others = match self.feed {
+            Some(_) => 2 * API_JOBS + FEED_JOBS,
+            None => 2 * API_JOBS,
+        };
+        self.workers + others
+    }
+
+    /// How many passes its router has: one for each job, and one that sets the services.
     pub fn seats(&self) -> u32
         requires few { self.now.workers ≤ 256 }
-        ensures { result ≡ self.now.workers + 5 }
+        ensures { result ≡ jobs_of self.now + 1 }
     {
-        self.workers + OTHER_SEATS
+        self.jobs() + 1
     }
 }

@@ -82,7 +82,7 @@ fn take_back<J: Naming, N: Net, C: Drop>(
             let ProxyServer {
                 alloc: _,
                 router: _,
-                rule: _,
+                policy: _,
                 server,
                 lacked_memory,
             } = server;

@@ -1,4 +1,5 @@
-//! Two sessions beside one another, of which a request of the one is held until the other's is answered.
+//! Two sessions beside one another, of which a request of the one is held until the other's is
+//! answered.
 ghost use Rattle.std.specs.Prelude.{◌≡◌, None, Some, IfOk};
 ghost use Rattle.load_words.specs.Seats.{words_of};
 ghost use Rattle.router.specs.Passes.{slot_in};
@@ -38,7 +39,8 @@ const SECOND: (&str, &str) = (
     "HTTP/1.1 502 Bad Gateway|Content-Type: text/plain|l5d-err: failing|Content-Length: 8||failing~",
 );
 
-/// Holds the first worker's request until the second worker's is answered, and that one until the first's has begun.
+/// Holds the first worker's request until the second worker's is answered, and that one until the
+/// first's has begun.
 #[derive(Drop)]
 struct Crossing {
     /// Whether the first request has begun.
@@ -190,7 +192,8 @@ fn told<J: Naming>(alloc: Global, job: Visit<'_, J>, ended: Ended) -> (Pass<J>, 
     (pass, told)
 }
 
-/// Serves both clients beside one another, each with a pass of its own: the passes, and what came of the sessions.
+/// Serves both clients beside one another, each with a pass of its own: the passes, and what came of
+/// the sessions.
 fn serve_both<J: Naming + Send + Sync, R: Wait + Threads + Abort + Sync>(
     rt: &R,
     alloc: Global,
@@ -246,7 +249,7 @@ fn serve_both<J: Naming + Send + Sync, R: Wait + Threads + Abort + Sync>(
 }
 
 /// Ends a router of two passes.
-fn close<J: Naming, R: Wait + Abort>(
+pub(crate) fn close<J: Naming, R: Wait + Abort>(
     rt: &R,
     alloc: Global,
     router: Router<J>,
@@ -305,7 +308,8 @@ fn cross<R: Wait + Threads + Abort + Sync>(
     Ok(serve_named::<Brand, R>(rt, alloc, opened, &rule, clients, crossing)?)
 }
 
-/// Each request is let go by what the other worker did. When the second one was done, all of its reply had been written, and nothing of the first one's.
+/// Each request is let go by what the other worker did. When the second one was done, all of its
+/// reply had been written, and nothing of the first one's.
 #[test]
 fn a_request_is_held_until_another_is_answered(rt: HostRuntime) -> Result<(), Fail> {
     let alloc = rt.alloc();

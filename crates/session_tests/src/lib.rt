@@ -1,5 +1,6 @@
-//! Whole sessions over peers, dialers and clocks in memory: worked exchanges with the bytes on both sides, hostile requests, each failing call, and limits; one
-//! request by itself; and two sessions beside one another.
+//! Whole sessions over peers, dialers and clocks in memory: worked exchanges with the bytes on both
+//! sides, hostile requests, each failing call, limits, and requests that are tried again; one
+//! request by itself; what a dialer sees of the router; and two sessions beside one another.
 #![tactic(auto)]
 
 #[cfg(test)]
@@ -15,10 +16,14 @@ mod played;
 #[cfg(test)]
 mod replies;
 #[cfg(test)]
+mod retries;
+#[cfg(test)]
 mod row;
 #[cfg(test)]
 mod scene;
 #[cfg(test)]
 mod series;
+#[cfg(test)]
+mod watched;
 #[cfg(test)]
 mod worked;

@@ -27,7 +27,7 @@ use std::sync::Wait;
 use std::test::Fail;
 
 /// A gate that nobody asks.
-struct Free;
+pub(crate) struct Free;
 
 impl Gate for Free {
     fn begin(&self, _worker: u32) {}
@@ -48,7 +48,8 @@ pub(crate) struct Played {
     pub(crate) failed: u64,
     /// How the connection ended; `None` where it goes on behind the one request that was served.
     pub(crate) ended: Option<Ended>,
-    /// How many reports on the address of `web` were taken in, and how often it has failed since it last did well. It had failed once.
+    /// How many reports on the address of `web` were taken in, and how often it has failed since it
+    /// last did well. It had failed once.
     pub(crate) reported: (u64, u32),
     /// The load of the replica, where something is kept for it.
     pub(crate) load: Option<u64>,
@@ -80,7 +81,8 @@ fn receives_of(log: &[DialEvent]) -> usize {
     count
 }
 
-/// Reports a failure of the address of `web`, and says how often it then has failed since it last did well.
+/// Reports a failure of the address of `web`, and says how often it then has failed since it last
+/// did well.
 fn fail<J: Naming, R: Wait>(
     rt: &R,
     alloc: Global,
@@ -111,7 +113,11 @@ fn web(alloc: Global) -> Mem<Path> {
 }
 
 /// The load of the replica of `web`, where something is kept for it.
-fn load<J: Naming>(alloc: Global, router: &Router<J>, pass: &mut Pass<J>) -> Mem<Option<u64>> {
+pub(crate) fn load<J: Naming>(
+    alloc: Global,
+    router: &Router<J>,
+    pass: &mut Pass<J>,
+) -> Mem<Option<u64>> {
     let ask = Ask {
         path: web(alloc)?,
         local: Dtab::empty(alloc),
@@ -194,8 +200,8 @@ fn told(alloc: Global, peer: &MemPeer, dialer: &MemDialer, ended: Option<Ended>)
     })
 }
 
-/// Plays a scene over a router that was prepared, with a pass that holds no slot, and gives the pass
-/// back.
+/// Plays a scene over a router that was prepared, with a pass that holds no slot, and gives the
+/// pass back.
 fn play_on<J: Naming, R: Wait>(
     context: &Context<'_, J, R>,
     pass: Pass<J>,
@@ -218,7 +224,7 @@ fn play_on<J: Naming, R: Wait>(
         words: Pcg64::seed_from_u64(7),
     };
     let mut server = Server::of(room, parts);
-    let mut connection = Connection::of(peer);
+    let mut connection = scene.connection(peer);
     let ended = match scene.serving {
         Serving::Session => Some(server.serve_session(context, &mut connection, &Free, 0)),
         Serving::FirstRequest => serve_first(context, &mut server, &mut connection),
@@ -310,7 +316,8 @@ fn play_named<J: Naming, R: Wait>(
     }
 }
 
-/// Plays a scene over a router of its own, in which the service `web` has the address 127.0.0.1:9001.
+/// Plays a scene over a router of its own, in which the service `web` has the address
+/// 127.0.0.1:9001.
 pub(crate) fn play<R: Wait>(rt: &R, alloc: Global, scene: &Scene<'_>) -> Result<Played, Fail> {
     let rule = by_host(alloc)?;
     let change = one_address(alloc)?;

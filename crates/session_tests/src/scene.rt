@@ -1,5 +1,5 @@
 //! What a session is played with.
-ghost use Rattle.std.specs.Prelude.{IfOk};
+ghost use Rattle.std.specs.Prelude.{◌≡◌, ◌≤◌, IfOk};
 ghost use Rattle.machine.specs.Code.{change_of};
 ghost use Rattle.machine.specs.State.{IsSoundChange};
 
@@ -11,6 +11,8 @@ use identifier::{Kind, Rule};
 use line_base::{MemClock, MemDialer, MemPeer, MemSink, MemSource};
 use machine::{Change, Settings};
 use name_tree::read_path;
+use proxy_session::Connection;
+use retry_budget::Tries;
 use std::alloc::{AllocError, Global};
 use std::test::Fail;
 
@@ -26,13 +28,15 @@ pub(crate) const FIXED: &str = "/svc/web => /$/inet/127.0.0.1/9001";
 /// The table of a router whose services are those of the book.
 pub(crate) const BOOK: &str = "/svc => /#/io.l5d.fs";
 
-/// A call that fails. Those of each kind are counted from 0; a dial, a send and a receive are of one kind.
+/// The calls that fail. Those of each kind are counted from 0; a dial, a send and a receive are of
+/// one kind.
 #[derive(Clone, Copy)]
 pub(crate) enum Failing {
     Nothing,
     Read(u64),
     Write(u64),
     Dial(u64),
+    Dials(&'static [u64]),
 }
 
 /// What is served of what the client gives.
@@ -60,6 +64,8 @@ pub(crate) struct Scene<'a> {
     /// The most bytes that a call moves.
     pub(crate) most: usize,
     pub(crate) failing: Failing,
+    /// The budget of retries that the client's connection has.
+    pub(crate) tries: Option<Tries>,
 }
 
 impl<'a> Scene<'a> {
@@ -74,6 +80,17 @@ impl<'a> Scene<'a> {
             replies,
             most: usize::MAX,
             failing: Failing::Nothing,
+            tries: None,
+        }
+    }
+
+    /// The connection to its client.
+    pub(crate) fn connection<P>(&self, peer: P) -> Connection<P>
+        ensures { result.served ≡ 0 }
+    {
+        match self.tries {
+            Some(tries) if tries.is_allowed() => Connection::trying(peer, tries),
+            _ => Connection::of(peer),
         }
     }
 
@@ -93,6 +110,15 @@ fn listed(alloc: Global, call: Option<u64>) -> Mem<Vec<u64>> {
         calls.push(call)?;
     }
     Ok(calls)
+}
+
+/// The calls of a dialer that fail.
+fn dials(alloc: Global, failing: Failing) -> Mem<Vec<u64>> {
+    match failing {
+        Failing::Dial(call) => listed(alloc, Some(call)),
+        Failing::Dials(calls) => Vec::from_slice(alloc, calls),
+        Failing::Nothing | Failing::Read(_) | Failing::Write(_) => Ok(Vec::new(alloc)),
+    }
 }
 
 /// The bytes of a text in which `|` is CR LF and `~` is LF.
@@ -132,13 +158,21 @@ pub(crate) fn by_host(alloc: Global) -> Result<Rule, Fail> {
     })
 }
 
-/// A router's settings with this table. Five failures in a row leave a replica out for five seconds.
+/// A router's settings with this table. Five failures in a row leave a replica out for five
+/// seconds.
 pub(crate) fn settings(alloc: Global, table: &str) -> Result<Settings, Fail> {
+    strict_settings(alloc, table, 5)
+}
+
+/// The same with so many failures.
+pub(crate) fn strict_settings(alloc: Global, table: &str, failures: u32) -> Result<Settings, Fail>
+    requires { 1 ≤ failures }
+{
     Ok(Settings {
         space: Name::of(alloc, b"default")?,
         base: read_dtab(alloc, table.as_bytes())?,
         limits: Limits {
-            failures: 5,
+            failures,
             backoff: 5000,
         },
     })
@@ -148,7 +182,14 @@ pub(crate) fn settings(alloc: Global, table: &str) -> Result<Settings, Fail> {
 pub(crate) fn one_address(alloc: Global) -> Result<Change, Fail>
     ensures { IfOk result (λ change. IsSoundChange (change_of change)) }
 {
-    let list: AddrList = read_addrs(alloc, b"127.0.0.1 9001\n")?;
+    addresses(alloc, b"127.0.0.1 9001\n")
+}
+
+/// The change that gives the service `web` these addresses.
+pub(crate) fn addresses(alloc: Global, text: &[u8]) -> Result<Change, Fail>
+    ensures { IfOk result (λ change. IsSoundChange (change_of change)) }
+{
+    let list: AddrList = read_addrs(alloc, text)?;
     Ok(Change::SetAddrs {
         service: Name::of(alloc, b"web")?,
         list,
@@ -188,11 +229,12 @@ pub(crate) fn upstreams(alloc: Global, scene: &Scene<'_>) -> Mem<MemDialer> {
     for reply in scene.replies {
         replies.push(spelt(alloc, reply)?)?;
     }
-    let call = match scene.failing {
-        Failing::Dial(call) => Some(call),
-        _ => None,
-    };
-    Ok(MemDialer::of(alloc, replies, scene.sizes(alloc)?, listed(alloc, call)?))
+    Ok(MemDialer::of(
+        alloc,
+        replies,
+        scene.sizes(alloc)?,
+        dials(alloc, scene.failing)?,
+    ))
 }
 
 /// A clock that stands still.

@@ -6,7 +6,7 @@ use Rattle.line_base.specs.Streams.{Input, Output}
 use Rattle.linker_commands.specs.Run.{Linked, Ran}
 use Rattle.linker_commands.proofs.Causes.{back_cause, long_cause, known_status, net_cause}
 use Rattle.linker_commands.proofs.Causes.{refused_cause, shown_cause, read_cause, folder_cause}
-use Rattle.linker_commands.proofs.Causes.{write_cause, net_fault_cause}
+use Rattle.linker_commands.proofs.Causes.{write_cause, net_fault_cause, words_due, read_due, long_due}
 use Rattle.linker_commands.proofs.program.linker.Goals as goal
 
 pub returns-clause-longer : goal.returns-clause-longer
@@ -210,5 +210,56 @@ returns-clause-all_back g c =
     let old_out : Output = g.K.Sink.output c.args.out.now in
     let new_out : Output = g.K.Sink.output c.run.new.out in
     back_cause line_of (g.C.Clock.of_fork c.args.clock.now) (map string_bytes c.args.words.now)
+    old_in new_in old_files new_files old_net new_net old_out new_out c.code.result
+    (rw (← c.code.ensures) at c.run.ensures)
+
+pub returns-clause-words : goal.returns-clause-words
+returns-clause-words g c =
+    let old_in : Input = g.S.Source.input c.args.input.now in
+    let new_in : Input = g.S.Source.input c.run.new.input in
+    let old_files : Filed = g.F.Folder.filed c.args.folder.now in
+    let new_files : Filed = g.F.Folder.filed c.run.new.folder in
+    let old_net : Linked g.row.N-L-P.Denot =
+    record { state = g.N.Net.state c.args.net.now; faults = g.N.Net.faults c.args.net.now } in
+    let new_net : Linked g.row.N-L-P.Denot =
+    record { state = g.N.Net.state c.run.new.net; faults = g.N.Net.faults c.run.new.net } in
+    let line_of = λ (p : g.row.N-L-P.Denot). let l : Line = g.N.L.P.Peer.line p in l in
+    let old_out : Output = g.K.Sink.output c.args.out.now in
+    let new_out : Output = g.K.Sink.output c.run.new.out in
+    words_due line_of (g.C.Clock.of_fork c.args.clock.now) (map string_bytes c.args.words.now)
+    old_in new_in old_files new_files old_net new_net old_out new_out c.code.result
+    (rw (← c.code.ensures) at c.run.ensures)
+
+pub returns-clause-read : goal.returns-clause-read
+returns-clause-read g c =
+    let old_in : Input = g.S.Source.input c.args.input.now in
+    let new_in : Input = g.S.Source.input c.run.new.input in
+    let old_files : Filed = g.F.Folder.filed c.args.folder.now in
+    let new_files : Filed = g.F.Folder.filed c.run.new.folder in
+    let old_net : Linked g.row.N-L-P.Denot =
+    record { state = g.N.Net.state c.args.net.now; faults = g.N.Net.faults c.args.net.now } in
+    let new_net : Linked g.row.N-L-P.Denot =
+    record { state = g.N.Net.state c.run.new.net; faults = g.N.Net.faults c.run.new.net } in
+    let line_of = λ (p : g.row.N-L-P.Denot). let l : Line = g.N.L.P.Peer.line p in l in
+    let old_out : Output = g.K.Sink.output c.args.out.now in
+    let new_out : Output = g.K.Sink.output c.run.new.out in
+    read_due line_of (g.C.Clock.of_fork c.args.clock.now) (map string_bytes c.args.words.now)
+    old_in new_in old_files new_files old_net new_net old_out new_out c.code.result
+    (rw (← c.code.ensures) at c.run.ensures)
+
+pub returns-clause-long : goal.returns-clause-long
+returns-clause-long g c =
+    let old_in : Input = g.S.Source.input c.args.input.now in
+    let new_in : Input = g.S.Source.input c.run.new.input in
+    let old_files : Filed = g.F.Folder.filed c.args.folder.now in
+    let new_files : Filed = g.F.Folder.filed c.run.new.folder in
+    let old_net : Linked g.row.N-L-P.Denot =
+    record { state = g.N.Net.state c.args.net.now; faults = g.N.Net.faults c.args.net.now } in
+    let new_net : Linked g.row.N-L-P.Denot =
+    record { state = g.N.Net.state c.run.new.net; faults = g.N.Net.faults c.run.new.net } in
+    let line_of = λ (p : g.row.N-L-P.Denot). let l : Line = g.N.L.P.Peer.line p in l in
+    let old_out : Output = g.K.Sink.output c.args.out.now in
+    let new_out : Output = g.K.Sink.output c.run.new.out in
+    long_due line_of (g.C.Clock.of_fork c.args.clock.now) (map string_bytes c.args.words.now)
     old_in new_in old_files new_files old_net new_net old_out new_out c.code.result
     (rw (← c.code.ensures) at c.run.ensures)

@@ -4,6 +4,7 @@ use Rattle.line_base.specs.Files.{Filed}
 use Rattle.line_base.specs.Streams.{Input, Output}
 use Rattle.linker_commands.specs.Run.{Takes}
 use Rattle.linker_commands.specs.Words.{Asked, command_of, storm, weave}
+use Rattle.linker_commands.proofs.Serving.{linked_same}
 use Rattle.linker_commands.proofs.run.run.Goals as goal
 
 pub returns-in-Ok-Storm : goal.returns-in-Ok-Storm
@@ -26,5 +27,16 @@ returns-in-Ok-Weave g c =
     c.tell_made-in-Ok-Weave.ensures (weave_line run.turns run.seed) c.weave_line.ensures in (
       made.0,
       (rw c.in-Ok-Weave.ensures (rw c.in-Ok-Weave.field-0-is (made.1, refl, refl, refl))),
+      made.2,
+    )
+
+pub returns-in-Ok-Follow : goal.returns-in-Ok-Follow
+returns-in-Ok-Follow g c =
+    let input : Input = g.S.Source.input c.args.input.now in
+    let files : Filed = g.F.Folder.filed c.args.folder.now in
+    let made = c.follow.ensures.followed in
+    let same = linked_same _ _ c.follow.ensures.net.0 c.follow.ensures.net.1 in (
+      made.0,
+      (rw c.in-Ok-Follow.ensures (rw c.in-Ok-Follow.field-0-is (made.1, refl, refl, same))),
       made.2,
     )

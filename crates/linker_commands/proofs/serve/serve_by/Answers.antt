@@ -99,7 +99,16 @@ returns-clause-served g c = λ path right.
     c.in-Ok.ensures.cause.count
     (c.serve_opened.ensures (g.F.Folder.filed c.args.folder.now).files c.args.config
     (record {
-      site_is = refl;
+      site_is = record {
+        server = refl;
+        namerd = refl;
+        admin = refl;
+        rule = refl;
+        retries = refl;
+        workers = refl;
+        seed = refl;
+        feed = c.feeding.ensures;
+      };
       settings_are = c.in-Ok-open.ensures.settings;
       loads =
           c.in-Ok.ensures.loads;

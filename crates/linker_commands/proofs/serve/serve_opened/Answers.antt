@@ -2,8 +2,7 @@ use Rattle.std.proofs.Common.{ap, Err, ◌∙◌}
 use Rattle.line_base.specs.Lines.{Line}
 use Rattle.line_base.specs.Streams.{Output}
 use Rattle.linker_commands.specs.Run.{Linked}
-use Rattle.linker_commands.specs.Served.{site_line}
-use Rattle.linker_commands.proofs.Serving.{listening_by, no_room, no_memory_yet, not_listening}
+use Rattle.linker_commands.proofs.Serving.{line_by, no_room, no_memory_yet, not_listening}
 use Rattle.linker_commands.proofs.Serving.{not_told, told_on}
 use Rattle.linker_commands.proofs.serve.serve_opened.Goals as goal
 
@@ -69,11 +68,10 @@ returns-in-Ok-write_all g c = λ files config made.
     told_on g.row.J.Denot line_of (g.C.Clock.of_fork c.args.clock.now) files config
     (net_of c.args.net.now) (net_of c.start.new.net) (net_of c.serve_on.new.net)
     c.as_slice.result.now old mid new c.serve_on.result
-    (c.as_slice.ensures.value ∙ (c.in-Ok-site_text.ensures ∙ ap site_line made.site_is))
+    (c.as_slice.ensures.value ∙ (c.in-Ok-site_text.ensures ∙ line_by (g.C.Clock.of_fork c.args.clock.now) config c.args.site.now made.site_is))
     (begun.kept (λ is. cc is)) wrote.ok wrote.kept
     (c.serve_on.ensures files config before c.args.loaded made begun.seen
-    (listening_by c.args.site.now config before (g.N.Net.state c.start.new.net) made.site_is
-    begun.net))
+    begun.net)
 
 pub returns : goal.returns
 returns g c = λ files config made.
@@ -85,5 +83,5 @@ returns g c = λ files config made.
     let wrote = c.in-Err.ensures in
     not_told g.row.J.Denot line_of (g.C.Clock.of_fork c.args.clock.now) files config
     (net_of c.args.net.now) (net_of c.start.new.net) c.as_slice.result.now old new
-    (c.as_slice.ensures.value ∙ (c.in-Ok-site_text.ensures ∙ ap site_line made.site_is))
+    (c.as_slice.ensures.value ∙ (c.in-Ok-site_text.ensures ∙ line_by (g.C.Clock.of_fork c.args.clock.now) config c.args.site.now made.site_is))
     (c.in-Ok.ensures.kept (λ is. cc is)) wrote.cause wrote.err

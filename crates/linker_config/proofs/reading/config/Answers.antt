@@ -45,6 +45,33 @@ returns-in_err-seed-clause-told c =
     told_on_by said_of (config_of (view c.args.tree.now)) c.in_err-seed.field-0.0 c.from_residual-in_err-seed.result c.from_residual-in_err-seed.ensures.1 c.in_err-seed.ensures.number.0
     (λ some. rw (c.in_ok-check_top_keys.ensures, c.in_ok-admin.ensures, c.in_ok-named.ensures, c.in_ok-root.ensures, c.in_ok-routed.ensures, c.in_ok-workers.ensures.number, c.in_err-seed.ensures.number.1 some))
 
+pub returns-in_err-feed-clause-told : goal.returns-in_err-feed-clause-told
+unfolding config_of
+returns-in_err-feed-clause-told c =
+    told_on_by said_of (config_of (view c.args.tree.now)) c.in_err-feed.field-0.0
+    c.from_residual-in_err-feed.result c.from_residual-in_err-feed.ensures.1
+    c.in_err-feed.ensures.0
+    (λ some. rw (
+      c.in_ok-check_top_keys.ensures,
+      c.in_ok-admin.ensures,
+      c.in_ok-named.ensures,
+      c.in_ok-root.ensures,
+      c.in_ok-routed.ensures,
+      c.in_ok-workers.ensures.number,
+      c.in_ok-seed.ensures.number,
+      c.in_err-feed.ensures.1 some,
+    ))
+
 pub returns-clause-told : goal.returns-clause-told
 unfolding config_of
-returns-clause-told c = rw (c.in_ok-check_top_keys.ensures, c.in_ok-admin.ensures, c.in_ok-named.ensures, c.in_ok-root.ensures, c.in_ok-routed.ensures, c.in_ok-workers.ensures.number, c.in_ok-seed.ensures.number)
+returns-clause-told c =
+    rw (
+      c.in_ok-check_top_keys.ensures,
+      c.in_ok-admin.ensures,
+      c.in_ok-named.ensures,
+      c.in_ok-root.ensures,
+      c.in_ok-routed.ensures,
+      c.in_ok-workers.ensures.number,
+      c.in_ok-seed.ensures.number,
+      c.in_ok-feed.ensures,
+    )

@@ -45,9 +45,41 @@ returns-in_err-limits c =
     told_on_by routed_of (router_told (view c.args.value.now)) c.in_err-limits.field-0.0 c.from_residual-in_err-limits.result c.from_residual-in_err-limits.ensures.1 c.in_err-limits.ensures.told.0
     (λ some. rw (c.in_ok-check_router_keys.ensures, c.in_ok-needed_word.ensures, c.in_ok-base.ensures.told, c.in_ok-prefix.ensures, c.in_ok-kind.ensures, c.in_ok-server.ensures, c.in_err-limits.ensures.told.1 some))
 
+pub returns-in_err-retries : goal.returns-in_err-retries
+unfolding router_told
+returns-in_err-retries c =
+    told_on_by routed_of (router_told (view c.args.value.now)) c.in_err-retries.field-0.0
+    c.from_residual-in_err-retries.result c.from_residual-in_err-retries.ensures.1
+    c.in_err-retries.ensures.told.0
+    (λ some. rw (
+      c.in_ok-check_router_keys.ensures,
+      c.in_ok-needed_word.ensures,
+      c.in_ok-base.ensures.told,
+      c.in_ok-prefix.ensures,
+      c.in_ok-kind.ensures,
+      c.in_ok-server.ensures,
+      c.in_ok-limits.ensures.told,
+      c.in_err-retries.ensures.told.1 some,
+    ))
+
 pub invariant_of-result : goal.invariant_of-result
-invariant_of-result c = record { sound = c.in_ok-base.ensures.sound; failures = c.in_ok-limits.ensures.failures }
+invariant_of-result c =
+    record {
+      sound = c.in_ok-base.ensures.sound;
+      failures = c.in_ok-limits.ensures.failures;
+      allowed = c.in_ok-retries.ensures.allowed;
+    }
 
 pub returns : goal.returns
 unfolding router_told
-returns c = rw (c.in_ok-check_router_keys.ensures, c.in_ok-needed_word.ensures, c.in_ok-base.ensures.told, c.in_ok-prefix.ensures, c.in_ok-kind.ensures, c.in_ok-server.ensures, c.in_ok-limits.ensures.told)
+returns c =
+    rw (
+      c.in_ok-check_router_keys.ensures,
+      c.in_ok-needed_word.ensures,
+      c.in_ok-base.ensures.told,
+      c.in_ok-prefix.ensures,
+      c.in_ok-kind.ensures,
+      c.in_ok-server.ensures,
+      c.in_ok-limits.ensures.told,
+      c.in_ok-retries.ensures.told,
+    )

@@ -3,7 +3,7 @@ use Rattle.std.proofs.lemmas.Grind.{common_steps}
 use Rattle.std.specs.List.{AllZip}
 use Rattle.std.specs.Prelude.{Option}
 use Rattle.std.specs.Vec.Iter.{into_iter_items}
-use Rattle.identifier.specs.declared.rule.Rule.{Rule}
+use Rattle.serving.specs.declared.policy.Policy.{Policy}
 use Rattle.linker_config.specs.declared.config.Port.{Port}
 use Rattle.line_base.specs.Dials.{Upstream}
 use Rattle.serving.specs.Jobs.{IsPosted, pass_of}
@@ -19,7 +19,7 @@ use Rattle.serving.proofs.jobs.add_api_jobs.Goals as goal
 pub loop-listener-init : goal.loop-listener-init
 loop-listener-init g c =
     let upstream = λ (d : g.row.N-D.Denot). let u : Upstream = g.N.D.Dialer.upstream d in u in
-    let R = λ (rule : Rule) (moments : Option (List ℕ)). IsPosted {J = g.row.J.Denot} {D = g.row.N-D.Denot} {g = g.J.Naming} g.N.L.Listener.state upstream g.C.Clock.to_come g.N.S.Stop.calls rule moments (g.N.Net.state c.args.net.now).told in
+    let R = λ (policy : Policy) (moments : Option (List ℕ)). IsPosted {J = g.row.J.Denot} {D = g.row.N-D.Denot} {g = g.J.Naming} g.N.L.Listener.state upstream g.C.Clock.to_come g.N.S.Stop.calls policy moments (g.N.Net.state c.args.net.now).told in
     let whole = c.into_iter-listener-iterator.ensures.into_iter_gives.0 in
     let many = ap length whole in
     let new = λ (port : Port) (n : AreNewFrom g.N.L.Listener.state (g.N.Net.state c.args.net.now).told port 0 c.args.listeners.items).
@@ -32,7 +32,7 @@ loop-listener-init g c =
       room = omega (arith, many, c.requires.room);
       capacity = refl;
       free = c.requires.free;
-      posted = (0, omega (arith, many), new, λ port n rule moments ps all. none_posted (R rule moments) (interface_post c.args.which port) ps c.args.jobs.now.items all);
+      posted = (0, omega (arith, many), new, λ port n policy moments ps all. none_posted (R policy moments) (interface_post c.args.which port) ps c.args.jobs.now.items all);
       stops = ap (λ (n : ℕ). with_stops n (g.N.Net.state c.args.net.now)) many;
       kept = refl;
     }
@@ -40,7 +40,7 @@ loop-listener-init g c =
 pub loop-listener-preserved : goal.loop-listener-preserved
 loop-listener-preserved g c =
     let upstream = λ (d : g.row.N-D.Denot). let u : Upstream = g.N.D.Dialer.upstream d in u in
-    let R = λ (rule : Rule) (moments : Option (List ℕ)). IsPosted {J = g.row.J.Denot} {D = g.row.N-D.Denot} {g = g.J.Naming} g.N.L.Listener.state upstream g.C.Clock.to_come g.N.S.Stop.calls rule moments (g.N.Net.state c.args.net.now).told in
+    let R = λ (policy : Policy) (moments : Option (List ℕ)). IsPosted {J = g.row.J.Denot} {D = g.row.N-D.Denot} {g = g.J.Naming} g.N.L.Listener.state upstream g.C.Clock.to_come g.N.S.Stop.calls policy moments (g.N.Net.state c.args.net.now).told in
     let inv = c.loop-listener.invariant in
     let cut = c.in-Some.ensures.steps.0 in
     let shorter = ap length cut in
@@ -61,9 +61,9 @@ loop-listener-preserved g c =
         before.0 + 1,
         omega (arith, before.1, shorter),
         λ port n. let next = next_new g.N.L.Listener.state told port before.0 (before.0 + 1) _ _ c.in-Some.listener refl cut (before.2 port n) in next.1,
-        λ port n rule moments ps all.
+        λ port n policy moments ps all.
             let next = next_new g.N.L.Listener.state told port before.0 (before.0 + 1) _ _ c.in-Some.listener refl cut (before.2 port n) in
-            one_posted (R rule moments) (interface_post c.args.which port) before.0 (before.0 + 1) ps _ _ _ refl pushed.items (before.3 port n rule moments ps all)
+            one_posted (R policy moments) (interface_post c.args.which port) before.0 (before.0 + 1) ps _ _ _ refl pushed.items (before.3 port n policy moments ps all)
             (record { listener = next.0; which_is = refl; lacked = refl; stops = c.stopper.ensures.calls }),
       );
       stops = stops_moved _ _ c.in-Some.listener (g.N.Net.state c.loop-listener.net) _ _ cut c.stopper.ensures.state inv.stops;
@@ -71,10 +71,10 @@ loop-listener-preserved g c =
     }
 
 pub returns-clause-posted : goal.returns-clause-posted
-returns-clause-posted g c = λ port n rule moments ps all.
+returns-clause-posted g c = λ port n policy moments ps all.
     let upstream = λ (d : g.row.N-D.Denot). let u : Upstream = g.N.D.Dialer.upstream d in u in
-    let R = λ (rule : Rule) (moments : Option (List ℕ)). IsPosted {J = g.row.J.Denot} {D = g.row.N-D.Denot} {g = g.J.Naming} g.N.L.Listener.state upstream g.C.Clock.to_come g.N.S.Stop.calls rule moments (g.N.Net.state c.args.net.now).told in
+    let R = λ (policy : Policy) (moments : Option (List ℕ)). IsPosted {J = g.row.J.Denot} {D = g.row.N-D.Denot} {g = g.J.Naming} g.N.L.Listener.state upstream g.C.Clock.to_come g.N.S.Stop.calls policy moments (g.N.Net.state c.args.net.now).told in
     let before = c.loop-listener.invariant.posted in
     let none : length (into_iter_items c.loop-listener.listener-iterator) ≡ 0 = first_of (search rules, grind (arith, common_steps)) in
     let same : before.0 ≡ length c.args.listeners.items = omega (arith, before.1, none) in
-    subst (λ (k : ℕ). AllZip (R rule moments) (ps ++ posts_at (interface_post c.args.which port) k) c.loop-listener.jobs.items) same (before.3 port n rule moments ps all)
+    subst (λ (k : ℕ). AllZip (R policy moments) (ps ++ posts_at (interface_post c.args.which port) k) c.loop-listener.jobs.items) same (before.3 port n policy moments ps all)

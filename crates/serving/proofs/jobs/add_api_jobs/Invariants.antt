@@ -2,7 +2,7 @@ use Rattle.std.proofs.Common.{◌≡◌, ℕ, ◌+◌, ◌≤◌, ◌++◌, List
 use Rattle.std.specs.Prelude.{Option}
 use Rattle.std.specs.List.{AllZip}
 use Rattle.std.specs.Vec.Iter.{into_iter_items}
-use Rattle.identifier.specs.declared.rule.Rule.{Rule}
+use Rattle.serving.specs.declared.policy.Policy.{Policy}
 use Rattle.linker_config.specs.declared.config.Port.{Port}
 use Rattle.serving.specs.Jobs.{IsPosted, passes_of_jobs}
 use Rattle.serving.specs.Passes.{AreFree}
@@ -23,11 +23,11 @@ invariant-loop-listener g l = record {
   posted : (place : ℕ) × (place + length (into_iter_items l.listener-iterator) ≡ length l.fn.listeners.items)
       × ((port : Port) → AreNewFrom g.N.L.Listener.state (g.N.Net.state l.fn.net).told port 0 l.fn.listeners.items
       → AreNewFrom g.N.L.Listener.state (g.N.Net.state l.fn.net).told port place (into_iter_items l.listener-iterator))
-      × ((port : Port) → AreNewFrom g.N.L.Listener.state (g.N.Net.state l.fn.net).told port 0 l.fn.listeners.items → (rule : Rule) → (moments : Option (List ℕ)) → (posts : List Post)
+      × ((port : Port) → AreNewFrom g.N.L.Listener.state (g.N.Net.state l.fn.net).told port 0 l.fn.listeners.items → (policy : Policy) → (moments : Option (List ℕ)) → (posts : List Post)
       → AllZip (IsPosted g.N.L.Listener.state (λ d. g.N.D.Dialer.upstream d) g.C.Clock.to_come g.N.S.Stop.calls
-      rule moments (g.N.Net.state l.fn.net).told) posts l.fn.jobs.items
+      policy moments (g.N.Net.state l.fn.net).told) posts l.fn.jobs.items
       → AllZip (IsPosted g.N.L.Listener.state (λ d. g.N.D.Dialer.upstream d) g.C.Clock.to_come g.N.S.Stop.calls
-      rule moments (g.N.Net.state l.fn.net).told) (posts ++ posts_at (interface_post l.which port) place) l.jobs.items);
+      policy moments (g.N.Net.state l.fn.net).told) (posts ++ posts_at (interface_post l.which port) place) l.jobs.items);
   stops : with_stops (length (into_iter_items l.listener-iterator)) (g.N.Net.state l.net) ≡ with_stops (length l.fn.listeners.items) (g.N.Net.state l.fn.net);
   kept : g.N.Net.faults l.net ≡ g.N.Net.faults l.fn.net;
 }

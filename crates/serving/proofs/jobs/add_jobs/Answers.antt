@@ -1,10 +1,12 @@
 use Rattle.std.proofs.Common.{◌≡◌, ◌+◌, sym, subst, ◌∙◌, arith, length}
 use Rattle.std.specs.Prelude.{Option}
+use Rattle.std.specs.List.{AllZip}
 use Rattle.line_base.specs.Nets.{Returns}
 use Rattle.line_base.specs.Dials.{Upstream}
 use Rattle.serving.specs.Jobs.{IsPosted}
-use Rattle.serving.specs.Running.{AreNewFrom}
-use Rattle.serving.proofs.Posting.{all_posted, all_stops, told_kept}
+use Rattle.serving.specs.Posts.{jobs_of, main_posts, posts_of}
+use Rattle.serving.specs.Running.{AreNewFeed, AreNewFrom}
+use Rattle.serving.proofs.Posting.{all_stops, main_posted, told_kept}
 use Rattle.serving.proofs.jobs.add_jobs.Goals as goal
 
 pub returns-clause-posted : goal.returns-clause-posted
@@ -22,16 +24,34 @@ returns-clause-posted g c =
     let same_2 = told_kept (length bound.namerd.items) (g.N.Net.state c.add_proxy_jobs.new.net) (g.N.Net.state c.add_api_jobs.new.net) second.stops ∙ same_1 in
     let namerd = subst (λ (t : Option (Returns g.row.N-L-P.Denot)). AreNewFrom g.N.L.Listener.state t site.namerd 0 bound.namerd.items) (sym same_1) c.requires.listens.namerd in
     let admin = subst (λ (t : Option (Returns g.row.N-L-P.Denot)). AreNewFrom g.N.L.Listener.state t site.admin 0 bound.admin.items) (sym same_2) c.requires.listens.admin in
-    all_posted (λ t. IsPosted {J = g.row.J.Denot} {D = g.row.N-D.Denot} {g = g.J.Naming} g.N.L.Listener.state upstream g.C.Clock.to_come g.N.S.Stop.calls site.rule moments t) site told
+    let main = main_posted (λ t. IsPosted {J = g.row.J.Denot} {D = g.row.N-D.Denot} {g = g.J.Naming} g.N.L.Listener.state upstream g.C.Clock.to_come g.N.S.Stop.calls site.policy moments t) site told
     (g.N.Net.state c.add_proxy_jobs.new.net).told (g.N.Net.state c.add_api_jobs.new.net).told _ _ _ c.args.jobs.now.items c.add_proxy_jobs.new.jobs.items c.add_api_jobs.new.jobs.items
-    c.add_api_jobs-2.new.jobs.items same_1 same_2 count.0 count.1 count.2 c.requires.none_yet first.posted (second.posted site.namerd namerd site.rule moments)
-    (third.posted site.admin admin site.rule moments)
+    c.add_api_jobs-2.new.jobs.items same_1 same_2 count.0 count.1 count.2 c.requires.none_yet first.posted (second.posted site.namerd namerd site.policy moments)
+    (third.posted site.admin admin site.policy moments) in
+    let fourth = c.add_feed_jobs.ensures in
+    let same_3 = told_kept (length bound.admin.items) (g.N.Net.state c.add_api_jobs.new.net) (g.N.Net.state c.add_api_jobs-2.new.net) third.stops ∙ same_2 in
+    let By = λ (t : Option (Returns g.row.N-L-P.Denot)). IsPosted {J = g.row.J.Denot} {D = g.row.N-D.Denot} {g = g.J.Naming} g.N.L.Listener.state upstream g.C.Clock.to_come g.N.S.Stop.calls site.policy moments t in
+    let then = subst (λ (t : Option (Returns g.row.N-L-P.Denot)). AllZip (By t) (main_posts site) c.add_api_jobs-2.new.jobs.items) (sym same_3) main in
+    subst (λ (t : Option (Returns g.row.N-L-P.Denot)). AllZip (By t) (posts_of site) c.add_feed_jobs.new.jobs.items) same_3
+    (fourth.posted site.policy moments (main_posts site) then)
+
+pub add_feed_jobs-requires-clause-new : goal.add_feed_jobs-requires-clause-new
+add_feed_jobs-requires-clause-new g c κs within =
+    let site = c.args.setup.now.site.now in
+    let bound = c.args.bound in
+    let first = c.add_proxy_jobs.ensures in
+    let second = c.add_api_jobs.ensures in
+    let third = c.add_api_jobs-2.ensures in
+    let same_1 = told_kept (length bound.server.items) (g.N.Net.state c.args.net.now) (g.N.Net.state c.add_proxy_jobs.new.net) first.stops in
+    let same_2 = told_kept (length bound.namerd.items) (g.N.Net.state c.add_proxy_jobs.new.net) (g.N.Net.state c.add_api_jobs.new.net) second.stops ∙ same_1 in
+    let same_3 = told_kept (length bound.admin.items) (g.N.Net.state c.add_api_jobs.new.net) (g.N.Net.state c.add_api_jobs-2.new.net) third.stops ∙ same_2 in
+    subst (λ (t : Option (Returns g.row.N-L-P.Denot)). AreNewFeed g.N.L.Listener.state t site.feed bound.feed.items) (sym same_3) c.requires.listens.feed
 
 pub returns-clause-stops : goal.returns-clause-stops
 returns-clause-stops g c =
     let bound = c.args.bound in
     let count = c.requires.listens.count in
-    let sum : length bound.server.items + length bound.namerd.items + length bound.admin.items ≡ c.args.setup.now.site.now.workers + 4 = omega (arith, count.0, count.1, count.2) in
+    let sum : length bound.server.items + length bound.namerd.items + length bound.admin.items + length bound.feed.items ≡ jobs_of c.args.setup.now.site.now = omega (arith, count.0, count.1, count.2, count.3) in
     all_stops (g.N.Net.state c.args.net.now) (g.N.Net.state c.add_proxy_jobs.new.net) (g.N.Net.state c.add_api_jobs.new.net) (g.N.Net.state c.add_api_jobs-2.new.net)
-    (length bound.server.items) (length bound.namerd.items) (length bound.admin.items) (c.args.setup.now.site.now.workers + 4) c.add_proxy_jobs.ensures.stops c.add_api_jobs.ensures.stops
-    c.add_api_jobs-2.ensures.stops sum
+    (g.N.Net.state c.add_feed_jobs.new.net) (length bound.server.items) (length bound.namerd.items) (length bound.admin.items) (length bound.feed.items) (jobs_of c.args.setup.now.site.now)
+    c.add_proxy_jobs.ensures.stops c.add_api_jobs.ensures.stops c.add_api_jobs-2.ensures.stops c.add_feed_jobs.ensures.stops sum

@@ -3,7 +3,7 @@ use Rattle.rand_pcg.specs.Pcg.{pcg64_of_seed}
 use Rattle.std.proofs.Common.{◌+◌, ◌%◌, ◌^◌, ℕ, refl, sym, subst, ap, ◌∙◌, arith, length, List}
 use Rattle.std.specs.Prelude.{Option}
 use Rattle.line_base.specs.Nets.{IsNewLog, Networking, Returns, after_stopper}
-use Rattle.identifier.specs.declared.rule.Rule.{Rule}
+use Rattle.serving.specs.declared.policy.Policy.{Policy}
 use Rattle.linker_config.specs.declared.config.Port.{Port}
 use Rattle.line_base.specs.Dials.{Upstream}
 use Rattle.serving.specs.Jobs.{IsPosted, pass_of}
@@ -19,7 +19,7 @@ use Rattle.serving.proofs.jobs.add_proxy_jobs.Goals as goal
 pub loop-listener-init : goal.loop-listener-init
 loop-listener-init g c =
     let upstream = λ (d : g.row.N-D.Denot). let u : Upstream = g.N.D.Dialer.upstream d in u in
-    let R = λ (rule : Rule) (moments : Option (List ℕ)). IsPosted {J = g.row.J.Denot} {D = g.row.N-D.Denot} {g = g.J.Naming} g.N.L.Listener.state upstream g.C.Clock.to_come g.N.S.Stop.calls rule moments (g.N.Net.state c.args.net.now).told in
+    let R = λ (policy : Policy) (moments : Option (List ℕ)). IsPosted {J = g.row.J.Denot} {D = g.row.N-D.Denot} {g = g.J.Naming} g.N.L.Listener.state upstream g.C.Clock.to_come g.N.S.Stop.calls policy moments (g.N.Net.state c.args.net.now).told in
     let whole = c.into_iter-listener-iterator.ensures.into_iter_gives.0 in
     let many = ap length whole in
     let new = λ (port : Port) (n : AreNewFrom g.N.L.Listener.state (g.N.Net.state c.args.net.now).told port 0 c.args.listeners.items).
@@ -35,7 +35,7 @@ loop-listener-init g c =
       free = c.requires.free;
       place = omega (arith, many);
       new = new c.args.setup.now.site.now.server c.requires.new;
-      posted = λ ps all. none_posted (R c.args.setup.now.site.now.rule (g.C.Clock.of_fork c.args.clock.now)) (client_post c.args.setup.now.site.now) ps c.args.jobs.now.items all;
+      posted = λ ps all. none_posted (R c.args.setup.now.site.now.policy (g.C.Clock.of_fork c.args.clock.now)) (client_post c.args.setup.now.site.now) ps c.args.jobs.now.items all;
       told = refl;
       stops = ap (λ (n : ℕ). with_stops n (g.N.Net.state c.args.net.now)) many;
       kept = refl;
@@ -44,7 +44,7 @@ loop-listener-init g c =
 pub loop-listener-preserved : goal.loop-listener-preserved
 loop-listener-preserved g c =
     let upstream = λ (d : g.row.N-D.Denot). let u : Upstream = g.N.D.Dialer.upstream d in u in
-    let R = λ (rule : Rule) (moments : Option (List ℕ)). IsPosted {J = g.row.J.Denot} {D = g.row.N-D.Denot} {g = g.J.Naming} g.N.L.Listener.state upstream g.C.Clock.to_come g.N.S.Stop.calls rule moments (g.N.Net.state c.args.net.now).told in
+    let R = λ (policy : Policy) (moments : Option (List ℕ)). IsPosted {J = g.row.J.Denot} {D = g.row.N-D.Denot} {g = g.J.Naming} g.N.L.Listener.state upstream g.C.Clock.to_come g.N.S.Stop.calls policy moments (g.N.Net.state c.args.net.now).told in
     let inv = c.loop-listener.invariant in
     let cut = c.in-Some.ensures.steps.0 in
     let shorter = ap length cut in
@@ -67,7 +67,7 @@ loop-listener-preserved g c =
       place = omega (arith, inv.place, shorter);
       new = next.1;
       posted = λ ps all.
-          one_posted (R c.args.setup.now.site.now.rule (g.C.Clock.of_fork c.args.clock.now)) (client_post c.args.setup.now.site.now) c.loop-listener.number (c.loop-listener.number + 1) ps _ _ _ refl pushed.items
+          one_posted (R c.args.setup.now.site.now.policy (g.C.Clock.of_fork c.args.clock.now)) (client_post c.args.setup.now.site.now) c.loop-listener.number (c.loop-listener.number + 1) ps _ _ _ refl pushed.items
           (inv.posted ps all)
           (record {
             listener = next.0;
@@ -75,7 +75,7 @@ loop-listener-preserved g c =
             hung = rw c.of.ensures.dialer c.dialer.ensures.closed;
             clock = rw c.of.ensures.clock c.fork.ensures.0;
             words = c.of.ensures.words ∙ (c.seed_from_u64.ensures ∙ ap (λ (n : ℕ). pcg64_of_seed (pcg32_seed 32 ((c.args.setup.now.site.now.seed + n) % 2 ^ 64))) c.from.ensures);
-            rule_is = refl;
+            policy_is = refl;
             lacked = refl;
             stops = c.stopper.ensures.calls;
           });

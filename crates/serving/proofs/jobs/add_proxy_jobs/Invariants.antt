@@ -22,9 +22,9 @@ invariant-loop-listener g l = record {
   new : AreNewFrom g.N.L.Listener.state (g.N.Net.state l.fn.net).told l.setup.site.now.server l.number (into_iter_items l.listener-iterator);
   posted : (posts : List Post)
       → AllZip (IsPosted g.N.L.Listener.state (λ d. g.N.D.Dialer.upstream d) g.C.Clock.to_come g.N.S.Stop.calls
-      l.setup.site.now.rule (g.C.Clock.of_fork l.clock) (g.N.Net.state l.fn.net).told) posts l.fn.jobs.items
+      l.setup.site.now.policy (g.C.Clock.of_fork l.clock) (g.N.Net.state l.fn.net).told) posts l.fn.jobs.items
       → AllZip (IsPosted g.N.L.Listener.state (λ d. g.N.D.Dialer.upstream d) g.C.Clock.to_come g.N.S.Stop.calls
-      l.setup.site.now.rule (g.C.Clock.of_fork l.clock) (g.N.Net.state l.fn.net).told) (posts ++ posts_at (client_post l.setup.site.now) l.number) l.jobs.items;
+      l.setup.site.now.policy (g.C.Clock.of_fork l.clock) (g.N.Net.state l.fn.net).told) (posts ++ posts_at (client_post l.setup.site.now) l.number) l.jobs.items;
   told : (g.N.Net.state l.net).told ≡ (g.N.Net.state l.fn.net).told;
   stops : with_stops (length (into_iter_items l.listener-iterator)) (g.N.Net.state l.net) ≡ with_stops (length l.fn.listeners.items) (g.N.Net.state l.fn.net);
   kept : g.N.Net.faults l.net ≡ g.N.Net.faults l.fn.net;

@@ -1,28 +1,15 @@
-use Rattle.std.proofs.Common.{refl, inl, inr, ◌∙◌}
+use Rattle.std.proofs.Common.{refl, sym, inl, inr}
+use Rattle.proxy_session.specs.Attempts.{may_repeat}
 use Rattle.proxy_session.specs.Callers.{caller_of}
-use Rattle.proxy_session.proofs.Resting.{idle_same, rests_same}
-use Rattle.proxy_session.proofs.Slots.{settling_slot}
+use Rattle.proxy_session.proofs.Resting.{rests_same}
+use Rattle.proxy_session.proofs.Untouched.{and_left, tried_untouched}
 use Rattle.proxy_session.proofs.server.Server.send_to.Goals as goal
 
-pub returns-in_default-clause-sends : goal.returns-in_default-clause-sends
-returns-in_default-clause-sends g c =
-    inl (record {
-      nothing = record {
-        away = record {
-          kept = refl;
-          upstream = idle_same (g.D.Dialer.upstream c.args.self.now.way.dialer);
-        };
-        caller = refl;
-        moments = refl;
-        words = refl;
-      };
-      line = rests_same (g.P.Peer.line c.args.connection.now.peer);
-      ends = refl;
-    })
-
-pub returns-clause-sends : goal.returns-clause-sends
-returns-clause-sends g c =
-    inr (record {
+pub returns-in_default-report_on-clause-sends : goal.returns-in_default-report_on-clause-sends
+returns-in_default-report_on-clause-sends g c = (
+  refl,
+  inr (
+    record {
       onward = c.write-written.new.out.items;
       is_head = c.in-Ok.ensures;
       how = c.run_held-tried.result;
@@ -30,16 +17,62 @@ returns-clause-sends g c =
       tries = c.run_held-tried.ensures.tries;
       held = caller_of c.run_held-tried.new.pass;
       holds = c.run_held-tried.ensures.holds;
-      settles = c.settle.ensures;
+      settles =
+          inr (
+            c.in_default-report_on.ensures.err,
+            rests_same (g.P.Peer.line c.run_held-tried.new.peer),
+            refl,
+          );
       words_are = refl;
-    })
+    },
+    inr refl,
+  ),
+)
 
-pub returns-clause-slot : goal.returns-clause-slot
-returns-clause-slot g c =
-    settling_slot g.J.Naming.settings (caller_of c.run_held-tried.new.pass)
-    (caller_of c.settle.new.pass) c.args.going.now.head.now c.args.last c.args.choice.addr
-    c.run_held-tried.result
-    (g.C.Clock.to_come c.args.self.now.clock) (g.C.Clock.to_come c.settle.new.clock)
-    (g.P.Peer.line c.run_held-tried.new.peer) (g.P.Peer.line c.settle.new.peer) c.settle.result
-    c.settle.ensures
-    ∙ c.run_held-tried.ensures.holds.slot
+pub returns-then-charge_for_another-clause-sends :
+    goal.returns-then-charge_for_another-clause-sends
+returns-then-charge_for_another-clause-sends g c =
+    let head = c.args.going.now.head.now in
+    let framing = c.args.going.now.framing in
+    let how = c.run_held-tried.result in
+    let followed = sym c.if-charge_for_another.ensures.followed in
+    let put = tried_untouched head framing c.write-written.new.out.items c.args.going.now.last
+    c.args.choice.addr (g.P.Peer.line c.args.connection.now.peer)
+    (g.P.Peer.line c.run_held-tried.new.peer) c.args.self.now.rest c.run_held-tried.new.rest
+    (g.D.Dialer.upstream c.args.self.now.way.dialer)
+    (g.D.Dialer.upstream c.run_held-tried.new.way.dialer) how
+    (and_left (may_repeat head framing how) _ followed) c.run_held-tried.ensures.tries in (
+      c.if-charge_for_another.ensures.behind,
+      record {
+        onward = c.write-written.new.out.items;
+        is_head = c.in-Ok.ensures;
+        how = how;
+        followed = followed;
+        tries = c.run_held-tried.ensures.tries;
+        held = caller_of c.run_held-tried.new.pass;
+        holds = c.run_held-tried.ensures.holds;
+        reported = c.in-Ok-report_on.ensures.ok;
+        words_are = refl;
+        line = put.0;
+        kept_is = put.1;
+      },
+    )
+
+pub returns-clause-sends : goal.returns-clause-sends
+returns-clause-sends g c = (
+  c.if-charge_for_another.ensures.behind,
+  inr (
+    record {
+      onward = c.write-written.new.out.items;
+      is_head = c.in-Ok.ensures;
+      how = c.run_held-tried.result;
+      between = g.P.Peer.line c.run_held-tried.new.peer;
+      tries = c.run_held-tried.ensures.tries;
+      held = caller_of c.run_held-tried.new.pass;
+      holds = c.run_held-tried.ensures.holds;
+      settles = inl (c.in-Ok-report_on.ensures.ok, c.answer.ensures);
+      words_are = refl;
+    },
+    inl (sym c.if-charge_for_another.ensures.followed),
+  ),
+)

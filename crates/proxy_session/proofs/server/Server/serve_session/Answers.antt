@@ -1,8 +1,8 @@
-use Rattle.std.proofs.Common.{◌∙◌, sym, refl, arith}
+use Rattle.std.proofs.Common.{refl, arith}
 use Rattle.proxy_session.specs.Exchange.{Standing}
 use Rattle.proxy_session.specs.Standing.{standing}
 use Rattle.proxy_session.proofs.Ending.{no_fault, session_ending, session_spent}
-use Rattle.proxy_session.proofs.Serving.{few_served, none_served, one_served}
+use Rattle.proxy_session.proofs.Serving.{few_served, none_served, one_served, session_ends}
 use Rattle.proxy_session.proofs.server.Server.serve_session.Goals as goal
 
 pub requests-init : goal.requests-init
@@ -10,7 +10,7 @@ requests-init g c = record {
   few = omega (arith, c.requires.new);
   served =
       rw c.clear.ensures (none_served g.J.Naming.settings c.args.context.now.rule.now
-      c.args.connection.now.served _ c.requires.new);
+      c.args.connection.now.served c.args.connection.now.budget _ c.requires.new);
   slot = c.requires.free;
 }
 
@@ -24,10 +24,12 @@ requests-preserved g c =
     record {
       few =
           rw count (few_served g.J.Naming.settings c.args.context.now.rule.now
-          c.requests.connection.served mid new i.few c.in-None.ensures.serves);
+          c.requests.connection.served c.requests.connection.budget
+          c.serve_next.new.connection.budget mid new i.few c.in-None.ensures.serves);
       served =
           rw count (one_served g.J.Naming.settings c.args.context.now.rule.now
-          c.requests.connection.served _ mid new i.served c.in-None.ensures.serves);
+          c.requests.connection.served c.args.connection.now.budget c.requests.connection.budget
+          c.serve_next.new.connection.budget _ mid new i.served c.in-None.ensures.serves);
       slot = c.in-None.ensures.slot;
     }
 
@@ -37,18 +39,19 @@ requests-smaller g c =
 
 pub returns-in-Some-clause-session : goal.returns-in-Some-clause-session
 returns-in-Some-clause-session g c =
-    let at = standing g.P.Peer.line g.D.Dialer.upstream g.C.Clock.to_come in (
-      c.requests.connection.served,
-      at c.requests.connection c.requests.self,
-      c.requests.invariant.served,
-      c.in-Some.ensures.serves,
-    )
+    let at = standing g.P.Peer.line g.D.Dialer.upstream g.C.Clock.to_come in
+    session_ends g.J.Naming.settings c.args.context.now.rule.now c.requests.connection.served
+    c.args.connection.now.budget c.requests.connection.budget c.serve_next.new.connection.budget
+    (at c.args.connection.now c.args.self.now) (at c.requests.connection c.requests.self)
+    (at c.serve_next.new.connection c.serve_next.new.self) c.in-Some.ended
+    c.requests.invariant.served c.in-Some.ensures.serves
 
 -- what its end says
 ended_by : goal.returns-in-Some-clause-cause
 ended_by g c =
     let at = standing g.P.Peer.line g.D.Dialer.upstream g.C.Clock.to_come in
-    (session_ending g.J.Naming.settings c.args.context.now.rule.now
+    (session_ending g.J.Naming.settings c.args.context.now.rule.now c.args.connection.now.budget
+    c.serve_next.new.connection.budget
     (at c.args.connection.now c.args.self.now) (at c.serve_next.new.connection
     c.serve_next.new.self)
     c.in-Some.ended (returns-in-Some-clause-session g c)).cause
@@ -64,7 +67,8 @@ returns-in-Some-clause-complete g c none =
 pub returns-in-Some-clause-spent : goal.returns-in-Some-clause-spent
 returns-in-Some-clause-spent g c is =
     let at = standing g.P.Peer.line g.D.Dialer.upstream g.C.Clock.to_come in
-    session_spent g.J.Naming.settings c.args.context.now.rule.now
+    session_spent g.J.Naming.settings c.args.context.now.rule.now c.args.connection.now.budget
+    c.serve_next.new.connection.budget
     (at c.args.connection.now c.args.self.now) (at c.serve_next.new.connection
     c.serve_next.new.self)
     c.in-Some.ended (returns-in-Some-clause-session g c) is
@@ -72,7 +76,8 @@ returns-in-Some-clause-spent g c is =
 pub returns-in-Some-clause-closed : goal.returns-in-Some-clause-closed
 returns-in-Some-clause-closed g c =
     let at = standing g.P.Peer.line g.D.Dialer.upstream g.C.Clock.to_come in
-    (session_ending g.J.Naming.settings c.args.context.now.rule.now
+    (session_ending g.J.Naming.settings c.args.context.now.rule.now c.args.connection.now.budget
+    c.serve_next.new.connection.budget
     (at c.args.connection.now c.args.self.now) (at c.serve_next.new.connection
     c.serve_next.new.self)
     c.in-Some.ended (returns-in-Some-clause-session g c)).closed
@@ -80,7 +85,8 @@ returns-in-Some-clause-closed g c =
 pub returns-in-Some-clause-number : goal.returns-in-Some-clause-number
 returns-in-Some-clause-number g c =
     let at = standing g.P.Peer.line g.D.Dialer.upstream g.C.Clock.to_come in
-    (session_ending g.J.Naming.settings c.args.context.now.rule.now
+    (session_ending g.J.Naming.settings c.args.context.now.rule.now c.args.connection.now.budget
+    c.serve_next.new.connection.budget
     (at c.args.connection.now c.args.self.now) (at c.serve_next.new.connection
     c.serve_next.new.self)
     c.in-Some.ended (returns-in-Some-clause-session g c)).number

@@ -1,0 +1,8 @@
+pub mod Bodies
+pub mod Feeding
+pub mod Growing
+pub mod Histories
+pub mod Latest
+pub mod Members
+pub mod Progressing
+pub mod Replying

@@ -1,0 +1,13 @@
+use Rattle.std.proofs.Common.{◌≡◌, ◌-◌, ◌≤◌, length, take}
+use Rattle.std.specs.Io.KnownBytes.{Appends}
+use Rattle.follow_feed.proofs.writing.write_all.Given as goal
+
+abbrev pub invariant-loop-at : goal.invariant-loop-at
+invariant-loop-at g l = record {
+  within : l.at ≤ length l.bytes;
+  sent : Appends (g.K.Sink.output l.fn.sink).held (g.K.Sink.output l.sink).held (take l.at l.bytes);
+  faults : (g.K.Sink.output l.sink).faults ≡ (g.K.Sink.output l.fn.sink).faults;
+}
+
+abbrev pub decreases-loop-at : goal.decreases-loop-at
+decreases-loop-at g l = length l.bytes - l.at

@@ -1,0 +1,10 @@
+pub mod Feeds
+pub mod Following
+pub mod Laws
+pub mod Texts
+pub mod Demand
+pub mod Answering
+pub mod Reading
+pub mod Polling
+pub mod Lines
+pub mod Progress

@@ -1,0 +1,56 @@
+//! The body of a reply, gathered in memory.
+ghost use Rattle.std.specs.Prelude.{◌≡◌, []};
+
+use line_base::{Failed, Peer};
+use std::alloc::Global;
+
+/// Gathers the bytes that are written to it, and gives none: the peer behind a reply that is read
+/// rather than passed on. A write fails where there is no memory for it.
+#[derive(Debug, Drop)]
+pub(crate) struct Gathered {
+    pub(crate) bytes: Vec<u8>,
+    faults: u64,
+    ends: u64,
+}
+
+impl Gathered {
+    /// Nothing yet.
+    pub(crate) fn new(alloc: Global) -> Gathered
+        ensures { result.bytes.items ≡ [] }
+    {
+        Gathered {
+            bytes: Vec::new(alloc),
+            faults: 0,
+            ends: 0,
+        }
+    }
+}
+
+impl Peer for Gathered {
+    ghost use Rattle.std.specs.Prelude.{None, Some};
+
+    ghost line = { λ g. record {
+      left = None;
+      given = Some g.bytes.items;
+      read_faults = 0;
+      write_faults = g.faults;
+      ends = g.ends;
+    } };
+
+    fn read(&mut self, into: &mut [u8]) -> Result<usize, Failed> {
+        if !into.is_empty() {
+            self.ends = self.ends.saturating_add(1);
+        }
+        Ok(0)
+    }
+
+    fn write(&mut self, bytes: &[u8]) -> Result<usize, Failed> {
+        match self.bytes.extend_from_slice(bytes) {
+            Ok(()) => Ok(bytes.len()),
+            Err(_) => {
+                self.faults = self.faults.saturating_add(1);
+                Err(Failed)
+            }
+        }
+    }
+}

@@ -1,0 +1,194 @@
+-- A try behind which another attempt follows leaves the client's connection as it was.
+use Rattle.std.proofs.Common.{◌≡◌, ◌≢◌, ℕ, eqb, ◌&&◌, Bool, true, false, List, [], ◌∷◌, ◌++◌, length, refl, sym, subst, ap, ◌∙◌, inl, inr, append-nil, Option, Some, None, Result, Ok, Err, arith}
+use Rattle.std.specs.List.{concat}
+use Rattle.std.specs.Io.KnownBytes.{Consumes, Keeps}
+use Rattle.std.proofs.KnownBytes.{Keeps-trans}
+use Rattle.std.proofs.lemmas.Bool.Decides.{nat_tests}
+use Rattle.addr_book.specs.declared.addr.Addr.{Addr}
+use Rattle.body_wire.specs.declared.end.BodyEnd.{BodyEnd}
+use Rattle.body_wire.specs.declared.end.BodyEnd.TheVariants.{BadChunk, Cut, TooLong, ReadFault, WriteFault, SendFault, RecvFault, OutOfMemory}
+use Rattle.body_wire.specs.Bodies.{IsFrontBody, IsUnfinished}
+use Rattle.body_wire.specs.Passing.{InTurn, form_of, is_at_end, most_passed, runs_to_end}
+use Rattle.http_wire.specs.declared.frames.Framing.{Framing}
+use Rattle.http_wire.specs.declared.head.Head.{Head}
+use Rattle.line_base.specs.Dials.{Upstream}
+use Rattle.line_base.specs.Lines.{Line, Rests}
+use Rattle.proxy_session.specs.declared.final_head.HeadFault.{HeadFault}
+use Rattle.proxy_session.specs.declared.tried.Tried.{Tried}
+use Rattle.proxy_session.specs.Attempts.{is_repeatable, is_without_body, may_repeat}
+use Rattle.proxy_session.specs.Trying.{Converses, GoesOn, Replies, Tries, tried_of_back, tried_of_body, tried_of_head}
+use Rattle.proxy_session.proofs.Bodies.{front_of_body}
+
+-- the first of two tests that both hold
+pub and_left : (a b : Bool) → (a && b) ≡ true → a ≡ true
+and_left true b is = refl
+and_left false b is = absurd (cc)
+
+pub and_right : (a b : Bool) → (a && b) ≡ true → b ≡ true
+and_right true b is = is
+and_right false b is = absurd (cc)
+
+-- ---- a body that has no byte
+
+nothing_of : (xs : List ℕ) → length xs ≡ 0 → xs ≡ []
+nothing_of [] is = refl
+nothing_of (x ∷ xs) is = absurd (omega (arith, is))
+
+zero_of : (n : ℕ) → eqb n 0 ≡ true → n ≡ 0
+zero_of n is = grind (arith, nat_tests)
+
+none_taken : (framing : Framing) (chunked : Bool) (limit : ℕ) (taken passed : List ℕ) (count : ℕ)
+    → is_without_body framing ≡ true
+    → IsFrontBody framing (form_of chunked) limit taken passed count
+    → taken ≡ []
+none_taken Framing.Nothing chunked limit taken passed count is front = front.1
+none_taken (Framing.Length n) chunked limit taken passed count is (plain, few, fits) =
+    let none = zero_of n is in nothing_of taken (omega (arith, plain.total, few, none))
+none_taken Framing.Chunked chunked limit taken passed count is front = absurd (cc)
+none_taken Framing.ToEnd chunked limit taken passed count is front = absurd (cc)
+
+never_open : (framing : Framing) (chunked : Bool) (limit : ℕ) (taken passed : List ℕ) (count : ℕ)
+    (waiting : List ℕ) → is_without_body framing ≡ true
+    → IsUnfinished framing (form_of chunked) limit taken passed count waiting → ⊥
+never_open Framing.Nothing chunked limit taken passed count waiting is open_ = open_
+never_open (Framing.Length n) chunked limit taken passed count waiting is
+    (plain, less, none, fits) =
+    let no = zero_of n is in omega (arith, less, no)
+never_open Framing.Chunked chunked limit taken passed count waiting is open_ = absurd (cc)
+never_open Framing.ToEnd chunked limit taken passed count waiting is open_ = absurd (cc)
+
+no_pieces : (framing : Framing) (chunked : Bool) (limit : ℕ) (head kept : List ℕ)
+    (pieces : List (List ℕ)) (sent : List ℕ) → is_without_body framing ≡ true
+    → InTurn framing (form_of chunked) limit head kept pieces sent → pieces ≡ []
+no_pieces framing chunked limit head kept pieces sent is (inl none) = none
+no_pieces framing chunked limit head kept pieces sent is (inr piece) =
+    absurd (never_open framing chunked limit piece.taken piece.passed piece.count piece.waiting is
+    piece.open_)
+
+consumes_none : (a b : Option (List ℕ)) → Consumes a b [] → Keeps a b
+consumes_none None b took = tt
+consumes_none (Some xs) None took = absurd took
+consumes_none (Some xs) (Some ys) took = sym took
+
+ends_elsewhere : (framing : Framing) → is_without_body framing ≡ true
+    → runs_to_end framing ≡ false
+ends_elsewhere Framing.Nothing is = refl
+ends_elsewhere (Framing.Length n) is = refl
+ends_elsewhere Framing.Chunked is = refl
+ends_elsewhere Framing.ToEnd is = absurd (cc)
+
+abbrev Untouched : Line → Line → List ℕ → List ℕ → Type 0
+Untouched old new kept kept_after = Rests old new × (kept_after ≡ kept)
+
+body_untouched : (onward : List ℕ) (framing : Framing) (old new : Line) (kept kept_after : List ℕ)
+    (f0 f1 : ℕ) (sent : List ℕ) (result : Result ℕ BodyEnd)
+    → GoesOn onward framing old new kept kept_after f0 f1 sent result
+    → is_without_body framing ≡ true → result ≢ Err ReadFault → is_at_end framing result ≡ false
+    → Untouched old new kept kept_after
+body_untouched onward framing old new kept kept_after f0 f1 sent result goes bare read before_end =
+    let p = goes.passes in
+    let none : goes.came ≡ [] = no_pieces framing true most_passed onward kept goes.came
+    sent bare p.in_turn in
+    let nothing : p.taken ≡ [] = none_taken framing true most_passed p.taken p.passed
+    p.count bare
+    (front_of_body true most_passed p.taken p.passed p.count p.within kept_after framing result
+    p.ends) in (
+      record {
+        left =
+            consumes_none old.left new.left
+            (subst (λ (c : List (List ℕ)). Consumes old.left new.left (concat c)) none goes.taken);
+        given = goes.given;
+        read_faults = goes.reads.others read;
+        write_faults = goes.writes;
+        ends = goes.ends.others before_end;
+      },
+      sym (ap (λ (l : List ℕ). l ++ kept_after) nothing)
+          ∙ (sym p.bytes ∙ (ap (λ (c : List (List ℕ)). kept ++ concat c) none ∙ append-nil kept)),
+    )
+
+pub rests_on : (a b c : Line) → Rests a b → Rests b c → Rests a c
+rests_on a b c p q = record {
+  left = Keeps-trans a.left b.left c.left p.left q.left;
+  given = Keeps-trans a.given b.given c.given p.given q.given;
+  read_faults = q.read_faults ∙ p.read_faults;
+  write_faults = q.write_faults ∙ p.write_faults;
+  ends = q.ends ∙ p.ends;
+}
+
+-- ---- the ways of a try
+
+module _ (head : Head) (framing : Framing) where
+  abbrev Repeats : Tried → Type 0
+  Repeats how = may_repeat head framing how ≡ true
+
+  bare : is_repeatable head framing ≡ true → is_without_body framing ≡ true
+  bare is = and_left (is_without_body framing) _ is
+
+  stopped : (onward : List ℕ) (old new : Line) (kept kept_after : List ℕ) (f0 f1 : ℕ)
+      (sent : List ℕ) (end : BodyEnd) → Repeats (tried_of_body end)
+      → GoesOn onward framing old new kept kept_after f0 f1 sent (Err end)
+      → Untouched old new kept kept_after
+  stopped onward old new kept kept_after f0 f1 sent (BadChunk n) is goes = absurd (cc)
+  stopped onward old new kept kept_after f0 f1 sent Cut is goes = absurd (cc)
+  stopped onward old new kept kept_after f0 f1 sent TooLong is goes = absurd (cc)
+  stopped onward old new kept kept_after f0 f1 sent ReadFault is goes = absurd (cc)
+  stopped onward old new kept kept_after f0 f1 sent WriteFault is goes = absurd (cc)
+  stopped onward old new kept kept_after f0 f1 sent SendFault is goes =
+      body_untouched onward framing old new kept kept_after f0 f1 sent (Err SendFault) goes
+      (bare is) (λ no. cc) refl
+  stopped onward old new kept kept_after f0 f1 sent RecvFault is goes = absurd (cc)
+  stopped onward old new kept kept_after f0 f1 sent OutOfMemory is goes = absurd (cc)
+
+  no_head : (fault : HeadFault) → Repeats (tried_of_head fault) → is_without_body framing ≡ true
+  no_head HeadFault.NoReply is = bare is
+  no_head HeadFault.OutOfMemory is = absurd (cc)
+
+  never_back : (status : ℕ) (closes : Bool) (r : Result ℕ BodyEnd)
+      → Repeats (tried_of_back status closes r) → ⊥
+  never_back status closes (Ok n) is = cc
+  never_back status closes (Err (BadChunk n)) is = cc
+  never_back status closes (Err Cut) is = cc
+  never_back status closes (Err TooLong) is = cc
+  never_back status closes (Err ReadFault) is = cc
+  never_back status closes (Err WriteFault) is = cc
+  never_back status closes (Err SendFault) is = cc
+  never_back status closes (Err RecvFault) is = cc
+  never_back status closes (Err OutOfMemory) is = cc
+
+  replied : (last : Bool) (old new : Line) (f0 f1 : ℕ) (got : List (List ℕ)) (how : Tried)
+      → Repeats how → Replies head last old new f0 f1 got how
+      → Rests old new × (is_without_body framing ≡ true)
+  replied last old new f0 f1 got how repeats (inl (fault, kept, hears, rests, is)) =
+      (rests, no_head fault (subst Repeats is repeats))
+  replied last old new f0 f1 got how repeats
+      (inr (reply, fr, kept, between, before, behind, hears, inl none, is)) =
+      let never : Repeats Tried.OutOfMemory = subst Repeats none.3 repeats in absurd (cc)
+  replied last old new f0 f1 got how repeats
+      (inr (reply, fr, kept, between, before, behind, hears, inr (after, r, goes, way), is)) =
+      absurd (never_back _ _ r (subst Repeats way repeats))
+
+  conversed : (onward : List ℕ) (last : Bool) (old new : Line) (kept kept_after : List ℕ)
+      (f0 f1 : ℕ) (sent : List ℕ) (got : List (List ℕ)) (how : Tried) → Repeats how
+      → Converses head onward framing last old new kept kept_after f0 f1 sent got how
+      → Untouched old new kept kept_after
+  conversed onward last old new kept kept_after f0 f1 sent got how repeats
+      (inl (end, goes, none, is)) =
+      stopped onward old new kept kept_after f0 f1 sent end (subst Repeats is repeats) goes
+  conversed onward last old new kept kept_after f0 f1 sent got how repeats
+      (inr (n, mid, between, goes, replies)) =
+      let behind = replied last mid new between f1 got how repeats replies in
+      let body = body_untouched onward framing old mid kept kept_after f0 between sent (Ok n) goes
+      behind.1 (λ no. cc) (ends_elsewhere framing behind.1) in
+      (rests_on old mid new body.0 behind.0, body.1)
+
+  pub tried_untouched : (onward : List ℕ) (last : Bool) (addr : Addr) (old new : Line)
+      (kept kept_after : List ℕ) (before now : Upstream) (how : Tried)
+      → may_repeat head framing how ≡ true
+      → Tries head onward framing last addr old new kept kept_after before now how
+      → Rests old new × (kept_after ≡ kept)
+  tried_untouched onward last addr old new kept kept_after before now how repeats
+      (inl none, closed) = (none.line, none.kept_is)
+  tried_untouched onward last addr old new kept kept_after before now how repeats
+      (inr spoken, closed) =
+      conversed onward last old new kept kept_after before.faults now.faults (concat spoken.sent)
+      spoken.got how repeats spoken.spoke

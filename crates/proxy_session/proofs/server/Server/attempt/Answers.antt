@@ -1,0 +1,69 @@
+use Rattle.std.proofs.Common.{refl, inl, ◌∙◌}
+use Rattle.machine.specs.Code.{ask_of}
+use Rattle.proxy_session.specs.Callers.{caller_of}
+use Rattle.proxy_session.specs.Sought.{sought_of}
+use Rattle.proxy_session.specs.declared.onward.Onward.{Onward}
+use Rattle.proxy_session.specs.Standing.{standing}
+use Rattle.proxy_session.proofs.Exchanging.{asks_sent, word_found}
+use Rattle.proxy_session.proofs.Resting.{idle_same, rests_same}
+use Rattle.proxy_session.proofs.Slots.{finding_slot, finding_word, stopping_slot}
+use Rattle.proxy_session.proofs.server.Server.attempt.Goals as goal
+
+pub send_found-requires-clause-word : goal.send_found-requires-clause-word
+send_found-requires-clause-word g c =
+    let f = c.in-Ok.ensures.ok in
+    word_found f.0 c.find.new.names c.in-Ok.found f.2
+    (finding_word g.J.Naming.settings (caller_of c.args.self.now.pass) (caller_of c.find.new.pass)
+    (ask_of c.args.request.now.ask) f.0 f.1)
+
+pub send_found-requires-clause-free : goal.send_found-requires-clause-free
+send_found-requires-clause-free g c =
+    let f = c.in-Ok.ensures.ok in
+    finding_slot g.J.Naming.settings (caller_of c.args.self.now.pass) (caller_of c.find.new.pass)
+    (ask_of c.args.request.now.ask) f.0 f.1 ∙ c.requires.free
+
+pub returns-in-Ok-clause-asks : goal.returns-in-Ok-clause-asks
+returns-in-Ok-clause-asks g c =
+    let at = standing g.P.Peer.line g.D.Dialer.upstream g.C.Clock.to_come in
+    let f = c.in-Ok.ensures.ok in
+    let going : Onward = record {
+      head = c.args.head;
+      last = c.args.last;
+      fewer = c.args.fewer;
+      framing = c.args.request.now.framing;
+      target = c.as_slice.result;
+      host = c.as_slice-in-Ok.result;
+      ask = record { ref_ptr = c.args.head.ref_ptr; now = c.args.request.now.ask };
+    } in
+    asks_sent g.J.Naming.settings (sought_of c.args.request.now) going
+    (record {
+      host = c.as_slice-in-Ok.ensures.value;
+      line = c.as_slice.ensures.value;
+      framing = refl;
+    })
+    (at c.args.connection.now c.args.self.now) (at c.send_found.new.connection
+    c.send_found.new.self) (caller_of c.find.new.pass)
+    c.args.connection.now.budget c.send_found.new.connection.budget refl refl
+    f.0 c.find.new.names c.in-Ok.found c.send_found.result f.1 f.2 c.send_found.ensures.words
+    c.send_found.ensures.sends
+
+pub returns-in-Err-clause-asks : goal.returns-in-Err-clause-asks
+returns-in-Err-clause-asks g c = (
+  refl,
+  refl,
+  inl (record {
+    asks = inl c.in-Err.ensures.err;
+    moments_are = refl;
+    away = record {
+      kept = refl;
+      upstream = idle_same (g.D.Dialer.upstream c.args.self.now.way.dialer);
+    };
+    line = rests_same (g.P.Peer.line c.args.connection.now.peer);
+    ends = refl;
+  }),
+)
+
+pub returns-in-Err-clause-slot : goal.returns-in-Err-clause-slot
+returns-in-Err-clause-slot g c =
+    stopping_slot g.J.Naming.settings (caller_of c.args.self.now.pass) (caller_of c.find.new.pass)
+    (ask_of c.args.request.now.ask) c.in-Err.ensures.err ∙ c.requires.free

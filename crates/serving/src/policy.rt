@@ -1,0 +1,16 @@
+//! How requests are handled.
+ghost use Rattle.std.specs.Option.{ForSome};
+ghost use Rattle.retry_budget.specs.Budget.{AreAllowed};
+
+use identifier::Rule;
+use retry_budget::Tries;
+
+/// How requests are handled, whatever connection they come on.
+#[derive(Debug, Drop)]
+pub struct Policy {
+    /// How they are named.
+    pub rule: Rule,
+    /// How often one may be tried again on another replica, if it may be.
+    pub retries: Option<Tries>,
+    ghost allowed: { ForSome retries (λ tries. AreAllowed tries) },
+}

@@ -1,0 +1,350 @@
+//! Requests that are tried again, and what their budget grants.
+use crate::played::play;
+use crate::scene::{FIXED, Failing, Scene};
+use http_wire::Ended::{self, Closed, PeerEnded, UpstreamCut};
+use retry_budget::{Budget, Tries};
+use std::alloc::Global;
+use std::sync::Wait;
+use std::test::Fail;
+
+/// Each request pays a fifth of a retry in, ten are there from the start, and one request has three
+/// at most.
+const USUAL: Tries = Tries {
+    percent: 20,
+    reserve: 10,
+    most: 3,
+};
+
+/// A request.
+const REQUEST: &str = "GET / HTTP/1.1|Host: web||";
+
+/// A reply, and what goes back for it.
+const REPLY: &str = "HTTP/1.1 200 OK|Content-Length: 2||hi";
+
+const WRITTEN: &str = "HTTP/1.1 200 OK|Content-Length: 2|Via: 1.1 linkerd||hi";
+
+/// The refusals where a replica could not be dialled, and where it gave no reply.
+const DIAL: &str =
+    "HTTP/1.1 502 Bad Gateway|Content-Type: text/plain|l5d-err: dial|Content-Length: 5||dial~";
+
+const UPSTREAM: &str =
+    "HTTP/1.1 502 Bad Gateway|Content-Type: text/plain|l5d-err: upstream|Content-Length: 9||upstream~";
+
+/// The latter, behind which the connection closes.
+const LAST_UPSTREAM: &str =
+    "HTTP/1.1 502 Bad Gateway|Content-Type: text/plain|l5d-err: upstream|Content-Length: 9|Connection: close||upstream~";
+
+/// What goes into a session with a budget, and what comes of it.
+#[derive(Clone, Copy)]
+struct Case {
+    about: &'static str,
+    tries: Tries,
+    /// What the client gives.
+    gives: &'static str,
+    /// What the replicas reply, in the order of the dials that are answered.
+    replies: &'static [&'static str],
+    /// The calls of the dialer that fail.
+    failing: &'static [u64],
+    /// What the client is given.
+    written: &'static [&'static str],
+    /// How many calls of the dialer failed, and how many connections it opened.
+    dials: (u64, usize),
+    ended: Ended,
+}
+
+const CASES: [Case; 14] = [
+    Case {
+        about: "a replica that can't be dialled",
+        tries: USUAL,
+        gives: REQUEST,
+        replies: &[REPLY],
+        failing: &[0],
+        written: &[WRITTEN],
+        dials: (1, 1),
+        ended: PeerEnded,
+    },
+    Case {
+        about: "a budget of one retry",
+        tries: Tries {
+            percent: 0,
+            reserve: 1,
+            most: 3,
+        },
+        gives: "GET / HTTP/1.1|Host: web||GET / HTTP/1.1|Host: web||",
+        replies: &[REPLY],
+        failing: &[0, 1, 2],
+        written: &[DIAL, DIAL],
+        dials: (3, 0),
+        ended: PeerEnded,
+    },
+    Case {
+        about: "no retries for a request",
+        tries: Tries {
+            percent: 20,
+            reserve: 10,
+            most: 0,
+        },
+        gives: REQUEST,
+        replies: &[REPLY],
+        failing: &[0],
+        written: &[DIAL],
+        dials: (1, 0),
+        ended: PeerEnded,
+    },
+    Case {
+        about: "no replica gives a reply",
+        tries: USUAL,
+        gives: REQUEST,
+        replies: &["", "", "", "", REPLY],
+        failing: &[],
+        written: &[UPSTREAM],
+        dials: (0, 4),
+        ended: PeerEnded,
+    },
+    Case {
+        about: "a request that can't be sent",
+        tries: USUAL,
+        gives: REQUEST,
+        replies: &["", REPLY],
+        failing: &[1],
+        written: &[WRITTEN],
+        dials: (1, 2),
+        ended: PeerEnded,
+    },
+    Case {
+        about: "a body whose replica gives no reply",
+        tries: USUAL,
+        gives: "POST / HTTP/1.1|Host: web|Content-Length: 5||hello",
+        replies: &["", REPLY],
+        failing: &[],
+        written: &[LAST_UPSTREAM],
+        dials: (0, 1),
+        ended: Closed,
+    },
+    Case {
+        about: "a body whose replica can't be dialled",
+        tries: USUAL,
+        gives: "POST / HTTP/1.1|Host: web|Content-Length: 5||hello",
+        replies: &[REPLY],
+        failing: &[0],
+        written: &[WRITTEN],
+        dials: (1, 1),
+        ended: PeerEnded,
+    },
+    Case {
+        about: "a length of 0",
+        tries: USUAL,
+        gives: "PUT / HTTP/1.1|Host: web|Content-Length: 0||",
+        replies: &["", REPLY],
+        failing: &[],
+        written: &[WRITTEN],
+        dials: (0, 2),
+        ended: PeerEnded,
+    },
+    Case {
+        about: "a chunked body of nothing",
+        tries: USUAL,
+        gives: "PUT / HTTP/1.1|Host: web|Transfer-Encoding: chunked||0||",
+        replies: &["", REPLY],
+        failing: &[],
+        written: &[LAST_UPSTREAM],
+        dials: (0, 1),
+        ended: Closed,
+    },
+    Case {
+        about: "a retry whose reply is 503",
+        tries: USUAL,
+        gives: REQUEST,
+        replies: &[
+            "HTTP/1.1 503 Service Unavailable|Content-Length: 0||",
+            REPLY,
+        ],
+        failing: &[0],
+        written: &["HTTP/1.1 503 Service Unavailable|Content-Length: 0|Via: 1.1 linkerd||"],
+        dials: (1, 1),
+        ended: PeerEnded,
+    },
+    Case {
+        about: "a reply that is cut",
+        tries: USUAL,
+        gives: REQUEST,
+        replies: &["HTTP/1.1 200 OK|Content-Length: 5||he", REPLY],
+        failing: &[],
+        written: &["HTTP/1.1 200 OK|Content-Length: 5|Via: 1.1 linkerd||he"],
+        dials: (0, 1),
+        ended: UpstreamCut,
+    },
+    Case {
+        about: "a request behind one that is tried again",
+        tries: USUAL,
+        gives: "GET / HTTP/1.1|Host: web||GET / HTTP/1.1|Host: web||",
+        replies: &[REPLY, REPLY],
+        failing: &[0],
+        written: &[WRITTEN, WRITTEN],
+        dials: (1, 2),
+        ended: PeerEnded,
+    },
+    Case {
+        about: "a request that is refused pays in too",
+        tries: Tries {
+            percent: 50,
+            reserve: 0,
+            most: 3,
+        },
+        gives: "GET / HTTP/1.1|Host: web|l5d-dtab: x||GET / HTTP/1.1|Host: web||",
+        replies: &[REPLY],
+        failing: &[0],
+        written: &[
+            "HTTP/1.1 400 Bad Request|Content-Type: text/plain|l5d-err: dtab|Content-Length: 5||dtab~",
+            WRITTEN,
+        ],
+        dials: (1, 1),
+        ended: PeerEnded,
+    },
+    Case {
+        about: "a retry pays nothing in",
+        tries: Tries {
+            percent: 99,
+            reserve: 1,
+            most: 3,
+        },
+        gives: REQUEST,
+        replies: &[REPLY],
+        failing: &[0, 1],
+        written: &[DIAL],
+        dials: (2, 0),
+        ended: PeerEnded,
+    },
+];
+
+/// How many connections were opened, by what the tries sent.
+fn opened(sent: &str) -> usize {
+    let mut count = 0usize;
+    for byte in sent.as_bytes() {
+        if *byte == b'<' {
+            count = count.saturating_add(1);
+        }
+    }
+    count
+}
+
+/// What came of a session, as one text.
+fn told(
+    alloc: Global,
+    written: &str,
+    dials: (u64, usize),
+    ended: Option<Ended>,
+) -> Result<String, Fail> {
+    let (failed, opened) = dials;
+    Ok(format!(in alloc; "{written} {failed} {opened} {ended:?}")?)
+}
+
+/// These texts behind one another.
+fn joined(alloc: Global, texts: &[&str]) -> Result<String, Fail> {
+    let mut all = String::new(alloc);
+    for text in texts {
+        all.push_str(text)?;
+    }
+    Ok(all)
+}
+
+impl Case {
+    /// What comes of the session, and what is wanted.
+    fn played<R: Wait>(&self, rt: &R, alloc: Global) -> Result<(String, String), Fail> {
+        let scene = Scene {
+            failing: Failing::Dials(self.failing),
+            tries: Some(self.tries),
+            ..Scene::of(FIXED, self.gives, self.replies)
+        };
+        let played = play(rt, alloc, &scene)?;
+        let dials = (played.failed, opened(played.sent.as_str()));
+        let wanted = joined(alloc, self.written)?;
+        Ok((
+            told(alloc, played.written.as_str(), dials, played.ended)?,
+            told(alloc, wanted.as_str(), self.dials, Some(self.ended))?,
+        ))
+    }
+}
+
+#[test]
+fn requests_are_tried_again(rt: HostRuntime) -> Result<(), Fail> {
+    let alloc = rt.alloc();
+    for case in CASES.iter() {
+        let (comes, wanted) = case.played(&rt, alloc)?;
+        assert!(rt; comes == wanted, "{}", case.about);
+    }
+    Ok(())
+}
+
+/// The methods of requests, and whether one that got no reply is sent to another replica.
+const METHODS: [(&str, bool); 10] = [
+    ("GET", true),
+    ("HEAD", true),
+    ("OPTIONS", true),
+    ("TRACE", true),
+    ("QUERY", true),
+    ("PUT", true),
+    ("DELETE", true),
+    ("POST", false),
+    ("PATCH", false),
+    ("SEARCH", false),
+];
+
+/// How many connections are opened for a request of this method, whose first replica gives no
+/// reply.
+fn tried<R: Wait>(rt: &R, alloc: Global, method: &str) -> Result<usize, Fail> {
+    let gives = format!(in alloc; "{method} / HTTP/1.1|Host: web||")?;
+    let replies = ["", "HTTP/1.1 204 No Content||"];
+    let scene = Scene {
+        tries: Some(USUAL),
+        ..Scene::of(FIXED, gives.as_str(), &replies)
+    };
+    let played = play(rt, alloc, &scene)?;
+    Ok(opened(played.sent.as_str()))
+}
+
+#[test]
+fn idempotent_requests_are_tried_again(rt: HostRuntime) -> Result<(), Fail> {
+    let alloc = rt.alloc();
+    for (method, again) in METHODS.iter() {
+        let wanted = if *again { 2 } else { 1 };
+        assert!(rt; tried(&rt, alloc, method)? == wanted, "{method}");
+    }
+    Ok(())
+}
+
+/// Where a balance has 99 hundredths of a retry, none is granted, and it stays as it is.
+#[test]
+fn a_retry_takes_a_hundred(rt: HostRuntime) {
+    let mut budget = Budget::start(Tries {
+        percent: 99,
+        reserve: 0,
+        most: 3,
+    });
+    budget.request();
+    assert!(rt; !budget.spend());
+    assert_eq!(rt; budget.balance(), 99);
+    budget.request();
+    assert!(rt; budget.spend());
+    assert_eq!(rt; (budget.balance(), budget.most()), (98, 3));
+}
+
+/// A balance is full at a thousand retries, and no request adds to it then.
+#[test]
+fn a_balance_is_full(rt: HostRuntime) {
+    let tries = Tries {
+        percent: 100,
+        reserve: 100,
+        most: 10,
+    };
+    assert!(rt; tries.is_allowed() && Tries::default().is_allowed());
+    let mut budget = Budget::start(tries);
+    for _ in 0..901u32 {
+        budget.request();
+    }
+    assert_eq!(rt; budget.balance(), 100_000);
+    for _ in 0..1000u32 {
+        budget.spend();
+    }
+    assert!(rt; !budget.spend());
+}
