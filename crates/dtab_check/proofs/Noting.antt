@@ -2,13 +2,14 @@
 -- more at a time; and the notes on a table, entry by entry.
 use Rattle.std.proofs.Common.{◌≡◌, ℕ, zero, suc, ◌+◌, ◌<◌, ◌≤◌, Bool, true, false, List, [], ◌∷◌}
 use Rattle.std.proofs.Common.{◌++◌, length, map, take, drop, get_or, Option, Some, None, Bor, refl}
-use Rattle.std.proofs.Common.{sym, ap, ◌∙◌, ◌-◌, arith, append_assoc}
+use Rattle.std.proofs.Common.{sym, ap, subst, ◌∙◌, ◌-◌, arith, append_assoc, add-one, drop-cons}
 use Rattle.std.specs.Prelude.{◌||◌, if◌then◌else◌}
 use Rattle.std.specs.Option.{option_or}
 use Rattle.std.specs.Str.{bytes_eq}
 use Rattle.std.proofs.Math.Bool.{or-false}
 use Rattle.std.proofs.lemmas.List.{append-nil, take_more, take_all, map-append, drop-map}
-use Rattle.std.proofs.lemmas.List.{length-map, length-drop, length-take-le}
+use Rattle.std.proofs.lemmas.List.{length-map, length-drop}
+use Rattle.std.proofs.lemmas.Option.{none-some}
 use Rattle.name_tree.specs.declared.path.Path.{Path}
 use Rattle.name_tree.specs.declared.tree.Tree.{Tree}
 use Rattle.name_tree.specs.declared.tree.Branch.{Branch}
@@ -92,46 +93,52 @@ next_leads leaves i l within is =
 abbrev pub where_same : List ℕ → List ℕ → ℕ → Option ℕ
 where_same t text at = if bytes_eq t text then Some at else None
 
-or_none : (x : Option ℕ) → option_or x None ≡ x
-or_none None = refl
-or_none (Some a) = refl
+module _ (text : List ℕ) where
+  -- a text that is found among the last ones is the last of all
+  same_behind : (first : ℕ) (texts : List EntryText) (at x : ℕ)
+      → last_same (first + at) (texts_in (drop at texts)) text ≡ Some x
+      → last_same first (texts_in texts) text ≡ Some x
+  same_behind first texts zero x is = let same : first + 0 ≡ first = omega arith in rw same at is
+  same_behind first [] (suc at) x is = absurd (none-some x is)
+  same_behind first (t ∷ ts) (suc at) x is =
+      let step : first + suc at ≡ (first + 1) + at = omega arith in
+      let own : Option ℕ = where_same t.bytes.items text first in
+      ap (λ (o : Option ℕ). option_or o own) (same_behind (first + 1) ts at x (rw step at is))
 
-option_or-assoc : (x y z : Option ℕ) → option_or (option_or x y) z ≡ option_or x (option_or y z)
-option_or-assoc None y z = refl
-option_or-assoc (Some a) y z = refl
+  pub none_same : (texts : List EntryText) (first at : ℕ) → at ≡ 0
+      → last_same (first + at) (texts_in (drop at texts)) text ≡ None
+      → None ≡ last_same first (texts_in texts) text
+  none_same texts first at start none =
+      let P : ℕ → Type 0 = λ n. last_same (first + n) (texts_in (drop n texts)) text ≡ None in
+      let same : first + 0 ≡ first = omega arith in
+      sym (rw same at (subst P start none))
 
-same-last : (at : ℕ) (ts : List (List ℕ)) (t text : List ℕ)
-    → last_same at (ts ++ t ∷ []) text
-    ≡ option_or (where_same t text (at + length ts)) (last_same at ts text)
-same-last at [] t text =
-    let place : at + 0 ≡ at = omega arith in
-    rw place (sym (or_none (where_same t text at)))
-same-last at (u ∷ us) t text =
-    let place : at + 1 + length us ≡ at + suc (length us) = omega arith in
-    let own : Option ℕ = where_same u text at in
-    let rest : Option ℕ = last_same (at + 1) us text in
-    ap (λ (x : Option ℕ). option_or x own) (same-last (at + 1) us t text)
-    ∙ (option_or-assoc (where_same t text (at + 1 + length us)) rest own
-    ∙ ap (λ (n : ℕ). option_or (where_same t text n) (option_or rest own)) place)
+  module _ (texts : List EntryText) (first at next : ℕ) (t : EntryText) (step : at + 1 ≡ next)
+      (within : at < length texts) (is : t ≡ get_or texts at t)
+      (none : last_same (first + next) (texts_in (drop next texts)) text ≡ None) where
+    from_here : last_same (first + at) (texts_in (drop at texts)) text
+        ≡ where_same t.bytes.items text (first + at)
+    from_here =
+        let rest : drop at texts ≡ t ∷ drop (at + 1) texts =
+        rw (drop-cons texts at t within, ← is, add-one) refl in
+        let P : ℕ → Type 0 = λ n. last_same (first + n) (texts_in (drop n texts)) text ≡ None in
+        let place : (first + at) + 1 ≡ first + (at + 1) = omega arith in
+        let own : Option ℕ = where_same t.bytes.items text (first + at) in
+        ap (λ (ts : List EntryText). last_same (first + at) (texts_in ts) text) rest
+        ∙ ap (λ (o : Option ℕ). option_or o own)
+        (ap (λ (n : ℕ). last_same n (texts_in (drop (at + 1) texts)) text) place
+        ∙ subst P (sym step) none)
 
-length-front : (texts : List EntryText) (i : ℕ) → i ≤ length texts
-    → length (texts_in (take i texts)) ≡ i
-length-front texts i within =
-    length-map (take i texts) (λ (t : EntryText). t.bytes.items) ∙ length-take-le i texts within
+    pub same_found : bytes_eq t.bytes.items text ≡ true
+        → Some (first + at) ≡ last_same first (texts_in texts) text
+    same_found h =
+        sym
+        (same_behind first texts at (first + at)
+        (from_here ∙ ap (λ (b : Bool). if b then Some (first + at) else None) h))
 
-pub next_same : (texts : List EntryText) (first i : ℕ) (t : EntryText) (text : List ℕ)
-    → i < length texts → t ≡ get_or texts i t
-    → last_same first (texts_in (take (i + 1) texts)) text
-    ≡ option_or (where_same t.bytes.items text (first + i))
-    (last_same first (texts_in (take i texts)) text)
-next_same texts first i t text within is =
-    let values : texts_in (take (i + 1) texts) ≡ texts_in (take i texts) ++ t.bytes.items ∷ [] =
-    rw (take_more texts i t within, ← is, map-append) refl in
-    let long : length (texts_in (take i texts)) ≡ i = length-front texts i (omega arith) in
-    let before : Option ℕ = last_same first (texts_in (take i texts)) text in
-    ap (λ (ts : List (List ℕ)). last_same first ts text) values
-    ∙ (same-last first (texts_in (take i texts)) t.bytes.items text
-    ∙ ap (λ (n : ℕ). option_or (where_same t.bytes.items text (first + n)) before) long)
+    pub not_same : bytes_eq t.bytes.items text ≡ false
+        → last_same (first + at) (texts_in (drop at texts)) text ≡ None
+    not_same h = from_here ∙ ap (λ (b : Bool). if b then Some (first + at) else None) h
 
 -- the notes on one entry
 pub notes_next : (entries : List Entry) (at : ℕ) (e : Entry) (old new : List Note)

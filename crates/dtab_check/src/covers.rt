@@ -7,6 +7,8 @@ use dtab_table::{Prefix, PrefixLabel};
 
 /// Whether a prefix covers another: it has no more labels, and each is `*` or the other's label at
 /// its place.
+///
+/// It compares the last label first: the prefixes of a table mostly begin alike, and end apart.
 pub(crate) fn is_cover(prefix: &Prefix, other: &Prefix) -> bool
     ensures { result ≡ covers prefix.now other.now }
 {
@@ -15,8 +17,10 @@ pub(crate) fn is_cover(prefix: &Prefix, other: &Prefix) -> bool
     if others.len() < labels.len() {
         return false;
     }
-    for (at, label) in labels.iter().enumerate() {
-        if !stands_for(label, &others[at]) {
+    let mut at = labels.len();
+    while at > 0 {
+        at -= 1;
+        if !stands_for(&labels[at], &others[at]) {
             return false;
         }
     }

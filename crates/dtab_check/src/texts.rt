@@ -23,17 +23,18 @@ pub(crate) fn texts_of(alloc: Global, entries: &[Entry]) -> Mem<Vec<EntryText>>
 }
 
 /// The position of the last of some texts that is the same as another, where the first of them has
-/// this position.
+/// this position. It looks from the last on, and no further than that one.
 pub(crate) fn find_last_same(texts: &[EntryText], first: usize, own: &EntryText) -> Option<usize>
     requires { first + length texts.now < 2 ^ 32 }
     ensures same { result ≡ last_same first (texts_in texts.now) own.now.bytes.items }
     ensures place { (at : _) → result ≡ Some at → at < first + length texts.now }
 {
-    let mut found = None;
-    for (at, text) in texts.iter().enumerate() {
-        if text.is_same(own) {
-            found = Some(first + at);
+    let mut at = texts.len();
+    while at > 0 {
+        at -= 1;
+        if texts[at].is_same(own) {
+            return Some(first + at);
         }
     }
-    found
+    None
 }

@@ -4,7 +4,7 @@ use Rattle.std.specs.List.{slice_get, list_any}
 use Rattle.std.specs.Prelude.{◌||◌, if◌then◌else◌, Result, Ok, Err, OnErr}
 use Rattle.std.proofs.lemmas.List.{length-append, set_at, take_all}
 use Rattle.std.proofs.lemmas.List.Folds.{list_any-append}
-use Rattle.std.proofs.lemmas.Option.{none-some, same_Some, slice_get_within}
+use Rattle.std.proofs.lemmas.Option.{none-some, same_Some, slice_get_within, slice_get_past}
 use Rattle.dtab_index.specs.Bits.{has}
 use Rattle.dtab_index.specs.Columns.{passes, AreSaid, KeepSaid}
 use Rattle.dtab_index.specs.Prefix.{patterns_of}
@@ -14,6 +14,7 @@ use Rattle.dtab_index.specs.Part.{placed_of, placed_in, position_of, positions_a
 use Rattle.dtab_index.specs.declared.column.Column.{Column}
 use Rattle.dtab_index.specs.declared.part.Entry.{Entry}
 use Rattle.dtab_index.proofs.Known.{at_push, passes_matches}
+use Rattle.dtab_index.proofs.Listed.{listed-empty}
 
 -- ---- a prefix that is put behind the others
 pub placed-none : (es : List (Option Entry)) → placed_in (es ++ None ∷ []) ≡ placed_in es
@@ -139,12 +140,21 @@ module _ (es : List (Option Entry)) (test : ℕ → Bool) (path : List Label) (i
   all_found : length es ≤ 1024 → listed test (positions_at es) 1024 0 ≡ matching (placed_in es) path
   all_found few = found_below 1024 (omega arith) ∙ ap (λ (xs : List (Option Entry)). matching (placed_in xs) path) (take_all 1024 es few)
 
-pub kept_found : (es : List (Option Entry)) (cs : List Column) (words : List ℕ) (path : List Label) → IsKept es cs → ((place : ℕ) → place < 1024 → has words place ≡ passes cs path place)
+pub kept_found : (es : List (Option Entry)) (cs : List Column) (first : ℕ) (words : List ℕ) (path : List Label) → IsKept es cs → first + length es ≤ 1024
+    → ((place : ℕ) → first ≤ place → place < 1024 → has words place ≡ passes cs path place)
     → listed (has words) (positions_at es) 1024 0 ≡ matching (placed_in es) path
-kept_found es cs words path kept left =
+kept_found es cs first words path kept lowest left =
     all_found es (has words) path
-    (λ k e is. left (1023 - k) (omega arith) ∙ passes_matches (1023 - k) cs (patterns_of e.prefix.value.items) path (kept.said k e is))
+    (λ k e is.
+    let within = slice_get_within es k (Some e) is in
+    left (1023 - k) (omega (arith, within, lowest)) (omega arith) ∙ passes_matches (1023 - k) cs (patterns_of e.prefix.value.items) path (kept.said k e is))
     kept.few
+
+-- no prefix has a place before theirs
+pub none_before : (es : List (Option Entry)) (test : ℕ → Bool) (n : ℕ) → n + length es ≤ 1024 → listed test (positions_at es) n 0 ≡ []
+none_before es test n lowest =
+    listed-empty test (positions_at es) n 0
+    (λ k lt. ap position_of (slice_get_past es (1023 - (0 + k)) (omega (arith, lt, lowest))))
 
 -- ---- whether one of them is at some positions
 either : (x y : Bool) → (x || y) ≡ (y || x)

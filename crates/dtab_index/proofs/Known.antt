@@ -149,6 +149,10 @@ module _ (place : ℕ) where
       let cut : passes (drop at cs) (drop at path) place ≡ not (has c.reached.words place) = rw (drop-cons cs at c within, ← is, none) refl in
       narrow ∙ (ap (λ b. old && b) (sym cut) ∙ stands)
 
+  pub none_left : (cs : List Column) (path : List Label) (at : ℕ) (left : Bool) → left ≡ false
+      → (left && passes (drop at cs) (drop at path) place) ≡ passes cs path place → left ≡ passes cs path place
+  none_left cs path at left none stands = none ∙ (sym (ap (λ b. b && passes (drop at cs) (drop at path) place) none) ∙ stands)
+
   pub columns_ended : (cs : List Column) (path : List Label) (at : ℕ) (left : Bool) → length cs ≤ at
       → (left && passes (drop at cs) (drop at path) place) ≡ passes cs path place → left ≡ passes cs path place
   columns_ended cs path at left past stands =

@@ -5,6 +5,7 @@ use Rattle.std.specs.Int.{bit_at}
 use Rattle.std.specs.List.{list_any}
 use Rattle.std.proofs.lemmas.Bool.{or_from, or_left, or_right}
 use Rattle.std.proofs.lemmas.List.Folds.{list_any-append}
+use Rattle.std.proofs.lemmas.Nat.Bits.{bit_at-zero}
 use Rattle.dtab_index.specs.Bits.{has}
 use Rattle.dtab_index.specs.Listed.{listed, in_word, IsNextBit}
 
@@ -33,6 +34,20 @@ listed-same test other f (suc n) from same =
     let here : test from ≡ other from = ap test (omega arith) ∙ (same 0 (omega arith) ∙ ap other (omega arith)) in
     let rest = listed-same test other f n (from + 1) (λ k lt. ap test (omega arith) ∙ (same (suc k) (omega arith) ∙ ap other (omega arith))) in
     rw (here, rest) refl
+
+no_choice : (b : Bool) (xs : List ℕ) → xs ≡ [] → (if b then xs else []) ≡ []
+no_choice true xs none = none
+no_choice false xs none = refl
+
+-- places at which nothing stands
+pub listed-empty : (test : ℕ → Bool) (f : ℕ → List ℕ) (n from : ℕ) → ((k : ℕ) → k < n → f (from + k) ≡ []) → listed test f n from ≡ []
+unfolding listed
+listed-empty test f zero from none = refl
+listed-empty test f (suc n) from none =
+    let here : f from ≡ [] = ap f (omega arith) ∙ none 0 (omega arith) in
+    let one : (if test from then f from else []) ≡ [] = no_choice (test from) (f from) here in
+    let rest : listed test f n (from + 1) ≡ [] = listed-empty test f n (from + 1) (λ k lt. ap f (omega arith) ∙ none (suc k) (omega arith)) in
+    λ i. one i ++ rest i
 
 listed-one : (test : ℕ → Bool) (f : ℕ → List ℕ) (at : ℕ) → test at ≡ true → listed test f 1 at ≡ f at
 unfolding listed
@@ -71,6 +86,9 @@ module _ (f : ℕ → List ℕ) (word first : ℕ) where
 
   pub word_last : (bit : ℕ) → bit ≤ 64 → IsNextBit word bit None → listed (in_word word first) f 64 first ≡ listed (in_word word first) f bit first
   word_last bit le is = listed-last (in_word word first) f first bit 64 le (λ k ge lt. bit_of k ∙ ap (λ n. n == 1) (is k ge))
+
+  pub word_zero : word ≡ 0 → listed (in_word word first) f 64 first ≡ []
+  word_zero none = listed-none (in_word word first) f 64 first (λ k lt. bit_of k ∙ ap (λ n. n == 1) (ap (λ w. bit_at w k) none ∙ bit_at-zero k))
 
   -- what is put behind some others, or is none of some, place by place
   pub put_next : (bit next : ℕ) (old items new xs : List ℕ) → IsNextBit word bit (Some next) → items ≡ old ++ listed (in_word word first) f bit first → new ≡ items ++ xs → xs ≡ f (first + next)

@@ -1,5 +1,5 @@
 -- Prefixes that match a path, and positions below a number.
-use Rattle.std.proofs.Common.{◌≡◌, ℕ, ◌+◌, ◌<◌, ◌≤◌, List, [], ◌∷◌, ◌++◌, true, length, arith}
+use Rattle.std.proofs.Common.{◌≡◌, ℕ, ◌+◌, ◌≤◌, List, [], ◌∷◌, ◌++◌, true, length, arith}
 use Rattle.std.proofs.lemmas.Bool.{and_parts}
 use Rattle.dtab_index.specs.Index.{Label, Pattern, Placed, fits, matches, AreBelow}
 

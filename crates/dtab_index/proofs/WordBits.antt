@@ -50,25 +50,44 @@ module _ (words : List ℕ) (place : ℕ) (within : place / 64 < length words) w
       (λ ne. other_word word other ne ∙ ap (λ b. b || has words other) (sym (differ place other (λ g. ne (ap (λ n. n / 64) (sym g))))))
       (cases_eq (other / 64) (place / 64))
 
--- ---- every place
-pub all_places : (place : ℕ) → place < 1024 → has (replicate 16 (2 ^ 64 - 1)) place ≡ true
+-- ---- every place from one on
+all_places : (place : ℕ) → place < 1024 → has (replicate 16 (2 ^ 64 - 1)) place ≡ true
 all_places place few =
     ap (λ w. bit_at w (place % 64) == 1) (get_or-replicate 16 (place / 64) (2 ^ 64 - 1) 0 (omega arith)) ∙ ap (λ n. n == 1) (bit_at_ones 64 (place % 64) (omega arith))
 
--- ---- words that are made one by one
-pub record AreMade (f : ℕ → ℕ) (old now : List ℕ) (at : ℕ) : Type 0 where
-  pub made : (k : ℕ) → k < at → get_or now k 0 ≡ f k
+pub places_from : (first : ℕ) → first < 1024 → (place : ℕ) → first ≤ place → place < 1024
+    → has (set (replicate 16 (2 ^ 64 - 1)) (first / 64) ((2 ^ 64 - 1) * 2 ^ (first % 64) % 2 ^ 64)) place ≡ true
+places_from first low place past few =
+    let all : List ℕ = replicate 16 (2 ^ 64 - 1) in
+    let word : ℕ = (2 ^ 64 - 1) * 2 ^ (first % 64) % 2 ^ 64 in
+    let within : first / 64 < length all = omega arith in
+    let low_bit : first % 64 ≤ 64 = omega arith in
+    ⊎_elim
+    (λ (e : place / 64 ≡ first / 64).
+    let above : first % 64 ≤ place % 64 = omega (arith, e, past) in
+    let high : place % 64 < 64 = omega arith in
+    at_word all first within word place e
+    ∙ ap (λ n. n == 1) (ap (λ n. bit_at n (place % 64)) (ones_shl 64 (first % 64) low_bit) ∙ bit_at_mask_inside (first % 64) 64 (place % 64) above high))
+    (λ ne. other_word all first within word place ne ∙ all_places place few)
+    (cases_eq (place / 64) (first / 64))
+
+pub no_place : (words : List ℕ) (place : ℕ) → get_or words (place / 64) 0 ≡ 0 → has words place ≡ false
+no_place words place none = ap (λ w. bit_at w (place % 64) == 1) none ∙ ap (λ n. n == 1) (bit_at-zero (place % 64))
+
+-- ---- words that are made one by one, from a first one on
+pub record AreMade (f : ℕ → ℕ) (old now : List ℕ) (first at : ℕ) : Type 0 where
+  pub made : (k : ℕ) → first ≤ k → k < at → get_or now k 0 ≡ f k
   pub rest : (k : ℕ) → at ≤ k → get_or now k 0 ≡ get_or old k 0
 
-pub none_made : (f : ℕ → ℕ) (old : List ℕ) → AreMade f old old 0
-none_made f old = record { made = λ k lt. absurd (omega arith); rest = λ k le. refl }
+pub none_made : (f : ℕ → ℕ) (old : List ℕ) (first : ℕ) → AreMade f old old first first
+none_made f old first = record { made = λ k le lt. absurd (omega (arith, le, lt)); rest = λ k le. refl }
 
-pub made_more : (f : ℕ → ℕ) (old now : List ℕ) (at word : ℕ) → at < length now → AreMade f old now at → word ≡ f at → AreMade f old (set now at word) (at + 1)
-made_more f old now at word within made is = record {
-  made = λ k lt.
+pub made_more : (f : ℕ → ℕ) (old now : List ℕ) (first at word : ℕ) → at < length now → AreMade f old now first at → word ≡ f at → AreMade f old (set now at word) first (at + 1)
+made_more f old now first at word within made is = record {
+  made = λ k past lt.
       ⊎_elim
       (λ (e : k ≡ at). ap (λ n. get_or (set now at word) n 0) e ∙ (get_or-set_same now at word 0 within ∙ (is ∙ ap f (sym e))))
-      (λ (ne : k ≡ at → ⊥). get_or-set_other now at k word 0 ne ∙ made.made k (omega (arith, ne)))
+      (λ (ne : k ≡ at → ⊥). get_or-set_other now at k word 0 ne ∙ made.made k past (omega (arith, ne)))
       (cases_eq k at);
   rest = λ k le. get_or-set_other now at k word 0 (λ e. omega (arith, e, le)) ∙ made.rest k (omega arith);
 }

@@ -1,5 +1,6 @@
 //! Sets of places, as bits.
-ghost use Rattle.std.specs.Prelude.{◌≡◌, ℕ, ◌<◌, ◌==◌, ◌&&◌, ◌||◌, not, true, false};
+ghost use Rattle.std.specs.Prelude.{◌≡◌, ℕ, ◌<◌, ◌≤◌, ◌==◌, ◌&&◌, ◌||◌, not, true, false};
+ghost use Rattle.std.specs.Bool.{OnTrue};
 ghost use Rattle.dtab_index.specs.Bits.{has};
 
 /// How many places a set tells of.
@@ -9,7 +10,7 @@ pub(crate) const MOST_PLACES: usize = 1024;
 pub(crate) const WORD_PLACES: usize = 64;
 
 /// How many words there are.
-const WORDS: usize = 16;
+pub(crate) const WORDS: usize = 16;
 
 /// Some of 1,024 places. It takes no memory. Contracts see the words.
 #[derive(Clone, Copy, Debug)]
@@ -25,13 +26,14 @@ impl Bits {
         Bits { words: [0; WORDS] }
     }
 
-    /// Every place.
-    pub(crate) fn all() -> Bits
-        ensures { (place : ℕ) → place < 1024 → has result.words place ≡ true }
+    /// Every place from a first one on. Which of those before it are in the set is not said.
+    pub(crate) fn from(first: usize) -> Bits
+        requires { first < 1024 }
+        ensures { (place : ℕ) → first ≤ place → place < 1024 → has result.words place ≡ true }
     {
-        Bits {
-            words: [u64::MAX; WORDS],
-        }
+        let mut words = [u64::MAX; WORDS];
+        words[first / WORD_PLACES] = u64::MAX << (first % WORD_PLACES);
+        Bits { words }
     }
 
     /// Puts a place into the set.
@@ -45,23 +47,37 @@ impl Bits {
         self.words[at] = word | 1 << (place % WORD_PLACES);
     }
 
-    /// Takes the places of another set out.
-    pub(crate) fn remove(&mut self, others: &Bits)
-        ensures { (place : ℕ) → place < 1024 → has self.new.words place
+    /// Whether there is no place from a first one on.
+    pub(crate) fn is_empty_from(&self, first: usize) -> bool
+        ensures { OnTrue result
+            ((place : ℕ) → first ≤ place → place < 1024 → has self.now.words place ≡ false) }
+    {
+        for at in first / WORD_PLACES..WORDS {
+            if self.words[at] != 0 {
+                return false;
+            }
+        }
+        true
+    }
+
+    /// From a first place on, takes the places of another set out.
+    pub(crate) fn remove(&mut self, first: usize, others: &Bits)
+        ensures { (place : ℕ) → first ≤ place → place < 1024 → has self.new.words place
             ≡ (has self.old.words place && not (has others.now.words place)) }
     {
-        for at in 0..WORDS {
+        for at in first / WORD_PLACES..WORDS {
             let word = self.words[at];
             self.words[at] = word ^ (word & others.words[at]);
         }
     }
 
-    /// Takes the places of another set out, but for those of a third.
-    pub(crate) fn remove_but(&mut self, others: &Bits, kept: &Bits)
-        ensures { (place : ℕ) → place < 1024 → has self.new.words place
-            ≡ (has self.old.words place && (has kept.now.words place || not (has others.now.words place))) }
+    /// From a first place on, takes the places of another set out, but for those of a third.
+    pub(crate) fn remove_but(&mut self, first: usize, others: &Bits, kept: &Bits)
+        ensures { (place : ℕ) → first ≤ place → place < 1024 → has self.new.words place
+            ≡ (has self.old.words place
+            && (has kept.now.words place || not (has others.now.words place))) }
     {
-        for at in 0..WORDS {
+        for at in first / WORD_PLACES..WORDS {
             let word = self.words[at];
             self.words[at] = word & kept.words[at] | word ^ (word & others.words[at]);
         }

@@ -1,5 +1,6 @@
 //! What an index knows of one position of labels.
-ghost use Rattle.std.specs.Prelude.{◌≡◌, ◌≢◌, ℕ, ◌<◌, ◌==◌, ◌&&◌, ◌||◌, OnOk, OnErr};
+ghost use Rattle.std.specs.Prelude.{◌≡◌, ◌≢◌, ℕ, ◌<◌, ◌≤◌, ◌==◌, ◌&&◌, ◌||◌, false, OnOk, OnErr};
+ghost use Rattle.std.specs.Bool.{OnTrue};
 ghost use Rattle.std.specs.Str.{bytes_eq};
 ghost use Rattle.dtab_index.specs.Bits.{has};
 ghost use Rattle.dtab_index.specs.Columns.{row_of, in_row, allows, Says, IsBlank, SaySame};
@@ -52,15 +53,23 @@ impl Column {
         Ok(())
     }
 
-    /// Of some prefixes, leaves those that match a path with this label here, as far as it is for
-    /// this position to say.
-    pub(crate) fn narrow(&self, label: &[u8], left: &mut Bits)
-        ensures { (place : ℕ) → place < 1024 →
+    /// Of some prefixes, from a first place on, leaves those that match a path with this label here,
+    /// as far as it is for this position to say. Where it gives `true`, none is left.
+    pub(crate) fn narrow(&self, first: usize, label: &[u8], left: &mut Bits) -> bool
+        ensures none { OnTrue result
+            ((place : ℕ) → first ≤ place → place < 1024 → has left.new.words place ≡ false) }
+        ensures left { (place : ℕ) → first ≤ place → place < 1024 →
             has left.new.words place ≡ (has left.old.words place && allows self.now label.now place) }
     {
         match self.rows.get(label) {
-            Some(row) => left.remove_but(&self.named, row),
-            None => left.remove(&self.named),
+            Some(row) => {
+                left.remove_but(first, &self.named, row);
+                false
+            }
+            None => {
+                left.remove(first, &self.named);
+                left.is_empty_from(first)
+            }
         }
     }
 }

@@ -52,17 +52,21 @@ fn put_labels(columns: &mut Vec<Column>, mut prefix: Vec<Option<Vec<u8>>>, place
     Ok(())
 }
 
-/// The prefixes that match a path, by their places.
-pub(crate) fn left_by(columns: &[Column], path: &Path) -> Bits
-    ensures { (place : ℕ) → place < 1024 → has result.words place ≡ passes columns.now path.now place }
+/// The prefixes that match a path, by their places, of those at the places from a first one on.
+pub(crate) fn left_by(columns: &[Column], first: usize, path: &Path) -> Bits
+    requires { first < 1024 }
+    ensures { (place : ℕ) → first ≤ place → place < 1024
+        → has result.words place ≡ passes columns.now path.now place }
 {
-    let mut left = Bits::all();
+    let mut left = Bits::from(first);
     for (at, column) in columns.iter().enumerate() {
         if at >= path.len() {
-            left.remove(&column.reached);
+            left.remove(first, &column.reached);
             return left;
         }
-        column.narrow(path.label(at), &mut left);
+        if column.narrow(first, path.label(at), &mut left) {
+            return left;
+        }
     }
     left
 }

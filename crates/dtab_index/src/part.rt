@@ -9,7 +9,7 @@ ghost use Rattle.dtab_index.specs.Listed.{listed, in_word, IsNextBit};
 ghost use Rattle.dtab_index.specs.Part.{placed_in, positions_at, is_between, IsKept};
 
 use crate::Mem;
-use crate::bits::{MOST_PLACES, WORD_PLACES};
+use crate::bits::{MOST_PLACES, WORD_PLACES, WORDS};
 use crate::column::Column;
 use crate::columns::{left_by, put_prefix};
 use name_tree::Path;
@@ -75,6 +75,16 @@ impl Part {
         Ok(())
     }
 
+    /// A place that is at most that of each prefix: the lowest of theirs, where there is one.
+    fn first_place(&self) -> usize
+        requires { length self.now.entries.items ≤ 1024 }
+        ensures few { result < 1024 }
+        ensures lowest { result + length self.now.entries.items ≤ 1024 }
+    {
+        let free = MOST_PLACES - self.entries.len();
+        free.min(MOST_PLACES - 1)
+    }
+
     /// Puts the positions of the prefixes that match a path behind some others, that of the last
     /// prefix first.
     pub(crate) fn put_matching(&self, path: &Path, found: &mut Vec<u32>) -> Mem<()>
@@ -82,8 +92,9 @@ impl Part {
         ensures { OnOk result (found.new.items
             ≡ found.old.items ++ matching (placed_in self.now.entries.items) path.now) }
     {
-        let left = left_by(self.columns.as_slice(), path);
-        put_words(self.entries.as_slice(), &left.words, found)?;
+        let first = self.first_place();
+        let left = left_by(self.columns.as_slice(), first, path);
+        put_words(self.entries.as_slice(), first, &left.words, found)?;
         Ok(())
     }
 
@@ -92,32 +103,41 @@ impl Part {
         requires { IsKept self.now.entries.items self.now.columns.items }
         ensures { result ≡ some_matches_there from to (placed_in self.now.entries.items) path.now }
     {
-        let left = left_by(self.columns.as_slice(), path);
-        some_in_words(self.entries.as_slice(), &left.words, from, to)
+        let first = self.first_place();
+        let left = left_by(self.columns.as_slice(), first, path);
+        some_in_words(self.entries.as_slice(), first, &left.words, from, to)
     }
 }
 
 /// Puts the positions of the prefixes behind some others whose places a set has, the lowest place
-/// first.
-fn put_words(entries: &[Option<Entry>], words: &[u64], found: &mut Vec<u32>) -> Mem<()>
-    requires { length words.now ≡ 16 }
+/// first. No prefix has a place before a first one.
+fn put_words(
+    entries: &[Option<Entry>],
+    first: usize,
+    words: &[u64],
+    found: &mut Vec<u32>,
+) -> Mem<()>
+    requires size { length words.now ≡ 16 }
+    requires lowest { first + length entries.now ≤ 1024 }
     ensures { OnOk result (found.new.items
         ≡ found.old.items ++ listed (has words.now) (positions_at entries.now) 1024 0) }
 {
-    for (at, word) in words.iter().enumerate() {
-        put_word(entries, *word, at * WORD_PLACES, found)?;
+    for at in first / WORD_PLACES..WORDS {
+        put_word(entries, words[at], at * WORD_PLACES, found)?;
     }
     Ok(())
 }
 
-/// Whether one of the prefixes whose places a set has is at a position from one to before another.
-fn some_in_words(entries: &[Option<Entry>], words: &[u64], from: u32, to: u32) -> bool
-    requires { length words.now ≡ 16 }
+/// Whether one of the prefixes whose places a set has is at a position from one to before another. No
+/// prefix has a place before a first one.
+fn some_in_words(entries: &[Option<Entry>], first: usize, words: &[u64], from: u32, to: u32) -> bool
+    requires size { length words.now ≡ 16 }
+    requires lowest { first + length entries.now ≤ 1024 }
     ensures { result ≡ list_any (is_between from to)
         (listed (has words.now) (positions_at entries.now) 1024 0) }
 {
-    for (at, word) in words.iter().enumerate() {
-        if some_in_word(entries, *word, at * WORD_PLACES, from, to) {
+    for at in first / WORD_PLACES..WORDS {
+        if some_in_word(entries, words[at], at * WORD_PLACES, from, to) {
             return true;
         }
     }
@@ -142,6 +162,9 @@ fn put_word(entries: &[Option<Entry>], word: u64, first: usize, found: &mut Vec<
     ensures { OnOk result (found.new.items
         ≡ found.old.items ++ listed (in_word word first) (positions_at entries.now) 64 first) }
 {
+    if word == 0 {
+        return Ok(());
+    }
     let mut bit = 0;
     while let Some(next) = next_bit(word, bit) {
         put_position(position(entries, first + next), found)?;
@@ -167,6 +190,9 @@ fn some_in_word(entries: &[Option<Entry>], word: u64, first: usize, from: u32, t
     ensures { result ≡ list_any (is_between from to)
         (listed (in_word word first) (positions_at entries.now) 64 first) }
 {
+    if word == 0 {
+        return false;
+    }
     let mut bit = 0;
     while let Some(next) = next_bit(word, bit) {
         if is_between(position(entries, first + next), from, to) {

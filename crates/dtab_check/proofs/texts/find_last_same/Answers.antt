@@ -1,29 +1,37 @@
-use Rattle.std.proofs.Common.{◌≡◌, ◌+◌, sym, ap, ◌∙◌, arith, Bool, Some, None, take, ℕ, Option}
-use Rattle.std.specs.Prelude.{if◌then◌else◌}
-use Rattle.std.specs.Option.{option_or}
-use Rattle.std.proofs.lemmas.Option.{same_Some}
+use Rattle.std.proofs.Common.{◌≡◌, ◌+◌, ◌-◌, ◌<◌, ℕ, List, length, sym, ap, ◌∙◌, arith}
+use Rattle.std.proofs.lemmas.List.{drop_all}
+use Rattle.dtab_check.specs.declared.entry_text.EntryText.{EntryText}
 use Rattle.dtab_check.specs.Notes.{last_same}
 use Rattle.dtab_check.specs.Texts.{texts_in}
-use Rattle.dtab_check.proofs.Noting.{next_same}
+use Rattle.dtab_check.proofs.Noting.{same_found, not_same, none_same}
 use Rattle.dtab_check.proofs.texts.find_last_same.Goals as goal
-use Rattle.dtab_check.proofs.texts.find_last_same.Goals.{then-is_same, else-is_same}
+
+pub loop-at-init : goal.loop-at-init
+loop-at-init c = record {
+  none = ap (λ (ts : List EntryText). last_same (c.args.first + length c.args.texts.now) (texts_in ts) c.args.own.now.bytes.items) (drop_all (length c.args.texts.now) c.args.texts.now (omega arith));
+  within = omega arith;
+}
+
+pub returns-then-is_same-clause-same : goal.returns-then-is_same-clause-same
+returns-then-is_same-clause-same c =
+    let place : ℕ = c.loop-at.at - 1 in
+    let next : place + 1 ≡ c.loop-at.at = omega (arith, c.loop-at-test.true) in
+    let within : place < length c.args.texts.now = omega (arith, c.loop-at-test.true, c.loop-at.invariant.within) in
+    same_found c.args.own.now.bytes.items c.args.texts.now c.args.first place c.loop-at.at c.index-texts-at.result next within c.index-texts-at.is c.loop-at.invariant.none
+    (sym c.is_same.ensures ∙ c.if-is_same.true)
 
 pub loop-at-preserved : goal.loop-at-preserved
 loop-at-preserved c =
-    let own = c.args.own.now.bytes.items in
-    let place : ℕ = c.args.first + c.loop-at.at in
-    let before : Option ℕ = last_same c.args.first (texts_in (take c.loop-at.at c.args.texts.now)) own in
-    let by : Bool → Option ℕ = λ b. option_or (if b then Some place else None) before in
-    let next = next_same c.args.texts.now c.args.first c.loop-at.at c.index-texts-at.result own c.loop-at-test.true c.index-texts-at.is in
-    elim c.if-is_same.branch [
-      | then-is_same w ↦ record {
-        same = w.found-is ∙ sym (next ∙ ap by (sym c.is_same.ensures ∙ w.if-is_same.true));
-        place = λ at is.
-            let same : place ≡ at = same_Some place at (sym w.found-is ∙ is) in
-            omega (arith, same, c.loop-at-test.true);
-      }
-      | else-is_same w ↦ record {
-        same = w.found-is ∙ (c.loop-at.invariant.same ∙ sym (next ∙ ap by (sym c.is_same.ensures ∙ w.if-is_same.false)));
-        place = λ at is. c.loop-at.invariant.place at (sym w.found-is ∙ is);
-      }
-    ]
+    let place : ℕ = c.loop-at.at - 1 in
+    let next : place + 1 ≡ c.loop-at.at = omega (arith, c.loop-at-test.true) in
+    let within : place < length c.args.texts.now = omega (arith, c.loop-at-test.true, c.loop-at.invariant.within) in
+    record {
+      none = not_same c.args.own.now.bytes.items c.args.texts.now c.args.first place c.loop-at.at c.index-texts-at.result next within c.index-texts-at.is c.loop-at.invariant.none
+          (sym c.is_same.ensures ∙ c.if-is_same.false);
+      within = omega (arith, within);
+    }
+
+pub returns-clause-same : goal.returns-clause-same
+returns-clause-same c =
+    let start : c.loop-at.at ≡ 0 = omega (arith, c.loop-at-test.false) in
+    none_same c.args.own.now.bytes.items c.args.texts.now c.args.first c.loop-at.at start c.loop-at.invariant.none

@@ -2,8 +2,13 @@ use Rattle.std.proofs.Common.{◌++◌, sym, ap, ◌∙◌, arith, append-nil, L
 use Rattle.std.specs.Option.{option_to_list}
 use Rattle.dtab_index.specs.Listed.{listed}
 use Rattle.dtab_index.specs.Part.{positions_at}
-use Rattle.dtab_index.proofs.Listed.{put_next, word_last}
+use Rattle.dtab_index.proofs.Listed.{put_next, word_last, word_zero}
 use Rattle.dtab_index.proofs.part.put_word.Goals as goal
+
+pub returns-then-word-eq0 : goal.returns-then-word-eq0
+returns-then-word-eq0 c =
+    let old : List ℕ = c.args.found.now.items in
+    sym (ap (λ (xs : List ℕ). old ++ xs) (word_zero (positions_at c.args.entries.now) c.args.word c.args.first c.if-word-eq0.true) ∙ append-nil old)
 
 pub loop-next-init : goal.loop-next-init
 unfolding listed

@@ -2,8 +2,11 @@ use Rattle.std.proofs.Common.{◌≡◌, ◌+◌, ◌<◌, false, true, refl, sy
 use Rattle.std.specs.List.{list_any}
 use Rattle.dtab_index.specs.Listed.{listed}
 use Rattle.dtab_index.specs.Part.{positions_at, is_between}
-use Rattle.dtab_index.proofs.Listed.{some_next, some_here, word_last}
+use Rattle.dtab_index.proofs.Listed.{some_next, some_here, word_last, word_zero}
 use Rattle.dtab_index.proofs.part.some_in_word.Goals as goal
+
+pub returns-then-word-eq0 : goal.returns-then-word-eq0
+returns-then-word-eq0 c = sym (ap (list_any (is_between c.args.from c.args.to)) (word_zero (positions_at c.args.entries.now) c.args.word c.args.first c.if-word-eq0.true))
 
 pub loop-next-init : goal.loop-next-init
 unfolding listed

@@ -1,4 +1,4 @@
-use Rattle.std.proofs.Common.{get_or}
+use Rattle.std.proofs.Common.{get_or, ◌/◌}
 use Rattle.std.specs.Int.RustNames.{bit_or, bit_xor}
 use lib.Bits.{bit_and}
 use Rattle.dtab_index.proofs.WordBits.{AreMade}
@@ -8,4 +8,4 @@ abbrev pub invariant-loop-at : goal.invariant-loop-at
 invariant-loop-at l =
     AreMade
     (λ k. bit_or (bit_and (get_or l.fn.self.words k 0) (get_or l.kept.words k 0)) (bit_xor (get_or l.fn.self.words k 0) (bit_and (get_or l.fn.self.words k 0) (get_or l.others.words k 0))))
-    l.fn.self.words l.self.words l.at
+    l.fn.self.words l.self.words (l.first / 64) l.at

@@ -1,4 +1,4 @@
-use Rattle.std.proofs.Common.{◌≡◌, ◌<◌, ◌++◌, ℕ, List, Option, ap, ◌∙◌}
+use Rattle.std.proofs.Common.{◌≡◌, ◌<◌, ◌≤◌, ◌++◌, ℕ, List, Option, ap, ◌∙◌}
 use Rattle.dtab_index.specs.Bits.{has}
 use Rattle.dtab_index.specs.Columns.{passes}
 use Rattle.dtab_index.specs.Listed.{listed}
@@ -11,9 +11,9 @@ use Rattle.dtab_index.proofs.part.Part.put_matching.Goals as goal
 pub returns : goal.returns
 returns c =
     let words = c.left_by-left.result.words in
-    let left : (place : ℕ) → place < 1024 → has words place ≡ passes c.args.self.now.columns.items c.args.path.now place =
-    λ place few. c.left_by-left.ensures place few ∙ ap (λ (cs : List Column). passes cs c.args.path.now place) c.as_slice.ensures.value in
+    let left : (place : ℕ) → c.first_place-first.result ≤ place → place < 1024 → has words place ≡ passes c.args.self.now.columns.items c.args.path.now place =
+    λ place past few. c.left_by-left.ensures place past few ∙ ap (λ (cs : List Column). passes cs c.args.path.now place) c.as_slice.ensures.value in
     c.in_ok-put_words.ensures
     ∙ ap (λ (xs : List ℕ). c.args.found.now.items ++ xs)
     (ap (λ (es : List (Option Entry)). listed (has words) (positions_at es) 1024 0) c.as_slice-2.ensures.value
-    ∙ kept_found c.args.self.now.entries.items c.args.self.now.columns.items words c.args.path.now c.requires left)
+    ∙ kept_found c.args.self.now.entries.items c.args.self.now.columns.items c.first_place-first.result words c.args.path.now c.requires c.first_place-first.ensures.lowest left)
