@@ -1,6 +1,6 @@
 -- A change, or a delegation that is given back, as a whole call: the pass saw all that was published, and then its call was made.
 use Rattle.std.proofs.Common.{◌≡◌, ℕ, ◌+◌, ◌-◌, ◌^◌, ◌<◌, ◌==◌, Bool, true, false, List, [], ◌∷◌, ◌++◌, length, take, Option, Some, None, Result, Ok, Err, refl, ap, sym, ◌∙◌, arith, subst}
-use Rattle.std.specs.Prelude.{not, ◌&&◌, if◌then◌else◌, is_none, is_some, IfOk}
+use Rattle.std.specs.Prelude.{not, ◌&&◌, if◌then◌else◌, is_none, is_some, IfOk, OnErr}
 use Rattle.std.specs.Option.{option_to_list}
 use Rattle.std.proofs.lemmas.Bool.Decides.{nat_tests}
 use Rattle.std.proofs.lemmas.List.{append-nil}
@@ -152,6 +152,11 @@ module _ {J : Type 0} {g : Ghosts J} (old mid new : Pass J g) (more : Unanswered
   pub changed_if_later : {E : Type 0} (change : ChangeValue) (r : Result Reply E) → IfOk r (IsChanged mid new change) → IfOk r (IsChanged old new change)
   changed_if_later change (Ok reply) is = changed_later change reply is
   changed_if_later change (Err e) is = tt
+
+  -- nor did it publish anything later
+  pub counts_if_later : {A E : Type 0} (r : Result A E) → OnErr r ((made_in new ≡ made_in mid) × (kept_in new ≡ kept_in mid)) → OnErr r ((made_in new ≡ made_in old) × (kept_in new ≡ kept_in old))
+  counts_if_later (Ok a) is = tt
+  counts_if_later (Err e) is = (is.0 ∙ m, is.1 ∙ k)
 
   -- it was not answered later either
   pub unanswered_later : SawMore mid new → Unanswered old new

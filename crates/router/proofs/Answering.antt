@@ -8,13 +8,15 @@ use Rattle.bind_cache.specs.declared.binding.Binding.{Binding}
 use Rattle.machine.specs.Choosing.{offer_of}
 use Rattle.machine.specs.Values.{SettingsValue, AskValue}
 use Rattle.router_log.specs.Call.{asked}
-use Rattle.router_log.specs.Operation.{Operation}
+use Rattle.router_log.specs.Operation.{Operation, place_of}
 use Rattle.router_log.specs.Value.{value_of}
 use Rattle.router.specs.declared.answer.Answer.{Answer}
+use Rattle.router.specs.declared.answer.Answer.TheVariants as answer
+use Rattle.router.specs.Asking.{Picks}
 use Rattle.router.specs.declared.naming.Naming.{Ghosts}
 use Rattle.router.specs.declared.pass.Pass.{Pass}
 use Rattle.router.specs.Loads.{MayHaveRead}
-use Rattle.router.specs.Passes.{seen_in, taken_in, slot_in, Entered}
+use Rattle.router.specs.Passes.{seen_in, reads_in, taken_in, slot_in, Entered}
 use Rattle.router.specs.Picked.{IsAnswer, IsFresh, IsWorkedOut, fresh_by}
 use Rattle.router.specs.Views.{settings_by, seen_by}
 use Rattle.router.specs.Views as views
@@ -66,3 +68,19 @@ module _ {J : Type 0} {g : Ghosts J} where
     taken = taken;
     slot = slot;
   }
+
+  picks_case : (old new : Pass J g) (ask : AskValue) (a : Answer) → Entered old new (asked ask)
+      → IsAnswer g.settings (value_of g.settings (seen_in new)) (place_of (seen_in new)) ask (reads_in old) (reads_in new) a
+      → Picks old new ask a
+  picks_case old new ask (answer.Picked choice client residual fresh) entered is = record { entered = entered; answer = is }
+  picks_case old new ask (answer.None why place fresh) entered is = record { entered = entered; answer = is }
+  picks_case old new ask answer.NoEntry entered is = absurd (cc is.let_in)
+
+  -- where it was answered, and did not lack memory, it is a pick
+  pub picks_by : {E : Type 0} (old new : Pass J g) (ask : AskValue) (told : SettingsValue) (r : Result Answer E) (place : ℕ) → told ≡ g.settings → place ≡ place_of (seen_in new) → Entered old new (asked ask)
+      → IfOk r (IsAnswer told (value_of told (seen_in new)) place ask (reads_in old) (reads_in new)) → IfOk r (Picks old new ask)
+  picks_by old new ask told (Ok a) place same at entered is =
+      picks_case old new ask a entered
+      (subst (λ (n : ℕ). IsAnswer g.settings (value_of g.settings (seen_in new)) n ask (reads_in old) (reads_in new) a) at
+      (subst (λ (s : SettingsValue). IsAnswer s (value_of s (seen_in new)) place ask (reads_in old) (reads_in new) a) same is))
+  picks_by old new ask told (Err e) place same at entered is = tt

@@ -123,14 +123,14 @@ cache_sync = declared_sync Cache.the_type (search (as_row_sync, binding_send, bi
 
 current_send : IsSend Current.the_row
 current_send = declared_send Current.the_type (
-  search (as_row_send, crosses, sendable) depth 40,
-  (search (as_row_send, settings_send, settings_sync, crosses) depth 40, (state_send, (cache_send, (search (crosses, sendable) depth 40, tt)))),
+  search (as_row_send, settings_send, settings_sync, crosses) depth 40,
+  (dtab_send, (state_send, (cache_send, (search (crosses, sendable) depth 40, tt)))),
 )
 
 current_sync : IsSync Current.the_row
 current_sync = declared_sync Current.the_type (
-  search (as_row_sync, crosses, sendable) depth 40,
-  (search (as_row_sync, settings_send, settings_sync, crosses) depth 40, (state_sync, (cache_sync, (search (crosses, sendable) depth 40, tt)))),
+  search (as_row_sync, settings_send, settings_sync, crosses) depth 40,
+  (dtab_sync, (state_sync, (cache_sync, (search (crosses, sendable) depth 40, tt)))),
 )
 
 -- ---- the router and its passes

@@ -15,4 +15,5 @@ pub mod Readers
 pub mod Remembering
 pub mod Short
 pub mod Starting
+pub mod Swapping
 pub mod Trees

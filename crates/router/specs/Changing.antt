@@ -1,12 +1,12 @@
 -- What changes and delegations that are given back are answered, and what they do to their pass.
-use Rattle.std.specs.Prelude.{◌≡◌, ◌+◌, ◌≤◌, ◌++◌, if◌then◌else◌, List, length, Option, Some, None}
+use Rattle.std.specs.Prelude.{◌≡◌, ◌+◌, ◌≤◌, ◌++◌, ◌⊎◌, if◌then◌else◌, true, List, length, Option, Some, None}
 use Rattle.std.specs.Option.{option_to_list}
 use mathlib.Core.List.{IsPrefix}
 use Rattle.addr_book.specs.declared.addr.Addr.{Addr}
 use Rattle.bind_cache.specs.Kept.{Kept}
 use Rattle.machine.specs.Code.{reply_value}
 use Rattle.machine.specs.declared.reply.Reply.{Reply}
-use Rattle.machine.specs.State.{is_accepted, reply_of}
+use Rattle.machine.specs.State.{is_accepted, report_refusal, reply_of}
 use Rattle.machine.specs.Values.{SettingsValue, ChangeValue, report}
 use Rattle.router_log.specs.Call.{changing, keeping, publishes, is_large, is_late, is_had, are_spent, is_kept}
 use Rattle.router_log.specs.Operation.{Operation, place_of}
@@ -15,7 +15,7 @@ use Rattle.router.specs.declared.answer.Remembered.{Remembered}
 use Rattle.router.specs.declared.answer.Remembered.TheVariants as remembered
 use Rattle.router.specs.declared.naming.Naming.{Ghosts}
 use Rattle.router.specs.declared.pass.Pass.{Pass}
-use Rattle.router.specs.Passes.{number_in, seen_in, made_in, kept_in, refusals_in, Called, SameSeat, SawMore}
+use Rattle.router.specs.Passes.{number_in, seen_in, made_in, kept_in, refusals_in, Called, NotLetIn, SameSeat, SawMore}
 use Rattle.router.specs.Picked.{IsWorkedOut}
 
 -- the address of a report of a success
@@ -48,6 +48,12 @@ module _ {J : Type 0} {g : Ghosts J} where
     pub kept : kept_in new ≡ kept_in old
     pub refusals : refusals_in old ≤ refusals_in new
     pub seat : SameSeat old new
+
+  -- A change is left for the lock, by the address of the success that it reports: it reports none, and nothing was done; or the pass was not let in; or in the
+  -- state that the pass then sees the report is accepted, since the address is a service's and has failures
+  abbrev pub IsLeft : Pass J g → Pass J g → Option Addr → Type 0
+  IsLeft old new None = new ≡ old
+  IsLeft old new (Some addr) = NotLetIn old new ⊎ (SawMore old new × (report_refusal (value_of g.settings (seen_in new)).state addr true ≡ None))
 
   -- a delegation was given back, to be kept
   pub record IsRemembered (old new : Pass J g) (k : Kept) (said : Remembered) : Type 0 where

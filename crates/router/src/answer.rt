@@ -30,7 +30,8 @@ pub enum Answer {
         client: Path,
         /// The labels behind those.
         residual: Path,
-        /// The delegation that was worked out for the pick, where none was kept. [`Router::remember`](crate::Router::remember) keeps it.
+        /// The delegation that was worked out for the pick, where none was kept.
+        /// [`Router::remember`](crate::Router::remember) keeps it.
         fresh: Option<Binding>,
     },
     /// There is no replica.

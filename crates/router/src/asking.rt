@@ -38,7 +38,8 @@ fn detach_through(
     look: &Look,
 ) -> Option<(u64, Mem<Detached>)>
     requires empty { BeganEmpty reader.old }
-    ensures entered { IfSome result (λ r. Entered reader.old reader.new (looked (look_value look.now))) }
+    ensures entered { IfSome result (λ r. Entered reader.old reader.new
+        (looked (look_value look.now))) }
     ensures place { IfSome result (λ r. r.0 ≡ place_of (seen_by reader.new)) }
     ensures detached { IfSome result (λ r. IfOk r.1 (IsOut (settings_by reader.old)
         (value_of (settings_by reader.old) (seen_by reader.new)).state)) }
@@ -51,8 +52,8 @@ fn detach_through(
     Some((current.place(), current.detach(alloc)))
 }
 
-/// Enters, and answers a look at that point: the place there, and the reply. `None` where the reader is
-/// not let in. The reply is worked out once the reader has left.
+/// Enters, and answers a look at that point: the place there, and the reply. `None` where the
+/// reader is not let in. The reply is worked out once the reader has left.
 #[tactic(auto, using(crate::proofs::Detaching::look_out))]
 pub(crate) fn look_through<L: Ledger>(
     reader: &mut Reader<Current, Update, Call>,
@@ -61,9 +62,12 @@ pub(crate) fn look_through<L: Ledger>(
     steps: &mut Steps<L>,
 ) -> Option<(u64, Mem<Reply>)>
     requires empty { BeganEmpty reader.old }
-    ensures entered { IfSome result (λ r. Entered reader.old reader.new (looked (look_value look.now))) }
+    ensures entered { IfSome result (λ r. Entered reader.old reader.new
+        (looked (look_value look.now))) }
     ensures place { IfSome result (λ r. r.0 ≡ place_of (seen_by reader.new)) }
-    ensures reply { IfSome result (λ r. IfOk r.1 (λ reply. reply_value reply ≡ look_of (settings_by reader.old) (value_of (settings_by reader.old) (seen_by reader.new)).state (look_value look.now))) }
+    ensures reply { IfSome result (λ r. IfOk r.1 (λ reply. reply_value reply
+        ≡ look_of (settings_by reader.old) (value_of (settings_by reader.old)
+        (seen_by reader.new)).state (look_value look.now))) }
     ensures there { IfSome result (λ r. IsThere reader.new) }
     ensures none { IfNone result (Refused reader.old reader.new) }
 {
@@ -74,8 +78,8 @@ pub(crate) fn look_through<L: Ledger>(
     }
 }
 
-/// Enters, and gives what a pick finds at that point: the place there, and the answer by what is kept, or
-/// the state. `None` where the reader is not let in.
+/// Enters, and gives what a pick finds at that point: the place there, and the answer by what is
+/// kept, or the state. `None` where the reader is not let in.
 fn find_through(
     reader: &mut Reader<Current, Update, Call>,
     alloc: Global,
@@ -90,9 +94,9 @@ fn find_through(
     ensures found { IfSome result (λ r. IfOk r.1 (IsFound (settings_by reader.old)
         (value_of (settings_by reader.old) (seen_by reader.new)) r.0 (ask_of ask.now)
         (reads_of seat.old) (reads_of seat.new))) }
-    ensures err { IfSome result (λ r. OnErr r.1 (MayHaveRead (offer_of (settings_by reader.old)
-        (value_of (settings_by reader.old) (seen_by reader.new)).state (ask_of ask.now))
-        (reads_of seat.old) (reads_of seat.new))) }
+    ensures err { IfSome result (λ r. OnErr r.1 (MayHaveRead
+        (offer_of (settings_by reader.old) (value_of (settings_by reader.old)
+        (seen_by reader.new)).state (ask_of ask.now)) (reads_of seat.old) (reads_of seat.new))) }
     ensures there { IfSome result (λ r. IsThere reader.new) }
     ensures none { IfNone result (Refused reader.old reader.new) }
     ensures unread { IfNone result (seat.new ≡ seat.old) }
@@ -106,8 +110,9 @@ fn find_through(
     Some((current.place(), current.pick(alloc, ask, loads, seat)))
 }
 
-/// Enters, and answers a pick at that point: the place there, and the answer. `None` where the reader is
-/// not let in. Where nothing is kept for the pick, it is delegated once the reader has left.
+/// Enters, and answers a pick at that point: the place there, and the answer. `None` where the
+/// reader is not let in. Where nothing is kept for the pick, it is delegated once the reader has
+/// left.
 #[tactic(auto, using(crate::proofs::Detaching::pick_out, crate::proofs::Detaching::read_out, crate::proofs::Detaching::steps_out))]
 pub(crate) fn pick_through<L: Ledger>(
     reader: &mut Reader<Current, Update, Call>,
@@ -121,9 +126,14 @@ pub(crate) fn pick_through<L: Ledger>(
     requires seat { IsOf loads.now seat.old }
     ensures entered { IfSome result (λ r. Entered reader.old reader.new (asked (ask_of ask.now))) }
     ensures place { IfSome result (λ r. r.0 ≡ place_of (seen_by reader.new)) }
-    ensures answer { IfSome result (λ r. IfOk r.1 (IsAnswer (settings_by reader.old) (value_of (settings_by reader.old) (seen_by reader.new)) r.0 (ask_of ask.now) (reads_of seat.old) (reads_of seat.new))) }
-    ensures steps { is_kept_for (value_of (settings_by reader.old) (seen_by reader.new)) (ask_of ask.now) ≡ true → steps.new ≡ steps.old }
-    ensures err { IfSome result (λ r. OnErr r.1 (MayHaveRead (offer_of (settings_by reader.old) (value_of (settings_by reader.old) (seen_by reader.new)).state (ask_of ask.now)) (reads_of seat.old) (reads_of seat.new))) }
+    ensures answer { IfSome result (λ r. IfOk r.1 (IsAnswer (settings_by reader.old)
+        (value_of (settings_by reader.old) (seen_by reader.new)) r.0 (ask_of ask.now)
+        (reads_of seat.old) (reads_of seat.new))) }
+    ensures steps { is_kept_for (value_of (settings_by reader.old) (seen_by reader.new))
+        (ask_of ask.now) ≡ true → steps.new ≡ steps.old }
+    ensures err { IfSome result (λ r. OnErr r.1 (MayHaveRead
+        (offer_of (settings_by reader.old) (value_of (settings_by reader.old)
+        (seen_by reader.new)).state (ask_of ask.now)) (reads_of seat.old) (reads_of seat.new))) }
     ensures there { IfSome result (λ r. IsThere reader.new) }
     ensures none { IfNone result (Refused reader.old reader.new) }
     ensures unread { IfNone result (seat.new ≡ seat.old) }
@@ -141,7 +151,8 @@ pub(crate) fn pick_through<L: Ledger>(
     }
 }
 
-/// Enters, and answers a pick at that point by what is kept there: the place, and the answer. `None` where the reader is not let in.
+/// Enters, and answers a pick at that point by what is kept there: the place, and the answer.
+/// `None` where the reader is not let in.
 pub(crate) fn peek_through(
     reader: &mut Reader<Current, Update, Call>,
     ask: &Ask,
@@ -153,7 +164,9 @@ pub(crate) fn peek_through(
     requires seat { IsOf loads.now seat.old }
     ensures entered { IfSome result (λ r. Entered reader.old reader.new (asked (ask_of ask.now))) }
     ensures place { IfSome result (λ r. r.0 ≡ place_of (seen_by reader.new)) }
-    ensures answer { IfSome result (λ r. IsPeek (settings_by reader.old) (value_of (settings_by reader.old) (seen_by reader.new)) r.0 (ask_of ask.now) (reads_of seat.old) (reads_of seat.new) names.new r.1) }
+    ensures answer { IfSome result (λ r. IsPeek (settings_by reader.old)
+        (value_of (settings_by reader.old) (seen_by reader.new)) r.0 (ask_of ask.now)
+        (reads_of seat.old) (reads_of seat.new) names.new r.1) }
     ensures there { IfSome result (λ r. IsThere reader.new) }
     ensures none { IfNone result (Refused reader.old reader.new) }
     ensures unread { IfNone result (seat.new ≡ seat.old) }

@@ -3,7 +3,8 @@ use bind_cache::Binding;
 use machine::{Ask, Change, Look};
 use std::snapshot::Snapshot;
 
-/// A call as a pass's items tell it. It exists in contracts alone, and has no bytes as a `Snapshot`.
+/// A call as a pass's items tell it. It exists in contracts alone, and has no bytes as a
+/// `Snapshot`.
 #[derive(Drop)]
 pub enum Call {
     /// A replica was asked for.

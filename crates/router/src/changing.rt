@@ -1,10 +1,10 @@
 //! The calls that take the router's lock.
-ghost use Rattle.std.specs.Prelude.{IfOk, OnErr, ◌≡◌};
+ghost use Rattle.std.specs.Prelude.{◌≡◌, IfOk, OnErr};
 ghost use Rattle.bind_cache.specs.Stored.{kept_of};
 ghost use Rattle.machine.specs.Code.{change_of};
 ghost use Rattle.machine.specs.State.{IsSoundChange};
 ghost use Rattle.router.specs.Changing.{IsChanged, IsRemembered, Met, WasWorkedOut};
-ghost use Rattle.router.specs.Passes.{number_in, SawMore, Unanswered};
+ghost use Rattle.router.specs.Passes.{number_in, made_in, kept_in, SawMore, Unanswered};
 
 use crate::Mem;
 use crate::answer::Remembered;
@@ -17,15 +17,16 @@ use std::alloc::Global;
 use std::sync::{MutexGuard, Wait};
 
 impl<J: Naming> Router<J> {
-    /// Makes a change, if the state accepts it, at a point behind all that was published. The pass has seen it then. It waits for the router's lock, and for
-    /// callers that read the older copy of the value.
+    /// Makes a change, if the state accepts it, at a point behind all that was published. The pass
+    /// has seen it then. It waits for the router's lock, and for callers that are reading the older
+    /// copy of the value.
     ///
-    /// A report of a success that changes nothing in the published value, since no service has its address or the address has no failures, is answered from that value: it takes
-    /// no lock and no memory, and waits for nobody. Only where the pass is not let in ([`Pass::refused`]) does it take the lock, as any other change.
+    /// A report of a success that changes nothing takes no lock where it is made by
+    /// [`Router::report`], which this call tries first.
     ///
     /// # Errors
-    /// Want of memory publishes nothing. It may then come at every later change that would be accepted: where a copy of the value lacked the memory to take
-    /// it in.
+    /// Out of memory publishes nothing. It may then come at every later change that would be
+    /// accepted: where a copy of the value lacked the memory to take it in.
     pub fn change<R: Wait>(
         &self,
         rt: &R,
@@ -37,8 +38,10 @@ impl<J: Naming> Router<J> {
         ensures number { number_in pass.new ≡ number_in pass.old }
         ensures changed { IfOk result (IsChanged pass.old pass.new (change_of change)) }
         ensures want { OnErr result (Unanswered pass.old pass.new) }
+        ensures none { OnErr result ((made_in pass.new ≡ made_in pass.old)
+            × (kept_in pass.new ≡ kept_in pass.old)) }
     {
-        if let Some(reply) = pass.report(&change) {
+        if let Some(reply) = self.report(pass, &change) {
             return Ok(reply);
         }
         let mut desk = self.desk.lock(rt);
@@ -47,10 +50,11 @@ impl<J: Naming> Router<J> {
         reply
     }
 
-    /// Keeps a delegation that a pick of this pass gave, so that it need not be worked out again, where it may be kept.
+    /// Keeps a delegation that a pick of this pass gave, so that it need not be worked out again,
+    /// where it may be kept.
     ///
     /// # Errors
-    /// As [`Router::change`].
+    /// Out of memory publishes nothing, as of [`Router::change`].
     pub fn remember<R: Wait>(
         &self,
         rt: &R,
@@ -62,6 +66,8 @@ impl<J: Naming> Router<J> {
         ensures number { number_in pass.new ≡ number_in pass.old }
         ensures remembered { IfOk result (IsRemembered pass.old pass.new (kept_of binding)) }
         ensures want { OnErr result (SawMore pass.old pass.new) }
+        ensures none { OnErr result ((made_in pass.new ≡ made_in pass.old)
+            × (kept_in pass.new ≡ kept_in pass.old)) }
     {
         let mut desk = self.desk.lock(rt);
         let said = desk.remember(rt, alloc, pass, binding);
@@ -69,9 +75,10 @@ impl<J: Naming> Router<J> {
         said
     }
 
-    /// Lets two passes see all that was published. It takes no memory.
+    /// Lets two passes see all that was published, under the router's lock. It takes no memory.
     pub fn meet<R: Wait>(&self, rt: &R, a: &mut Pass<J>, b: &mut Pass<J>)
-        ensures numbers { (number_in a.new ≡ number_in a.old) × (number_in b.new ≡ number_in b.old) }
+        ensures numbers { (number_in a.new ≡ number_in a.old)
+            × (number_in b.new ≡ number_in b.old) }
         ensures met { Met a.old b.old a.new b.new }
     {
         let desk = self.desk.lock(rt);

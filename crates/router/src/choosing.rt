@@ -30,7 +30,8 @@ pub(crate) enum Decision<'a> {
     None(Why),
 }
 
-/// Chooses between the two replicas that an ask draws in an outcome, by their loads, of which it reads the first one's first. It takes no memory.
+/// Chooses between the two replicas that an ask draws in an outcome, by their loads, of which it
+/// reads the first one's first. It takes no memory.
 pub(crate) fn decide<'a>(
     state: &State,
     settings: &Settings,
@@ -39,12 +40,14 @@ pub(crate) fn decide<'a>(
     loads: &Loads,
     seat: &mut LoadSeat,
 ) -> Decision<'a>
-    requires ending { ending_of outcome.now ≡ ending_in (settings_of settings.now) (state_of state.now) (ask_of ask.now) }
+    requires ending { ending_of outcome.now ≡ ending_in (settings_of settings.now)
+        (state_of state.now) (ask_of ask.now) }
     requires seat { IsOf loads.now seat.old }
     ensures seat { IsOf loads.now seat.new }
     ensures taken { taken_of seat.new ≡ taken_of seat.old }
     ensures slot { slot_of seat.new ≡ slot_of seat.old }
-    ensures decided { IsPermitted (settings_of settings.now) (state_of state.now) (ask_of ask.now) (reads_of seat.old) (reads_of seat.new) (decision_loads result) (decision_value result) }
+    ensures decided { IsPermitted (settings_of settings.now) (state_of state.now) (ask_of ask.now)
+        (reads_of seat.old) (reads_of seat.new) (decision_loads result) (decision_value result) }
 {
     match state.candidates_of(settings, outcome, ask) {
         Err(why) => Decision::None(why),

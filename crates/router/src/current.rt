@@ -1,5 +1,6 @@
 //! The value that all callers share: the state, and the delegations that are kept for it.
-ghost use Rattle.std.specs.Prelude.{◌≡◌, ◌∷◌, ◌++◌, [], OnOk, OnErr, IfOk, option_map, if◌then◌else◌};
+ghost use Rattle.std.specs.Prelude.{◌≡◌, ◌∷◌, ◌++◌, [], OnOk, OnErr, IfOk, option_map};
+ghost use Rattle.std.specs.Prelude.{if◌then◌else◌};
 ghost use Rattle.std.specs.Arc.{arc_value};
 ghost use Rattle.std.specs.Coded.{Coded-set};
 ghost use Rattle.bind_core.specs.Outcome.{ending_of};
@@ -12,7 +13,7 @@ ghost use Rattle.bind_cache.specs.Cache.{found_in, kept_in, after_service};
 ghost use Rattle.ns_store.specs.Store.{contents_of};
 ghost use Rattle.machine.specs.Looking.{space_rules};
 ghost use Rattle.std.specs.FinMap.{get, contains_key};
-ghost use Rattle.router_log.specs.Codes.{coded_value};
+ghost use Rattle.router_log.specs.Codes.{coded_value, coded_rules};
 ghost use Rattle.router_log.specs.Value.{untouched_by, retold};
 ghost use Rattle.router_log.specs.Taking.{may_stand};
 ghost use Rattle.router.specs.Update.{updates_in, taken_in, UpdateFits};
@@ -34,14 +35,19 @@ use std::snapshot::Snapshot;
 use std::sync::Arc;
 
 /// One copy of the value. It is what the updates that it took in come to, from nothing.
+///
+/// It has no allocator: what takes memory is given one.
 #[derive(Drop)]
 pub struct Current {
-    pub(crate) alloc: Global,
     pub(crate) settings: Arc<Settings>,
+    // The table of a namespace that is not there.
+    pub(crate) none: Dtab,
     pub(crate) state: State,
     pub(crate) cache: Cache,
     pub(crate) past: Snapshot<Past>,
-    ghost told: { record { state = state_of state; cache = bindings_of cache } ≡ taken_in (settings_of (arc_value settings)) (updates_in past.value) } by { Coded-set coded_value _ _ },
+    ghost told: { record { state = state_of state; cache = bindings_of cache }
+        ≡ taken_in (settings_of (arc_value settings)) (updates_in past.value) } by { Coded-set coded_value _ _ },
+    ghost no_rules: { rules_of none ≡ [] } by { Coded-set coded_rules _ _ },
 }
 
 impl Current {
@@ -53,11 +59,12 @@ impl Current {
     /// The value in which nothing was changed and nothing is kept.
     pub(crate) fn start(alloc: Global, settings: Arc<Settings>) -> Mem<Current>
         ensures empty { IfOk result (λ current. updates_in current.past.value ≡ []) }
-        ensures settings { IfOk result (λ current. arc_value current.settings ≡ arc_value settings) }
+        ensures settings { IfOk result
+            (λ current. arc_value current.settings ≡ arc_value settings) }
     {
         Ok(Current {
-            alloc,
             settings,
+            none: Dtab::empty(alloc),
             state: State::start(alloc)?,
             cache: Cache::start(alloc)?,
             past: Snapshot::of(&Past::Nothing),
@@ -98,7 +105,8 @@ impl Current {
 
     /// What is kept for a path and a request's own table. It takes one hash of both.
     pub(crate) fn find(&self, path: &Path, local: &Dtab) -> Option<&Outcome>
-        ensures { option_map (λ outcome. ending_of outcome.now) result ≡ found_in (value_in self.now).cache path.now (rules_of local.now) }
+        ensures { option_map (λ outcome. ending_of outcome.now) result
+            ≡ found_in (value_in self.now).cache path.now (rules_of local.now) }
     {
         self.cache.find(path, local)
     }
@@ -114,7 +122,7 @@ impl Absorb<Update> for Current {
     fn absorb_first(&mut self, update: &Update, _other: &Current) -> Result<(), AllocError> {
         match update {
             Update::Changed { change, ready, .. } => take_change(
-                &Dtab::empty(self.alloc),
+                &self.none,
                 &self.settings,
                 &mut self.state,
                 &mut self.cache,

@@ -1,5 +1,7 @@
 //! What lies under the router's lock.
-ghost use Rattle.std.specs.Prelude.{◌≡◌, ◌≤◌, ◌<◌, ◌+◌, ◌-◌, ◌^◌, ◌++◌, true, false, Some, None, length, is_some, IfOk, OnOk, OnErr, IfSome, IfNone, vec_len, vec_capacity};
+ghost use Rattle.std.specs.Prelude.{◌≡◌, ◌≤◌, ◌<◌, ◌+◌, ◌-◌, ◌^◌, ◌++◌, true, false, Some, None};
+ghost use Rattle.std.specs.Prelude.{length, is_some, IfOk, OnOk, OnErr, IfSome, IfNone, vec_len};
+ghost use Rattle.std.specs.Prelude.{vec_capacity};
 ghost use Rattle.std.specs.Option.{option_to_list};
 ghost use Rattle.std.specs.Coded.{Coded-set};
 ghost use Rattle.bind_cache.specs.Stored.{kept_of};
@@ -10,9 +12,11 @@ ghost use Rattle.router_log.specs.Call.{changing, keeping, publishes, is_had, is
 ghost use Rattle.router_log.specs.Value.{value_of, opening_value, Fits, AllFit};
 ghost use Rattle.router_log.specs.Codes.{coded_settings};
 ghost use Rattle.router_log.specs.Operation.{place_of, kept_count, kept};
-ghost use Rattle.snap_cell.specs.Writers.{published_by, cell_written, opening_written, reader_count, SameWriter};
+ghost use Rattle.snap_cell.specs.Writers.{published_by, cell_written, opening_written};
+ghost use Rattle.snap_cell.specs.Writers.{reader_count, SameWriter};
 ghost use Rattle.router.specs.Changing.{IsChanged, IsRemembered, Met, WasWorkedOut, remembered_as};
-ghost use Rattle.router.specs.Passes.{number_in, seen_in, items_in, made_in, kept_in, refusals_in, reads_in, Called, Entered, SameSeat, SawMore};
+ghost use Rattle.router.specs.Passes.{number_in, seen_in, items_in, made_in, kept_in, refusals_in};
+ghost use Rattle.router.specs.Passes.{reads_in, Called, Entered, SameSeat, SawMore};
 ghost use Rattle.router.specs.Update.{operations_of};
 ghost use Rattle.router.specs.Values.{settings_in, IsEmpty};
 ghost use Rattle.router.specs.Views.{call_of};
@@ -34,7 +38,8 @@ use std::snapshot::Snapshot;
 use std::sync::ledger::{Book, Share};
 use std::sync::{Arc, Wait};
 
-/// The writer, with the count of all changes, which the ledger's book has too, and of all delegations that were kept.
+/// The writer, with the count of all changes and that of all delegations that were kept. The
+/// ledger's book has what the two come to.
 pub(crate) struct Desk<J: Naming> {
     pub(crate) writer: Writer<Current, Update>,
     pub(crate) place: u64,
@@ -48,7 +53,7 @@ pub(crate) struct Desk<J: Naming> {
     ghost settings: { settings_in (opening_written writer) ≡ J.settings } by { Coded-set coded_settings _ _ },
     ghost place_is: { place ≡ place_of (operations_of (published_by writer)) },
     ghost kept_is: { kept ≡ kept_count (operations_of (published_by writer)) },
-    ghost counted: { book.total ≡ place },
+    ghost counted: { book.total ≡ place + kept },
     ghost seats: { reader_count writer ≡ J.seats },
     ghost set_aside: { (vec_len room ≡ 0) × (J.seats ≤ vec_capacity room) },
     ghost no_rest: { (rest.parts ≡ 0) × (rest.amount ≡ 0) },
@@ -64,11 +69,20 @@ fn prepare_in<R: Wait>(
     requires sound { IsSoundChange (change_of change.now) }
     requires empty { IsEmpty (opening_written writer.old) }
     ensures same { SameWriter writer.old writer.new }
-    ensures whole { whole_of (opening_written writer.old) (published_by writer.old) ≡ value_of (settings_in (opening_written writer.old)) (operations_of (published_by writer.old)) }
-    ensures place { (whole_of (opening_written writer.old) (published_by writer.old)).state.place ≡ place_of (operations_of (published_by writer.old)) }
-    ensures reply { IfOk result (λ p. reply_value p.0 ≡ reply_of (settings_in (opening_written writer.old)) (whole_of (opening_written writer.old) (published_by writer.old)).state (change_of change.now)) }
-    ensures accepted { IfOk result (λ p. is_some p.1 ≡ is_accepted (whole_of (opening_written writer.old) (published_by writer.old)).state (change_of change.now)) }
-    ensures ready { IfOk result (λ p. IfSome p.1 (λ ready. IsReadyFor (settings_in (opening_written writer.old)) (whole_of (opening_written writer.old) (published_by writer.old)).state (change_of change.now) (ready_of ready))) }
+    ensures whole { whole_of (opening_written writer.old) (published_by writer.old)
+        ≡ value_of (settings_in (opening_written writer.old))
+        (operations_of (published_by writer.old)) }
+    ensures place { (whole_of (opening_written writer.old) (published_by writer.old)).state.place
+        ≡ place_of (operations_of (published_by writer.old)) }
+    ensures reply { IfOk result (λ p. reply_value p.0 ≡ reply_of
+        (settings_in (opening_written writer.old)) (whole_of (opening_written writer.old)
+        (published_by writer.old)).state (change_of change.now)) }
+    ensures accepted { IfOk result (λ p. is_some p.1 ≡ is_accepted
+        (whole_of (opening_written writer.old) (published_by writer.old)).state
+        (change_of change.now)) }
+    ensures ready { IfOk result (λ p. IfSome p.1 (λ ready. IsReadyFor
+        (settings_in (opening_written writer.old)) (whole_of (opening_written writer.old)
+        (published_by writer.old)).state (change_of change.now) (ready_of ready))) }
 {
     let whole = writer.value(rt);
     let current = whole.get();
@@ -81,9 +95,13 @@ fn prepare_in<R: Wait>(
 fn is_had_in<R: Wait>(rt: &R, writer: &mut Writer<Current, Update>, binding: &Binding) -> bool
     requires empty { IsEmpty (opening_written writer.old) }
     ensures same { SameWriter writer.old writer.new }
-    ensures whole { whole_of (opening_written writer.old) (published_by writer.old) ≡ value_of (settings_in (opening_written writer.old)) (operations_of (published_by writer.old)) }
-    ensures fit { AllFit (settings_in (opening_written writer.old)) opening_value (operations_of (published_by writer.old)) }
-    ensures had { result ≡ is_had (settings_in (opening_written writer.old)) (operations_of (published_by writer.old)) (kept_of binding.now) }
+    ensures whole { whole_of (opening_written writer.old) (published_by writer.old)
+        ≡ value_of (settings_in (opening_written writer.old))
+        (operations_of (published_by writer.old)) }
+    ensures fit { AllFit (settings_in (opening_written writer.old)) opening_value
+        (operations_of (published_by writer.old)) }
+    ensures had { result ≡ is_had (settings_in (opening_written writer.old))
+        (operations_of (published_by writer.old)) (kept_of binding.now) }
 {
     let whole = writer.value(rt);
     let found = whole.get().find(binding.path(), binding.local()).is_some();
@@ -97,7 +115,8 @@ impl<J: Naming> Desk<J> {
         ensures number { number_in pass.new ≡ number_in pass.old }
         ensures seen { seen_in pass.new ≡ operations_of (published_by self.now.writer) }
         ensures more { SawMore pass.old pass.new }
-        ensures counts { (made_in pass.new ≡ made_in pass.old) × (kept_in pass.new ≡ kept_in pass.old) }
+        ensures counts { (made_in pass.new ≡ made_in pass.old)
+            × (kept_in pass.new ≡ kept_in pass.old) }
     {
         pass.reader.catch_up(rt, &self.writer, None);
         pass.place = self.place;
@@ -105,7 +124,8 @@ impl<J: Naming> Desk<J> {
 
     /// Lets a pass see all that was published, with a call that publishes nothing there.
     fn show_call<R: Wait>(&self, rt: &R, pass: &mut Pass<J>, call: &Call)
-        requires none { publishes J.settings (operations_of (published_by self.now.writer)) (number_in pass.old) (made_in pass.old) (kept_in pass.old) (call_of call.now) ≡ None }
+        requires none { publishes J.settings (operations_of (published_by self.now.writer))
+            (number_in pass.old) (made_in pass.old) (kept_in pass.old) (call_of call.now) ≡ None }
         ensures number { number_in pass.new ≡ number_in pass.old }
         ensures seen { seen_in pass.new ≡ operations_of (published_by self.now.writer) }
         ensures entered { Entered pass.old pass.new (call_of call.now) }
@@ -124,15 +144,22 @@ impl<J: Naming> Desk<J> {
         change: Change,
         ready: Ready,
     ) -> Mem<()>
-        requires ready { IsReadyFor J.settings (whole_of (opening_written self.old.writer) (published_by self.old.writer)).state (change_of change) (ready_of ready) }
-        requires whole { whole_of (opening_written self.old.writer) (published_by self.old.writer) ≡ value_of J.settings (operations_of (published_by self.old.writer)) }
+        requires ready { IsReadyFor J.settings (whole_of (opening_written self.old.writer)
+            (published_by self.old.writer)).state (change_of change) (ready_of ready) }
+        requires whole { whole_of (opening_written self.old.writer) (published_by self.old.writer)
+            ≡ value_of J.settings (operations_of (published_by self.old.writer)) }
         requires seen { seen_in pass.old ≡ operations_of (published_by self.old.writer) }
         requires room { place_of (operations_of (published_by self.old.writer)) < 2 ^ 64 - 1 }
         ensures number { number_in pass.new ≡ number_in pass.old }
         ensures want { OnErr result (SawMore pass.old pass.new) }
+        ensures counts { OnErr result ((made_in pass.new ≡ made_in pass.old)
+            × (kept_in pass.new ≡ kept_in pass.old)) }
         ensures writer { OnErr result (SameWriter self.old.writer self.new.writer) }
-        ensures called { OnOk result (Called pass.old pass.new (changing (change_of change)) (length (seen_in pass.old))) }
-        ensures seen { OnOk result (seen_in pass.new ≡ seen_in pass.old ++ option_to_list (publishes J.settings (seen_in pass.old) (number_in pass.old) (made_in pass.old) (kept_in pass.old) (changing (change_of change)))) }
+        ensures called { OnOk result (Called pass.old pass.new (changing (change_of change))
+            (length (seen_in pass.old))) }
+        ensures seen { OnOk result (seen_in pass.new ≡ seen_in pass.old ++ option_to_list
+            (publishes J.settings (seen_in pass.old) (number_in pass.old) (made_in pass.old)
+            (kept_in pass.old) (changing (change_of change)))) }
         ensures made { OnOk result (made_in pass.new ≡ made_in pass.old + 1) }
         ensures kept { OnOk result (kept_in pass.new ≡ kept_in pass.old) }
         ensures refusals { OnOk result (refusals_in pass.new ≡ refusals_in pass.old) }
@@ -162,15 +189,22 @@ impl<J: Naming> Desk<J> {
         pass: &mut Pass<J>,
         binding: Binding,
     ) -> Mem<()>
-        requires fits { Fits J.settings (whole_of (opening_written self.old.writer) (published_by self.old.writer)) (kept 0 0 (kept_of binding)) }
-        requires kept { is_kept J.settings (operations_of (published_by self.old.writer)) (kept_of binding) ≡ true }
+        requires fits { Fits J.settings (whole_of (opening_written self.old.writer)
+            (published_by self.old.writer)) (kept 0 0 (kept_of binding)) }
+        requires kept { is_kept J.settings (operations_of (published_by self.old.writer))
+            (kept_of binding) ≡ true }
         requires seen { seen_in pass.old ≡ operations_of (published_by self.old.writer) }
         requires room { kept_count (operations_of (published_by self.old.writer)) < 2 ^ 64 - 1 }
         ensures number { number_in pass.new ≡ number_in pass.old }
         ensures want { OnErr result (SawMore pass.old pass.new) }
+        ensures counts { OnErr result ((made_in pass.new ≡ made_in pass.old)
+            × (kept_in pass.new ≡ kept_in pass.old)) }
         ensures writer { OnErr result (SameWriter self.old.writer self.new.writer) }
-        ensures called { OnOk result (Called pass.old pass.new (keeping (kept_of binding)) (length (seen_in pass.old))) }
-        ensures seen { OnOk result (seen_in pass.new ≡ seen_in pass.old ++ option_to_list (publishes J.settings (seen_in pass.old) (number_in pass.old) (made_in pass.old) (kept_in pass.old) (keeping (kept_of binding)))) }
+        ensures called { OnOk result (Called pass.old pass.new (keeping (kept_of binding))
+            (length (seen_in pass.old))) }
+        ensures seen { OnOk result (seen_in pass.new ≡ seen_in pass.old ++ option_to_list
+            (publishes J.settings (seen_in pass.old) (number_in pass.old) (made_in pass.old)
+            (kept_in pass.old) (keeping (kept_of binding)))) }
         ensures made { OnOk result (made_in pass.new ≡ made_in pass.old) }
         ensures kept { OnOk result (kept_in pass.new ≡ kept_in pass.old + 1) }
         ensures refusals { OnOk result (refusals_in pass.new ≡ refusals_in pass.old) }
@@ -184,6 +218,7 @@ impl<J: Naming> Desk<J> {
         };
         self.writer
             .publish_for(rt, &mut pass.reader, update, Some(Snapshot::of(&call)))?;
+        self.book.add(&mut pass.share, 1);
         self.kept += 1;
         pass.kept += 1;
         Ok(())
@@ -201,6 +236,8 @@ impl<J: Naming> Desk<J> {
         ensures number { number_in pass.new ≡ number_in pass.old }
         ensures changed { IfOk result (IsChanged pass.old pass.new (change_of change)) }
         ensures want { OnErr result (SawMore pass.old pass.new) }
+        ensures counts { OnErr result ((made_in pass.new ≡ made_in pass.old)
+            × (kept_in pass.new ≡ kept_in pass.old)) }
         ensures writer { OnErr result (SameWriter self.old.writer self.new.writer) }
     {
         let (reply, ready) = prepare_in(rt, alloc, &mut self.writer, &change)?;
@@ -220,12 +257,19 @@ impl<J: Naming> Desk<J> {
     /// Why a delegation that is given back is not kept, if it is not.
     fn objection<R: Wait>(&mut self, rt: &R, binding: &Binding) -> Option<Remembered>
         ensures writer { SameWriter self.old.writer self.new.writer }
-        ensures said { IfSome result (λ said. said ≡ remembered_as J.settings (operations_of (published_by self.old.writer)) (kept_of binding.now)) }
-        ensures refused { IfSome result (λ said. is_kept J.settings (operations_of (published_by self.old.writer)) (kept_of binding.now) ≡ false) }
-        ensures kept { IfNone result (is_kept J.settings (operations_of (published_by self.old.writer)) (kept_of binding.now) ≡ true) }
-        ensures room { IfNone result (kept_count (operations_of (published_by self.old.writer)) < 2 ^ 64 - 1) }
-        ensures whole { IfNone result (whole_of (opening_written self.old.writer) (published_by self.old.writer) ≡ value_of J.settings (operations_of (published_by self.old.writer))) }
-        ensures fit { IfNone result (AllFit J.settings opening_value (operations_of (published_by self.old.writer))) }
+        ensures said { IfSome result (λ said. said ≡ remembered_as J.settings
+            (operations_of (published_by self.old.writer)) (kept_of binding.now)) }
+        ensures refused { IfSome result (λ said. is_kept J.settings
+            (operations_of (published_by self.old.writer)) (kept_of binding.now) ≡ false) }
+        ensures kept { IfNone result (is_kept J.settings
+            (operations_of (published_by self.old.writer)) (kept_of binding.now) ≡ true) }
+        ensures room { IfNone result (kept_count (operations_of (published_by self.old.writer)) < 2
+            ^ 64 - 1) }
+        ensures whole { IfNone result (whole_of (opening_written self.old.writer)
+            (published_by self.old.writer) ≡ value_of J.settings
+            (operations_of (published_by self.old.writer))) }
+        ensures fit { IfNone result (AllFit J.settings opening_value
+            (operations_of (published_by self.old.writer))) }
     {
         if binding.cost() > MOST_COST || binding.bytes() > MOST_BYTES {
             return Some(Remembered::Large {
@@ -260,6 +304,8 @@ impl<J: Naming> Desk<J> {
         ensures number { number_in pass.new ≡ number_in pass.old }
         ensures remembered { IfOk result (IsRemembered pass.old pass.new (kept_of binding)) }
         ensures want { OnErr result (SawMore pass.old pass.new) }
+        ensures counts { OnErr result ((made_in pass.new ≡ made_in pass.old)
+            × (kept_in pass.new ≡ kept_in pass.old)) }
         ensures writer { OnErr result (SameWriter self.old.writer self.new.writer) }
     {
         self.show(rt, pass);
@@ -277,7 +323,8 @@ impl<J: Naming> Desk<J> {
 
     /// Lets two passes see all that was published.
     pub(crate) fn meet<R: Wait>(&self, rt: &R, a: &mut Pass<J>, b: &mut Pass<J>)
-        ensures numbers { (number_in a.new ≡ number_in a.old) × (number_in b.new ≡ number_in b.old) }
+        ensures numbers { (number_in a.new ≡ number_in a.old)
+            × (number_in b.new ≡ number_in b.old) }
         ensures met { Met a.old b.old a.new b.new }
     {
         self.show(rt, a);

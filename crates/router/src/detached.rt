@@ -1,9 +1,9 @@
 //! The state of a value, apart from the copies of the value that readers enter.
 //!
-//! A publish waits for every reader of the older copy, with the router's lock held. So nothing that may
-//! take long is done while a copy is entered, as a delegation in a table of the request's own: a
-//! reader takes this out of the copy, leaves, and works on it. It stays the state of the point at which
-//! the reader entered, whatever is published meanwhile.
+//! A publish waits for every reader of the older copy, with the router's lock held. So nothing that
+//! may take long is done while a copy is entered, as a delegation in a table of the request's own:
+//! a reader takes this out of the copy, leaves, and works on it. It stays the state of the point at
+//! which the reader entered, whatever is published meanwhile.
 ghost use Rattle.std.specs.Prelude.{◌≡◌, IfOk, OnErr};
 ghost use Rattle.load_words.specs.Seats.{IsOf, slot_of, reads_of, taken_of};
 ghost use Rattle.machine.specs.Choosing.{offer_of};
@@ -40,8 +40,8 @@ impl Detached {
         look: &Look,
         steps: &mut Steps<L>,
     ) -> Mem<Reply>
-        ensures { IfOk result (λ reply. reply_value reply ≡
-            look_of (settings_out self.now) (state_out self.now) (look_value look.now)) }
+        ensures { IfOk result (λ reply. reply_value reply ≡ look_of (settings_out self.now)
+            (state_out self.now) (look_value look.now)) }
     {
         self.state.answer(alloc, &self.settings, look, steps)
     }
@@ -61,9 +61,8 @@ impl Detached {
         ensures slot { slot_of seat.new ≡ slot_of seat.old }
         ensures answer { IfOk result (IsDelegatedAnswer (settings_out self.now) (state_out self.now)
             (ask_of ask.now) (reads_of seat.old) (reads_of seat.new)) }
-        ensures err { OnErr result (MayHaveRead
-            (offer_of (settings_out self.now) (state_out self.now) (ask_of ask.now))
-            (reads_of seat.old) (reads_of seat.new)) }
+        ensures err { OnErr result (MayHaveRead (offer_of (settings_out self.now)
+            (state_out self.now) (ask_of ask.now)) (reads_of seat.old) (reads_of seat.new)) }
     {
         let place = self.state.place();
         let delegated = self.state.delegate(

@@ -1,5 +1,6 @@
 //! The end of a router.
-ghost use Rattle.std.specs.Prelude.{◌≡◌, Some, ◌≤◌, ◌<◌, ◌↔◌, length, map, sum_by, IfOk, IsErr, IfErr, vec_capacity, vec_len};
+ghost use Rattle.std.specs.Prelude.{◌≡◌, ◌+◌, Some, ◌≤◌, ◌<◌, ◌↔◌, length, map, sum_by, IfOk};
+ghost use Rattle.std.specs.Prelude.{IsErr, IfErr, vec_capacity, vec_len};
 ghost use Rattle.load_words.specs.Seats.{words_of};
 ghost use Rattle.one_history.specs.Order.{Distinct};
 ghost use Rattle.router.specs.Closing.{IsClosed, numbers_of};
@@ -29,7 +30,7 @@ fn gather<J: Naming>(
     ensures readers { result.0.items ≡ map (λ p. p.reader) passes.items }
     ensures parts { result.1.parts ≡ length passes.items }
     ensures most { result.1.parts ≤ J.parts }
-    ensures amount { result.1.amount ≡ sum_by (λ p. p.made) passes.items }
+    ensures amount { result.1.amount ≡ sum_by (λ p. p.made + p.kept) passes.items }
 {
     for pass in passes {
         let Pass {
@@ -50,8 +51,10 @@ fn gather<J: Naming>(
 }
 
 impl<J: Naming> Router<J> {
-    /// Ends the router, and gives the number of all changes. There was one list of operations: what each pass has seen begins it, its calls stand in
-    /// order in it, and it has no changes but those that the passes made, each once. A pass that holds a slot gives it back. It takes no memory.
+    /// Ends the router, and gives the number of all changes. There was one list of operations: what
+    /// each pass has seen begins it, its calls stand in order in it, and it has no changes and no
+    /// kept delegations but those that the passes made and gave, each once. A pass that holds a
+    /// slot gives it back. It takes no memory.
     ///
     /// # Errors
     /// All is handed back as it was, exactly where fewer passes are handed in than there are.

@@ -6,7 +6,8 @@ ghost use Rattle.router.specs.Loads.{reads_for, AreLoads};
 
 use load_words::{LoadSeat, Loads};
 
-/// The loads of two slots, the first one's read first; 0 and 0 for an address by itself, which has none.
+/// The loads of two slots, the first one's read first; 0 and 0 for an address by itself, which has
+/// none.
 pub(crate) fn loads_of(loads: &Loads, seat: &mut LoadSeat, slots: Option<(u32, u32)>) -> (u64, u64)
     requires seat { IsOf loads.now seat.old }
     requires below { IfSome slots AreBelow }

@@ -13,7 +13,8 @@ type Bytes = Vec<u8>;
 /// How many bytes are set aside for each name.
 const ROOM: usize = 2_048;
 
-/// Room for the names of a replica, so that [`Router::peek`](crate::Router::peek) takes no memory. Contracts see the two texts (`client_text`, `residual_text`).
+/// Room for the names of a replica, so that [`Router::peek`](crate::Router::peek) takes no memory.
+/// Contracts see the two texts (`client_text`, `residual_text`).
 #[derive(Drop)]
 pub struct Names {
     client: Bytes,

@@ -1,9 +1,11 @@
 //! How a router begins.
-ghost use Rattle.std.specs.Prelude.{◌≡◌, ◌≤◌, ◌<◌, All, Some, [], length, map, IfOk, vec_len, vec_capacity};
+ghost use Rattle.std.specs.Prelude.{◌≡◌, ◌≤◌, ◌<◌, All, Some, [], length, map, IfOk, vec_len};
+ghost use Rattle.std.specs.Prelude.{vec_capacity};
 ghost use Rattle.load_words.specs.Seats.{IsOf, IsUnused, words_of, words_of_seat};
 ghost use Rattle.machine.specs.Code.{settings_of};
 ghost use Rattle.snap_cell.specs.Views.{EachNew, EachThere};
-ghost use Rattle.snap_cell.specs.Writers.{published_by, cell_written, opening_written, reader_count};
+ghost use Rattle.snap_cell.specs.Writers.{published_by, cell_written, opening_written};
+ghost use Rattle.snap_cell.specs.Writers.{reader_count};
 ghost use Rattle.router.specs.Opening.{IsReady, AreNew};
 ghost use Rattle.router.specs.Values.{settings_in, IsEmpty};
 
@@ -44,7 +46,8 @@ pub struct Opened {
 pub fn open<R: Wait>(rt: &R, alloc: Global, settings: Settings, seats: u32) -> Mem<Opened>
     requires { (1 ≤ seats) × (seats ≤ 1024) }
     ensures seats { IfOk result (λ o. o.seats ≡ seats) }
-    ensures settings { IfOk result (λ o. settings_in (opening_written o.writer) ≡ settings_of settings) }
+    ensures settings { IfOk result (λ o. settings_in (opening_written o.writer)
+        ≡ settings_of settings) }
 {
     let settings = Arc::new(alloc, settings)?;
     let first = Current::start(alloc, Arc::try_clone(&settings)?)?;
@@ -81,14 +84,16 @@ fn new_pass<J: Naming>(
     }
 }
 
-/// The passes, each with a reader and a part of the ledger. What is left of the ledger's share comes back.
+/// The passes, each with a reader and a part of the ledger. What is left of the ledger's share
+/// comes back.
 fn passes_of<J: Naming>(
     mut passes: Vec<Pass<J>>,
     mut all: Share<J>,
     readers: Vec<Reader<Current, Update, Call>>,
     mut places: Vec<LoadSeat>,
 ) -> (Vec<Pass<J>>, Share<J>)
-    requires places { (vec_len places ≡ vec_len readers) × All (λ s. Some (words_of_seat s) ≡ J.words) places.items }
+    requires places { (vec_len places ≡ vec_len readers) × All
+        (λ s. Some (words_of_seat s) ≡ J.words) places.items }
     requires unused { All IsUnused places.items }
     requires room { (vec_len passes ≡ 0) × (vec_len readers ≤ vec_capacity passes) }
     requires ready { All (IsReady J.cell J.settings) readers.items }
@@ -109,7 +114,8 @@ fn passes_of<J: Naming>(
 }
 
 impl Opened {
-    /// The router and its passes, numbered from 0, under a name, which says which router it is. Want of memory is the one error; the router then never was.
+    /// The router and its passes, numbered from 0, under a name, which says which router it is.
+    /// Want of memory is the one error; the router then never was.
     pub fn named<J: Naming, R: Wait>(self, rt: &R, alloc: Global) -> Mem<(Router<J>, Vec<Pass<J>>)>
         requires cell { Some (cell_written self.writer) ≡ J.cell }
         requires settings { settings_in (opening_written self.writer) ≡ J.settings }

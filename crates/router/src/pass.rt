@@ -1,5 +1,5 @@
 //! What each caller has: its way to the shared value, and what it asked.
-ghost use Rattle.std.specs.Prelude.{◌≡◌, Some};
+ghost use Rattle.std.specs.Prelude.{◌≡◌, ◌+◌, Some};
 ghost use Rattle.std.specs.Coded.{Coded-set};
 ghost use Rattle.load_words.specs.Seats.{words_of_seat};
 ghost use Rattle.router_log.specs.Codes.{coded_settings};
@@ -15,11 +15,13 @@ use load_words::LoadSeat;
 use snap_cell::Reader;
 use std::sync::ledger::Share;
 
-/// One caller's way to the router. Contracts see its number (`number_in`), what it has seen of the list of all operations (`seen_in`), its calls, each with its point
-/// in that list (`items_in`), how often it was not let in (`refusals_in`), what it read of the load words (`reads_in`), which slots it took (`taken_in`) and
-/// which one it holds (`slot_in`).
+/// One caller's way to the router. Contracts see its number (`number_in`), what it has seen of the
+/// list of all operations (`seen_in`), its calls, each with its point in that list (`items_in`),
+/// how often it was not let in (`refusals_in`), what it read of the load words (`reads_in`), which
+/// slots it took (`taken_in`) and which one it holds (`slot_in`).
 ///
-/// The lists exist in proofs alone. What runs is a place in the cell, a seat at the load words, and a few numbers.
+/// The lists exist in proofs alone. What runs is a place in the cell, a seat at the load words, and
+/// a few numbers.
 #[derive(Drop)]
 pub struct Pass<J: Naming> {
     pub(crate) reader: Reader<Current, Update, Call>,
@@ -34,14 +36,15 @@ pub struct Pass<J: Naming> {
     ghost empty: { BeganEmpty reader },
     ghost settings: { settings_by reader ≡ J.settings } by { Coded-set coded_settings _ _ },
     ghost stands: { Stands J.settings (number_of reader) (seen_by reader) (items_by reader) made kept place } by { Stands-prop _ _ _ _ _ _ _ },
-    ghost counted: { share.amount ≡ made },
+    ghost counted: { share.amount ≡ made + kept },
     ghost one_part: { share.parts ≡ 1 },
 }
 
 impl<J: Naming> Pass<J> {
     ghost use Rattle.std.specs.Prelude.{◌<◌, IfSome};
     ghost use Rattle.router_log.specs.Operation.{place_of};
-    ghost use Rattle.router.specs.Passes.{number_in, seen_in, made_in, kept_in, refusals_in, slot_in};
+    ghost use Rattle.router.specs.Passes.{number_in, seen_in, made_in, kept_in, refusals_in};
+    ghost use Rattle.router.specs.Passes.{slot_in};
 
     /// Its number among the passes of its router, from 0. No call changes it.
     pub fn number(&self) -> u32

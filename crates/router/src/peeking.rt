@@ -33,9 +33,11 @@ impl Current {
         ensures taken { taken_of seat.new ≡ taken_of seat.old }
         ensures slot { slot_of seat.new ≡ slot_of seat.old }
         ensures place { result.0 ≡ (value_in self.now).state.place }
-        ensures answer { IsPeek (settings_in self.now) (value_in self.now) (value_in self.now).state.place (ask_of ask.now) (reads_of seat.old) (reads_of seat.new) names.new result.1 }
+        ensures answer { IsPeek (settings_in self.now) (value_in self.now)
+            (value_in self.now).state.place (ask_of ask.now) (reads_of seat.old) (reads_of seat.new)
+            names.new result.1 }
     {
-        let place = self.state().place();
+        let place = self.place();
         let Some(outcome) = self.find(&ask.path, &ask.local) else {
             names.clear();
             return (place, Peek::Miss(place));
@@ -53,14 +55,17 @@ impl Current {
         names: &mut Names,
     ) -> Peek
         requires kept { is_kept_for (value_in self.now) (ask_of ask.now) ≡ true }
-        requires ending { ending_of outcome.now ≡ ending_in (settings_in self.now) (value_in self.now).state (ask_of ask.now) }
+        requires ending { ending_of outcome.now ≡ ending_in (settings_in self.now)
+            (value_in self.now).state (ask_of ask.now) }
         requires seat { IsOf loads.now seat.old }
         ensures seat { IsOf loads.now seat.new }
         ensures taken { taken_of seat.new ≡ taken_of seat.old }
         ensures slot { slot_of seat.new ≡ slot_of seat.old }
-        ensures answer { IsPeek (settings_in self.now) (value_in self.now) (value_in self.now).state.place (ask_of ask.now) (reads_of seat.old) (reads_of seat.new) names.new result }
+        ensures answer { IsPeek (settings_in self.now) (value_in self.now)
+            (value_in self.now).state.place (ask_of ask.now) (reads_of seat.old) (reads_of seat.new)
+            names.new result }
     {
-        let place = self.state().place();
+        let place = self.place();
         match decide(self.state(), self.settings(), outcome, ask, loads, seat) {
             Decision::None(why) => {
                 names.clear();

@@ -8,7 +8,8 @@ ghost use Rattle.router_log.specs.Value.{IsRightValue};
 ghost use Rattle.router.specs.Chosen.{IsPermitted, decision_value, decision_loads};
 ghost use Rattle.router.specs.Detached.{IsFound};
 ghost use Rattle.router.specs.Loads.{MayHaveRead};
-ghost use Rattle.router.specs.Picked.{IsAnswer, IsFresh, is_kept_for, is_let_in, said_by, loads_by, place_by, fresh_by};
+ghost use Rattle.router.specs.Picked.{IsAnswer, IsFresh, is_kept_for, is_let_in, said_by, loads_by};
+ghost use Rattle.router.specs.Picked.{place_by, fresh_by};
 ghost use Rattle.router.specs.Values.{settings_in, value_in};
 
 use crate::Mem;
@@ -97,8 +98,8 @@ pub(crate) fn with_fresh(answer: Answer, binding: Binding) -> Answer
 }
 
 impl Current {
-    /// What a pick finds in this value: the answer by what is kept for its path and table, or else the
-    /// state, to delegate in once the reader has left.
+    /// What a pick finds in this value: the answer by what is kept for its path and table, or else
+    /// the state, to delegate in once the reader has left.
     pub(crate) fn pick(
         &self,
         alloc: Global,
@@ -112,10 +113,10 @@ impl Current {
         ensures taken { taken_of seat.new ≡ taken_of seat.old }
         ensures slot { slot_of seat.new ≡ slot_of seat.old }
         ensures found { IfOk result (IsFound (settings_in self.now) (value_in self.now)
-            (value_in self.now).state.place (ask_of ask.now) (reads_of seat.old) (reads_of seat.new)) }
-        ensures err { OnErr result (MayHaveRead
-            (offer_of (settings_in self.now) (value_in self.now).state (ask_of ask.now))
-            (reads_of seat.old) (reads_of seat.new)) }
+            (value_in self.now).state.place (ask_of ask.now) (reads_of seat.old)
+            (reads_of seat.new)) }
+        ensures err { OnErr result (MayHaveRead (offer_of (settings_in self.now)
+            (value_in self.now).state (ask_of ask.now)) (reads_of seat.old) (reads_of seat.new)) }
     {
         match self.find(&ask.path, &ask.local) {
             Some(outcome) => {
@@ -136,13 +137,17 @@ impl Current {
         seat: &mut LoadSeat,
     ) -> Mem<Answer>
         requires kept { is_kept_for (value_in self.now) (ask_of ask.now) ≡ true }
-        requires ending { ending_of outcome.now ≡ ending_in (settings_in self.now) (value_in self.now).state (ask_of ask.now) }
+        requires ending { ending_of outcome.now ≡ ending_in (settings_in self.now)
+            (value_in self.now).state (ask_of ask.now) }
         requires seat { IsOf loads.now seat.old }
         ensures seat { IsOf loads.now seat.new }
         ensures taken { taken_of seat.new ≡ taken_of seat.old }
         ensures slot { slot_of seat.new ≡ slot_of seat.old }
-        ensures answer { IfOk result (IsAnswer (settings_in self.now) (value_in self.now) (value_in self.now).state.place (ask_of ask.now) (reads_of seat.old) (reads_of seat.new)) }
-        ensures err { OnErr result (MayHaveRead (offer_of (settings_in self.now) (value_in self.now).state (ask_of ask.now)) (reads_of seat.old) (reads_of seat.new)) }
+        ensures answer { IfOk result (IsAnswer (settings_in self.now) (value_in self.now)
+            (value_in self.now).state.place (ask_of ask.now) (reads_of seat.old)
+            (reads_of seat.new)) }
+        ensures err { OnErr result (MayHaveRead (offer_of (settings_in self.now)
+            (value_in self.now).state (ask_of ask.now)) (reads_of seat.old) (reads_of seat.new)) }
     {
         let decision = decide(self.state(), self.settings(), outcome, ask, loads, seat);
         answer_of(alloc, &decision, self.place())

@@ -33,7 +33,8 @@ impl<J: Naming> Router<J> {
     ghost use Rattle.router_log.specs.Value.{value_of};
     ghost use Rattle.router.specs.Asking.{Looks, Picks, Peeks};
     ghost use Rattle.router.specs.Loads.{MayHaveRead};
-    ghost use Rattle.router.specs.Passes.{SameReading, number_in, seen_in, reads_in, taken_in, slot_in, Entered};
+    ghost use Rattle.router.specs.Passes.{SameReading, number_in, seen_in, reads_in, taken_in};
+    ghost use Rattle.router.specs.Passes.{slot_in, Entered};
     ghost use Rattle.bind_cache.specs.Stored.{kept_of};
     ghost use Rattle.router.specs.Changing.{WasWorkedOut};
     ghost use Rattle.router.specs.Picked.{fresh_by, is_kept_for};
@@ -48,7 +49,8 @@ impl<J: Naming> Router<J> {
     ) -> Mem<Looked>
         ensures number { number_in pass.new ≡ number_in pass.old }
         ensures said { IfOk result (Looks pass.old pass.new (look_value look.now)) }
-        ensures want { OnErr result (Entered pass.old pass.new (looked (look_value look.now)) × (reads_in pass.new ≡ reads_in pass.old)) }
+        ensures want { OnErr result (Entered pass.old pass.new (looked (look_value look.now))
+            × (reads_in pass.new ≡ reads_in pass.old)) }
     {
         match look_through(&mut pass.reader, alloc, look, steps) {
             None => Ok(Looked::NoEntry),
@@ -72,9 +74,13 @@ impl<J: Naming> Router<J> {
     ) -> Mem<Answer>
         ensures number { number_in pass.new ≡ number_in pass.old }
         ensures said { IfOk result (Picks pass.old pass.new (ask_of ask.now)) }
-        ensures steps { is_kept_for (value_of J.settings (seen_in pass.new)) (ask_of ask.now) ≡ true → steps.new ≡ steps.old }
-        ensures fresh { IfOk result (λ a. IfSome (fresh_by a) (λ b. WasWorkedOut pass.new (kept_of b))) }
-        ensures want { OnErr result (Entered pass.old pass.new (asked (ask_of ask.now)) × MayHaveRead (offer_of J.settings (value_of J.settings (seen_in pass.new)).state (ask_of ask.now)) (reads_in pass.old) (reads_in pass.new)) }
+        ensures steps { is_kept_for (value_of J.settings (seen_in pass.new)) (ask_of ask.now) ≡ true
+            → steps.new ≡ steps.old }
+        ensures fresh { IfOk result (λ a. IfSome (fresh_by a)
+            (λ b. WasWorkedOut pass.new (kept_of b))) }
+        ensures want { OnErr result (Entered pass.old pass.new (asked (ask_of ask.now))
+            × MayHaveRead (offer_of J.settings (value_of J.settings (seen_in pass.new)).state
+            (ask_of ask.now)) (reads_in pass.old) (reads_in pass.new)) }
     {
         match pick_through(
             &mut pass.reader,
@@ -92,7 +98,8 @@ impl<J: Naming> Router<J> {
         }
     }
 
-    /// Answers a pick by what is kept alone, and writes the names of the replica. It takes no memory and waits for nobody.
+    /// Answers a pick by what is kept alone, and writes the names of the replica. It takes no
+    /// memory and waits for nobody.
     pub fn peek(&self, pass: &mut Pass<J>, ask: &Ask, names: &mut Names) -> Peek
         ensures number { number_in pass.new ≡ number_in pass.old }
         ensures said { Peeks pass.old pass.new (ask_of ask.now) names.new result }
@@ -109,7 +116,8 @@ impl<J: Naming> Router<J> {
         }
     }
 
-    /// The pass holds a slot from now on, and its load is one more: one atomic addition. It takes no memory and waits for nobody.
+    /// The pass holds a slot from now on, and its load is one more: one atomic addition. It takes
+    /// no memory and waits for nobody.
     pub fn hold(&self, pass: &mut Pass<J>, slot: u32)
         requires slot { slot < 8192 }
         requires free { slot_in pass.old ≡ None }
@@ -121,8 +129,8 @@ impl<J: Naming> Router<J> {
         self.loads.take(&mut pass.seat, slot);
     }
 
-    /// The pass holds nothing from now on, and the load of the slot that it held is one less: one atomic subtraction. It takes no memory and waits for
-    /// nobody.
+    /// The pass holds nothing from now on, and the load of the slot that it held is one less: one
+    /// atomic subtraction. It takes no memory and waits for nobody.
     pub fn give(&self, pass: &mut Pass<J>)
         requires held { IsSome (slot_in pass.old) }
         ensures slot { slot_in pass.new ≡ None }

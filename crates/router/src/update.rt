@@ -8,10 +8,12 @@ use snap_cell::Operation;
 use std::snapshot::Snapshot;
 use std::sync::Arc;
 
-/// One step of the router's value: an accepted change, or a delegation that is kept. Contracts see it as `operation_of update`, a plain value.
+/// One step of the router's value: an accepted change, or a delegation that is kept. Contracts see
+/// it as `operation_of update`, a plain value.
 #[derive(Drop)]
 pub enum Update {
-    /// An accepted change, with the parts that were prepared of it. Both copies of the value share them.
+    /// An accepted change, with the parts that were prepared of it. Both copies of the value share
+    /// them.
     Changed {
         /// The number of the pass that made it.
         by: u32,
@@ -39,7 +41,8 @@ impl Operation for Update {
     ghost serial = { λ u. serial_of (operation_of u) };
 }
 
-/// The updates that a copy of the value took in. It exists in proofs alone: as a `Snapshot` it has no bytes.
+/// The updates that a copy of the value took in. It exists in proofs alone: as a `Snapshot` it has
+/// no bytes.
 #[derive(Drop)]
 pub enum Past {
     /// None.

@@ -1,6 +1,6 @@
 //! The calls of a scene.
 
-use crate::asked::{created, give, hold, looked, peeked, picked, put, reported, set};
+use crate::asked::{created, give, hold, looked, peeked, picked, put, reported, set, succeeded};
 use crate::kept::{remember, remember_after_change, remember_twice};
 use router::{Naming, Pass, Router};
 use std::alloc::Global;
@@ -19,6 +19,8 @@ pub enum Act {
     Set(&'static str, &'static str),
     /// A report on 127.0.0.1 with this port, of a success or a failure.
     Report(u16, bool),
+    /// A report of a success on 127.0.0.1 with this port, without the lock.
+    Succeed(u16),
     /// A look for the namespace `default`.
     Look,
     /// A pick for `/svc/web`.
@@ -76,6 +78,7 @@ pub fn answer<J: Naming, L: Ledger, R: Wait>(
         Act::Put(space, table) => put(rt, alloc, router, pass, space, table),
         Act::Set(service, addrs) => set(rt, alloc, router, pass, service, addrs),
         Act::Report(port, good) => reported(rt, alloc, router, pass, port, good),
+        Act::Succeed(port) => succeeded(alloc, router, pass, port),
         Act::Look => looked(alloc, router, pass, steps),
         Act::Pick => picked(alloc, router, pass, steps),
         Act::Peek => peeked(alloc, router, pass),

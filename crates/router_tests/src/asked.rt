@@ -129,6 +129,20 @@ pub fn set<J: Naming, R: Wait>(
     reply_text(alloc, &reply)
 }
 
+/// A report on 127.0.0.1 with this port.
+fn report(port: u16, good: bool) -> Change
+    ensures { IsSoundChange (change_of result) }
+{
+    Change::Report {
+        addr: Addr {
+            ip: 0x7f00_0001,
+            port,
+        },
+        good,
+        moment: 0,
+    }
+}
+
 /// The answer to a report on 127.0.0.1 with this port.
 pub fn reported<J: Naming, R: Wait>(
     rt: &R,
@@ -138,16 +152,21 @@ pub fn reported<J: Naming, R: Wait>(
     port: u16,
     good: bool,
 ) -> Option<String> {
-    let change = Change::Report {
-        addr: Addr {
-            ip: 0x7f00_0001,
-            port,
-        },
-        good,
-        moment: 0,
-    };
-    let reply = router.change(rt, alloc, pass, change).ok()?;
+    let reply = router.change(rt, alloc, pass, report(port, good)).ok()?;
     reply_text(alloc, &reply)
+}
+
+/// The answer to a report of a success on 127.0.0.1 with this port, without the lock.
+pub fn succeeded<J: Naming>(
+    alloc: Global,
+    router: &Router<J>,
+    pass: &mut Pass<J>,
+    port: u16,
+) -> Option<String> {
+    match router.report(pass, &report(port, true)) {
+        Some(reply) => reply_text(alloc, &reply),
+        None => String::from_str(alloc, "left for the lock").ok(),
+    }
 }
 
 /// The place of a look for the namespace `default`, and its reply.

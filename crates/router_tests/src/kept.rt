@@ -23,10 +23,11 @@ fn fresh<J: Naming, L: Ledger>(
     ensures worked { IfSome result (λ b. WasWorkedOut pass.new (kept_of b)) }
     ensures seen { IfSome result (λ b. IsPrefix (seen_in pass.old) (seen_in pass.new)) }
 {
-    let Ok(Answer::Picked { fresh, .. }) = router.pick(alloc, pass, &ask(alloc)?, steps) else {
-        return None;
-    };
-    fresh
+    match router.pick(alloc, pass, &ask(alloc)?, steps) {
+        Ok(Answer::Picked { fresh, .. }) => fresh,
+        Ok(Answer::None { fresh, .. }) => fresh,
+        _ => None,
+    }
 }
 
 /// What a delegation that is given back is answered.
@@ -49,6 +50,7 @@ fn remembered<J: Naming, R: Wait>(
 fn text(alloc: Global, said: Remembered) -> Option<String> {
     match said {
         Remembered::Kept => String::from_str(alloc, "kept").ok(),
+        Remembered::Large { cost, bytes } => format!(in alloc; "large {cost} {bytes}").ok(),
         Remembered::Late { place, now } => format!(in alloc; "late {place} {now}").ok(),
         Remembered::Had => String::from_str(alloc, "had").ok(),
         _ => None,

@@ -54,12 +54,15 @@ const LOADS: [Row; 13] = [
 
 /// A report of a success changes nothing where the address has no failures, and is answered so in what its caller sees then. A caller sees the changes that
 /// others made.
-const REPORTS: [Row; 9] = [
+const REPORTS: [Row; 12] = [
     (A, Act::Set("web", "127.0.0.1 1"), "set 1"),
-    (B, Act::Report(1, true), "failures 0"),
+    (B, Act::Succeed(1), "failures 0"),
     (B, Act::Count, "pass 1 place 1 made 0 kept 0 refused 0"),
     (C, Act::Report(9, true), "of no service"),
+    (C, Act::Succeed(9), "of no service"),
     (A, Act::Report(1, false), "failures 1"),
+    (B, Act::Succeed(1), "left for the lock"),
+    (B, Act::Count, "pass 1 place 2 made 0 kept 0 refused 0"),
     (B, Act::Report(1, true), "failures 0"),
     (B, Act::Count, "pass 1 place 3 made 1 kept 0 refused 0"),
     (A, Act::Report(1, true), "failures 0"),
@@ -101,6 +104,36 @@ const REMEMBERED: [Row; 16] = [
     ),
     (A, Act::Peek, "miss at 8 names 0"),
 ];
+
+/// Seven branches at each of three lookups, which come to nothing.
+const WIDE: &str = "/svc=>/a&/a&/a&/a&/a&/a&/a;/a=>/b&/b&/b&/b&/b&/b&/b;/b=>/c&/c&/c&/c&/c&/c&/c";
+
+/// A delegation of more than 256 lookups is not kept. Its lookups are not told, so its text is the path's.
+const COSTLY: [Row; 3] = [
+    (A, Act::Remember, "large 400 8"),
+    (A, Act::Peek, "miss at 0 names 0"),
+    (A, Act::Count, "pass 0 place 0 made 0 kept 0 refused 0"),
+];
+
+/// One of 100 lookups is not kept where their paths have more than 8,192 bytes, of which the last has 206.
+const LONG: [Row; 2] = [
+    (A, Act::Remember, "large 100 10708"),
+    (B, Act::Peek, "miss at 0 names 0"),
+];
+
+/// It is kept where they have 800, though it came to no replica.
+const SHORT: [Row; 3] = [
+    (A, Act::Remember, "kept"),
+    (B, Act::Peek, "none at 0"),
+    (A, Act::Count, "pass 0 place 0 made 0 kept 1 refused 0"),
+];
+
+#[test]
+fn what_is_large_is_not_kept(rt: HostRuntime) {
+    assert_eq!(rt; run(&rt, rt.alloc(), WIDE, &COSTLY), Some(0));
+    assert_eq!(rt; run(&rt, rt.alloc(), "/svc => /svc/a", &LONG), Some(0));
+    assert_eq!(rt; run(&rt, rt.alloc(), "/svc => /svc", &SHORT), Some(0));
+}
 
 #[test]
 fn callers_that_meet_see_one_history(rt: HostRuntime) {

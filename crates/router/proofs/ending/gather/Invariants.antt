@@ -1,4 +1,4 @@
-use Rattle.std.proofs.Common.{◌≡◌, ◌≤◌, ◌++◌, length, map}
+use Rattle.std.proofs.Common.{◌≡◌, ◌+◌, ◌≤◌, ◌++◌, length, map}
 use Rattle.std.specs.Prelude.{sum_by}
 use Rattle.std.specs.Prelude.{vec_len, vec_capacity}
 use Rattle.std.specs.Vec.Iter.{into_iter_items, into_iter_len}
@@ -12,4 +12,4 @@ invariant-loop-pass g l = (l.yielded ++ into_iter_items l.pass-iterator ≡ into
     × (into_iter_len l.pass-iterator ≡ length (into_iter_items l.pass-iterator))
     × (l.all.parts ≡ length l.yielded)
     × (l.all.parts ≤ g.J.Ledger.parts)
-    × (l.all.amount ≡ sum_by (λ p. p.made) l.yielded)
+    × (l.all.amount ≡ sum_by (λ p. p.made + p.kept) l.yielded)

@@ -32,8 +32,8 @@ returns g c =
     record {
       refused = ((λ e. absurd (cc e)), (λ lt. absurd (omega (arith, few, lt, c.args.self.all, c.len.ensures))));
       back = tt;
-      closed = closed_is w.place c.gather-readers.result.1.amount (reader_count w.writer) c.args.passes.items (published_by w.writer) (opening_written w.writer)
-          w.place_is w.empty c.in-Ok.ensures.legal.fit w.settings c.in-Ok.ensures.legal.callers c.requires.distinct
+      closed = closed_is w.place w.kept c.gather-readers.result.1.amount (reader_count w.writer) c.args.passes.items (published_by w.writer) (opening_written w.writer)
+          w.place_is w.kept_is w.empty c.in-Ok.ensures.legal.fit w.settings c.in-Ok.ensures.legal.callers c.requires.distinct
           (λ i p at.
           let same : cell_of p.reader ≡ cell_written w.writer = cc (p.of_router ∙ sym w.of_router) in
           subst (λ (o : Origin Current Update). number_of p.reader < o.readers) same p.reader.below)

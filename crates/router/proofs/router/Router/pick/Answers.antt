@@ -3,7 +3,7 @@ use Rattle.load_words.specs.Seats.{reads_of}
 use Rattle.machine.specs.Code.{ask_of}
 use Rattle.router_log.specs.Call.{asked}
 use Rattle.router.specs.Views.{settings_by, seen_by}
-use Rattle.router.proofs.Answering.{fresh_worked_out, both_err, read_by_name, asked_entered}
+use Rattle.router.proofs.Answering.{fresh_worked_out, both_err, read_by_name, asked_entered, picks_by}
 use Rattle.router.proofs.Readers.{reader_entered, asked_nothing}
 use Rattle.router.proofs.router.Router.pick.Goals as goal
 
@@ -24,3 +24,10 @@ returns-in-Some-clause-want g c =
     both_err c.in-Some.answer _ _
     (asked_entered p _ (ask_of c.args.ask.now) e.entered refl refl c.pick_through.ensures.taken c.pick_through.ensures.slot)
     (read_by_name (settings_by p.reader) g.J.Naming.settings (seen_by c.pick_through.new.reader) c.in-Some.answer (ask_of c.args.ask.now) (reads_of p.seat) (reads_of c.pick_through.new.seat) p.settings e.err)
+
+pub returns-in-Some-clause-said : goal.returns-in-Some-clause-said
+returns-in-Some-clause-said g c =
+    let p = c.args.pass.now in
+    let e = c.in-Some.ensures in
+    let entered = asked_entered p _ (ask_of c.args.ask.now) e.entered refl refl c.pick_through.ensures.taken c.pick_through.ensures.slot in
+    picks_by p _ (ask_of c.args.ask.now) (settings_by p.reader) c.in-Some.answer c.in-Some.place p.settings e.place entered e.answer
