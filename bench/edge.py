@@ -325,4 +325,5 @@ def main():
     sys.exit(f"wrong: {faults}" if faults else 0)
 
 
-main()
+if __name__ == "__main__":
+    main()

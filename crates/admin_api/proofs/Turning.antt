@@ -1,5 +1,7 @@
 -- How the turns of a connection add up.
-use Rattle.std.proofs.Common.{◌≡◌, ◌<◌, ◌≤◌, ℕ, ◌+◌, ◌||◌, Bool, true, false, List, [], ◌++◌, eqb, refl, sym, subst, ap, ◌∙◌, arith, append_assoc, append-nil, Option, Some, None, inl, inr}
+use Rattle.std.proofs.Common.{◌≡◌, ◌<◌, ◌≤◌, ℕ, ◌+◌, ◌||◌, Bool, true, false, List, [], ◌++◌, eqb}
+use Rattle.std.proofs.Common.{refl, sym, subst, ap, ◌∙◌, arith, append_assoc, append-nil, Option}
+use Rattle.std.proofs.Common.{Some, None, Err, inl, inr}
 use Rattle.std.proofs.lemmas.Bool.Decides.{nat_tests}
 use Rattle.std.specs.Io.KnownBytes.{Appends, Keeps}
 use Rattle.std.proofs.KnownBytes.{Appends-trans}
@@ -17,9 +19,15 @@ use Rattle.ns_api.specs.Request.{closes}
 use Rattle.admin_api.specs.declared.request.Refused.{Refused}
 use Rattle.admin_api.specs.declared.request.Refused.TheVariants.{Ends, Own}
 use Rattle.admin_api.specs.declared.serving.Which.{Which}
-use Rattle.admin_api.specs.Reading.{HasReadCauses, IsRefusal, ShowsNone}
+use Rattle.admin_api.specs.Reading.{HasReadCauses, IsRefusal, ShowsNone, is_drained, quiet_end}
+use Rattle.admin_api.specs.Reading.{raised_where}
 use Rattle.admin_api.specs.Requests.{IsRefusedAs, IsRequest}
-use Rattle.admin_api.specs.Serving.{Answers, EndsWithout, HasCauses, IsDelivered, IsServing, Serves, Turns, end_behind, one_more}
+use Rattle.http_wire.specs.Ended.{drained}
+use Rattle.http_wire.specs.Next.{IsAsked}
+use Rattle.http_wire.proofs.Endings.{goes_on as still_open, same_end}
+use Rattle.line_base.specs.Lines.{Line, told_closing}
+use Rattle.admin_api.specs.Serving.{Answers, EndsWithout, HasCauses, IsDelivered, IsServing, Serves}
+use Rattle.admin_api.specs.Serving.{Turns, end_behind, one_more}
 
 pub gives_none : (a b : Option (List ℕ)) → Keeps a b → Appends a b []
 gives_none None b keeps = tt
@@ -35,6 +43,10 @@ given_behind a b c sent keeps gives = Appends-trans a b c [] sent (gives_none a 
 first_false : (a b : Bool) → (a || b) ≡ false → a ≡ false
 first_false true b is = is
 first_false false b is = refl
+
+second_false : (a b : Bool) → (a || b) ≡ false → b ≡ false
+second_false true b is = absurd (cc)
+second_false false b is = is
 
 ends_behind : (head : Head) (reply : ApiReply) (sent : List ℕ) → sent ≡ reply.bytes.items → (closing : Bool) → (reply.stops || closes head false) ≡ closing → (last : Bool)
     → IsDelivered head last reply sent reply.stops (end_behind closing last)
@@ -60,6 +72,7 @@ module _ (bytes : List ℕ) where
   quiet_end_of ended.OutOfMemory shows = refl
   quiet_end_of ended.Closed shows = absurd shows
   quiet_end_of ended.Spent shows = absurd shows
+  quiet_end_of ended.Drained shows = (shows, refl)
   quiet_end_of ended.WriteFault shows = absurd shows
   quiet_end_of ended.UpstreamCut shows = absurd shows
 
@@ -71,6 +84,7 @@ module _ (bytes : List ℕ) where
   refusal_end err with_body sent ended.PeerEnded is written = absurd written
   refusal_end err with_body sent ended.Cut is written = absurd written
   refusal_end err with_body sent ended.Spent is written = absurd written
+  refusal_end err with_body sent ended.Drained is written = absurd written
   refusal_end err with_body sent ended.ReadFault is written = absurd written
   refusal_end err with_body sent ended.UpstreamCut is written = absurd written
 
@@ -97,20 +111,6 @@ module _ {J : Type 0} {g : Ghosts J} (which : Which) (last : Bool) (head : Head)
   goes_on stopped (inl replied) = replied.delivered.2
   goes_on stopped (inr wants) = absurd (no_want wants.is)
 
-  -- a turn in which a request was answered
-  pub turned : (bytes kept : List ℕ) (stopped : Bool) (result : Option Ended) → ((more : List ℕ) → IsRequest (bytes ++ more) head body (kept ++ more))
-      → Answers which last head body old new sent stopped result → Turns which last old new bytes kept sent stopped result
-  turned bytes kept stopped None request answers =
-      let on = goes_on stopped answers in
-      (on, (head, body, request, subst (λ (s : Bool). Answers which last head body old new sent s None) on answers))
-  turned bytes kept stopped (Some end) request answers = inl (record {
-    head = head;
-    body = body;
-    behind = kept ++ [];
-    request = subst (λ (b : List ℕ). IsRequest b head body (kept ++ [])) (append-nil bytes) (request []);
-    answers = answers;
-  })
-
   pub never_ends : (stopped : Bool) (result : Option Ended) (end : Ended) → ((reply : ApiReply) → IsDelivered head last reply sent stopped (Some end) → ⊥)
       → (Some end ≡ Some ended.OutOfMemory → ⊥) → Answers which last head body old new sent stopped result → result ≡ Some end → ⊥
   never_ends stopped result end never wanted (inl replied) is =
@@ -121,6 +121,41 @@ module _ {J : Type 0} {g : Ghosts J} (which : Which) (last : Bool) (head : Head)
   pub not_last : Answers which last head body old new sent false None → last ≡ false
   not_last (inl replied) = last_false replied.reply.stops (eqb head.version 0) (names_close head.fields) last replied.delivered.0
   not_last (inr wants) = absurd (no_want wants.is)
+
+  -- a turn in which a request was answered
+  pub turned : (bytes kept : List ℕ) (spent closing stopped : Bool) (end result : Option Ended)
+      → last ≡ (spent || closing) → IsAsked spent closing
+      → ((more : List ℕ) → IsRequest (bytes ++ more) head body (kept ++ more))
+      → Answers which last head body old new sent stopped end → result ≡ drained closing end
+      → Turns which spent closing old new bytes kept sent stopped result
+  turned bytes kept spent closing stopped end None is_last asked request answers is =
+      let answered : Answers which last head body old new sent stopped None
+      = subst (λ (e : Option Ended). Answers which last head body old new sent stopped e)
+      (still_open closing end is) answers in
+      let on = goes_on stopped answered in
+      let plain : Answers which last head body old new sent false None
+      = subst (λ (s : Bool). Answers which last head body old new sent s None) on answered in
+      let off : (spent || closing) ≡ false = sym is_last ∙ not_last plain in
+      let same : last ≡ spent = is_last ∙ (off ∙ sym (first_false spent closing off)) in (
+        on,
+        second_false spent closing off,
+        (
+          head,
+          body,
+          request,
+          subst (λ (l : Bool). Answers which l head body old new sent false None) same plain,
+        ),
+      )
+  turned bytes kept spent closing stopped end (Some e) is_last asked request answers is = inl (record {
+    head = head;
+    body = body;
+    behind = kept ++ [];
+    request = subst (λ (b : List ℕ). IsRequest b head body (kept ++ [])) (append-nil bytes) (request []);
+    asked = asked;
+    end = end;
+    answers = subst (λ (l : Bool). Answers which l head body old new sent stopped end) is_last answers;
+    is = is;
+  })
 
 -- ---- why a connection ended
 
@@ -145,11 +180,18 @@ module _ (e0 e1 e2 f0 f1 f2 w0 w1 w2 : ℕ) (read : HasReadCauses e0 e1 f0 f1 No
 
   -- behind an answer
   pub replied_causes : {J : Type 0} {g : Ghosts J} (which : Which) (last : Bool) (head : Head) (body : List ℕ) (old new : Pass J g) (sent : List ℕ) (stopped : Bool) (result : Option Ended)
-      → Answers which last head body old new sent stopped result → (result ≡ Some ended.WriteFault → Rose w1 w2) → HasCauses e0 e2 f0 f2 w0 w2 result
-  replied_causes which last head body old new sent stopped result answers cause =
-      other_causes result (never_ends which last head body old new sent stopped result ended.PeerEnded (λ r d. d) (λ is. cc) answers)
-      (never_ends which last head body old new sent stopped result ended.Cut (λ r d. d) (λ is. cc) answers)
-      (never_ends which last head body old new sent stopped result ended.ReadFault (λ r d. d) (λ is. cc) answers) cause
+      → (closing : Bool) (end : Option Ended) → result ≡ drained closing end
+      → Answers which last head body old new sent stopped end
+      → (end ≡ Some ended.WriteFault → Rose w1 w2) → HasCauses e0 e2 f0 f2 w0 w2 result
+  replied_causes which last head body old new sent stopped result closing end behind answers cause =
+      other_causes result
+      (λ is. never_ends which last head body old new sent stopped end ended.PeerEnded (λ r d. d)
+      (λ no. cc) answers (same_end closing end ended.PeerEnded (λ no. cc) (sym behind ∙ is)))
+      (λ is. never_ends which last head body old new sent stopped end ended.Cut (λ r d. d)
+      (λ no. cc) answers (same_end closing end ended.Cut (λ no. cc) (sym behind ∙ is)))
+      (λ is. never_ends which last head body old new sent stopped end ended.ReadFault (λ r d. d)
+      (λ no. cc) answers (same_end closing end ended.ReadFault (λ no. cc) (sym behind ∙ is)))
+      (λ is. cause (same_end closing end ended.WriteFault (λ no. cc) (sym behind ∙ is)))
 
   refused_never : (err : OwnError) (with_body : Bool) (sent : List ℕ) (result end : Ended) → IsRefusal err with_body sent result → (IsRefusal err with_body sent end → ⊥)
       → Some result ≡ Some end → ⊥
@@ -179,20 +221,24 @@ fewer n less other = grind (arith, nat_tests)
 module _ {J : Type 0} {g : Ghosts J} (which : Which) (first : Pass J g) (n : ℕ) (p q : Pass J g) (came gave came2 gave2 kept kept2 : List ℕ)
     (serves : (more : List ℕ) → Serves which first (came ++ more) n p (kept ++ more) gave) where
   -- one request more was answered
-  pub serves_more : (stopped : Bool) → Turns which (eqb (n + 1) 10000) p q (kept ++ came2) kept2 gave2 stopped None
+  pub serves_more : (stopped closing : Bool)
+      → Turns which (eqb (n + 1) 10000) closing p q (kept ++ came2) kept2 gave2 stopped None
       → (more : List ℕ) → Serves which first ((came ++ came2) ++ more) (n + 1) q (kept2 ++ more) (gave ++ gave2)
-  serves_more stopped (on, (head, body, request, answers)) more =
+  serves_more stopped closing (on, off, (head, body, request, answers)) more =
       subst (λ (bytes : List ℕ). Serves which first bytes (n + 1) q (kept2 ++ more) (gave ++ gave2)) (sym (append_assoc came came2 more))
       (one_more n p q (kept ++ (came2 ++ more)) (kept2 ++ more) gave gave2 head body (serves (came2 ++ more))
       (subst (λ (bytes : List ℕ). IsRequest bytes head body (kept2 ++ more)) (append_assoc kept came2 more) (request more)) answers)
 
-  pub few_served : n < 10000 → (stopped : Bool) → Turns which (eqb (n + 1) 10000) p q (kept ++ came2) kept2 gave2 stopped None → n + 1 < 10000
-  few_served less stopped (on, (head, body, request, answers)) = fewer n less (not_last which (eqb (n + 1) 10000) head body p q gave2 answers)
+  pub few_served : n < 10000 → (stopped closing : Bool)
+      → Turns which (eqb (n + 1) 10000) closing p q (kept ++ came2) kept2 gave2 stopped None
+      → n + 1 < 10000
+  few_served less stopped closing (on, off, (head, body, request, answers)) = fewer n less (not_last which (eqb (n + 1) 10000) head body p q gave2 answers)
 
   -- and it ended
-  pub serves_all : (stopped : Bool) (end : Ended) → Turns which (eqb (n + 1) 10000) p q (kept ++ came2) kept2 gave2 stopped (Some end)
-      → IsServing which first q (came ++ came2) (gave ++ gave2) stopped end
-  serves_all stopped end ends = record { count = n; mid = p; rest = kept ++ came2; first = gave; final = gave2; serves = serves came2; ends = ends; all = refl }
+  pub serves_all : (stopped closing : Bool) (end : Ended)
+      → Turns which (eqb (n + 1) 10000) closing p q (kept ++ came2) kept2 gave2 stopped (Some end)
+      → IsServing which first q (came ++ came2) (gave ++ gave2) stopped closing end
+  serves_all stopped closing end ends = record { count = n; mid = p; rest = kept ++ came2; first = gave; final = gave2; serves = serves came2; ends = ends; all = refl }
 
 -- behind the turns before it, why the last one ended
 pub all_causes : (e0 e1 e2 f0 f1 f2 w0 w1 w2 : ℕ) (end : Ended) → e0 ≤ e1 → f0 ≤ f1 → w0 ≤ w1 → HasCauses e1 e2 f1 f2 w1 w2 (Some end) → HasCauses e0 e2 f0 f2 w0 w2 (Some end)
@@ -218,3 +264,60 @@ pub refused_turn : (bytes : List ℕ) (refused : Refused) (err same_err : OwnErr
 refused_turn bytes refused err same_err with_body same_body sent end is shows written e w =
     refusal_end bytes err with_body sent end (subst (ShowsNone bytes) is shows)
     (subst (λ (x : OwnError). IsRefusal x with_body sent end) (sym e) (subst (λ (b : Bool). IsRefusal same_err b sent end) (sym w) written))
+
+-- ---- whether the listeners are closing
+
+-- a refusal closes, and does not say so
+pub refusal_open : (err : OwnError) (with_body : Bool) (sent : List ℕ) (end : Ended)
+    → IsRefusal err with_body sent end → false ≡ is_drained (Some end)
+refusal_open err with_body sent ended.Closed written = refl
+refusal_open err with_body sent ended.WriteFault written = refl
+refusal_open err with_body sent ended.OutOfMemory written = refl
+refusal_open err with_body sent ended.PeerEnded written = refl
+refusal_open err with_body sent ended.Cut written = refl
+refusal_open err with_body sent ended.Spent written = refl
+refusal_open err with_body sent ended.Drained written = absurd written
+refusal_open err with_body sent ended.ReadFault written = refl
+refusal_open err with_body sent ended.UpstreamCut written = refl
+
+module _ (T : Type 0) (before now : ℕ) (refused : Refused)
+    (told : now ≡ raised_where (is_drained (quiet_end {T = T} (Err refused))) before) where
+  abbrev Told : Refused → Type 0
+  Told x = now ≡ raised_where (is_drained (quiet_end {T = T} (Err x))) before
+
+  pub own_told : (err : OwnError) (with_body : Bool) → refused ≡ Own err with_body → now ≡ before
+  own_told err with_body is = subst Told is told
+
+  pub ends_told : (end same : Ended) → refused ≡ Ends end → end ≡ same
+      → now ≡ raised_where (is_drained (Some same)) before
+  ends_told end same is is_same =
+      subst (λ (e : Ended). now ≡ raised_where (is_drained (Some e)) before) is_same
+      (subst Told is told)
+
+-- a connection that was asked
+pub record WasAsked (closing : Bool) (old new : Line) : Type 0 where
+  pub left : new.left ≡ old.left
+  pub given : new.given ≡ old.given
+  pub reads : new.read_faults ≡ old.read_faults
+  pub writes : new.write_faults ≡ old.write_faults
+  pub ends : new.ends ≡ old.ends
+  pub closings : new.closings ≡ raised_where closing old.closings
+
+pub was_asked : (closing : Bool) (old new : Line) → new ≡ told_closing closing old
+    → WasAsked closing old new
+was_asked false old new is = record {
+  left = ap (λ (l : Line). l.left) is;
+  given = ap (λ (l : Line). l.given) is;
+  reads = ap (λ (l : Line). l.read_faults) is;
+  writes = ap (λ (l : Line). l.write_faults) is;
+  ends = ap (λ (l : Line). l.ends) is;
+  closings = ap (λ (l : Line). l.closings) is;
+}
+was_asked true old new is = record {
+  left = ap (λ (l : Line). l.left) is;
+  given = ap (λ (l : Line). l.given) is;
+  reads = ap (λ (l : Line). l.read_faults) is;
+  writes = ap (λ (l : Line). l.write_faults) is;
+  ends = ap (λ (l : Line). l.ends) is;
+  closings = ap (λ (l : Line). l.closings) is;
+}

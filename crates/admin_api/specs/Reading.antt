@@ -1,6 +1,7 @@
 -- What a call that reads a request answers, and why.
-use Rattle.std.specs.Prelude.{◌≡◌, ◌≤◌, ◌⊎◌, ℕ, Bool, true, List, [], ◌++◌, Option, Some, None, Result, Ok, Err}
-use Rattle.line_base.specs.Counts.{Rose}
+use Rattle.std.specs.Prelude.{◌≡◌, ◌≤◌, ◌⊎◌, ℕ, Bool, true, false, if◌then◌else◌, List, [], ◌++◌}
+use Rattle.std.specs.Prelude.{Option, Some, None, Result, Ok, Err}
+use Rattle.line_base.specs.Counts.{Rose, raised}
 use Rattle.http_wire.specs.declared.ended.Ended.{Ended}
 use Rattle.http_wire.specs.declared.ended.Ended.TheVariants as ended
 use Rattle.http_wire.specs.declared.frames.Framing.{Framing}
@@ -16,7 +17,8 @@ use Rattle.ns_api.specs.Request.{has_body}
 use Rattle.admin_api.specs.declared.request.Refused.{Refused}
 use Rattle.admin_api.specs.declared.request.Refused.TheVariants.{Own, Ends}
 use Rattle.admin_api.specs.declared.request.Request.{Request}
-use Rattle.admin_api.specs.Requests.{IsTested, Refuses, IsRequest, HasOpenBody, IsRefusedAs, IsBetween, IsInside}
+use Rattle.admin_api.specs.Requests.{IsTested, Refuses, IsRequest, HasOpenBody, IsRefusedAs}
+use Rattle.admin_api.specs.Requests.{IsBetween, IsInside}
 
 -- why there is no head
 abbrev pub of_head : HeadEnd → Refused
@@ -54,12 +56,16 @@ ShowsNone bytes (Ends ended.ReadFault) = IsUnfinished bytes ⊎ HasOpenBody byte
 ShowsNone bytes (Ends ended.OutOfMemory) = Unit {0}
 ShowsNone bytes (Ends ended.Closed) = ⊥
 ShowsNone bytes (Ends ended.Spent) = ⊥
+ShowsNone bytes (Ends ended.Drained) = bytes ≡ []
 ShowsNone bytes (Ends ended.WriteFault) = ⊥
 ShowsNone bytes (Ends ended.UpstreamCut) = ⊥
 
--- the bytes that were kept and those that came begin with the request, whatever follows them, or show that there is none
+-- the bytes that were kept and those that came begin with the request, whatever follows them, or
+-- show that there is none
 abbrev pub ShowsRequest : List ℕ → List ℕ → Result Request Refused → Type 0
-ShowsRequest bytes kept (Ok request) = (more : List ℕ) → IsRequest (bytes ++ more) request.head request.body.items (kept ++ more)
+ShowsRequest bytes kept (Ok request) =
+    (more : List ℕ)
+    → IsRequest (bytes ++ more) request.head request.body.items (kept ++ more)
 ShowsRequest bytes kept (Err refused) = ShowsNone bytes refused
 
 -- how the connection ends where there is no request, if no reply is due
@@ -68,8 +74,28 @@ quiet_end (Ok x) = None
 quiet_end (Err (Own err with_body)) = None
 quiet_end (Err (Ends end)) = Some end
 
--- the counts of a peer that tell why a connection ended where nothing was written. Where it goes on, none of them fell
-pub record HasReadCauses (ends_before ends_now faults_before faults_now : ℕ) (result : Option Ended) : Type 0 where
+-- the connection ends since the listeners are closing, and no byte of a next request has come
+abbrev pub is_drained : Option Ended → Bool
+is_drained None = false
+is_drained (Some ended.PeerEnded) = false
+is_drained (Some ended.Cut) = false
+is_drained (Some ended.Closed) = false
+is_drained (Some ended.Spent) = false
+is_drained (Some ended.Drained) = true
+is_drained (Some ended.ReadFault) = false
+is_drained (Some ended.WriteFault) = false
+is_drained (Some ended.UpstreamCut) = false
+is_drained (Some ended.OutOfMemory) = false
+
+-- a count that rises exactly where that is so
+abbrev pub raised_where : Bool → ℕ → ℕ
+raised_where closing count = if closing then raised count else count
+
+-- the counts of a peer that tell why a connection ended where nothing was written. Where it goes
+-- on, none of them fell
+pub record HasReadCauses
+    (ends_before ends_now faults_before faults_now : ℕ) (result : Option Ended)
+    : Type 0 where
   pub peer_ended : result ≡ Some ended.PeerEnded → Rose ends_before ends_now
   pub cut : result ≡ Some ended.Cut → Rose ends_before ends_now
   pub read_fault : result ≡ Some ended.ReadFault → Rose faults_before faults_now
@@ -84,5 +110,6 @@ IsRefusal err with_body written ended.OutOfMemory = written ≡ []
 IsRefusal err with_body written ended.PeerEnded = ⊥
 IsRefusal err with_body written ended.Cut = ⊥
 IsRefusal err with_body written ended.Spent = ⊥
+IsRefusal err with_body written ended.Drained = ⊥
 IsRefusal err with_body written ended.ReadFault = ⊥
 IsRefusal err with_body written ended.UpstreamCut = ⊥

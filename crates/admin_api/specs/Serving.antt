@@ -1,11 +1,14 @@
 -- A connection of an interface: the requests that its bytes begin with, in order, what each is
 -- answered, and how it ends.
-use Rattle.std.specs.Prelude.{◌≡◌, ◌≤◌, ◌⊎◌, ℕ, ◌+◌, ◌==◌, ◌||◌, Bool, true, false, if◌then◌else◌, List, [], ◌++◌, Option, Some, None}
+use Rattle.std.specs.Prelude.{◌≡◌, ◌≤◌, ◌⊎◌, ℕ, ◌+◌, ◌==◌, ◌||◌, Bool, true, false, if◌then◌else◌}
+use Rattle.std.specs.Prelude.{List, [], ◌++◌, Option, Some, None}
 use Rattle.line_base.specs.Counts.{Rose, raised}
 use Rattle.http_wire.specs.declared.ended.Ended.{Ended}
 use Rattle.http_wire.specs.declared.ended.Ended.TheVariants as ended
 use Rattle.http_wire.specs.declared.head.Head.{Head}
+use Rattle.http_wire.specs.Ended.{drained}
 use Rattle.http_wire.specs.Heads.{IsUnfinished}
+use Rattle.http_wire.specs.Next.{IsAsked}
 use Rattle.body_wire.specs.Passing.{IsFrontOf}
 use Rattle.own_reply.specs.declared.error.OwnError.{OwnError}
 use Rattle.own_reply.specs.Reply.{reply_of}
@@ -20,7 +23,7 @@ use Rattle.admin_api.specs.declared.serving.Which.{Which}
 use Rattle.admin_api.specs.declared.serving.Which.TheVariants.{Namerd, Admin, Feed}
 use Rattle.admin_api.specs.Demand.{admin_demand}
 use Rattle.admin_api.specs.Requests.{IsRequest, HasOpenBody, IsRefusedAs, IsBetween, IsInside}
-use Rattle.admin_api.specs.Reading.{HasReadCauses}
+use Rattle.admin_api.specs.Reading.{HasReadCauses, is_drained}
 
 -- the most requests of one connection
 abbrev pub most_requests : ℕ
@@ -48,6 +51,7 @@ IsDelivered head last reply written stopped (Some ended.Closed) =
 IsDelivered head last reply written stopped (Some ended.Spent) =
     ((reply.stops || closes head false) ≡ false) × (last ≡ true) × (written ≡ reply.bytes.items)
     × (stopped ≡ false)
+IsDelivered head last reply written stopped (Some ended.Drained) = ⊥
 IsDelivered head last reply written stopped (Some ended.WriteFault) =
     IsFrontOf reply.bytes.items written × (stopped ≡ false)
 IsDelivered head last reply written stopped (Some ended.PeerEnded) = ⊥
@@ -70,6 +74,7 @@ EndsWithout bytes written ended.Closed =
 EndsWithout bytes written ended.WriteFault =
     (err : OwnError) × (with_body : Bool) × IsRefusedAs bytes err with_body
     × IsFrontOf (reply_of err true with_body) written
+EndsWithout bytes written ended.Drained = (bytes ≡ []) × (written ≡ [])
 EndsWithout bytes written ended.Spent = ⊥
 EndsWithout bytes written ended.UpstreamCut = ⊥
 
@@ -110,19 +115,28 @@ module _ {J : Type 0} {g : Ghosts J} where
       IsReplied which last head body old new written stopped result
       ⊎ IsWanting which head body old new written stopped result
 
-  -- the connection ends behind a whole request, or with none
-  pub record EndsBehind (which : Which) (last : Bool) (bytes : List ℕ) (old new : Pass J g)
-      (written : List ℕ) (stopped : Bool) (result : Ended) : Type 0 where
+  -- the connection ends behind a whole request, which is its last where that spends it, or where
+  -- the listeners are closing
+  pub record EndsBehind
+      (which : Which) (spent closing : Bool) (bytes : List ℕ) (old new : Pass J g)
+      (written : List ℕ) (stopped : Bool) (result : Ended)
+      : Type 0 where
     pub head : Head
     pub body : List ℕ
     pub behind : List ℕ
     pub request : IsRequest bytes head body behind
-    pub answers : Answers which last head body old new written stopped (Some result)
+    pub asked : IsAsked spent closing
+    pub end : Option Ended
+    pub answers : Answers which (spent || closing) head body old new written stopped end
+    pub is : Some result ≡ drained closing end
 
-  abbrev pub EndsWith : Which → Bool → List ℕ → Pass J g → Pass J g → List ℕ → Bool → Ended → Type 0
-  EndsWith which last bytes old new written stopped result =
-      EndsBehind which last bytes old new written stopped result
-      ⊎ ((new ≡ old) × (stopped ≡ false) × EndsWithout bytes written result)
+  -- or with none
+  abbrev pub EndsWith : Which → Bool → Bool → List ℕ → Pass J g → Pass J g → List ℕ → Bool → Ended
+      → Type 0
+  EndsWith which spent closing bytes old new written stopped result =
+      EndsBehind which spent closing bytes old new written stopped result
+      ⊎ ((new ≡ old) × (stopped ≡ false) × (closing ≡ is_drained (Some result))
+      × EndsWithout bytes written result)
 
   -- Requests are answered, one after the other, and the connection goes on behind each: so many,
   -- with the pass, the bytes that are left, and those that were written. The connection never goes
@@ -137,28 +151,32 @@ module _ {J : Type 0} {g : Ghosts J} where
         → Serves which old bytes (count + 1) new behind (written ++ sent)
 
   -- A connection is served: some requests are answered, and then it ends. `bytes` are those that
-  -- came, and `written` those that it was given
-  pub record IsServing (which : Which) (old new : Pass J g) (bytes written : List ℕ)
-      (stopped : Bool) (result : Ended) : Type 0 where
+  -- came, and `written` those that it was given; `closing` says that its end is one of those that
+  -- come since the listeners are closing
+  pub record IsServing
+      (which : Which) (old new : Pass J g) (bytes written : List ℕ) (stopped closing : Bool)
+      (result : Ended)
+      : Type 0 where
     pub count : ℕ
     pub mid : Pass J g
     pub rest : List ℕ
     pub first : List ℕ
     pub final : List ℕ
     pub serves : Serves which old bytes count mid rest first
-    pub ends : EndsWith which (count + 1 == most_requests) rest mid new final stopped result
+    pub ends : EndsWith which (count + 1 == most_requests) closing rest mid new final stopped result
     pub all : written ≡ first ++ final
 
   -- one turn: a request is answered and the connection goes on, whatever bytes follow it; or it
   -- ends
-  abbrev pub Turns : Which → Bool → Pass J g → Pass J g → List ℕ → List ℕ → List ℕ → Bool
+  abbrev pub Turns : Which → Bool → Bool → Pass J g → Pass J g → List ℕ → List ℕ → List ℕ → Bool
       → Option Ended → Type 0
-  Turns which last old new bytes kept written stopped None =
-      (stopped ≡ false) × ((head : Head) × (body : List ℕ)
+  Turns which spent closing old new bytes kept written stopped None =
+      (stopped ≡ false) × (closing ≡ false)
+      × ((head : Head) × (body : List ℕ)
       × ((more : List ℕ) → IsRequest (bytes ++ more) head body (kept ++ more))
-      × Answers which last head body old new written false None)
-  Turns which last old new bytes kept written stopped (Some result) =
-      EndsWith which last bytes old new written stopped result
+      × Answers which spent head body old new written false None)
+  Turns which spent closing old new bytes kept written stopped (Some result) =
+      EndsWith which spent closing bytes old new written stopped result
 
 -- the counts of a peer that tell why a connection ended: they never fall
 pub record HasCauses (ends_before ends_now reads_before reads_now writes_before writes_now : ℕ)

@@ -1,15 +1,15 @@
 //! Reading the requests of a connection.
 ghost use Rattle.std.specs.Prelude.{◌≡◌, ◌++◌, List, ℕ, IfOk};
-ghost use Rattle.std.specs.Io.KnownBytes.{Consumes};
-ghost use Rattle.line_base.specs.Lines.{IsUnwritten};
+ghost use Rattle.std.specs.Io.KnownBytes.{Consumes, Keeps};
 ghost use Rattle.admin_api.specs.Requests.{names_long_body};
-ghost use Rattle.admin_api.specs.Reading.{HasReadCauses, ShowsRequest, TellsTests, of_body, of_head, quiet_end};
+ghost use Rattle.admin_api.specs.Reading.{HasReadCauses, ShowsRequest, TellsTests, is_drained};
+ghost use Rattle.admin_api.specs.Reading.{of_body, of_head, quiet_end, raised_where};
 
 use crate::Bytes;
 use body_wire::{BodyEnd, read_body};
 use http_wire::{
-    Ended, Framing, FramingFault, Head, HeadEnd, HostFault, Rest, TargetFault, framing, read_host,
-    read_request_head, read_target,
+    Ended, Framing, FramingFault, Head, HeadEnd, HostFault, NextHead, Rest, TargetFault, framing,
+    read_host, read_next_head, read_target,
 };
 use line_base::Peer;
 use ns_api::has_body;
@@ -33,7 +33,8 @@ pub(crate) enum Refused {
 }
 
 impl Refused {
-    /// Why there is no head. Bytes that are no head are no HEAD request, so that their reply has a body.
+    /// Why there is no head. Bytes that are no head are no HEAD request, so that their reply has a
+    /// body.
     fn of_head(end: HeadEnd) -> Refused
         ensures { result ≡ of_head end }
     {
@@ -48,7 +49,8 @@ impl Refused {
         }
     }
 
-    /// Why there is no body. One that is read whole sends nothing on, so that the last arms are not met.
+    /// Why there is no body. One that is read whole sends nothing on, so that the last arms are not
+    /// met.
     fn of_body(end: BodyEnd, with_body: bool) -> Refused
         ensures { result ≡ of_body end with_body }
     {
@@ -78,7 +80,8 @@ fn names_long_body(framing: Framing) -> bool
     }
 }
 
-/// Tests the target, the framing, the length and the host of a head, in this order, and gives the framing.
+/// Tests the target, the framing, the length and the host of a head, in this order, and gives the
+/// framing.
 fn tested(alloc: Global, head: &Head) -> Result<Framing, Refused>
     ensures { TellsTests head.now result }
 {
@@ -104,19 +107,27 @@ fn tested(alloc: Global, head: &Head) -> Result<Framing, Refused>
     }
 }
 
-/// Reads the next request of a connection, whole, of the bytes that are kept and those that the peer gives behind them. The bytes behind it stay in `rest`.
+/// Waits for the next request of a connection, and reads it, whole, of the bytes that are kept and
+/// those that the peer gives behind them. The bytes behind it stay in `rest`. The connection ends
+/// with `Drained` where the listeners are closing and no byte of it has come.
 pub(crate) fn read_request<P: Peer>(
     alloc: Global,
     peer: &mut P,
     rest: &mut Rest,
 ) -> Result<Request, Refused>
-    ensures bytes { (came : List ℕ) × Consumes (P.line peer.old).left (P.line peer.new).left came × ShowsRequest (rest.old ++ came) rest.new result }
-    ensures causes { HasReadCauses (P.line peer.old).ends (P.line peer.new).ends (P.line peer.old).read_faults (P.line peer.new).read_faults (quiet_end result) }
-    ensures others { IsUnwritten (P.line peer.old) (P.line peer.new) }
+    ensures bytes { (came : List ℕ) × Consumes (P.line peer.old).left (P.line peer.new).left came
+        × ShowsRequest (rest.old ++ came) rest.new result }
+    ensures causes { HasReadCauses (P.line peer.old).ends (P.line peer.new).ends
+        (P.line peer.old).read_faults (P.line peer.new).read_faults (quiet_end result) }
+    ensures given { Keeps (P.line peer.old).given (P.line peer.new).given }
+    ensures writes { (P.line peer.new).write_faults ≡ (P.line peer.old).write_faults }
+    ensures closings { (P.line peer.new).closings
+        ≡ raised_where (is_drained (quiet_end result)) (P.line peer.old).closings }
 {
-    let head = match read_request_head(alloc, peer, rest) {
-        Ok(head) => head,
-        Err(end) => return Err(Refused::of_head(end)),
+    let head = match read_next_head(alloc, peer, rest) {
+        NextHead::Head(head) => head,
+        NextHead::Ended(end) => return Err(Refused::of_head(end)),
+        NextHead::Closing => return Err(Refused::Ends(Ended::Drained)),
     };
     let framing = match tested(alloc, &head) {
         Ok(framing) => framing,

@@ -5,7 +5,9 @@ ghost use Rattle.line_base.specs.Counts.{Rose};
 ghost use Rattle.line_base.specs.Lines.{IsUnread};
 ghost use Rattle.router.specs.Passes.{number_in};
 ghost use Rattle.ns_api.specs.Answering.{IsTaken};
-ghost use Rattle.admin_api.specs.Serving.{Answers, AnswersAs, HasCauses, IsDelivered, IsServing, LeavesAs, Turns, calls_after, end_behind};
+ghost use Rattle.admin_api.specs.Reading.{raised_where};
+ghost use Rattle.admin_api.specs.Serving.{Answers, AnswersAs, HasCauses, IsDelivered, IsServing};
+ghost use Rattle.admin_api.specs.Serving.{LeavesAs, Turns, calls_after, end_behind};
 
 use crate::answering::admin_answer;
 use crate::request::{Refused, Request, read_request};
@@ -13,7 +15,7 @@ use crate::writing::refuse;
 use crate::{Bytes, Mem};
 use body_wire::write_all;
 use follow_feed::feed_answer;
-use http_wire::{Ended, Head, Rest};
+use http_wire::{Ended, Head, Rest, drained, hears_closing};
 use line_base::{Peer, Stop};
 use ns_api::{ApiReply, closes, ns_answer};
 use router::{Naming, Pass, Router};
@@ -38,7 +40,9 @@ pub enum Which {
 }
 
 /// Serves a connection: its requests, one after another, until it ends or one closes it, and at
-/// most 10,000 of them. Behind the reply to a request that the program stop, it stops it.
+/// most 10,000 of them. Behind the reply to a request that the program stop, it stops it. Once the
+/// listeners are closing, the request that is served is the connection's last, and a connection
+/// that waits for its next request ends: both with `Drained`.
 pub fn serve_admin<J: Naming, R: Wait, P: Peer, S: Stop>(
     rt: &R,
     alloc: Global,
@@ -49,11 +53,12 @@ pub fn serve_admin<J: Naming, R: Wait, P: Peer, S: Stop>(
     peer: &mut P,
 ) -> Ended
     ensures number { number_in pass.new ≡ number_in pass.old }
-    ensures serves { (came : List ℕ) × (gave : List ℕ) × (stopped : Bool)
+    ensures serves { (came : List ℕ) × (gave : List ℕ) × (stopped : Bool) × (closing : Bool)
         × Consumes (P.line peer.old).left (P.line peer.new).left came
         × Appends (P.line peer.old).given (P.line peer.new).given gave
         × (S.calls stop.new ≡ calls_after (S.calls stop.old) stopped)
-        × IsServing which pass.old pass.new came gave stopped result }
+        × ((P.line peer.new).closings ≡ raised_where closing (P.line peer.old).closings)
+        × IsServing which pass.old pass.new came gave stopped closing result }
     ensures causes { HasCauses (P.line peer.old).ends (P.line peer.new).ends
         (P.line peer.old).read_faults (P.line peer.new).read_faults (P.line peer.old).write_faults
         (P.line peer.new).write_faults (Some result) }
@@ -87,26 +92,40 @@ fn serve_next<J: Naming, R: Wait, P: Peer, S: Stop>(
     router: &Router<J>,
     pass: &mut Pass<J>,
     which: Which,
-    last: bool,
+    spent: bool,
     stop: &mut S,
     peer: &mut P,
     rest: &mut Rest,
 ) -> Option<Ended>
     ensures number { number_in pass.new ≡ number_in pass.old }
-    ensures turn { (came : List ℕ) × (gave : List ℕ) × (stopped : Bool)
+    ensures turn { (came : List ℕ) × (gave : List ℕ) × (stopped : Bool) × (closing : Bool)
         × Consumes (P.line peer.old).left (P.line peer.new).left came
         × Appends (P.line peer.old).given (P.line peer.new).given gave
         × (S.calls stop.new ≡ calls_after (S.calls stop.old) stopped)
-        × Turns which last pass.old pass.new (rest.old ++ came) rest.new gave stopped result }
+        × ((P.line peer.new).closings ≡ raised_where closing (P.line peer.old).closings)
+        × Turns which spent closing pass.old pass.new (rest.old ++ came) rest.new gave stopped
+        result }
     ensures causes { HasCauses (P.line peer.old).ends (P.line peer.new).ends
         (P.line peer.old).read_faults (P.line peer.new).read_faults (P.line peer.old).write_faults
         (P.line peer.new).write_faults result }
 {
     match read_request(alloc, peer, rest) {
-        Ok(request) => reply_to(rt, alloc, router, pass, which, last, stop, peer, &request),
+        Ok(request) => {
+            let closing = hears_closing(spent, peer);
+            let last = is_last(spent, closing);
+            let ended = reply_to(rt, alloc, router, pass, which, last, stop, peer, &request);
+            drained(closing, ended)
+        }
         Err(Refused::Own(err, with_body)) => Some(refuse(alloc, peer, err, with_body)),
         Err(Refused::Ends(ended)) => Some(ended),
     }
+}
+
+/// Whether a request is its connection's last.
+fn is_last(spent: bool, closing: bool) -> bool
+    ensures { result ≡ (spent || closing) }
+{
+    spent || closing
 }
 
 /// Answers a request, writes the reply, and stops the program where it asked for that.

@@ -23,23 +23,26 @@ pub(crate) type Mem<T> = Result<T, AllocError>;
 /// The bytes of a text.
 pub(crate) type Bytes = Vec<u8>;
 
-/// A connection: the bytes that come on it, and which of its reads and which of its writes fails, the first being 0.
+/// A connection: the bytes that come on it, which of its reads and which of its writes fails, the first
+/// being 0, and from which question on it says that its listeners are closing.
 #[derive(Drop)]
 pub(crate) struct Connection {
     pub(crate) to: Which,
     pub(crate) bytes: Bytes,
     pub(crate) read_fails: Option<u64>,
     pub(crate) write_fails: Option<u64>,
+    pub(crate) closing: Option<u64>,
 }
 
 impl Connection {
-    /// One on which no call fails.
+    /// One on which no call fails, and whose listeners stay open.
     pub(crate) fn of(to: Which, bytes: Bytes) -> Connection {
         Connection {
             to,
             bytes,
             read_fails: None,
             write_fails: None,
+            closing: None,
         }
     }
 }
@@ -74,7 +77,10 @@ fn peer_of(alloc: Global, connection: &Connection) -> Mem<MemPeer> {
         Vec::new(alloc),
         failing(alloc, connection.write_fails)?,
     );
-    Ok(MemPeer::of(source, sink))
+    Ok(match connection.closing {
+        Some(question) => MemPeer::closing(source, sink, question),
+        None => MemPeer::of(source, sink),
+    })
 }
 
 /// Serves a connection.

@@ -239,6 +239,7 @@ fn connections(alloc: Global) -> Mem<Vec<Connection>> {
             bytes: Vec::from_slice(alloc, comes.as_bytes())?,
             read_fails: *read_fails,
             write_fails: *write_fails,
+            closing: None,
         })?;
     }
     Ok(all)

@@ -7,6 +7,8 @@ mod admin;
 #[cfg(test)]
 mod connections;
 #[cfg(test)]
+mod draining;
+#[cfg(test)]
 mod endings;
 #[cfg(test)]
 mod feed;

@@ -1,9 +1,11 @@
 //! The body of a reply, on its way back to a client.
-ghost use Rattle.std.specs.Prelude.{◌≡◌, ◌≢◌, ℕ, List, [], IsTrue, Err};
+ghost use Rattle.std.specs.Prelude.{◌≡◌, ◌≢◌, ℕ, List, [], IsSome, Err};
 ghost use Rattle.std.specs.List.{concat};
 ghost use Rattle.std.specs.Io.KnownBytes.{Appends, Consumes};
+ghost use Rattle.line_base.specs.Dials.{HasSameLinks};
 ghost use Rattle.line_base.specs.Lines.{IsUnread};
-ghost use Rattle.body_wire.specs.Passing.{EndsPieces, PassesOn, RaisedAt, ReceivesPieces, form_of, most_passed};
+ghost use Rattle.body_wire.specs.Passing.{EndsPieces, PassesOn, RaisedAt, ReceivesPieces, form_of};
+ghost use Rattle.body_wire.specs.Passing.{most_passed};
 
 use crate::Bytes;
 use crate::answer::{MOST_PASSED, answer, at_end};
@@ -14,18 +16,20 @@ use crate::writing::write_turn;
 use http_wire::{Framing, Rest};
 use line_base::{Dialer, Peer};
 
-/// Passes the body of a reply back to a client, piece by piece, and gives the number of its content bytes, up to 2^63 - 1. A chunked body
-/// goes back in chunks where `chunked`, and else as its content.
+/// Passes the body of a reply back to a client, piece by piece, and gives the number of its content
+/// bytes, up to 2^63 - 1. A chunked body goes back in chunks where `chunked`, and else as its
+/// content.
 ///
-/// `out` holds what goes first, the reply's head, as in [`pass_body`](crate::pass_body). What one receive gave is written before the next
-/// one, so that events go through as they come, and at most 16,384 bytes that were received are not yet written. No byte is received behind
-/// the last one of the body, and none where there is no body.
+/// `out` holds what goes first, the reply's head, as in [`pass_body`](crate::pass_body). What one
+/// receive gave is written before the next one, so that events go through as they come, and at most
+/// 16,384 bytes that were received are not yet written. No byte is received behind the last one of
+/// the body, and none where there is no body.
 ///
 /// Time and memory are those of [`pass_body`](crate::pass_body).
 ///
 /// # Errors
-/// See [`BodyEnd`]. At an end that the bytes show, and at `RecvFault`, all that goes back for the bytes that came has been written. At
-/// `WriteFault` and `OutOfMemory` a front of it has.
+/// See [`BodyEnd`]. At an end that the bytes show, and at `RecvFault`, all that goes back for the
+/// bytes that came has been written. At `WriteFault` and `OutOfMemory` a front of it has.
 pub fn pass_back<P: Peer, D: Dialer>(
     dialer: &mut D,
     rest: &mut Rest,
@@ -34,18 +38,21 @@ pub fn pass_back<P: Peer, D: Dialer>(
     out: &mut Bytes,
     peer: &mut P,
 ) -> Result<u64, BodyEnd>
-    requires { IsTrue (D.upstream dialer.old).is_open }
+    requires { IsSome (D.upstream dialer.old).open_to }
     ensures body { (pieces : List (List ℕ)) × (sent : List ℕ)
         × Consumes (D.upstream dialer.old).left (D.upstream dialer.new).left (concat pieces)
         × ReceivesPieces (D.upstream dialer.old).log (D.upstream dialer.new).log pieces
         × Appends (P.line peer.old).given (P.line peer.new).given sent
         × EndsPieces framing pieces result
-        × PassesOn framing (form_of chunked) most_passed out.old.items rest.old pieces sent rest.new result }
-    ensures receives { RaisedAt (Err BodyEnd.RecvFault) (D.upstream dialer.old).faults (D.upstream dialer.new).faults result }
-    ensures writes { RaisedAt (Err BodyEnd.WriteFault) (P.line peer.old).write_faults (P.line peer.new).write_faults result }
+        × PassesOn framing (form_of chunked) most_passed out.old.items rest.old pieces sent rest.new
+        result }
+    ensures receives { RaisedAt (Err BodyEnd.RecvFault) (D.upstream dialer.old).faults
+        (D.upstream dialer.new).faults result }
+    ensures writes { RaisedAt (Err BodyEnd.WriteFault) (P.line peer.old).write_faults
+        (P.line peer.new).write_faults result }
     ensures never { (result ≢ Err BodyEnd.ReadFault) × (result ≢ Err BodyEnd.SendFault) }
     ensures peer_stays { IsUnread (P.line peer.old) (P.line peer.new) }
-    ensures dialer_stays { (D.upstream dialer.new).is_open ≡ (D.upstream dialer.old).is_open }
+    ensures dialer_stays { HasSameLinks (D.upstream dialer.old) (D.upstream dialer.new) }
     ensures out { out.new.items ≡ [] }
 {
     let mut decoder = Decoder::of(framing, Form::of(chunked), MOST_PASSED);

@@ -1,6 +1,7 @@
 //! Passing a body on to a dialer.
-ghost use Rattle.std.specs.Prelude.{◌≡◌, [], List, ℕ, IsTrue};
+ghost use Rattle.std.specs.Prelude.{◌≡◌, [], List, ℕ, IsSome};
 ghost use Rattle.std.specs.Io.KnownBytes.{Keeps};
+ghost use Rattle.line_base.specs.Dials.{HasSameLinks};
 ghost use Rattle.line_base.specs.Counts.{HasCause};
 ghost use Rattle.body_wire.specs.Passing.{Sends};
 ghost use Rattle.body_wire.specs.Turns.{RunGoes, SendsAll, TakenGoes, TurnCause, Turns};
@@ -13,9 +14,12 @@ use line_base::{Dialer, Failed};
 
 /// Sends all bytes to a dialer.
 fn send_all<D: Dialer>(dialer: &mut D, bytes: &[u8]) -> Result<(), Failed>
-    requires { IsTrue (D.upstream dialer.old).is_open }
-    ensures bytes { (sent : List ℕ) × Sends (D.upstream dialer.old).log (D.upstream dialer.new).log sent × SendsAll bytes.now sent result }
-    ensures stays { ((D.upstream dialer.new).is_open ≡ (D.upstream dialer.old).is_open) × Keeps (D.upstream dialer.old).left (D.upstream dialer.new).left }
+    requires { IsSome (D.upstream dialer.old).open_to }
+    ensures bytes { (sent : List ℕ)
+        × Sends (D.upstream dialer.old).log (D.upstream dialer.new).log sent
+        × SendsAll bytes.now sent result }
+    ensures stays { HasSameLinks (D.upstream dialer.old) (D.upstream dialer.new)
+        × Keeps (D.upstream dialer.old).left (D.upstream dialer.new).left }
     ensures cause { HasCause (D.upstream dialer.old).faults (D.upstream dialer.new).faults result }
 {
     let mut at = 0;
@@ -35,10 +39,12 @@ fn send_run<D: Dialer>(
     out: &Bytes,
     dialer: &mut D,
 ) -> Result<(), Failed>
-    requires { IsTrue (D.upstream dialer.old).is_open }
-    ensures bytes { (sent : List ℕ) × Sends (D.upstream dialer.old).log (D.upstream dialer.new).log sent
+    requires { IsSome (D.upstream dialer.old).open_to }
+    ensures bytes { (sent : List ℕ)
+        × Sends (D.upstream dialer.old).log (D.upstream dialer.new).log sent
         × RunGoes decoder.old decoder.new rest.old rest.new out.now.items sent result }
-    ensures stays { ((D.upstream dialer.new).is_open ≡ (D.upstream dialer.old).is_open) × Keeps (D.upstream dialer.old).left (D.upstream dialer.new).left }
+    ensures stays { HasSameLinks (D.upstream dialer.old) (D.upstream dialer.new)
+        × Keeps (D.upstream dialer.old).left (D.upstream dialer.new).left }
     ensures cause { HasCause (D.upstream dialer.old).faults (D.upstream dialer.new).faults result }
 {
     let run = lone_run(decoder, rest.kept(), out);
@@ -51,18 +57,21 @@ fn send_run<D: Dialer>(
     sent
 }
 
-/// Sends what waits in `out` and all that goes on for the kept bytes, in one call where dialers take all bytes of a call.
+/// Sends what waits in `out` and all that goes on for the kept bytes, in one call where dialers
+/// take all bytes of a call.
 pub(crate) fn send_turn<D: Dialer>(
     decoder: &mut Decoder,
     rest: &mut Rest,
     out: &mut Bytes,
     dialer: &mut D,
 ) -> Result<Stop, TurnFault>
-    requires { IsTrue (D.upstream dialer.old).is_open }
-    ensures bytes { (sent : List ℕ) × Sends (D.upstream dialer.old).log (D.upstream dialer.new).log sent
+    requires { IsSome (D.upstream dialer.old).open_to }
+    ensures bytes { (sent : List ℕ)
+        × Sends (D.upstream dialer.old).log (D.upstream dialer.new).log sent
         × Turns decoder.old decoder.new rest.old rest.new out.old.items sent result }
     ensures out { out.new.items ≡ [] }
-    ensures stays { ((D.upstream dialer.new).is_open ≡ (D.upstream dialer.old).is_open) × Keeps (D.upstream dialer.old).left (D.upstream dialer.new).left }
+    ensures stays { HasSameLinks (D.upstream dialer.old) (D.upstream dialer.new)
+        × Keeps (D.upstream dialer.old).left (D.upstream dialer.new).left }
     ensures cause { TurnCause (D.upstream dialer.old).faults (D.upstream dialer.new).faults result }
 {
     match send_run(decoder, rest, out, dialer) {
@@ -80,9 +89,12 @@ pub(crate) fn send_turn<D: Dialer>(
 
 /// Sends what goes on, unless there was no memory for it.
 fn send_taken<D: Dialer>(taken: &Mem<Stop>, out: &Bytes, dialer: &mut D) -> Result<Stop, TurnFault>
-    requires { IsTrue (D.upstream dialer.old).is_open }
-    ensures bytes { (sent : List ℕ) × Sends (D.upstream dialer.old).log (D.upstream dialer.new).log sent × TakenGoes taken.now out.now.items sent result }
-    ensures stays { ((D.upstream dialer.new).is_open ≡ (D.upstream dialer.old).is_open) × Keeps (D.upstream dialer.old).left (D.upstream dialer.new).left }
+    requires { IsSome (D.upstream dialer.old).open_to }
+    ensures bytes { (sent : List ℕ)
+        × Sends (D.upstream dialer.old).log (D.upstream dialer.new).log sent
+        × TakenGoes taken.now out.now.items sent result }
+    ensures stays { HasSameLinks (D.upstream dialer.old) (D.upstream dialer.new)
+        × Keeps (D.upstream dialer.old).left (D.upstream dialer.new).left }
     ensures cause { TurnCause (D.upstream dialer.old).faults (D.upstream dialer.new).faults result }
 {
     match taken {

@@ -1,5 +1,6 @@
 -- A poll: a request for the feed of a namespace, over a connection of its own, and the reply.
-use Rattle.std.specs.Prelude.{◌≡◌, ◌⊎◌, ℕ, ◌<◌, ◌≤◌, false, List, [], ◌∷◌, ◌++◌, length, drop, map, codes, Some, None, Result, Ok, Err}
+use Rattle.std.specs.Prelude.{◌≡◌, ◌⊎◌, ℕ, ◌<◌, ◌≤◌, List, [], ◌∷◌, ◌++◌, length, drop, map, codes}
+use Rattle.std.specs.Prelude.{Some, None, Result, Ok, Err}
 use Rattle.std.specs.List.{concat}
 use Rattle.httparse.specs.Ascii.{crlf_bytes}
 use Rattle.line_base.specs.Counts.{raised}
@@ -101,7 +102,7 @@ pub record IsSpoken
       Grows old.log new.log (Dialed leader.ip leader.port ∷
       (map Sent sent ++ (map Got got ++ Hung ∷ [])))
   pub speaks : Speaks request sent got result
-  pub closed : new.is_open ≡ false
+  pub closed : new.open_to ≡ None
 
 -- no connection was opened
 abbrev pub GaveUp : Result FeedValue PollEnd → Type 0

@@ -1,7 +1,7 @@
 //! The body of a reply, gathered in memory.
 ghost use Rattle.std.specs.Prelude.{◌≡◌, []};
 
-use line_base::{Failed, Peer};
+use line_base::{Failed, Next, Peer};
 use std::alloc::Global;
 
 /// Gathers the bytes that are written to it, and gives none: the peer behind a reply that is read
@@ -35,6 +35,7 @@ impl Peer for Gathered {
       read_faults = 0;
       write_faults = g.faults;
       ends = g.ends;
+      closings = 0;
     } };
 
     fn read(&mut self, into: &mut [u8]) -> Result<usize, Failed> {
@@ -42,6 +43,15 @@ impl Peer for Gathered {
             self.ends = self.ends.saturating_add(1);
         }
         Ok(0)
+    }
+
+    fn read_next(&mut self, _into: &mut [u8]) -> Result<Next, Failed> {
+        self.ends = self.ends.saturating_add(1);
+        Ok(Next::End)
+    }
+
+    fn is_closing(&mut self) -> bool {
+        false
     }
 
     fn write(&mut self, bytes: &[u8]) -> Result<usize, Failed> {

@@ -1,9 +1,12 @@
 //! Asking a leader for the feed of a namespace.
-ghost use Rattle.std.specs.Prelude.{◌≡◌, ◌≤◌, ◌++◌, ℕ, List, [], map, false, IfOk, IfSome, IfNone, IsTrue};
+ghost use Rattle.std.specs.Prelude.{◌≡◌, ◌≤◌, ◌++◌, ℕ, List, [], map, IfOk, IfSome, IfNone, IsSome};
+ghost use Rattle.std.specs.Prelude.{None};
 ghost use Rattle.line_base.specs.declared.dialer.DialEvent.TheVariants.{Got, Sent};
-ghost use Rattle.line_base.specs.Dials.{Grows};
+ghost use Rattle.line_base.specs.Dials.{Grows, HasSameLinks};
 ghost use Rattle.addr_book.specs.Addr.{addr_text};
-ghost use Rattle.follow_feed.specs.Polling.{IsFeedHead, Polls, Says, SaysBehind, Speaks, end_of_body, end_of_head, faults_after, given, request_of};
+ghost use Rattle.follow_feed.specs.Polling.{IsFeedHead, Polls, Says, SaysBehind, Speaks};
+ghost use Rattle.follow_feed.specs.Polling.{end_of_body, end_of_head, faults_after, given};
+ghost use Rattle.follow_feed.specs.Polling.{request_of};
 
 use crate::feed::Feed;
 use crate::gathering::Gathered;
@@ -64,7 +67,8 @@ impl PollEnd {
 ///
 /// A good reply has the status 200, a length of at most 1,048,576 bytes, and as its body a JSON
 /// object with the numbers `place` and `run` alone, or with the text of a table as `dtab` and the
-/// number `version` too. No connection is open behind the call where none was before it.
+/// number `version` too. No connection is open behind the call where none was before it, and what
+/// the dialer keeps is as it was.
 ///
 /// # Errors
 /// [`PollEnd::Lost`] where a call of the dialer failed, [`PollEnd::Strange`] where what came is no
@@ -79,8 +83,10 @@ pub fn poll<D: Dialer>(
         (given result) }
     ensures faults { (D.upstream dialer.new).faults
         ≡ faults_after (D.upstream dialer.old).faults (given result) }
-    ensures closed { (D.upstream dialer.old).is_open ≡ false
-        → (D.upstream dialer.new).is_open ≡ false }
+    ensures closed { (D.upstream dialer.old).open_to ≡ None
+        → (D.upstream dialer.new).open_to ≡ None }
+    ensures others { ((D.upstream dialer.new).kept ≡ (D.upstream dialer.old).kept)
+        × ((D.upstream dialer.new).keeps ≡ (D.upstream dialer.old).keeps) }
 {
     let Ok(mut request) = request_to(alloc, leader, space) else {
         return Err(PollEnd::OutOfMemory);
@@ -122,14 +128,14 @@ fn host_of(alloc: Global, addr: Addr) -> Mem<Bytes>
 
 /// Sends a request over an open connection, and receives its reply.
 fn converse<D: Dialer>(alloc: Global, dialer: &mut D, request: &mut Bytes) -> Result<Feed, PollEnd>
-    requires { IsTrue (D.upstream dialer.old).is_open }
+    requires { IsSome (D.upstream dialer.old).open_to }
     ensures speaks { (sent : List (List ℕ)) × (got : List (List ℕ))
         × Grows (D.upstream dialer.old).log (D.upstream dialer.new).log
         (map Sent sent ++ map Got got)
         × Speaks request.old.items sent got (given result) }
     ensures faults { (D.upstream dialer.new).faults
         ≡ faults_after (D.upstream dialer.old).faults (given result) }
-    ensures stays { (D.upstream dialer.new).is_open ≡ (D.upstream dialer.old).is_open }
+    ensures stays { HasSameLinks (D.upstream dialer.old) (D.upstream dialer.new) }
 {
     let Ok(mut rest) = Rest::room(alloc) else {
         return Err(PollEnd::OutOfMemory);
@@ -144,12 +150,12 @@ fn converse<D: Dialer>(alloc: Global, dialer: &mut D, request: &mut Bytes) -> Re
 
 /// Receives the reply to a request.
 fn receive<D: Dialer>(alloc: Global, dialer: &mut D, rest: &mut Rest) -> Result<Feed, PollEnd>
-    requires { IsTrue (D.upstream dialer.old).is_open }
+    requires { IsSome (D.upstream dialer.old).open_to }
     ensures says { (got : List (List ℕ)) × Grows (D.upstream dialer.old).log
         (D.upstream dialer.new).log (map Got got) × Says got (given result) }
     ensures faults { (D.upstream dialer.new).faults
         ≡ faults_after (D.upstream dialer.old).faults (given result) }
-    ensures stays { (D.upstream dialer.new).is_open ≡ (D.upstream dialer.old).is_open }
+    ensures stays { HasSameLinks (D.upstream dialer.old) (D.upstream dialer.new) }
 {
     rest.clear();
     match read_reply_head(alloc, dialer, rest) {
@@ -165,13 +171,13 @@ fn receive_body<D: Dialer>(
     head: &ReplyHead,
     rest: &mut Rest,
 ) -> Result<Feed, PollEnd>
-    requires { IsTrue (D.upstream dialer.old).is_open }
+    requires { IsSome (D.upstream dialer.old).open_to }
     ensures says { (got : List (List ℕ)) × Grows (D.upstream dialer.old).log
         (D.upstream dialer.new).log (map Got got)
         × SaysBehind head.now rest.old got (given result) }
     ensures faults { (D.upstream dialer.new).faults
         ≡ faults_after (D.upstream dialer.old).faults (given result) }
-    ensures stays { (D.upstream dialer.new).is_open ≡ (D.upstream dialer.old).is_open }
+    ensures stays { HasSameLinks (D.upstream dialer.old) (D.upstream dialer.new) }
 {
     let Some(length) = length_in(head) else {
         return Err(PollEnd::Strange);

@@ -16,8 +16,8 @@ use Rattle.forward.specs.Listed.{StandFor}
 use Rattle.forward.proofs.Found.{left_is_kept}
 use Rattle.http_wire.specs.declared.head.ReplyHead.{ReplyHead}
 use Rattle.http_wire.specs.declared.frames.Framing.{Framing}
-use Rattle.forward.specs.Returned.{status_line, back_framing_lines, closing_lines, returned}
-use Rattle.forward.specs.Forwarded.{request_line, framing_lines, via, table_lines, residual_lines, lines, forwarded}
+use Rattle.forward.specs.Returned.{status_line, back_framing_lines, returned}
+use Rattle.forward.specs.Forwarded.{closing_lines, request_line, framing_lines, via, table_lines, residual_lines, lines, forwarded}
 
 ended-append : (xs ys : List (List ℕ)) → ended (xs ++ ys) ≡ ended xs ++ ended ys
 ended-append [] ys = refl
@@ -89,12 +89,12 @@ grown : (front : List ℕ) (lines more : List (List ℕ)) (before after : List �
 grown front lines more before after stand put =
     put ∙ ap (λ b. b ++ ended more) stand ∙ append_assoc front (ended lines) (ended more) ∙ ap (λ t. front ++ t) (sym (ended-append lines more))
 
-regrouped : (q h v s c e : List ℕ) (ks fs ts rs : List (List ℕ))
-    → ((((((q ∷ h ∷ ks) ++ fs) ++ v ∷ []) ++ ts) ++ s ∷ []) ++ c ∷ []) ++ rs ++ e ∷ []
-    ≡ q ∷ h ∷ ks ++ fs ++ v ∷ ts ++ s ∷ c ∷ rs ++ e ∷ []
-regrouped q h v s c e ks fs ts rs = simp append_assoc
+regrouped : (q h v s c : List ℕ) (ks fs ts rs es : List (List ℕ))
+    → ((((((q ∷ h ∷ ks) ++ fs) ++ v ∷ []) ++ ts) ++ s ∷ []) ++ c ∷ []) ++ rs ++ es
+    ≡ q ∷ h ∷ ks ++ fs ++ v ∷ ts ++ s ∷ c ∷ rs ++ es
+regrouped q h v s c ks fs ts rs es = simp append_assoc
 
-all_joined : (q h v s c e : List ℕ) (ks fs ts rs : List (List ℕ)) (r0 r1 r2 r3 r4 r5 r6 r7 r8 r9 r10 : List ℕ)
+all_joined : (q h v s c : List ℕ) (ks fs ts rs es : List (List ℕ)) (r0 r1 r2 r3 r4 r5 r6 r7 r8 r9 r10 : List ℕ)
     → r1 ≡ r0 ++ ended (q ∷ [])
     → r2 ≡ r1 ++ ended (h ∷ [])
     → r3 ≡ r2 ++ ended ks
@@ -104,9 +104,9 @@ all_joined : (q h v s c e : List ℕ) (ks fs ts rs : List (List ℕ)) (r0 r1 r2 
     → r7 ≡ r6 ++ ended (s ∷ [])
     → r8 ≡ r7 ++ ended (c ∷ [])
     → r9 ≡ r8 ++ ended rs
-    → r10 ≡ r9 ++ ended (e ∷ [])
-    → r10 ≡ r0 ++ ended (q ∷ h ∷ ks ++ fs ++ v ∷ ts ++ s ∷ c ∷ rs ++ e ∷ [])
-all_joined q h v s c e ks fs ts rs r0 r1 r2 r3 r4 r5 r6 r7 r8 r9 r10 e1 e2 e3 e4 e5 e6 e7 e8 e9 e10 =
+    → r10 ≡ r9 ++ ended es
+    → r10 ≡ r0 ++ ended (q ∷ h ∷ ks ++ fs ++ v ∷ ts ++ s ∷ c ∷ rs ++ es)
+all_joined q h v s c ks fs ts rs es r0 r1 r2 r3 r4 r5 r6 r7 r8 r9 r10 e1 e2 e3 e4 e5 e6 e7 e8 e9 e10 =
     let l3 = q ∷ h ∷ ks in
     let l4 = l3 ++ fs in
     let l5 = l4 ++ v ∷ [] in
@@ -118,7 +118,8 @@ all_joined q h v s c e ks fs ts rs r0 r1 r2 r3 r4 r5 r6 r7 r8 r9 r10 e1 e2 e3 e4
     let g5 : r5 ≡ r0 ++ ended l5 = grown r0 l4 (v ∷ []) r4 r5 (grown r0 l3 fs r3 r4 g3 e4) e5 in
     let g7 : r7 ≡ r0 ++ ended l7 = grown r0 l6 (s ∷ []) r6 r7 (grown r0 l5 ts r5 r6 g5 e6) e7 in
     let g9 : r9 ≡ r0 ++ ended (l8 ++ rs) = grown r0 l8 rs r8 r9 (grown r0 l7 (c ∷ []) r7 r8 g7 e8) e9 in
-    grown r0 (l8 ++ rs) (e ∷ []) r9 r10 g9 e10 ∙ ap (λ ls. r0 ++ ended ls) (regrouped q h v s c e ks fs ts rs)
+    grown r0 (l8 ++ rs) es r9 r10 g9 e10
+    ∙ ap (λ ls. r0 ++ ended ls) (regrouped q h v s c ks fs ts rs es)
 
 -- the bytes behind all lines are the head
 pub head_joined : (head : Head) (to : Going) (method said : List ℕ)
@@ -134,7 +135,7 @@ pub head_joined : (head : Head) (to : Going) (method said : List ℕ)
     → r7 ≡ r6 ++ ended (line_of (codes "l5d-dst-service") (canon_path to.service.now) ∷ [])
     → r8 ≡ r7 ++ ended (line_of (codes "l5d-dst-client") to.client.now ∷ [])
     → r9 ≡ r8 ++ ended (residual_lines to.residual.now)
-    → r10 ≡ r9 ++ ended (line_of (codes "Connection") (codes "close") ∷ [])
+    → r10 ≡ r9 ++ ended (closing_lines to.closes)
     → r11 ≡ r10 ++ crlf_bytes
     → r11 ≡ r0 ++ forwarded head to
 unfolding forwarded
@@ -146,8 +147,9 @@ head_joined head to method said r0 r1 r2 r3 r4 r5 r6 r7 r8 r9 r10 r11 m v e1 e2 
     ∙ ap (λ b. b ++ crlf_bytes)
     (all_joined (request_line head.method to.target.now) (line_of (codes "Host") to.host.now) (line_of (codes "Via") (via head.version))
     (line_of (codes "l5d-dst-service") (canon_path to.service.now)) (line_of (codes "l5d-dst-client") to.client.now)
-    (line_of (codes "Connection") (codes "close")) (map field_line (kept_but never_kept head.fields)) (framing_lines to.framing)
-    (table_lines (rules_of to.local.now)) (residual_lines to.residual.now) r0 r1 r2 r3 r4 r5 r6 r7 r8 r9 r10 first e2 e3 e4 fifth e6 e7 e8 e9 e10)
+    (map field_line (kept_but never_kept head.fields)) (framing_lines to.framing)
+    (table_lines (rules_of to.local.now)) (residual_lines to.residual.now)
+    (closing_lines to.closes) r0 r1 r2 r3 r4 r5 r6 r7 r8 r9 r10 first e2 e3 e4 fifth e6 e7 e8 e9 e10)
     ∙ append_assoc r0 (ended (lines head to)) crlf_bytes
 
 back_joined : (q v : List ℕ) (ks fs cs : List (List ℕ)) (r0 r1 r2 r3 r4 r5 r6 : List ℕ)

@@ -31,7 +31,7 @@ use Rattle.http_wire.proofs.Lengths.{led, length_agreed, trimmed_digits}
 use Rattle.http_wire.proofs.Looks.{differ, skip-other, token_byte_low, uri_byte_low}
 use Rattle.forward.specs.declared.going.Going.{Going}
 use Rattle.forward.specs.Dropped.{goes_on, has_name_of, kept, kept_but, named_in_connection, never_kept}
-use Rattle.forward.specs.Forwarded.{forwarded, framing_lines, lines, request_line, residual_lines, table_lines, via}
+use Rattle.forward.specs.Forwarded.{closing_lines, forwarded, framing_lines, lines, request_line, residual_lines, table_lines, via}
 use Rattle.forward.specs.Laws.{HeadsReadBack, IsPlainWay, IsRequestFraming, table_texts}
 use Rattle.httparse.specs.Ascii.{crlf_bytes}
 use Rattle.http_wire.specs.Lines.{ended, field_line, line_of}
@@ -66,11 +66,11 @@ abbrev own_pairs : Going → List Pair
 own_pairs to =
     (codes "l5d-dst-service", canon_path to.service.now) ∷ (codes "l5d-dst-client", to.client.now) ∷ residual_pairs to.residual.now
 
-abbrev last_pairs : List Pair
-last_pairs = (codes "Connection", codes "close") ∷ []
+abbrev last_pairs : Bool → List Pair
+last_pairs closes = cond closes ((codes "Connection", codes "close") ∷ []) []
 
 abbrev pairs : Head → Going → List Pair
-pairs head to = (((first_pairs head to ++ framing_pairs to.framing) ++ via_pairs head to) ++ own_pairs to) ++ last_pairs
+pairs head to = (((first_pairs head to ++ framing_pairs to.framing) ++ via_pairs head to) ++ own_pairs to) ++ last_pairs to.closes
 
 abbrev pair_line : Pair → List ℕ
 pair_line p = line_of p.0 p.1
@@ -97,6 +97,10 @@ residual_is (b ∷ bytes) = by_test (bytes_eq (b ∷ bytes) (codes "/"))
     by_test true = refl
     by_test false = refl
 
+closing_is : (closes : Bool) → closing_lines closes ≡ map pair_line (last_pairs closes)
+closing_is true = refl
+closing_is false = refl
+
 map_five : {A B : Type 0} (f : A → B) (a b c d e : List A)
     → map f ((((a ++ b) ++ c) ++ d) ++ e) ≡ (((map f a ++ map f b) ++ map f c) ++ map f d) ++ map f e
 map_five f a b c d e = simp map-append
@@ -107,9 +111,9 @@ lines_are head to =
     ∷ ((((line_of (codes "Host") to.host.now ∷ kept_lines (kept head.fields) i) ++ framing_is to.framing i)
     ++ line_of (codes "Via") (via head.version) ∷ table_is (rules_of to.local.now) i)
     ++ line_of (codes "l5d-dst-service") (canon_path to.service.now) ∷ line_of (codes "l5d-dst-client") to.client.now ∷ residual_is to.residual.now i)
-    ++ line_of (codes "Connection") (codes "close") ∷ [])
+    ++ closing_is to.closes i)
     ∙ ap (λ (ls : List (List ℕ)). request_line head.method to.target.now ∷ ls)
-    (sym (map_five pair_line (first_pairs head to) (framing_pairs to.framing) (via_pairs head to) (own_pairs to) last_pairs))
+    (sym (map_five pair_line (first_pairs head to) (framing_pairs to.framing) (via_pairs head to) (own_pairs to) (last_pairs to.closes)))
 
 -- ---- the parts of the head
 
@@ -221,6 +225,12 @@ sound_residual (b ∷ bytes) all = by_test (bytes_eq (b ∷ bytes) (codes "/"))
     by_test true = All-nil IsSoundPair
     by_test false = one (codes "l5d-dst-residual") (b ∷ bytes) residual_name all
 
+sound_last : (closes : Bool) → All IsSoundPair (last_pairs closes)
+sound_last true =
+    one (codes "Connection") (codes "close") connection_name
+    (AllPass-from_list_all is_value_byte (codes "close") refl)
+sound_last false = All-nil IsSoundPair
+
 five : (a b c d e : List Pair) → All IsSoundPair a → All IsSoundPair b → All IsSoundPair c → All IsSoundPair d → All IsSoundPair e
     → All IsSoundPair ((((a ++ b) ++ c) ++ d) ++ e)
 five a b c d e x y z u v =
@@ -229,7 +239,7 @@ five a b c d e x y z u v =
 
 sound_pairs : (head : Head) (to : Going) → IsSoundHead head → IsPlainWay to → All IsSoundPair (pairs head to)
 sound_pairs head to sound way =
-    five (first_pairs head to) (framing_pairs to.framing) (via_pairs head to) (own_pairs to) last_pairs
+    five (first_pairs head to) (framing_pairs to.framing) (via_pairs head to) (own_pairs to) (last_pairs to.closes)
     (sound_first head to sound way.host_bytes) (sound_framing to.framing way.framing)
     (All-cons IsSoundPair (codes "Via", via head.version) (table_pairs (rules_of to.local.now)) (via_name, via_text head.version)
     (sound_table (rules_of to.local.now) way.local))
@@ -237,7 +247,7 @@ sound_pairs head to sound way =
     (service_name, path_text to.service.now way.service)
     (All-cons IsSoundPair (codes "l5d-dst-client", to.client.now) (residual_pairs to.residual.now) (client_name, way.client)
     (sound_residual to.residual.now way.residual)))
-    (one (codes "Connection") (codes "close") connection_name (AllPass-from_list_all is_value_byte (codes "close") refl))
+    (sound_last to.closes)
 
 good_field : (p : Pair) → IsSoundPair p → IsField (line_field p)
 good_field p sound = record { name = sound.0; raw = All-cons IsValue 32 p.1 refl sound.1 }
@@ -418,6 +428,14 @@ residual_told name (b ∷ bytes) other = by_test (bytes_eq (b ∷ bytes) (codes 
     by_test true = refl
     by_test false = ap (λ (t : Bool). map (λ (f : Field). f.value) (cond t (back (codes "l5d-dst-residual", b ∷ bytes) ∷ []) [])) other
 
+closing_told : (name : List ℕ) (closes : Bool)
+    → same_ignoring_case (codes "Connection") name ≡ false → told name (last_pairs closes) ≡ []
+unfolding values_of
+closing_told name true other =
+    ap (λ (t : Bool). map (λ (f : Field). f.value)
+    (cond t (back (codes "Connection", codes "close") ∷ []) [])) other
+closing_told name false other = refl
+
 alone : (xs : List (List ℕ)) → ((([] ++ xs) ++ []) ++ []) ++ [] ≡ xs
 alone xs = simp append-nil
 
@@ -425,7 +443,7 @@ alone xs = simp append-nil
 framing_values : (name : List ℕ) (k : ℕ) (head : Head) (to : Going) → k < length never_kept
     → ((f : Field) → is_named name (back (pair_of f)) ≡ is_named (get_or never_kept k []) f)
     → told name ((codes "Host", to.host.now) ∷ []) ≡ [] → told name ((codes "Via", via head.version) ∷ []) ≡ []
-    → told name ((codes "l5d-dst-service", canon_path to.service.now) ∷ (codes "l5d-dst-client", to.client.now) ∷ []) ≡ [] → told name last_pairs ≡ []
+    → told name ((codes "l5d-dst-service", canon_path to.service.now) ∷ (codes "l5d-dst-client", to.client.now) ∷ []) ≡ [] → told name (last_pairs to.closes) ≡ []
     → same_ignoring_case (codes "l5d-ctx-dtab") name ≡ false → same_ignoring_case (codes "l5d-dst-residual") name ≡ false
     → told name (pairs head to) ≡ told name (framing_pairs to.framing)
 unfolding kept_but
@@ -438,20 +456,23 @@ framing_values name k head to within same host via_ own last table residual =
     let owns : told name (own_pairs to) ≡ [] =
     told_more name ((codes "l5d-dst-service", canon_path to.service.now) ∷ (codes "l5d-dst-client", to.client.now) ∷ []) (residual_pairs to.residual.now)
     ∙ (λ i. own i ++ residual_told name to.residual.now residual i) in
-    told_five name (first_pairs head to) (framing_pairs to.framing) (via_pairs head to) (own_pairs to) last_pairs
+    told_five name (first_pairs head to) (framing_pairs to.framing) (via_pairs head to) (own_pairs to) (last_pairs to.closes)
     ∙ ((λ i. (((firsts i ++ told name (framing_pairs to.framing)) ++ vias i) ++ owns i) ++ last i) ∙ alone (told name (framing_pairs to.framing)))
 
 codings : (head : Head) (to : Going) → told (codes "transfer-encoding") (pairs head to) ≡ told (codes "transfer-encoding") (framing_pairs to.framing)
 unfolding values_of same_ignoring_case
-codings head to = framing_values (codes "transfer-encoding") 2 head to (omega arith) (λ f. refl) refl refl refl refl refl refl
+codings head to = framing_values (codes "transfer-encoding") 2 head to (omega arith) (λ f. refl)
+    refl refl refl (closing_told (codes "transfer-encoding") to.closes refl) refl refl
 
 lengths : (head : Head) (to : Going) → told (codes "content-length") (pairs head to) ≡ told (codes "content-length") (framing_pairs to.framing)
 unfolding values_of same_ignoring_case
-lengths head to = framing_values (codes "content-length") 1 head to (omega arith) (λ f. refl) refl refl refl refl refl refl
+lengths head to = framing_values (codes "content-length") 1 head to (omega arith) (λ f. refl)
+    refl refl refl (closing_told (codes "content-length") to.closes refl) refl refl
 
 tables : (head : Head) (to : Going) → told (codes "l5d-dtab") (pairs head to) ≡ []
 unfolding values_of same_ignoring_case
-tables head to = framing_values (codes "l5d-dtab") 10 head to (omega arith) (λ f. refl) refl refl refl refl refl refl ∙ none to.framing
+tables head to = framing_values (codes "l5d-dtab") 10 head to (omega arith) (λ f. refl)
+    refl refl refl (closing_told (codes "l5d-dtab") to.closes refl) refl refl ∙ none to.framing
   where
     none : (f : Framing) → told (codes "l5d-dtab") (framing_pairs f) ≡ []
     none Framing.Nothing = refl
@@ -467,8 +488,9 @@ hosts head to =
     ap (λ (vs : List (List ℕ)). trim_ows (32 ∷ to.host.now) ∷ vs) (kept_none 0 (named_in_connection head.fields) name head.fields (omega arith) (λ f. refl)) in
     let vias : told name (via_pairs head to) ≡ [] = table_told name (rules_of to.local.now) refl in
     let owns : told name (own_pairs to) ≡ [] = residual_told name to.residual.now refl in
-    told_five name (first_pairs head to) (framing_pairs to.framing) (via_pairs head to) (own_pairs to) last_pairs
-    ∙ (λ i. (((firsts i ++ none to.framing i) ++ vias i) ++ owns i) ++ [])
+    told_five name (first_pairs head to) (framing_pairs to.framing) (via_pairs head to) (own_pairs to) (last_pairs to.closes)
+    ∙ (λ i. (((firsts i ++ none to.framing i) ++ vias i) ++ owns i)
+    ++ closing_told name to.closes refl i)
   where
     none : (f : Framing) → told (codes "host") (framing_pairs f) ≡ []
     none Framing.Nothing = refl
@@ -491,8 +513,9 @@ brought head to =
     let firsts : told name (first_pairs head to) ≡ [] = kept_none 11 (named_in_connection head.fields) name head.fields (omega arith) (λ f. refl) in
     let vias : told name (via_pairs head to) ≡ map trim_ows (table_texts (rules_of to.local.now)) = own_table (rules_of to.local.now) in
     let owns : told name (own_pairs to) ≡ [] = residual_told name to.residual.now refl in
-    told_five name (first_pairs head to) (framing_pairs to.framing) (via_pairs head to) (own_pairs to) last_pairs
-    ∙ ((λ i. (((firsts i ++ none to.framing i) ++ vias i) ++ owns i) ++ []) ∙ between (map trim_ows (table_texts (rules_of to.local.now))))
+    told_five name (first_pairs head to) (framing_pairs to.framing) (via_pairs head to) (own_pairs to) (last_pairs to.closes)
+    ∙ ((λ i. (((firsts i ++ none to.framing i) ++ vias i) ++ owns i)
+    ++ closing_told name to.closes refl i) ∙ between (map trim_ows (table_texts (rules_of to.local.now))))
   where
     none : (f : Framing) → told (codes "l5d-ctx-dtab") (framing_pairs f) ≡ []
     none Framing.Nothing = refl

@@ -1,5 +1,6 @@
 -- The head that goes on to a replica.
-use Rattle.std.specs.Prelude.{ℕ, ◌==◌, if◌then◌else◌, List, [], ◌∷◌, ◌++◌, map, codes, bytes_eq}
+use Rattle.std.specs.Prelude.{ℕ, Bool, ◌==◌, if◌then◌else◌, List, [], ◌∷◌, ◌++◌, map, codes}
+use Rattle.std.specs.Prelude.{bytes_eq}
 use Rattle.std.specs.Fmt.{decimal}
 use Rattle.name_tree.specs.Path.{canon_path}
 use Rattle.dtab_table.specs.Rules.{Rule}
@@ -36,7 +37,13 @@ table_lines (rule ∷ rules) = line_of (codes "l5d-ctx-dtab") (canon_table (rule
 abbrev pub residual_lines : List ℕ → List (List ℕ)
 residual_lines [] = []
 residual_lines (b ∷ bytes) =
-    if bytes_eq (b ∷ bytes) (codes "/") then [] else line_of (codes "l5d-dst-residual") (b ∷ bytes) ∷ []
+    if bytes_eq (b ∷ bytes) (codes "/")
+    then []
+    else line_of (codes "l5d-dst-residual") (b ∷ bytes) ∷ []
+
+-- whether the connection closes behind it (RFC 9112 section 9.6)
+abbrev pub closing_lines : Bool → List (List ℕ)
+closing_lines closing = if closing then line_of (codes "Connection") (codes "close") ∷ [] else []
 
 -- the lines of the head, without the empty one at its end
 abbrev pub lines : Head → Going → List (List ℕ)
@@ -50,8 +57,7 @@ lines head to =
     ++ line_of (codes "l5d-dst-service") (canon_path to.service.now)
     ∷ line_of (codes "l5d-dst-client") to.client.now
     ∷ residual_lines to.residual.now
-    ++ line_of (codes "Connection") (codes "close")
-    ∷ []
+    ++ closing_lines to.closes
 
 -- the bytes of the head: each line ends in CR LF, and an empty line ends the head
 unfoldable pub forwarded : Head → Going → List ℕ

@@ -1,5 +1,6 @@
 -- The head of a reply that goes back to the client.
-use Rattle.std.specs.Prelude.{ℕ, ◌+◌, ◌/◌, ◌%◌, Bool, ◌==◌, if◌then◌else◌, List, [], ◌∷◌, ◌++◌, map, codes, Option, Some, None}
+use Rattle.std.specs.Prelude.{ℕ, ◌+◌, ◌/◌, ◌%◌, Bool, ◌==◌, if◌then◌else◌, List, [], ◌∷◌, ◌++◌, map}
+use Rattle.std.specs.Prelude.{codes, Option, Some, None}
 use Rattle.std.specs.Fmt.{decimal}
 use Rattle.http_wire.specs.declared.head.ReplyHead.{ReplyHead}
 use Rattle.http_wire.specs.declared.frames.Framing.{Framing}
@@ -8,7 +9,7 @@ use Rattle.http_wire.specs.Framing.{agreed, pieces_of}
 use Rattle.httparse.specs.Ascii.{crlf_bytes}
 use Rattle.http_wire.specs.Lines.{ended, field_line, line_of}
 use Rattle.forward.specs.Dropped.{kept_back}
-use Rattle.forward.specs.Forwarded.{via}
+use Rattle.forward.specs.Forwarded.{closing_lines, via}
 
 -- the three digits of a status code
 abbrev pub three_digits : ℕ → List ℕ
@@ -23,14 +24,18 @@ abbrev pub length_lines : Option ℕ → List (List ℕ)
 length_lines None = []
 length_lines (Some n) = line_of (codes "Content-Length") (decimal n) ∷ []
 
--- the length that a reply without a body says, but for the status 204. It is then one of status 304, or one to HEAD
+-- the length that a reply without a body says, but for the status 204. It is then one of status
+-- 304, or one to HEAD
 abbrev pub own_length_lines : ReplyHead → List (List ℕ)
 own_length_lines head =
-    if head.status == 204 then [] else length_lines (agreed (pieces_of (values_of (codes "content-length") head.fields)))
+    if head.status == 204
+    then []
+    else length_lines (agreed (pieces_of (values_of (codes "content-length") head.fields)))
 
 -- chunks stay chunks for an HTTP/1.1 client, and are taken apart for an HTTP/1.0 one
 abbrev pub chunked_lines : Bool → List (List ℕ)
-chunked_lines chunked = if chunked then line_of (codes "Transfer-Encoding") (codes "chunked") ∷ [] else []
+chunked_lines chunked =
+    if chunked then line_of (codes "Transfer-Encoding") (codes "chunked") ∷ [] else []
 
 -- how the body is framed (RFC 9112 section 6)
 abbrev pub back_framing_lines : ReplyHead → Framing → Bool → List (List ℕ)
@@ -38,10 +43,6 @@ back_framing_lines head Framing.Nothing chunked = own_length_lines head
 back_framing_lines head (Framing.Length n) chunked = length_lines (Some n)
 back_framing_lines head Framing.Chunked chunked = chunked_lines chunked
 back_framing_lines head Framing.ToEnd chunked = []
-
--- whether the connection closes behind it (RFC 9112 section 9.6)
-abbrev pub closing_lines : Bool → List (List ℕ)
-closing_lines closing = if closing then line_of (codes "Connection") (codes "close") ∷ [] else []
 
 -- the bytes of the head: each line ends in CR LF, and an empty line ends the head
 unfoldable pub returned : ReplyHead → Framing → Bool → Bool → List ℕ

@@ -1,7 +1,9 @@
 //! The head of a reply, line by line.
 ghost use Rattle.std.specs.Prelude.{◌≡◌, ◌++◌, [], ◌∷◌, IfOk, OnErr, OnOk};
 ghost use Rattle.http_wire.specs.Lines.{ended};
-ghost use Rattle.forward.specs.Returned.{back_framing_lines, chunked_lines, closing_lines, length_lines, own_length_lines, returned, status_line, three_digits};
+ghost use Rattle.forward.specs.Forwarded.{closing_lines};
+ghost use Rattle.forward.specs.Returned.{back_framing_lines, chunked_lines, length_lines};
+ghost use Rattle.forward.specs.Returned.{own_length_lines, returned, status_line, three_digits};
 
 use crate::dropped::{NEVER_BACK, push_kept};
 use crate::going::via;
@@ -13,12 +15,13 @@ use std::alloc::Global;
 
 /// The head of a reply as it goes back to the client: `docs/HTTP.md` has its lines in order.
 ///
-/// `framing` is what [`reply_framing`](http_wire::reply_framing) says of the reply, `chunked` whether a body in chunks stays in chunks, as
-/// for a client that speaks HTTP/1.1, and `closing` whether the connection closes behind the reply. With no body and a status other than
-/// 204 the reply is one of status 304, or one to HEAD, so the length that it says stands.
+/// `framing` is what [`reply_framing`](http_wire::reply_framing) says of the reply, `chunked`
+/// whether a body in chunks stays in chunks, as for a client that speaks HTTP/1.1, and `closing`
+/// whether the connection closes behind the reply. With no body and a status other than 204 the
+/// reply is one of status 304, or one to HEAD, so the length that it says stands.
 ///
-/// It takes time for the bytes of both heads, and a search by halves among the listed names for each field. It takes memory for the bytes
-/// that it gives and for the listed names.
+/// It takes time for the bytes of both heads, and a search by halves among the listed names for
+/// each field. It takes memory for the bytes that it gives and for the listed names.
 pub fn back_head(
     alloc: Global,
     head: &ReplyHead,
@@ -62,7 +65,8 @@ fn push_head(
     chunked: bool,
     closing: bool,
 ) -> Mem<()>
-    ensures { OnOk result (out.new.items ≡ out.old.items ++ returned head.now framing chunked closing) }
+    ensures { OnOk result
+        (out.new.items ≡ out.old.items ++ returned head.now framing chunked closing) }
 {
     let listed = Listed::of(alloc, head.fields.items())?;
     push_status_line(out, head.status, head.reason.bytes())?;
@@ -76,7 +80,8 @@ fn push_head(
 
 /// Adds the status line.
 fn push_status_line(head: &mut Bytes, status: u16, reason: &[u8]) -> Mem<()>
-    ensures { OnOk result (head.new.items ≡ head.old.items ++ ended (status_line status reason.now ∷ [])) }
+    ensures { OnOk result
+        (head.new.items ≡ head.old.items ++ ended (status_line status reason.now ∷ [])) }
 {
     let digits = three_digits(status);
     head.extend_from_slice(b"HTTP/1.1 ")?;
@@ -99,7 +104,8 @@ fn three_digits(status: u16) -> [u8; 3]
 
 /// Adds the field that frames the body, or tells of its length, if one does.
 fn push_framing(head: &mut Bytes, from: &ReplyHead, framing: Framing, chunked: bool) -> Mem<()>
-    ensures { OnOk result (head.new.items ≡ head.old.items ++ ended (back_framing_lines from.now framing chunked)) }
+    ensures { OnOk result
+        (head.new.items ≡ head.old.items ++ ended (back_framing_lines from.now framing chunked)) }
 {
     match framing {
         Framing::Nothing => push_own_length(head, from),
@@ -144,7 +150,7 @@ fn push_length(head: &mut Bytes, length: Option<u64>) -> Mem<()>
 }
 
 /// Adds the field that says that the connection closes, where it does.
-fn push_closing(head: &mut Bytes, closing: bool) -> Mem<()>
+pub(crate) fn push_closing(head: &mut Bytes, closing: bool) -> Mem<()>
     ensures { OnOk result (head.new.items ≡ head.old.items ++ ended (closing_lines closing)) }
 {
     if closing {

@@ -3,8 +3,10 @@ ghost use Rattle.std.specs.Prelude.{◌≡◌, ◌++◌, [], ◌∷◌, codes, I
 ghost use Rattle.name_tree.specs.Path.{canon_path};
 ghost use Rattle.dtab_table.specs.Dtab.{rules_of};
 ghost use Rattle.http_wire.specs.Lines.{ended, line_of};
-ghost use Rattle.forward.specs.Forwarded.{forwarded, framing_lines, request_line, residual_lines, table_lines, via};
+ghost use Rattle.forward.specs.Forwarded.{forwarded, framing_lines, request_line, residual_lines};
+ghost use Rattle.forward.specs.Forwarded.{table_lines, via};
 
+use crate::back::push_closing;
 use crate::dropped::{NEVER_KEPT, push_kept};
 use crate::listed::Listed;
 use crate::{Bytes, Mem, ROOM};
@@ -14,16 +16,20 @@ use itoa::Buffer;
 use name_tree::{Path, append_path};
 use std::alloc::Global;
 
-/// What the head has on its way to a replica, beside what was received. Each text stands in the head as it is given here. So a text that has
-/// other bytes than may stand there gives a head that is read as another one, or as none; `IsPlainWay` of `specs/Laws.antt` says of which texts it
-/// is read as it was meant.
+/// What the head has on its way to a replica, beside what was received. Each text stands in the
+/// head as it is given here. So a text that has other bytes than may stand there gives a head that
+/// is read as another one, or as none; `IsPlainWay` of `specs/Laws.antt` says of which texts it is
+/// read as it was meant.
 #[derive(Clone, Copy, Debug)]
 pub struct Going<'a> {
-    /// The value of the Host field: whom the request asks, or the address that is dialled where it names nobody.
+    /// The value of the Host field: whom the request asks, or the address that is dialled where it
+    /// names nobody.
     pub host: &'a [u8],
-    /// The target of the request line, as [`read_target`](http_wire::read_target) gives it: a path with its query, or `*`.
+    /// The target of the request line, as [`read_target`](http_wire::read_target) gives it: a path
+    /// with its query, or `*`.
     pub target: &'a [u8],
-    /// How the body behind the head is framed. `ToEnd`, which no request has, writes what `Nothing` does.
+    /// How the body behind the head is framed. `ToEnd`, which no request has, writes what `Nothing`
+    /// does.
     pub framing: Framing,
     /// The table that the request brought along.
     pub local: &'a Dtab,
@@ -31,15 +37,18 @@ pub struct Going<'a> {
     pub service: &'a Path,
     /// The canonical text of the path of the replica set that was picked.
     pub client: &'a [u8],
-    /// The canonical text of the path that was left over. `/`, the text of the path with no label, and no bytes at all both say
-    /// that nothing was.
+    /// The canonical text of the path that was left over. `/`, the text of the path with no label,
+    /// and no bytes at all both say that nothing was.
     pub residual: &'a [u8],
+    /// Whether the connection to the replica closes behind the reply.
+    pub closes: bool,
 }
 
 /// The head of the request as it goes on to a replica: `docs/HTTP.md` has its lines in order.
 ///
-/// It takes time for the bytes of both heads, and a search by halves among the names that Connection fields list for each field. It takes
-/// memory for the bytes that it gives, for the listed names, and for the text of the table, if that has an entry.
+/// It takes time for the bytes of both heads, and a search by halves among the names that
+/// Connection fields list for each field. It takes memory for the bytes that it gives, for the
+/// listed names, and for the text of the table, if that has an entry.
 pub fn forward_head(alloc: Global, head: &Head, to: &Going<'_>) -> Mem<Bytes>
     ensures { IfOk result (λ bytes. bytes.items ≡ forwarded head.now to.now) }
 {
@@ -48,7 +57,8 @@ pub fn forward_head(alloc: Global, head: &Head, to: &Going<'_>) -> Mem<Bytes>
     Ok(bytes)
 }
 
-/// Puts the same bytes into `out`, in place of what it holds, so that a connection has one buffer for all its heads. An `Err` leaves it empty.
+/// Puts the same bytes into `out`, in place of what it holds, so that a connection has one buffer
+/// for all its heads. An `Err` leaves it empty.
 pub fn forward_head_into(alloc: Global, head: &Head, to: &Going<'_>, out: &mut Bytes) -> Mem<()>
     ensures ok { OnOk result (out.new.items ≡ forwarded head.now to.now) }
     ensures err { OnErr result (out.new.items ≡ []) }
@@ -75,14 +85,15 @@ fn push_head(alloc: Global, out: &mut Bytes, head: &Head, to: &Going<'_>) -> Mem
     push_service(out, to.service)?;
     push_line(out, "l5d-dst-client", to.client)?;
     push_residual(out, to.residual)?;
-    push_line(out, "Connection", b"close")?;
+    push_closing(out, to.closes)?;
     end_line(out)?;
     Ok(())
 }
 
 /// Adds the request line.
 fn push_request_line(head: &mut Bytes, method: &str, target: &[u8]) -> Mem<()>
-    ensures { OnOk result (head.new.items ≡ head.old.items ++ ended (request_line method.now target.now ∷ [])) }
+    ensures { OnOk result
+        (head.new.items ≡ head.old.items ++ ended (request_line method.now target.now ∷ [])) }
 {
     head.extend_from_slice(method.as_bytes())?;
     head.extend_from_slice(b" ")?;
@@ -118,7 +129,8 @@ pub(crate) fn via(minor: u8) -> &'static str
 
 /// Adds the request's own table, unless it has no entry.
 fn push_table(alloc: Global, head: &mut Bytes, table: &Dtab) -> Mem<()>
-    ensures { OnOk result (head.new.items ≡ head.old.items ++ ended (table_lines (rules_of table.now))) }
+    ensures { OnOk result
+        (head.new.items ≡ head.old.items ++ ended (table_lines (rules_of table.now))) }
 {
     if table.len() == 0 {
         return Ok(());
@@ -129,7 +141,9 @@ fn push_table(alloc: Global, head: &mut Bytes, table: &Dtab) -> Mem<()>
 
 /// Adds the path that the request was identified as.
 fn push_service(head: &mut Bytes, service: &Path) -> Mem<()>
-    ensures { OnOk result (head.new.items ≡ head.old.items ++ ended (line_of (codes "l5d-dst-service") (canon_path service.now) ∷ [])) }
+    ensures { OnOk result
+        (head.new.items ≡ head.old.items
+        ++ ended (line_of (codes "l5d-dst-service") (canon_path service.now) ∷ [])) }
 {
     head.extend_from_slice(b"l5d-dst-service: ")?;
     append_path(service, head)?;

@@ -1,13 +1,17 @@
-//! The head of a request as it goes on to a replica, and that of a reply as it goes back to the client.
+//! The head of a request as it goes on to a replica, and that of a reply as it goes back to the
+//! client.
 //!
-//! [`forward_head`] writes it from the [`Head`](http_wire::Head) that was received and from what [`Going`] says of the way that the
-//! request takes. It names the host once, leaves out the fields that speak of one connection and those that a Connection field
-//! lists, frames the body anew, and adds the router's own fields. `docs/HTTP.md` states each line.
+//! [`forward_head`] writes it from the [`Head`](http_wire::Head) that was received and from what
+//! [`Going`] says of the way that the request takes. It names the host once, leaves out the fields
+//! that speak of one connection and those that a Connection field lists, frames the body anew, and
+//! adds the router's own fields. `docs/HTTP.md` states each line.
 //!
 //! # What is proved
-//! [`forward_head`] gives exactly the bytes of `forwarded` of `specs/Forwarded.antt`, for every head and every way, and [`back_head`] those of
-//! `returned` of `specs/Returned.antt`. `kept` and `kept_back` of `specs/Dropped.antt` say which fields are among them. [`forward_head_into`] and
-//! [`back_head_into`] put the same bytes into a buffer. [`heads_read_back`] says of which heads and ways what is written is read as it was meant.
+//! [`forward_head`] gives exactly the bytes of `forwarded` of `specs/Forwarded.antt`, for every
+//! head and every way, and [`back_head`] those of `returned` of `specs/Returned.antt`. `kept` and
+//! `kept_back` of `specs/Dropped.antt` say which fields are among them. [`forward_head_into`] and
+//! [`back_head_into`] put the same bytes into a buffer. [`heads_read_back`] says of which heads and
+//! ways what is written is read as it was meant.
 //!
 //! # Example
 //! ```
@@ -21,6 +25,7 @@
 //!     service: &read_path(alloc, b"/svc/web")?,
 //!     client: b"/$/inet/127.0.0.1/9001",
 //!     residual: b"/",
+//!     closes: true,
 //! };
 //! assert_eq!(
 //!     forward_head(alloc, &head, &to)?.as_slice(),

@@ -1,10 +1,10 @@
 //! What the objects in memory give and take, call by call.
-ghost use Rattle.std.specs.Prelude.{◌≡◌, ◌<◌};
+ghost use Rattle.std.specs.Prelude.{◌≡◌, ◌≤◌, ◌<◌};
 
 use line_base::{
-    Clock, DialEvent, Dialer, Failed, Folder, FolderFault, Found, Listener, Mem, MemAddress,
-    MemClock, MemDialer, MemDials, MemFile, MemFolder, MemNet, MemPeer, MemSink, MemSource,
-    MemStop, MemVisits, Net, NetFault, Peer, Sink, Source, Stop,
+    Clock, ConnectionPool, DialEvent, Dialer, Failed, Folder, FolderFault, Found, Listener, Mem,
+    MemAddress, MemClock, MemDialer, MemDials, MemFile, MemFolder, MemNet, MemPeer, MemSink,
+    MemSource, MemStop, MemVisits, Net, NetFault, Peer, Sink, Source, Stop,
 };
 use std::alloc::Global;
 use std::marker::Brand;
@@ -157,6 +157,8 @@ fn log_text(alloc: Global, log: &[DialEvent]) -> Mem<Vec<u8>> {
             DialEvent::Sent(piece) => (b'S', piece.bytes()),
             DialEvent::Got(piece) => (b'G', piece.bytes()),
             DialEvent::Hung => (b'H', b"".as_slice()),
+            DialEvent::Resumed(_, _) => (b'R', b"".as_slice()),
+            DialEvent::Kept => (b'K', b"".as_slice()),
         };
         text.push(letter)?;
         text.extend_from_slice(moved)?;
@@ -188,10 +190,55 @@ fn dialer_keeps_a_log(rt: HostRuntime) -> Result<(), Fail> {
     ];
     for (bytes, gives, faults) in rows {
         assert!(rt; connect_once(&mut dialer, bytes.as_bytes(), &mut into) == gives);
-        assert!(rt; dialer.faults() == faults && !dialer.is_open());
+        assert!(rt; dialer.faults() == faults && dialer.open_to().is_none());
     }
     let log = log_text(rt.alloc(), dialer.log())?;
     assert!(rt; log.as_slice() == b"DSheGabGcHDGxyzGHDGGH".as_slice());
+    Ok(())
+}
+
+/// One visit: a connection is resumed, or else dialed; so many bytes are received at most; and it is
+/// put aside, or ended.
+fn visit<D: Dialer>(dialer: &mut D, port: u16, room: usize, keeps: bool) -> Result<usize, Failed>
+    requires { room ≤ 4 }
+{
+    if !dialer.resume(7, port) {
+        match dialer.dial(7, port) {
+            Ok(()) => {}
+            Err(failed) => return Err(failed),
+        }
+    }
+    let mut into = [0u8; 4];
+    let got = dialer.recv(&mut into[..room]);
+    if keeps && dialer.keeps() {
+        dialer.keep();
+    } else {
+        dialer.hang();
+    }
+    got
+}
+
+/// A kept connection is resumed for its own port alone; not where a byte of its last reply is left,
+/// and not at the call 11, which fails. The call 18 fails by waiting.
+#[test]
+fn dialer_keeps_connections(rt: HostRuntime) -> Result<(), Fail> {
+    let plain = dialer_of(rt.alloc(), &[], &[11, 18])?;
+    let mut dialer = plain.keeping(true, vec![in rt.alloc(); 18]?);
+    let rows: [(u16, usize, bool, Result<usize, Failed>); 7] = [
+        (1, 4, true, Ok(3)),
+        (1, 2, true, Ok(2)),
+        (1, 4, true, Ok(0)),
+        (2, 4, false, Ok(0)),
+        (1, 4, true, Ok(0)),
+        (1, 4, false, Ok(0)),
+        (1, 4, false, Err(Failed)),
+    ];
+    for (port, room, keeps, gives) in rows {
+        assert!(rt; visit(&mut dialer, port, room, keeps) == gives);
+    }
+    let log = log_text(rt.alloc(), dialer.log())?;
+    assert!(rt; log.as_slice() == b"DGabcKRGxyKDGKDGHDGKRGHDH".as_slice());
+    assert!(rt; dialer.is_late() && dialer.faults() == 1);
     Ok(())
 }
 
@@ -314,7 +361,7 @@ fn answers<L: Listener>(listener: &mut L) -> [u8; 5] {
 fn answer_and_end<N: Net>(net: &mut N, listener: N::L) -> Result<[u8; 5], NetFault> {
     let mut listener = listener;
     let told = answers(&mut listener);
-    let (dialer, stop) = (net.dialer(), net.stopper());
+    let (dialer, stop) = (net.dialer(ConnectionPool::NONE), net.stopper());
     match net.end(listener, Some(dialer), stop) {
         Ok(()) => Ok(told),
         Err(_) => Err(NetFault::Failed),
@@ -323,7 +370,7 @@ fn answer_and_end<N: Net>(net: &mut N, listener: N::L) -> Result<[u8; 5], NetFau
 
 /// Listens on port 80 of an address, at two places, and gives each listener back behind its five answers, all in one text.
 fn listen_twice<N: Net>(net: &mut N, alloc: Global, ip: u32) -> Result<Vec<u8>, NetFault> {
-    let listeners = match net.listen(ip, 80, 2) {
+    let listeners = match net.listen(ip, 80, 2, 0) {
         Ok(listeners) => listeners.into_items(),
         Err(fault) => return Err(fault),
     };

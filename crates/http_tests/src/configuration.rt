@@ -96,6 +96,14 @@ const ROUTER: &str = r#""label":{},"httpAccessLog":null => ok
 "client":{} => ok
 "client":{"tls":1} => routers[0].client.tls unknown
 "client":{"failureAccrual":{}} => routers[0].client.failureAccrual.kind missing
+"client":{"failureAccrual":{},"hostConnectionPool":1} => routers[0].client.failureAccrual.kind missing
+"client":{"hostConnectionPool":1} => routers[0].client.hostConnectionPool bad
+"client":{"hostConnectionPool":{}} => ok
+"client":{"hostConnectionPool":{"minSize":0}} => routers[0].client.hostConnectionPool.minSize unknown
+"client":{"hostConnectionPool":{"maxSize":0,"idleTimeMs":0}} => ok
+"client":{"hostConnectionPool":{"maxSize":64,"idleTimeMs":3600000}} => ok
+"client":{"hostConnectionPool":{"maxSize":65,"idleTimeMs":-1}} => routers[0].client.hostConnectionPool.maxSize bad
+"client":{"hostConnectionPool":{"idleTimeMs":3600001}} => routers[0].client.hostConnectionPool.idleTimeMs bad
 "client":{"failureAccrual":{"kind":"none","failures":0}} => routers[0].client.failureAccrual.kind bad
 "dtab":"","dstPrefix":"","identifier":1 => routers[0].dstPrefix bad
 "dtab":1,"dstPrefix":1 => routers[0].dtab bad
@@ -277,13 +285,17 @@ fn values_that_are_said(rt: HostRuntime) -> Result<(), Fail> {
     Ok(())
 }
 
-/// How often a request may be tried again, and where the feed is served with the number of its run:
-/// `-` stands for what is not said.
+/// Which connections to replicas are kept, how often a request may be tried again, and where the
+/// feed is served with the number of its run: `-` stands for what is not said.
 fn additions_text(alloc: Global, config: &Config) -> Mem<Bytes> {
-    let mut text = match config.retries {
-        Some(tries) => format!(in alloc; "{} {} {} ", tries.percent, tries.reserve, tries.most)?,
+    let mut text = match config.pool {
+        Some(pool) => format!(in alloc; "{} {} ", pool.max_size, pool.idle_ms)?,
         None => String::from_str(alloc, "- ")?,
     };
+    match config.retries {
+        Some(tries) => write!(text, "{} {} {} ", tries.percent, tries.reserve, tries.most)?,
+        None => text.push_str("- ")?,
+    }
     match config.feed {
         Some(feed) => {
             let (ip, port) = (feed.port.ip, feed.port.port);
@@ -301,18 +313,22 @@ fn additions_text(alloc: Global, config: &Config) -> Mem<Bytes> {
 #[test]
 fn additions(rt: HostRuntime) -> Result<(), Fail> {
     let rows = [
-        (r#"{"routers":[{"protocol":"http"}]}"#, "- -"),
+        (r#"{"routers":[{"protocol":"http"}]}"#, "- - -"),
+        (
+            r#"{"routers":[{"protocol":"http","client":{"hostConnectionPool":{}}}]}"#,
+            "16 10000 - -",
+        ),
         (
             r#"{"routers":[{"protocol":"http","retries":{}}],"feed":{}}"#,
-            "20 10 3 7f000001 4181 -",
+            "- 20 10 3 7f000001 4181 -",
         ),
         (
             r#"{"routers":[{"protocol":"http","retries":{"percent":1,"reserve":2,"most":4}}]}"#,
-            "1 2 4 -",
+            "- 1 2 4 -",
         ),
         (
             r#"{"routers":[{"protocol":"http"}],"feed":{"ip":"10.0.0.1","port":5,"run":6}}"#,
-            "- a000001 5 6",
+            "- - a000001 5 6",
         ),
     ];
     for (said, want) in rows {

@@ -42,6 +42,7 @@ fn gone(
         service: &service,
         client: b"/$/inet/127.0.0.1/9001",
         residual: b"/",
+        closes: true,
     };
     let mut into = Vec::from_slice(alloc, b"old")?;
     forward_head_into(alloc, head, &to, &mut into)?;

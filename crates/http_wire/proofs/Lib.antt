@@ -1,3 +1,5 @@
+pub mod Coming
+pub mod Endings
 pub mod Asked
 pub mod Excluding
 pub mod FieldLemmas

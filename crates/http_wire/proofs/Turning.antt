@@ -155,3 +155,41 @@ pub answered_first : (l0 l1 : Option (List ℕ)) (k0 k1 : List ℕ) (e0 e1 f0 f1
     → LooksFirst l0 l1 k0 k1 e0 e1 f0 f1 (Answered result)
 answered_first l0 l1 k0 k1 e0 e1 f0 f1 result turn =
     (reads_after l0 l0 l1 k0 k0 k1 [] e0 e1 f0 f1 result (nothing_read l0) (inl refl) (sym (append-nil k0)) turn, turn.causes)
+
+-- ---- a head behind a first piece that was waited for
+
+-- a piece that came where nothing was kept, and what came behind it
+pub prompt_behind : (k0 k1 piece taken : List ℕ) → k1 ≡ k0 ++ piece → IsPrompt k0 piece → IsPrompt k1 taken → IsPrompt k0 (piece ++ taken)
+prompt_behind k0 k1 piece taken grown first (inl none) =
+    subst (IsPrompt k0) (sym (ap (λ (xs : List ℕ). piece ++ xs) none ∙ append-nil piece)) first
+prompt_behind k0 k1 piece taken grown first (inr last) =
+    inr (record {
+      earlier = piece ++ last.earlier;
+      piece = last.piece;
+      cut = ap (λ (xs : List ℕ). piece ++ xs) last.cut ∙ sym (append_assoc piece last.earlier last.piece);
+      short = last.short;
+      unfinished =
+          subst IsUnfinished (ap (λ (xs : List ℕ). xs ++ last.earlier) grown ∙ append_assoc k0 piece last.earlier)
+          last.unfinished;
+    })
+
+pub reads_behind : (l0 l1 l2 : Option (List ℕ)) (k0 k1 k2 piece : List ℕ) (result : Result Head HeadEnd)
+    → Consumes l0 l1 piece → IsPrompt k0 piece → k1 ≡ k0 ++ piece → ReadsHead l1 l2 k1 k2 result → ReadsHead l0 l2 k0 k2 result
+reads_behind l0 l1 l2 k0 k1 k2 piece result first prompt grown later = record {
+  taken = piece ++ later.taken;
+  given = Consumes-trans l0 l1 l2 piece later.taken first later.given;
+  prompt = prompt_behind k0 k1 piece later.taken grown prompt later.prompt;
+  answers =
+      subst (λ (all : List ℕ). Answers all k2 result)
+      (ap (λ (xs : List ℕ). xs ++ later.taken) grown ∙ append_assoc k0 piece later.taken) later.answers;
+}
+
+-- no piece came where nothing was kept
+pub ended_at_once : (l0 l1 : Option (List ℕ)) (k0 k1 : List ℕ) (result : Result Head HeadEnd) → Consumes l0 l1 []
+    → Answers k0 k1 result → ReadsHead l0 l1 k0 k1 result
+ended_at_once l0 l1 k0 k1 result given answers = record {
+  taken = [];
+  given = given;
+  prompt = inl refl;
+  answers = subst (λ (all : List ℕ). Answers all k1 result) (sym (append-nil k0)) answers;
+}

@@ -1,3 +1,4 @@
+pub mod Ended
 pub mod Fields
 pub mod FirstLine
 pub mod Framing
@@ -5,6 +6,7 @@ pub mod Heads
 pub mod Host
 pub mod Laws
 pub mod Lines
+pub mod Next
 pub mod Parsed
 pub mod Places
 pub mod Reading

@@ -1,5 +1,6 @@
 //! Reading the head of a reply.
-ghost use Rattle.std.specs.Prelude.{◌≡◌, true, false, ◌<◌, ◌≤◌, Err, length, IfOk, IsTrue, OnOk};
+ghost use Rattle.std.specs.Prelude.{◌≡◌, true, false, ◌<◌, ◌≤◌, Err, length, IfOk, IsSome, OnOk};
+ghost use Rattle.line_base.specs.Dials.{HasSameLinks};
 ghost use Rattle.http_wire.specs.Heads.{most};
 ghost use Rattle.http_wire.specs.Reading.{is_fault, raised_at};
 ghost use Rattle.http_wire.specs.Replies.{is_at_end, IsDecidedReply, Tracks};
@@ -17,29 +18,33 @@ use crate::seen::{MOST_HEAD, window_of};
 use line_base::Dialer;
 use std::alloc::Global;
 
-/// Reads the head of the next reply: of the bytes that are kept and those that the dialer receives behind them, whatever the pieces
-/// in which they come. The bytes behind the head stay in `rest`; without a head all of them do.
+/// Reads the head of the next reply: of the bytes that are kept and those that the dialer receives
+/// behind them, whatever the pieces in which they come. The bytes behind the head stay in `rest`;
+/// without a head all of them do.
 ///
-/// It reads as [`read_request_head`](crate::read_request_head) does: empty lines before the status line are skipped, a line may end in a
-/// line feed alone, and what refuses a request's head there refuses a reply's. The status line is not looked at beforehand, so a version that
-/// is not served is `Bad`. Each byte is followed once as it comes, and the bytes are parsed once: where they show the head's end or that
-/// there is none, or at 65,536 bytes.
+/// It reads as [`read_request_head`](crate::read_request_head) does: empty lines before the status
+/// line are skipped, a line may end in a line feed alone, and what refuses a request's head there
+/// refuses a reply's. The status line is not looked at beforehand, so a version that is not served
+/// is `Bad`. Each byte is followed once as it comes, and the bytes are parsed once: where they show
+/// the head's end or that there is none, or at 65,536 bytes.
 ///
 /// # Errors
-/// Each says what the bytes show, or what the last receive gave: see [`HeadEnd`]. `Version` never comes.
+/// Each says what the bytes show, or what the last receive gave: see [`HeadEnd`]. `Version` never
+/// comes.
 pub fn read_reply_head<D: Dialer>(
     alloc: Global,
     dialer: &mut D,
     rest: &mut Rest,
 ) -> Result<ReplyHead, HeadEnd>
-    requires { IsTrue (D.upstream dialer.old).is_open }
-    ensures head { ReadsReply (D.upstream dialer.old).left (D.upstream dialer.new).left (D.upstream dialer.old).log (D.upstream dialer.new).log
+    requires { IsSome (D.upstream dialer.old).open_to }
+    ensures head { ReadsReply (D.upstream dialer.old).left (D.upstream dialer.new).left
+        (D.upstream dialer.old).log (D.upstream dialer.new).log
         rest.old rest.new result }
     ensures sound { IfOk result IsSoundReply }
     ensures fault { (D.upstream dialer.new).faults ≡ raised_at (is_fault result)
         (D.upstream dialer.old).faults }
     ensures faults { (D.upstream dialer.old).faults ≤ (D.upstream dialer.new).faults }
-    ensures stays { (D.upstream dialer.new).is_open ≡ (D.upstream dialer.old).is_open }
+    ensures stays { HasSameLinks (D.upstream dialer.old) (D.upstream dialer.new) }
 {
     let mut watch = ReplyWatch::new();
     watch.follow(rest.kept());
@@ -54,7 +59,8 @@ pub fn read_reply_head<D: Dialer>(
 
 /// Whether the bytes show the head's end, or that there is none, or are as many as a head may have.
 fn is_settled(watch: &ReplyWatch, rest: &Rest) -> bool
-    ensures open_ { result ≡ false → (is_at_end watch.now.place ≡ false) × (length rest.now < most) }
+    ensures open_ { result ≡ false → (is_at_end watch.now.place ≡ false)
+        × (length rest.now < most) }
     ensures settled { result ≡ true → length rest.now < most → is_at_end watch.now.place ≡ true }
 {
     watch.is_at_end() || rest.kept().len() >= MOST_HEAD
@@ -66,16 +72,17 @@ fn receive_once<D: Dialer>(
     rest: &mut Rest,
     watch: &mut ReplyWatch,
 ) -> Result<(), HeadEnd>
-    requires open_ { IsTrue (D.upstream dialer.old).is_open }
+    requires open_ { IsSome (D.upstream dialer.old).open_to }
     requires few { length rest.old < most }
     requires tracks { Tracks rest.old watch.old.place }
-    ensures bytes { ReceivesOnce (D.upstream dialer.old).left (D.upstream dialer.new).left (D.upstream dialer.old).log (D.upstream dialer.new).log
+    ensures bytes { ReceivesOnce (D.upstream dialer.old).left (D.upstream dialer.new).left
+        (D.upstream dialer.old).log (D.upstream dialer.new).log
         rest.old rest.new result }
     ensures tracks { OnOk result (Tracks rest.new watch.new.place) }
     ensures fault { (D.upstream dialer.new).faults ≡ raised_at (is_fault result)
         (D.upstream dialer.old).faults }
     ensures faults { (D.upstream dialer.old).faults ≤ (D.upstream dialer.new).faults }
-    ensures stays { (D.upstream dialer.new).is_open ≡ (D.upstream dialer.old).is_open }
+    ensures stays { HasSameLinks (D.upstream dialer.old) (D.upstream dialer.new) }
 {
     let followed = rest.kept().len();
     match rest.fill_from(dialer) {

@@ -1,8 +1,9 @@
 //! The room that a connection's reads go into.
-ghost use Rattle.std.specs.Prelude.{◌≡◌, ◌+◌, ◌≤◌, ◌<◌, [], ◌++◌, drop, length, vec_len, IfOk, OnOk, IsTrue};
+ghost use Rattle.std.specs.Prelude.{◌≡◌, ◌+◌, ◌≤◌, ◌<◌, [], ◌++◌, drop, length, vec_len, IfOk};
+ghost use Rattle.std.specs.Prelude.{OnOk, IsSome};
 
 use crate::Mem;
-use line_base::{Dialer, Failed, Peer};
+use line_base::{Dialer, Failed, Next, Peer};
 use std::alloc::Global;
 
 /// The room that a connection begins with, and all that a body needs.
@@ -17,19 +18,22 @@ const LEAST_PIECE: usize = 4096;
 /// The greatest room: the longest unfinished head, and the least room for a piece behind it.
 pub(crate) const MOST_ROOM: usize = 69632;
 
-/// Bytes in a room: those from `at` to `end` are held, and reads go behind them. Nothing is moved but to make room.
+/// Bytes in a room: those from `at` to `end` are held, and reads go behind them. Nothing is moved
+/// but to make room.
 #[derive(Debug, Drop)]
 pub(crate) struct Room {
     bytes: Vec<u8>,
     at: usize,
     end: usize,
-    ghost within: { (at ≤ end) × (end ≤ vec_len bytes) × (16384 ≤ vec_len bytes) × (vec_len bytes ≤ 69632) },
+    ghost within: { (at ≤ end) × (end ≤ vec_len bytes) × (16384 ≤ vec_len bytes)
+        × (vec_len bytes ≤ 69632) },
 }
 
 impl Room {
+    ghost use Rattle.line_base.specs.Dials.{HasSameLinks};
     ghost use Rattle.line_base.specs.Lines.{IsUnwritten};
     ghost use Rattle.line_base.specs.Counts.{HasCause, CountsEnds};
-    ghost use Rattle.http_wire.specs.Rest.{held, Fills, Receives};
+    ghost use Rattle.http_wire.specs.Rest.{held, Fills, FillsNext, Receives};
 
     /// A room that holds nothing.
     pub(crate) fn empty(alloc: Global) -> Mem<Room>
@@ -58,7 +62,8 @@ impl Room {
         self.at += n;
     }
 
-    /// Makes room for so many bytes behind those that are held: over those that were let go first, and then in more memory.
+    /// Makes room for so many bytes behind those that are held: over those that were let go first,
+    /// and then in more memory.
     pub(crate) fn make(&mut self, more: usize) -> Mem<()>
         requires { length (held self.old) + more ≤ 69632 }
         ensures ok { OnOk result (self.new.end + more ≤ vec_len self.new.bytes) }
@@ -77,11 +82,12 @@ impl Room {
         Ok(())
     }
 
-    /// Makes room for a piece of a head behind the bytes that are held, and gives how many bytes may be read into it: all that there is
-    /// room for, and at most 16,384.
+    /// Makes room for a piece of a head behind the bytes that are held, and gives how many bytes
+    /// may be read into it: all that there is room for, and at most 16,384.
     pub(crate) fn open(&mut self) -> Mem<usize>
         requires { length (held self.old) < 65536 }
-        ensures ok { IfOk result (λ most. (0 < most) × (most ≤ 16384) × (self.new.end + most ≤ vec_len self.new.bytes)) }
+        ensures ok { IfOk result (λ most. (0 < most) × (most ≤ 16384)
+            × (self.new.end + most ≤ vec_len self.new.bytes)) }
         ensures same { held self.new ≡ held self.old }
     {
         if self.at == self.end {
@@ -119,9 +125,11 @@ impl Room {
     pub(crate) fn read<P: Peer>(&mut self, peer: &mut P, most: usize) -> Result<usize, Failed>
         requires some { 0 < most }
         requires room { self.old.end + most ≤ vec_len self.old.bytes }
-        ensures bytes { Fills (P.line peer.old).left (P.line peer.new).left (held self.old) (held self.new) result }
+        ensures bytes { Fills (P.line peer.old).left (P.line peer.new).left (held self.old)
+            (held self.new) result }
         ensures short { IfOk result (λ n. n ≤ most) }
-        ensures cause { HasCause (P.line peer.old).read_faults (P.line peer.new).read_faults result }
+        ensures cause { HasCause (P.line peer.old).read_faults (P.line peer.new).read_faults
+            result }
         ensures end { CountsEnds (P.line peer.old).ends (P.line peer.new).ends result most }
         ensures others { IsUnwritten (P.line peer.old) (P.line peer.new) }
     {
@@ -135,20 +143,42 @@ impl Room {
         }
     }
 
+    /// Waits for a peer's next request, and reads once behind the bytes that are held, up to so
+    /// many bytes.
+    pub(crate) fn read_next<P: Peer>(&mut self, peer: &mut P, most: usize) -> Result<Next, Failed>
+        requires some { 0 < most }
+        requires room { self.old.end + most ≤ vec_len self.old.bytes }
+        ensures { FillsNext (P.line peer.old) (P.line peer.new) (held self.old) (held self.new) most
+            result }
+    {
+        let end = self.end + most;
+        match peer.read_next(&mut self.bytes[self.end..end]) {
+            Ok(Next::Bytes(count)) => {
+                self.end += count;
+                Ok(Next::Bytes(count))
+            }
+            Ok(Next::End) => Ok(Next::End),
+            Ok(Next::Closing) => Ok(Next::Closing),
+            Err(failed) => Err(failed),
+        }
+    }
+
     /// Receives once from a dialer behind the bytes that are held, up to so many bytes.
     pub(crate) fn receive<D: Dialer>(
         &mut self,
         dialer: &mut D,
         most: usize,
     ) -> Result<usize, Failed>
-        requires open_ { IsTrue (D.upstream dialer.old).is_open }
+        requires open_ { IsSome (D.upstream dialer.old).open_to }
         requires some { 0 < most }
         requires room { self.old.end + most ≤ vec_len self.old.bytes }
-        ensures bytes { Receives (D.upstream dialer.old).left (D.upstream dialer.new).left (D.upstream dialer.old).log (D.upstream dialer.new).log
+        ensures bytes { Receives (D.upstream dialer.old).left (D.upstream dialer.new).left
+            (D.upstream dialer.old).log (D.upstream dialer.new).log
             (held self.old) (held self.new) result }
         ensures short { IfOk result (λ n. n ≤ most) }
-        ensures cause { HasCause (D.upstream dialer.old).faults (D.upstream dialer.new).faults result }
-        ensures stays { (D.upstream dialer.new).is_open ≡ (D.upstream dialer.old).is_open }
+        ensures cause { HasCause (D.upstream dialer.old).faults (D.upstream dialer.new).faults
+            result }
+        ensures stays { HasSameLinks (D.upstream dialer.old) (D.upstream dialer.new) }
     {
         let end = self.end + most;
         match dialer.recv(&mut self.bytes[self.end..end]) {

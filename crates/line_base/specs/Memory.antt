@@ -1,5 +1,7 @@
 -- What the objects in memory hold.
-use Rattle.std.specs.Prelude.{◌≡◌, ℕ, ◌-◌, ◌^◌, ◌==◌, max, Bool, if◌then◌else◌, List, [], ◌∷◌, drop, Option, Some, Contains, slice_index_or}
+use Rattle.std.specs.Prelude.{◌≡◌, ℕ, ◌-◌, ◌^◌, ◌==◌, nat_le, max, Bool, false, if◌then◌else◌, List}
+use Rattle.std.specs.Prelude.{[], ◌∷◌, ◌++◌, map, drop, Option, Some, None, Contains}
+use Rattle.std.specs.Prelude.{slice_index_or}
 use Rattle.line_base.specs.Accepts.{Listening}
 use Rattle.line_base.specs.Counts.{raised}
 use Rattle.line_base.specs.Dials.{Upstream}
@@ -8,8 +10,10 @@ use Rattle.line_base.specs.Lines.{Line}
 use Rattle.line_base.specs.Nets.{Networking}
 use Rattle.line_base.specs.Streams.{Input, Output}
 use Rattle.line_base.specs.declared.dialer.DialEvent.{DialEvent}
+use Rattle.line_base.specs.declared.memory.link.MemLink.{MemLink}
 
--- when calls are to fail, and how many bytes each may move: calls are numbered from 0, and `calls` is the number of the next one
+-- when calls are to fail, and how many bytes each may move: calls are numbered from 0, and `calls`
+-- is the number of the next one
 pub record Plan : Type 0 where
   pub sizes : List ℕ
   pub failing : List ℕ
@@ -19,7 +23,8 @@ pub record Plan : Type 0 where
 abbrev pub FailsNext : Plan → Type 0
 FailsNext plan = Contains plan.failing plan.calls
 
--- the most bytes that the next call moves: its size, and at least 1. Past the last size there is no bound
+-- the most bytes that the next call moves: its size, and at least 1. Past the last size there is no
+-- bound
 abbrev pub piece_of : Plan → ℕ
 piece_of plan = max (slice_index_or plan.sizes plan.calls (2 ^ 64 - 1)) 1
 
@@ -31,34 +36,75 @@ called plan = record { sizes = plan.sizes; failing = plan.failing; calls = raise
 abbrev pub behind_call : ℕ → Plan → Plan
 behind_call asked plan = if asked == 0 then plan else called plan
 
--- a source: the bytes that it has yet to give, its plan, its faults, and its reads that gave the end
+-- a source: the bytes that it has yet to give, its plan, its faults, and its reads that gave the
+-- end
 pub record Giving : Type 0 where
   pub left : List ℕ
   pub plan : Plan
   pub faults : ℕ
   pub ends : ℕ
 
--- a sink: the bytes that it holds, for how many it has room before it asks for memory, its plan, and its faults
+-- a sink: the bytes that it holds, for how many it has room before it asks for memory, its plan,
+-- and its faults
 pub record Taking : Type 0 where
   pub held : List ℕ
   pub room : ℕ
   pub plan : Plan
   pub faults : ℕ
 
--- a peer: the source that it gives from, and the sink that it takes into
+-- when a connection says that its listeners are closing: from the question of this number on, if
+-- they close at all. Questions are numbered from 0, `asked` is the number of the next one, and
+-- `told` says how often it said so
+pub record Noticing : Type 0 where
+  pub from : Option ℕ
+  pub asked : ℕ
+  pub told : ℕ
+
+-- the listeners stay open
+abbrev pub no_notice : Noticing
+no_notice = record { from = None; asked = 0; told = 0 }
+
+-- the question of this number is answered by that the listeners are closing
+abbrev pub is_late : Option ℕ → ℕ → Bool
+is_late None number = false
+is_late (Some from) number = nat_le from number
+
+abbrev pub is_due : Noticing → Bool
+is_due n = is_late n.from n.asked
+
+-- one question more was asked
+abbrev pub questioned : Noticing → Noticing
+questioned n = record {
+  from = n.from;
+  asked = raised n.asked;
+  told = if is_due n then raised n.told else n.told;
+}
+
+-- a peer: the source that it gives from, the sink that it takes into, and when it says that its
+-- listeners are closing
 pub record Meeting : Type 0 where
   pub source : Giving
   pub sink : Taking
+  pub notice : Noticing
 
--- a dialer: its log, whether a connection is open, the bytes that its other end has yet to give, the replies of the dials to come, its plan, and its
--- faults
+-- a dialer: its log, where the open connection leads, the bytes that its other end has yet to give,
+-- the connections that are kept, whether it keeps any, the replies of those to come, its plan, the
+-- calls that are to fail by waiting, whether the last one did, and its faults
 pub record Dialing : Type 0 where
   pub log : List DialEvent
-  pub is_open : Bool
+  pub open_to : Option (ℕ × ℕ)
   pub left : List ℕ
+  pub kept : List MemLink
+  pub keeps : Bool
   pub replies : List (List ℕ)
   pub plan : Plan
+  pub waiting : List ℕ
+  pub late : Bool
   pub faults : ℕ
+
+-- where a kept connection leads
+abbrev pub address_of : MemLink → ℕ × ℕ
+address_of link = (link.ip, link.port)
 
 -- what a source, a sink, a peer, a dialer and folders in memory tell of themselves, which is all
 abbrev pub input_of : Giving → Input
@@ -74,17 +120,33 @@ line_of p = record {
   read_faults = p.source.faults;
   write_faults = p.sink.faults;
   ends = p.source.ends;
+  closings = p.notice.told;
 }
 
 abbrev pub upstream_of : Dialing → Upstream
-upstream_of d = record { log = Some d.log; left = Some d.left; is_open = d.is_open; faults = d.faults }
+upstream_of d = record {
+  log = Some d.log;
+  left = Some d.left;
+  open_to = d.open_to;
+  kept = map address_of d.kept;
+  keeps = d.keeps;
+  late = d.late;
+  faults = d.faults;
+}
 
--- the reply that the next dial is given, and none past the last
+-- one member was taken out of a list
+pub record WasTaken {X : Type 0} (x : X) (old new : List X) : Type 0 where
+  pub before : List X
+  pub behind : List X
+  pub was : old ≡ before ++ x ∷ behind
+  pub is_now : new ≡ before ++ behind
+
+-- the reply that the next dial or resume is given, and none past the last
 abbrev pub next_reply : List (List ℕ) → List ℕ
 next_reply [] = []
 next_reply (r ∷ rs) = r
 
--- a dial that was answered has its reply ahead, and those behind it are left
+-- a dial that was answered, or a resume, has its reply ahead, and those behind it are left
 abbrev pub Answered : Dialing → Dialing → Type 0
 Answered old new = (new.left ≡ next_reply old.replies) × (new.replies ≡ drop 1 old.replies)
 

@@ -1,19 +1,24 @@
-//! The outside as traits: what a program reads from, writes to, dials and asks, with the counts that say why a call failed.
+//! The outside as traits: what a program reads from, writes to, dials and asks, with the counts
+//! that say why a call failed.
 //!
-//! A [`Source`] gives bytes, a [`Sink`] takes them, and a [`Peer`] does both. A [`Listener`] hands out the peers that connect to an
-//! address and takes them back. A [`Dialer`] opens connections of its own, a [`Folder`] has files, a [`Clock`] tells the moment, a
-//! [`Stop`] ends what listens, and a [`Gate`] is told of each request. A [`Net`] makes listeners, dialers and stops, and takes them back.
-//! Each object that can fail counts its faults: a call that fails raises the count by one, and no other call moves it. So code that is
-//! generic over these traits can't make a fault up: a clause such as "this status exactly where the source's count rose" refuses a body
-//! that gives up, and one that tries again and tells nobody. Where an object tells its content, as those in memory do, clauses speak of
-//! its bytes too, and of the peers that came and went; a real file or socket tells none.
+//! A [`Source`] gives bytes, a [`Sink`] takes them, and a [`Peer`] does both. A [`Listener`] hands
+//! out the peers that connect to an address and takes them back. A [`Dialer`] opens connections of
+//! its own, a [`Folder`] has files, a [`Clock`] tells the moment, a [`Stop`] ends what listens, and
+//! a [`Gate`] is told of each request. A [`Net`] makes listeners, dialers and stops, and takes them
+//! back. Each object that can fail counts its faults: a call that fails raises the count by one,
+//! and no other call moves it. So code that is generic over these traits can't make a fault up: a
+//! clause such as "this status exactly where the source's count rose" refuses a body that gives up,
+//! and one that tries again and tells nobody. Where an object tells its content, as those in memory
+//! do, clauses speak of its bytes too, and of the peers that came and went; a real file or socket
+//! tells none.
 //!
-//! [`MemSource`], [`MemSink`], [`MemPeer`], [`MemListener`], [`MemDialer`], [`MemFolder`], [`MemClock`], [`MemStop`] and [`MemNet`] are
-//! the outside in memory, for tests: they give their bytes in pieces of stated sizes and fail at stated calls.
+//! [`MemSource`], [`MemSink`], [`MemPeer`], [`MemListener`], [`MemDialer`], [`MemFolder`],
+//! [`MemClock`], [`MemStop`] and [`MemNet`] are the outside in memory, for tests: they give their
+//! bytes in pieces of stated sizes and fail at stated calls.
 //!
 //! # What is proved
-//! The objects in memory meet their traits, with their content told; each call of theirs is counted, and fails where its number is
-//! listed.
+//! The objects in memory meet their traits, with their content told; each call of theirs is
+//! counted, and fails where its number is listed.
 //!
 //! # Example
 //! ```
@@ -36,7 +41,7 @@ mod piece;
 mod signals;
 
 pub use clock::Clock;
-pub use dialer::{DialEvent, Dialer};
+pub use dialer::{ConnectionPool, DialEvent, Dialer};
 pub use folder::{Folder, FolderFault, Found, NameList};
 pub use listener::{Endpoint, Listener, Listeners};
 pub use memory::{
@@ -44,7 +49,7 @@ pub use memory::{
     MemPeer, MemSink, MemSource, MemStop, MemVisits,
 };
 pub use net::{BROKEN_RUN, Net, NetFault};
-pub use outside::{Failed, Peer, Sink, Source};
+pub use outside::{Failed, Next, Peer, Sink, Source};
 pub use piece::Piece;
 pub use signals::{Gate, Stop};
 

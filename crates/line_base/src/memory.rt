@@ -3,8 +3,10 @@
 mod clock;
 mod dialer;
 mod folder;
+mod link;
 mod listener;
 mod net;
+mod notice;
 mod plan;
 mod stop;
 mod streams;

@@ -1,8 +1,8 @@
 //! What makes listeners, dialers and stops, and takes them back.
-ghost use Rattle.std.specs.Prelude.{◌≡◌, ◌≤◌, ◌↔◌, ℕ, length, false, IsErr, IfOk};
+ghost use Rattle.std.specs.Prelude.{◌≡◌, ◌≤◌, ◌↔◌, ℕ, [], nat_lt, length, None, IsErr, IfOk};
 ghost use Rattle.line_base.specs.Counts.{HasCause};
 
-use crate::dialer::Dialer;
+use crate::dialer::{ConnectionPool, Dialer};
 use crate::listener::{Listener, Listeners};
 use crate::outside::Failed;
 use crate::signals::Stop;
@@ -19,9 +19,11 @@ pub enum NetFault {
 /// How many accepts in a row have failed when a listener counts as broken.
 pub const BROKEN_RUN: u64 = 100;
 
-/// What makes listeners for addresses, dialers, and stops that close the listeners; and takes them back.
+/// What makes listeners for addresses, dialers, and stops that close the listeners; and takes them
+/// back.
 pub trait Net {
-    ghost use Rattle.line_base.specs.Nets.{AreNew, HasNetCause, IsNewLog, Networking, after_end, after_listen, after_stopper, log_of};
+    ghost use Rattle.line_base.specs.Nets.{AreNew, HasNetCause, IsNewLog, Networking, after_end};
+    ghost use Rattle.line_base.specs.Nets.{after_listen, after_stopper, log_of};
 
     /// Its listeners.
     type L: Listener + Drop + Send;
@@ -32,22 +34,34 @@ pub trait Net {
     /// Its stops.
     type S: Stop + Drop + Send;
 
-    /// What came back, where it tells it; and, always, how many listeners came back clean, how many stops it handed out, and how many came back.
+    /// What came back, where it tells it; and, always, how many listeners came back clean, how many
+    /// stops it handed out, and how many came back.
     ghost state: { Self → Networking Self.L.P };
 
-    /// How often a call failed. The count never falls, and stands still at the last value of a `u64`.
+    /// How often a call failed. The count never falls, and stands still at the last value of a
+    /// `u64`.
     ghost faults: { Self → ℕ };
 
-    /// So many listeners for an IPv4 address, whose first byte is the highest, and a port.
-    fn listen(&mut self, ip: u32, port: u16, copies: u32) -> Result<Listeners<Self::L>, NetFault>
+    /// So many listeners for an IPv4 address, whose first byte is the highest, and a port. Beside
+    /// each of them the process will want room for a dialer with so many kept connections.
+    fn listen(
+        &mut self,
+        ip: u32,
+        port: u16,
+        copies: u32,
+        kept: u32,
+    ) -> Result<Listeners<Self::L>, NetFault>
         ensures count { IfOk result (λ ls. length ls ≡ copies) }
         ensures new { IfOk result (AreNew Self.L.state (state self.old).told ip port) }
         ensures state { state self.new ≡ after_listen (state self.old) copies result }
         ensures cause { HasNetCause (faults self.old) (faults self.new) result };
 
-    /// A new dialer.
-    fn dialer(&mut self) -> Self::D
-        ensures closed { (Self.D.upstream result).is_open ≡ false }
+    /// A new dialer, which keeps connections in such a pool. Where the pool has no room for any, it
+    /// keeps none.
+    fn dialer(&mut self, pool: ConnectionPool) -> Self::D
+        ensures closed { (Self.D.upstream result).open_to ≡ None }
+        ensures none_kept { (Self.D.upstream result).kept ≡ [] }
+        ensures keeps { (Self.D.upstream result).keeps ≡ nat_lt 0 pool.max_size }
         ensures log { IsNewLog (state self.old).told (Self.D.upstream result).log }
         ensures kept { (state self.new ≡ state self.old) × (faults self.new ≡ faults self.old) };
 
@@ -57,15 +71,20 @@ pub trait Net {
         ensures state { state self.new ≡ after_stopper (state self.old) }
         ensures kept { faults self.new ≡ faults self.old };
 
-    /// Takes a listener back, with the stop of its job, and with the dialer if the job has one. It fails exactly where the listener's last accepts failed
-    /// [`BROKEN_RUN`] times in a row, or more.
+    /// Takes a listener back, with the stop of its job, and with the dialer if the job has one. It
+    /// fails exactly where the listener's last accepts failed [`BROKEN_RUN`] times in a row, or
+    /// more.
     fn end(
         &mut self,
         listener: Self::L,
         dialer: Option<Self::D>,
         stop: Self::S,
     ) -> Result<(), Failed>
-        ensures state { state self.new ≡ after_end (state self.old) (record { listener = Self.L.state listener; log = log_of Self.D.upstream dialer; stops = Self.S.calls stop }) }
+        ensures state { state self.new ≡ after_end (state self.old) (record {
+          listener = Self.L.state listener;
+          log = log_of Self.D.upstream dialer;
+          stops = Self.S.calls stop;
+        }) }
         ensures broken { IsErr result ↔ (BROKEN_RUN ≤ (Self.L.state listener).run) }
         ensures cause { HasCause (faults self.old) (faults self.new) result };
 }

@@ -1,7 +1,7 @@
 -- How following a leader ends.
 use Rattle.std.proofs.Common.{◌≡◌, ℕ, ◌≤◌, Bool, true, false, List, [], ◌++◌, append_assoc, length}
 use Rattle.std.proofs.Common.{refl, sym, ap, subst, ◌∙◌, inl, inr, arith}
-use Rattle.std.specs.Prelude.{Option, Result}
+use Rattle.std.specs.Prelude.{Option, None, Result}
 use Rattle.std.specs.Io.KnownBytes.{Appends}
 use Rattle.addr_book.specs.declared.addr.Addr.{Addr}
 use Rattle.line_base.specs.Counts.{Rose, raised}
@@ -20,7 +20,7 @@ use Rattle.linker_commands.specs.Told.{Tells, code_of}
 use Rattle.linker_commands.proofs.Runs.{tells_memory}
 
 module _ {P : Type 0} (told : Option (Returns P)) (leader : Addr) (space : List ℕ) (polls : ℕ)
-    (dialer behind : Upstream) (new : IsNewLog told dialer.log × (dialer.is_open ≡ false))
+    (dialer behind : Upstream) (new : IsNewLog told dialer.log × (dialer.open_to ≡ None))
     (polled : List (Result FeedValue PollEnd)) (made : Polled leader space dialer polled behind)
   where
     is_followed : (all : Bool) → CountsPolls all (length polled) polls

@@ -1,5 +1,5 @@
 -- What following a leader does, and what is told of it.
-use Rattle.std.specs.Prelude.{◌≡◌, ℕ, ◌≤◌, Bool, true, false, List, length, Option, Result}
+use Rattle.std.specs.Prelude.{◌≡◌, ℕ, ◌≤◌, Bool, true, false, List, length, Option, None, Result}
 use Rattle.addr_book.specs.declared.addr.Addr.{Addr}
 use Rattle.line_base.specs.Dials.{Upstream}
 use Rattle.line_base.specs.Nets.{IsNewLog, Returns}
@@ -19,7 +19,7 @@ pub record IsFollowed
     (all : Bool) (lines : List ℕ)
     : Type 0 where
   pub dialer : Upstream
-  pub new_dialer : IsNewLog told dialer.log × (dialer.is_open ≡ false)
+  pub new_dialer : IsNewLog told dialer.log × (dialer.open_to ≡ None)
   pub behind : Upstream
   pub polled : List (Result FeedValue PollEnd)
   pub made : Polled leader space dialer polled behind

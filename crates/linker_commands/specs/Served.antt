@@ -117,6 +117,7 @@ pub record IsSiteOf (moments : Option (List ℕ)) (c : Config) (site : Site) : T
   pub admin : site.admin ≡ c.admin
   pub rule : site.policy.rule ≡ c.rule
   pub retries : site.policy.retries ≡ c.retries
+  pub pool : site.policy.pool ≡ c.pool
   pub workers : site.workers ≡ c.workers
   pub seed : site.seed ≡ c.seed
   pub feed : IsFeeding moments c.feed site.feed

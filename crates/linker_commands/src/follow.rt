@@ -8,10 +8,10 @@ use crate::run::{Status, tell};
 use crate::words::Following;
 use addr_book::Name;
 use follow_feed::{FollowEnd, follow_all};
-use line_base::{Net, Sink};
+use line_base::{ConnectionPool, Net, Sink};
 use std::alloc::Global;
 
-/// Follows a leader, with a new dialer of the net.
+/// Follows a leader, with a new dialer of the net, which keeps no connection.
 pub fn follow<N: Net, K: Sink>(
     alloc: Global,
     net: &mut N,
@@ -32,7 +32,7 @@ pub fn follow<N: Net, K: Sink>(
     let Ok(space) = Name::of(alloc, space.as_bytes()) else {
         return tell(out, b"error memory\n", Status::Memory);
     };
-    let mut dialer = net.dialer();
+    let mut dialer = net.dialer(ConnectionPool::NONE);
     match follow_all(alloc, &mut dialer, leader, &space, polls, out) {
         FollowEnd::Done => Status::Done,
         FollowEnd::WriteFault => Status::Write,

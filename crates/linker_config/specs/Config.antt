@@ -8,6 +8,7 @@ use Rattle.dtab_table.specs.Dtab.{rules_of}
 use Rattle.dtab_table.specs.Rules.{Rule as TableRule}
 use Rattle.identifier.specs.declared.rule.Rule.{Rule}
 use Rattle.choose_core.specs.declared.mark.Limits.{Limits}
+use Rattle.line_base.specs.declared.dialer.ConnectionPool.{ConnectionPool}
 use Rattle.retry_budget.specs.declared.tries.Tries.{Tries}
 use Rattle.linker_config.specs.declared.config.Config.{Config}
 use Rattle.linker_config.specs.declared.config.FeedAt.{FeedAt}
@@ -21,8 +22,9 @@ use Rattle.linker_config.specs.Namers.{namers_told}
 use Rattle.linker_config.specs.Router.{routers_told}
 
 -- what a configuration says: where to listen, the folder of the services, how requests are named,
--- the router's settings, how often a request may be tried again, the number of the workers, the
--- seed of the choices, and where the feed of the namespaces is served
+-- the router's settings, which connections to replicas are kept, how often a request may be tried
+-- again, the number of the workers, the seed of the choices, and where the feed of the namespaces
+-- is served
 pub record Configured : Type 0 where
   pub admin : Port
   pub namerd : Port
@@ -32,6 +34,7 @@ pub record Configured : Type 0 where
   pub space : List ℕ
   pub base : List TableRule
   pub limits : Limits
+  pub pool : Option ConnectionPool
   pub retries : Option Tries
   pub workers : ℕ
   pub seed : ℕ
@@ -48,6 +51,7 @@ said_of c = record {
   space = c.settings.space;
   base = rules_of c.settings.base;
   limits = c.settings.limits;
+  pool = c.pool;
   retries = c.retries;
   workers = c.workers;
   seed = c.seed;
@@ -82,6 +86,7 @@ config_of d =
       space = named.space;
       base = routed.base;
       limits = routed.limits;
+      pool = routed.pool;
       retries = routed.retries;
       workers = workers;
       seed = seed;

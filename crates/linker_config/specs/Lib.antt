@@ -10,6 +10,7 @@ pub mod Lines
 pub mod Listening
 pub mod Loading
 pub mod Namers
+pub mod Pool
 pub mod Retries
 pub mod Router
 pub mod Values

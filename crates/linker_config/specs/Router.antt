@@ -10,6 +10,7 @@ use Rattle.dtab_table.specs.Rules.{Rule as TableRule}
 use Rattle.identifier.specs.declared.rule.Kind.{Kind}
 use Rattle.identifier.specs.declared.rule.Kind.TheVariants.{Token}
 use Rattle.choose_core.specs.declared.mark.Limits.{Limits}
+use Rattle.line_base.specs.declared.dialer.ConnectionPool.{ConnectionPool}
 use Rattle.retry_budget.specs.declared.tries.Tries.{Tries}
 use Rattle.linker_config.specs.declared.config.Port.{Port}
 use Rattle.linker_config.specs.declared.routed.Routed as code
@@ -18,7 +19,7 @@ use Rattle.linker_config.specs.Values.{element, exactly, if_there, needed_text, 
 use Rattle.linker_config.specs.Values.{text_at}
 use Rattle.linker_config.specs.Listening.{servers_told, usual_server}
 use Rattle.linker_config.specs.Identifier.{identifier_told}
-use Rattle.linker_config.specs.Client.{client_told, usual_limits}
+use Rattle.linker_config.specs.Client.{client_told, usual_client}
 use Rattle.linker_config.specs.Retries.{retries_told}
 
 -- what a router says
@@ -28,6 +29,7 @@ pub record Routed : Type 0 where
   pub kind : Kind
   pub server : Port
   pub limits : Limits
+  pub pool : Option ConnectionPool
   pub retries : Option Tries
 
 abbrev pub routed_of : code.Routed → Routed
@@ -38,6 +40,7 @@ routed_of r =
       kind = r.kind;
       server = r.server;
       limits = r.limits;
+      pool = r.pool;
       retries = r.retries;
     }
 
@@ -60,14 +63,15 @@ router_told d =
     and_then (or_default (Token (codes "Host")) identifier_told (get (codes "identifier") d))
     (λ kind.
     and_then (or_default usual_server servers_told (get (codes "servers") d)) (λ server.
-    and_then (or_default usual_limits client_told (get (codes "client") d)) (λ limits.
+    and_then (or_default usual_client client_told (get (codes "client") d)) (λ client.
     and_then (if_there retries_told (get (codes "retries") d)) (λ retries.
     Ok (record {
       base = base;
       prefix = prefix;
       kind = kind;
       server = server;
-      limits = limits;
+      limits = client.limits;
+      pool = client.pool;
       retries = retries;
     })))))))))
 

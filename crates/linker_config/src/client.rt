@@ -1,15 +1,19 @@
-//! When a replica counts as dead.
+//! When a replica counts as dead, and which connections to replicas are kept.
 ghost use Rattle.std.specs.Prelude.{◌≤◌, codes, IfOk};
 ghost use Rattle.serde_json.specs.View.{view};
 ghost use Rattle.serde_json.specs.Find.{get};
-ghost use Rattle.linker_config.specs.Values.{or_default};
+ghost use Rattle.linker_config.specs.Values.{if_there, or_default};
 ghost use Rattle.linker_config.specs.Client.{accrual_told, backoff_told, client_told};
+ghost use Rattle.linker_config.specs.Client.{usual_limits};
+ghost use Rattle.linker_config.specs.Pool.{pool_told};
 ghost use Rattle.linker_config.specs.Answers.{Says};
 
 use crate::fault::ConfigFault;
 use crate::keys::check_keys;
+use crate::pool::pool;
 use crate::value::{needed_word, number_at};
 use choose_core::Limits;
+use line_base::ConnectionPool;
 use serde_json::Value;
 use std::alloc::Global;
 
@@ -28,16 +32,59 @@ pub(crate) const USUAL_LIMITS: Limits = Limits {
     backoff: 5000,
 };
 
-/// When a replica counts as dead.
+/// What the router does as a client of the replicas.
+#[derive(Clone, Copy, Debug)]
+pub(crate) struct ClientSettings {
+    /// When a replica counts as dead.
+    pub(crate) limits: Limits,
+    /// Which connections to replicas are kept, if any are.
+    pub(crate) pool: Option<ConnectionPool>,
+}
+
+/// Where nothing is said of the client.
+pub(crate) const USUAL_CLIENT: ClientSettings = ClientSettings {
+    limits: USUAL_LIMITS,
+    pool: None,
+};
+
+/// What the router does as a client of the replicas.
 #[tactic(auto, unfolding(crate::specs::Client::client_told))]
-pub(crate) fn client(alloc: Global, value: &Value) -> Result<Limits, ConfigFault>
+pub(crate) fn client(alloc: Global, value: &Value) -> Result<ClientSettings, ConfigFault>
     ensures told { Says (client_told (view value.now)) result }
+    ensures failures { IfOk result (λ client. 1 ≤ client.limits.failures) }
+{
+    check_keys(
+        alloc,
+        CLIENT,
+        &["failureAccrual", "hostConnectionPool"],
+        &[],
+        value,
+    )?;
+    let limits = limits_or_usual(alloc, value)?;
+    let pool = pool_or_none(alloc, value)?;
+    Ok(ClientSettings { limits, pool })
+}
+
+/// When a replica counts as dead.
+fn limits_or_usual(alloc: Global, object: &Value) -> Result<Limits, ConfigFault>
+    ensures told { Says (or_default usual_limits accrual_told
+        (get (codes "failureAccrual") (view object.now))) result }
     ensures failures { IfOk result (λ limits. 1 ≤ limits.failures) }
 {
-    check_keys(alloc, CLIENT, &["failureAccrual"], &[], value)?;
-    match value.get("failureAccrual") {
+    match object.get("failureAccrual") {
         Some(value) => accrual(alloc, value),
         None => Ok(USUAL_LIMITS),
+    }
+}
+
+/// Which connections to replicas are kept, if any are.
+fn pool_or_none(alloc: Global, object: &Value) -> Result<Option<ConnectionPool>, ConfigFault>
+    ensures { Says (if_there pool_told (get (codes "hostConnectionPool") (view object.now)))
+        result }
+{
+    match object.get("hostConnectionPool") {
+        Some(value) => Ok(Some(pool(alloc, value)?)),
+        None => Ok(None),
     }
 }
 

@@ -4,6 +4,7 @@ ghost use Rattle.std.specs.Option.{ForSome};
 ghost use Rattle.retry_budget.specs.Budget.{AreAllowed};
 
 use identifier::Rule;
+use line_base::ConnectionPool;
 use machine::Settings;
 use retry_budget::Tries;
 use std::marker::Model;
@@ -74,6 +75,9 @@ pub struct Config {
     /// The namespace whose table the router follows, its own table, and when a replica counts as
     /// dead.
     pub settings: Settings,
+    /// Which connections to replicas each worker keeps, if it keeps any. Where nothing is said of
+    /// them, each request has a connection of its own.
+    pub pool: Option<ConnectionPool>,
     /// How often a request may be tried again on another replica, if it may be.
     pub retries: Option<Tries>,
     /// How many connections are served at a time, 1 to 256.

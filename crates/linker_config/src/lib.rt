@@ -44,6 +44,7 @@ mod listening;
 mod loaded;
 mod namers;
 mod naming;
+mod pool;
 mod reading;
 mod retries;
 mod routed;

@@ -84,6 +84,7 @@ fn config(alloc: Global, tree: &Value) -> Result<Config, ConfigFault>
             base: routed.base,
             limits: routed.limits,
         },
+        pool: routed.pool,
         retries: routed.retries,
         workers: workers as u32,
         seed,

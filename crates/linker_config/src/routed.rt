@@ -10,6 +10,7 @@ use crate::config::Port;
 use choose_core::Limits;
 use dtab_table::Dtab;
 use identifier::Kind;
+use line_base::ConnectionPool;
 use name_tree::Path;
 use retry_budget::Tries;
 
@@ -26,6 +27,8 @@ pub(crate) struct Routed {
     pub(crate) server: Port,
     /// When a replica counts as dead.
     pub(crate) limits: Limits,
+    /// Which connections to replicas are kept, if any are.
+    pub(crate) pool: Option<ConnectionPool>,
     /// How often a request may be tried again, if it may be.
     pub(crate) retries: Option<Tries>,
     ghost sound: { AreSoundRules (rules_of base) } by { AreSoundRules-prop (rules_of base) },

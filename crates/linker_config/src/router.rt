@@ -13,12 +13,12 @@ ghost use Rattle.linker_config.specs.Values.{if_there, or_default, text_at};
 ghost use Rattle.linker_config.specs.Listening.{servers_told, usual_server};
 ghost use Rattle.linker_config.specs.Retries.{retries_told};
 ghost use Rattle.linker_config.specs.Identifier.{identifier_told};
-ghost use Rattle.linker_config.specs.Client.{client_told, usual_limits};
+ghost use Rattle.linker_config.specs.Client.{client_told, usual_client};
 ghost use Rattle.linker_config.specs.Router.{router_keys, router_place, router_told};
 ghost use Rattle.linker_config.specs.Router.{routers_told, routed_of};
 ghost use Rattle.linker_config.specs.Answers.{Says, SaysBy};
 
-use crate::client::{USUAL_LIMITS, client};
+use crate::client::{ClientSettings, USUAL_CLIENT, client};
 use crate::config::Port;
 use crate::fault::ConfigFault;
 use crate::keys::check_keys;
@@ -27,7 +27,6 @@ use crate::naming::identifier;
 use crate::retries::retries;
 use crate::routed::Routed;
 use crate::value::{bad, bad_key, needed_word, only_element};
-use choose_core::Limits;
 use dtab_table::{Dtab, DtabFault, read_dtab};
 use http_wire::FieldName;
 use identifier::Kind;
@@ -61,14 +60,15 @@ fn router(alloc: Global, value: &Value) -> Result<Routed, ConfigFault>
     let prefix = prefix(alloc, value)?;
     let kind = kind_or_usual(alloc, value)?;
     let server = server_or_usual(alloc, value)?;
-    let limits = limits_or_usual(alloc, value)?;
+    let client = client_or_usual(alloc, value)?;
     let retries = retries_or_none(alloc, value)?;
     Ok(Routed {
         base,
         prefix,
         kind,
         server,
-        limits,
+        limits: client.limits,
+        pool: client.pool,
         retries,
     })
 }
@@ -182,15 +182,15 @@ fn server_or_usual(alloc: Global, object: &Value) -> Result<Port, ConfigFault>
     }
 }
 
-/// When a replica counts as dead.
-fn limits_or_usual(alloc: Global, object: &Value) -> Result<Limits, ConfigFault>
-    ensures failures { IfOk result (λ limits. 1 ≤ limits.failures) }
-    ensures told { Says (or_default usual_limits client_told
+/// What the router does as a client of the replicas.
+fn client_or_usual(alloc: Global, object: &Value) -> Result<ClientSettings, ConfigFault>
+    ensures failures { IfOk result (λ client. 1 ≤ client.limits.failures) }
+    ensures told { Says (or_default usual_client client_told
         (get (codes "client") (view object.now))) result }
 {
     match object.get("client") {
         Some(value) => client(alloc, value),
-        None => Ok(USUAL_LIMITS),
+        None => Ok(USUAL_CLIENT),
     }
 }
 

@@ -131,6 +131,8 @@ fn append_event(text: &mut String, event: &DialEvent) -> Result<(), AllocError> 
         DialEvent::Sent(piece) => append(text, piece.bytes())?,
         DialEvent::Got(_) => {}
         DialEvent::Hung => text.push_str("hang\n")?,
+        DialEvent::Resumed(ip, port) => write!(text, "resume {ip:x} {port}\n")?,
+        DialEvent::Kept => text.push_str("keep\n")?,
     }
     Ok(())
 }

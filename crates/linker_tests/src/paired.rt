@@ -1,7 +1,7 @@
 //! Clients that are to be served beside one another.
 ghost use Rattle.std.specs.Prelude.{None};
 
-use line_base::{Failed, MemPeer, Peer};
+use line_base::{Failed, MemPeer, Next, Peer};
 use std::sync::atomic::{AtomicBool, Ordering};
 use std::thread;
 
@@ -62,6 +62,7 @@ impl Peer for Paired<'_> {
       read_faults = p.read_faults;
       write_faults = p.client.sink.faults;
       ends = p.client.source.ends;
+      closings = p.client.notice.told;
     } };
 
     fn read(&mut self, into: &mut [u8]) -> Result<usize, Failed> {
@@ -80,6 +81,18 @@ impl Peer for Paired<'_> {
                 Err(failed)
             }
         }
+    }
+
+    fn read_next(&mut self, into: &mut [u8]) -> Result<Next, Failed> {
+        match self.read(into) {
+            Ok(0) => Ok(Next::End),
+            Ok(count) => Ok(Next::Bytes(count)),
+            Err(failed) => Err(failed),
+        }
+    }
+
+    fn is_closing(&mut self) -> bool {
+        self.client.is_closing()
     }
 
     fn write(&mut self, bytes: &[u8]) -> Result<usize, Failed> {

@@ -1,7 +1,10 @@
 -- What sockets tell: numbers, and no content.
-use Rattle.std.specs.Prelude.{◌≡◌, ℕ, ◌<◌, List, length, slice_index_or, None}
+use Rattle.std.specs.Prelude.{◌≡◌, ℕ, ◌<◌, List, length, slice_index_or, None, Result, Ok, Err}
+use Rattle.std.specs.Io.{ReadsAtMost}
 use Rattle.line_base.specs.Accepts.{Listening}
 use Rattle.line_base.specs.Nets.{Networking}
+use Rattle.line_base.specs.declared.outside.Next.{Next}
+use Rattle.line_base.specs.declared.outside.Next.TheVariants.{Bytes, End, Closing}
 use Rattle.net_edge.specs.declared.sockets.listener.SocketListener.{SocketListener}
 use Rattle.net_edge.specs.declared.sockets.peer.SocketPeer.{SocketPeer}
 
@@ -38,3 +41,11 @@ pub record IsFresh {R : Type 0} (l : SocketListener R) : Type 0 where
 abbrev pub AllFresh : {R : Type 0} → List (SocketListener R) → Type 0
 AllFresh {R} ls =
     (at : ℕ) (d : SocketListener R) → at < length ls → IsFresh (slice_index_or ls at d)
+
+-- what came of a wait for a next request fits the buffer, and is at least one byte, where bytes
+-- came
+abbrev pub NextAtMost : {E : Type 0} → Result Next E → List ℕ → Type 0
+NextAtMost {E} (Ok (Bytes count)) buffer = (0 < count) × ReadsAtMost {E = E} (Ok count) buffer
+NextAtMost {E} (Ok End) buffer = Unit {0}
+NextAtMost {E} (Ok Closing) buffer = Unit {0}
+NextAtMost {E} (Err error) buffer = Unit {0}

@@ -8,9 +8,10 @@
 //! # Waiting
 //! All listeners of an address share one socket, and wait in its queue of [`QUEUE_LENGTH`]. A stop
 //! lets those who are in the queue be accepted still, and closes the listeners behind them. Sockets
-//! send what is written at once, but for full pieces of a body, which are gathered into few packets.
-//! A read or a write of theirs ends after [`IDLE_SECONDS`], a dial after [`DIAL_SECONDS`], as a
-//! fault.
+//! send what is written at once, but for full pieces of a body, which are gathered into few
+//! packets. A read or a write of theirs ends after [`IDLE_SECONDS`], a dial after [`DIAL_SECONDS`],
+//! as a fault. A connection that was accepted waits for its next request a second at a time: once
+//! the listeners are closed it is ended within a second, unless a byte of the request has come.
 //!
 //! # How connections end
 //! An accepted connection is ended gently: what was written still arrives, since the other end is

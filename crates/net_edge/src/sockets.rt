@@ -6,14 +6,17 @@ mod dial_socket;
 mod dialer;
 mod flow;
 mod held;
+mod idle;
 mod listener;
 mod net;
 mod options;
 mod peer;
+mod pool;
 mod queue;
 mod refusal;
 mod stop;
 mod upstream;
+mod waiting;
 
 pub use dial_socket::DIAL_SECONDS;
 pub use dialer::SocketDialer;

@@ -2,8 +2,11 @@
 use Rattle.std.proofs.Common.{ℕ, Bool, ◌≤◌, List, inl, inr, Result, Ok, Err, arith}
 use Rattle.http_wire.specs.declared.frames.Framing.{Framing}
 use Rattle.body_wire.specs.declared.end.BodyEnd.{BodyEnd}
-use Rattle.body_wire.specs.declared.end.BodyEnd.TheVariants.{BadChunk, Cut, TooLong, ReadFault, WriteFault, SendFault, RecvFault, OutOfMemory}
-use Rattle.body_wire.specs.Bodies.{AreBad, AreFront, AreUnfinished, IsBadBody, IsFrontBody, IsShort, IsTooLong, IsUnfinished, IsWholeBody}
+use Rattle.body_wire.specs.declared.end.BodyEnd.TheVariants.{BadChunk, Cut, TooLong, ReadFault}
+use Rattle.body_wire.specs.declared.end.BodyEnd.TheVariants.{WriteFault, SendFault, RecvFault}
+use Rattle.body_wire.specs.declared.end.BodyEnd.TheVariants.{OutOfMemory}
+use Rattle.body_wire.specs.Bodies.{AreBad, AreFront, AreUnfinished, IsBadBody, IsFrontBody, IsShort}
+use Rattle.body_wire.specs.Bodies.{IsTooLong, IsUnfinished, IsWholeBody}
 use Rattle.body_wire.specs.Passing.{Ends, form_of}
 
 module _ (chunked : Bool) (limit : ℕ) (taken passed : List ℕ) (count : ℕ) (within : count ≤ limit)

@@ -1,5 +1,5 @@
 -- The retries of a session are no more than its budget had.
-use Rattle.std.proofs.Common.{◌≡◌, ℕ, zero, suc, ◌+◌, ◌*◌, ◌/◌, ◌≤◌, Bool, true, refl, sym, subst, ◌∙◌, inl, inr, Option, Some, None, zero-add, arith}
+use Rattle.std.proofs.Common.{◌≡◌, ℕ, zero, suc, ◌+◌, ◌*◌, ◌/◌, ◌≤◌, ◌||◌, Bool, true, refl, sym, subst, ◌∙◌, inl, inr, Option, Some, None, zero-add, arith}
 use Rattle.http_wire.specs.declared.ended.Ended.{Ended}
 use Rattle.http_wire.specs.declared.head.Head.{Head}
 use Rattle.identifier.specs.declared.rule.Rule.{Rule}
@@ -11,7 +11,7 @@ use Rattle.proxy_session.specs.Attempts.{Failed, has_retry, may_repeat, paid, sp
 use Rattle.proxy_session.specs.Exchange.{Standing}
 use Rattle.proxy_session.specs.Requests.{Requests, TriesAgain}
 use Rattle.proxy_session.specs.Seeking.{Sought}
-use Rattle.proxy_session.specs.Session.{Served, Serves, Sessions, most_retries}
+use Rattle.proxy_session.specs.Session.{Served, Serves, Sessions, having_told, most_retries}
 use Rattle.proxy_session.proofs.Untouched.{and_right}
 
 -- so many requests paid in, and so many retries were taken out
@@ -142,8 +142,9 @@ module _ (settings : SettingsValue) (rule : Rule) where
   serves_account : (last : Bool) (n : ℕ) (before behind : Option BudgetValue) (old new : Standing)
       (result : Option Ended) → Serves settings rule last n before behind old new result
       → Accounts before behind 1 n
-  serves_account last n before behind old new result (mid, head, reads, request) =
-      request_account settings rule head last n before behind mid new result request
+  serves_account last n before behind old new result (closing, x) =
+      request_account settings rule x.head (last || closing) n before behind
+      (having_told closing x.mid) new x.end x.request
 
   served_account : (n retries : ℕ) (before behind : Option BudgetValue) (old new : Standing)
       (result : Option Ended) → Served settings rule n retries before behind old new result

@@ -30,7 +30,10 @@ module _ (J D C : RattleType) (n : naming.Ghosts J.Denot) (l : ledger.Ghosts J.D
         own_send D d,
         (
           rest.the_send,
-          (search (as_row_send, sendable, crosses) depth 40, tt),
+          (
+            search (as_row_send, sendable, crosses) depth 40,
+            (search (as_row_send, sendable, crosses) depth 40, tt),
+          ),
         ),
       )
 

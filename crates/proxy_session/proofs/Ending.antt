@@ -1,5 +1,5 @@
 -- How a session ends, and what it leaves as it was.
-use Rattle.std.proofs.Common.{◌≡◌, ◌≢◌, ℕ, zero, suc, ◌+◌, eqb, Bool, true, false, List, refl, sym, subst, ap, ◌∙◌, inl, inr, Option, Some, None, Result, Ok, Err, arith}
+use Rattle.std.proofs.Common.{◌≡◌, ◌≢◌, ℕ, zero, suc, ◌+◌, ◌||◌, eqb, Bool, true, false, List, refl, sym, subst, ap, ◌∙◌, inl, inr, Option, Some, None, Result, Ok, Err, arith}
 use Rattle.std.proofs.lemmas.Bool.Decides.{nat_tests}
 use Rattle.http_wire.specs.declared.ended.Ended.{Ended}
 use Rattle.http_wire.specs.declared.ended.Ended.TheVariants as ended
@@ -9,21 +9,24 @@ use Rattle.identifier.specs.declared.rule.Rule.{Rule}
 use Rattle.machine.specs.Values.{SettingsValue}
 use Rattle.proxy_session.specs.Answering.{Writes, end_behind}
 use Rattle.proxy_session.specs.Callers.{Caller}
-use Rattle.proxy_session.specs.Causes.{CauseOf, FitsLast, HasCauseOf, IsNoFault, NoneFailed, NoneFell}
+use Rattle.proxy_session.specs.Causes.{CauseOf, IsNoFault, NoneFailed, NoneFell}
 use Rattle.proxy_session.specs.Exchange.{Standing}
 use Rattle.proxy_session.specs.Requests.{Requests}
 use Rattle.retry_budget.specs.Budget.{BudgetValue}
+use Rattle.line_base.specs.Counts.{raised}
 use Rattle.line_base.specs.Dials.{Upstream}
 use Rattle.line_base.specs.Lines.{Line, Rests}
-use Rattle.proxy_session.specs.Session.{AnswersEnd, EndsWithout, Reads, Served, Serves, Sessions, SessionsTo, Spends, begun, ended_of_end, own_of_end}
-use Rattle.proxy_session.proofs.Splitting.{request_cause, request_closed, request_fell, request_fits, request_number}
+use Rattle.proxy_session.specs.Session.{AnswersEnd, EndsWithout, HearsClosing, Reads, Served, Serves, Sessions, SessionsTo, Spends, begun, ended_of_end, having_told, own_of_end}
+use Rattle.proxy_session.proofs.Closings.{Quiet, writes_quiet}
+use Rattle.proxy_session.proofs.Draining.{drained_cause, is_spent, never_drained, serves_quiet, serves_rose, served_quiet}
+use Rattle.proxy_session.proofs.Splitting.{request_cause, request_closed, request_fell, request_number}
 use Rattle.proxy_session.proofs.Resting.{rests_same}
-use Rattle.proxy_session.proofs.Rising.{cause_on, later_below, later_same, none_fell_on, rests_fell, rose_before, rose_behind, rose_by, writes_fell}
+use Rattle.proxy_session.proofs.Rising.{cause_on, later_below, later_raised, later_same, none_fell_on, rests_fell, rose_before, rose_behind, rose_by, writes_fell}
 
 -- what lasts from one moment of a session to a later one
 pub record Lasts (old new : Standing) : Type 0 where
   pub fell : NoneFell old.line new.line
-  pub closed : old.upstream.is_open ≡ false → new.upstream.is_open ≡ false
+  pub closed : old.upstream.open_to ≡ None → new.upstream.open_to ≡ None
   pub number : new.caller.number ≡ old.caller.number
 
 lasts_same : (a : Standing) → Lasts a a
@@ -46,9 +49,27 @@ reads_last old new r x = record {
     reads = later_below old.line.read_faults new.line.read_faults x.causes.faults_later;
     writes = later_same old.line.write_faults new.line.write_faults x.writes;
     ends = later_below old.line.ends new.line.ends x.causes.ends_later;
+    closings = later_same old.line.closings new.line.closings x.closings;
   };
-  closed = λ is. x.upstream.is_open ∙ is;
+  closed = λ is. x.upstream.links.open_to ∙ is;
   number = ap (λ (c : Caller). c.number) x.caller;
+}
+
+told_last : (closing : Bool) (a : Standing) → Lasts a (having_told closing a)
+told_last false a = record {
+  fell = rests_fell a.line a.line (rests_same a.line);
+  closed = λ is. is;
+  number = refl;
+}
+told_last true a = record {
+  fell = record {
+    reads = later_same a.line.read_faults a.line.read_faults refl;
+    writes = later_same a.line.write_faults a.line.write_faults refl;
+    ends = later_same a.line.ends a.line.ends refl;
+    closings = later_raised a.line.closings (raised a.line.closings) refl;
+  };
+  closed = λ is. is;
+  number = refl;
 }
 
 module _ (settings : SettingsValue) (rule : Rule) where
@@ -63,16 +84,33 @@ module _ (settings : SettingsValue) (rule : Rule) where
 
   serves_last : (last : Bool) (n : ℕ) (before behind : Option BudgetValue) (old new : Standing)
       (r : Option Ended) → Serves settings rule last n before behind old new r → Lasts old new
-  serves_last last n before behind old new r (mid, head, reads, request) =
-      lasts_on old mid new (reads_last old mid (Ok head) reads)
-      (request_lasts head last n before behind mid new r request)
+  serves_last last n before behind old new r (closing, x) =
+      lasts_on old x.mid new (reads_last old x.mid (Ok x.head) x.reads)
+      (lasts_on x.mid (having_told closing x.mid) new (told_last closing x.mid)
+      (request_lasts x.head (last || closing) n before behind (having_told closing x.mid) new x.end
+      x.request))
 
   serves_cause : (last : Bool) (n : ℕ) (before behind : Option BudgetValue) (old new : Standing)
-      (r : Option Ended) → Serves settings rule last n before behind old new r
-      → HasCauseOf r old.line new.line
-  serves_cause last n before behind old new r (mid, head, reads, request) =
-      cause_on old.line mid.line new.line r (reads_last old mid (Ok head) reads).fell
-      (request_cause settings rule head last n before behind mid new r request)
+      (e : Ended) → Serves settings rule last n before behind old new (Some e)
+      → CauseOf e old.line new.line
+  serves_cause last n before behind old new e (true, x) =
+      let to_told = lasts_on old x.mid (having_told true x.mid)
+      (reads_last old x.mid (Ok x.head) x.reads) (told_last true x.mid) in
+      drained_cause true x.end e old.line new.line
+      (λ so. rose_by old.line.closings new.line.closings
+      (serves_rose settings rule last n before behind old new (Some e) x))
+      (cause_on old.line (having_told true x.mid).line new.line x.end to_told.fell
+      (request_cause settings rule x.head (last || true) n before behind (having_told true x.mid)
+      new x.end x.request))
+      x.is
+  serves_cause last n before behind old new e (false, x) =
+      let to_told = lasts_on old x.mid (having_told false x.mid)
+      (reads_last old x.mid (Ok x.head) x.reads) (told_last false x.mid) in
+      drained_cause false x.end e old.line new.line (λ so. absurd (cc))
+      (cause_on old.line (having_told false x.mid).line new.line x.end to_told.fell
+      (request_cause settings rule x.head (last || false) n before behind (having_told false x.mid)
+      new x.end x.request))
+      x.is
 
   served_lasts : (n retries : ℕ) (before behind : Option BudgetValue) (old new : Standing)
       (r : Option Ended) → Served settings rule n retries before behind old new r → Lasts old new
@@ -84,16 +122,6 @@ module _ (settings : SettingsValue) (rule : Rule) where
       (serves_last _ more between behind mid new r next)
 
 -- ---- the end
-
-cause_some : (e : Ended) (old new : Line) → HasCauseOf (Some e) old new → CauseOf e old new
-cause_some ended.PeerEnded old new x = absurd x
-cause_some ended.Cut old new x = x
-cause_some ended.Closed old new x = x
-cause_some ended.Spent old new x = x
-cause_some ended.ReadFault old new x = x
-cause_some ended.WriteFault old new x = x
-cause_some ended.UpstreamCut old new x = x
-cause_some ended.OutOfMemory old new x = x
 
 some_never : (e : Ended) → Some e ≡ None → ⊥
 some_never e is = cc
@@ -116,29 +144,42 @@ cause_within ended.WriteFault a b c d p q x =
     (rose_behind a.write_faults b.write_faults c.write_faults p.writes x) q.writes
 cause_within ended.Closed a b c d p q x = tt
 cause_within ended.Spent a b c d p q x = tt
+cause_within ended.Drained a b c d p q x =
+    rose_before a.closings c.closings d.closings
+    (rose_behind a.closings b.closings c.closings p.closings x) q.closings
 cause_within ended.UpstreamCut a b c d p q x = tt
 cause_within ended.OutOfMemory a b c d p q x = tt
 
 -- an end with no head
 abbrev Without : Ended → Line → Line → Line → Type 0
-Without result old mid new = CauseOf result old new × NoneFell mid new × (result ≢ ended.Spent)
+Without result old mid new =
+    CauseOf result old new × NoneFell mid new × (result ≢ ended.Spent) × (result ≢ ended.Drained)
+    × Quiet mid new
 
 quietly : (quiet result : Ended) (old mid new : Line) → NoneFell old mid → Rests mid new → result
-    ≡ quiet → CauseOf quiet old mid → quiet ≢ ended.Spent → Without result old mid new
-quietly quiet result old mid new fell rests is cause other =
+    ≡ quiet → CauseOf quiet old mid → quiet ≢ ended.Spent → quiet ≢ ended.Drained
+    → Without result old mid new
+quietly quiet result old mid new fell rests is cause other open_ =
     subst (λ (e : Ended). Without e old mid new) (sym is) (
       cause_within quiet old old mid new (rests_fell old old (rests_same old))
           (rests_fell mid new rests) cause,
       rests_fell mid new rests,
       other,
+      open_,
+      rests.closings,
     )
 
 refusing : (reply : List ℕ) (result : Ended) (old mid new : Line) → NoneFell old mid
     → (told : Result (Unit {0}) Ended) → Writes mid new reply told
     → Some result ≡ end_behind (Some ended.Closed) told → Without result old mid new
 refusing reply result old mid new fell (Ok x) w is =
-    subst (λ (e : Ended). Without e old mid new) (sym (some_same is))
-    (tt, writes_fell mid new reply (Ok x) w, λ no. cc)
+    subst (λ (e : Ended). Without e old mid new) (sym (some_same is)) (
+      tt,
+      writes_fell mid new reply (Ok x) w,
+      λ no. cc,
+      λ no. cc,
+      writes_quiet mid new reply (Ok x) w,
+    )
 refusing reply result old mid new fell (Err ended.WriteFault) w is =
     subst (λ (e : Ended). Without e old mid new) (sym (some_same is)) (
       rose_behind old.write_faults mid.write_faults new.write_faults fell.writes
@@ -146,14 +187,17 @@ refusing reply result old mid new fell (Err ended.WriteFault) w is =
       writes_fell mid new reply
           (Err ended.WriteFault) w,
       λ no. cc,
+      λ no. cc,
+      writes_quiet mid new reply (Err ended.WriteFault) w,
     )
 refusing reply result old mid new fell (Err ended.OutOfMemory) w is =
     subst (λ (e : Ended). Without e old mid new) (sym (some_same is))
-    (tt, rests_fell mid new w, λ no. cc)
+    (tt, rests_fell mid new w, λ no. cc, λ no. cc, w.closings)
 refusing reply result old mid new fell (Err ended.PeerEnded) w is = absurd w
 refusing reply result old mid new fell (Err ended.Cut) w is = absurd w
 refusing reply result old mid new fell (Err ended.Closed) w is = absurd w
 refusing reply result old mid new fell (Err ended.Spent) w is = absurd w
+refusing reply result old mid new fell (Err ended.Drained) w is = absurd w
 refusing reply result old mid new fell (Err ended.ReadFault) w is = absurd w
 refusing reply result old mid new fell (Err ended.UpstreamCut) w is = absurd w
 
@@ -162,16 +206,16 @@ ends_without : (end : HeadEnd) (old mid new : Standing) (result : Ended) → Rea
     → Without result old.line mid.line new.line
 ends_without HeadEnd.Ended old mid new result x a =
     quietly ended.PeerEnded result old.line mid.line new.line (reads_last old mid _ x).fell a.0 a.1
-    (rose_by old.line.ends mid.line.ends x.causes.ends) (λ no. cc)
+    (rose_by old.line.ends mid.line.ends x.causes.ends) (λ no. cc) (λ no. cc)
 ends_without HeadEnd.Cut old mid new result x a =
     quietly ended.Cut result old.line mid.line new.line (reads_last old mid _ x).fell a.0 a.1
-    (rose_by old.line.ends mid.line.ends x.causes.ends) (λ no. cc)
+    (rose_by old.line.ends mid.line.ends x.causes.ends) (λ no. cc) (λ no. cc)
 ends_without HeadEnd.ReadFault old mid new result x a =
     quietly ended.ReadFault result old.line mid.line new.line (reads_last old mid _ x).fell a.0 a.1
-    (rose_by old.line.read_faults mid.line.read_faults x.causes.faults) (λ no. cc)
+    (rose_by old.line.read_faults mid.line.read_faults x.causes.faults) (λ no. cc) (λ no. cc)
 ends_without HeadEnd.OutOfMemory old mid new result x a =
     quietly ended.OutOfMemory result old.line mid.line new.line (reads_last old mid _ x).fell a.0
-    a.1 tt (λ no. cc)
+    a.1 tt (λ no. cc) (λ no. cc)
 ends_without HeadEnd.Bad old mid new result x a =
     refusing _ result old.line mid.line new.line (reads_last old mid _ x).fell a.0 a.1 a.2
 ends_without HeadEnd.Version old mid new result x a =
@@ -184,7 +228,7 @@ without_lasts old new result x =
     let w = ends_without x.end old x.mid new result x.reads x.answers in
     lasts_on old x.mid new (reads_last old x.mid (Err x.end) x.reads) (record {
       fell = w.1;
-      closed = λ is. x.nothing.away.upstream.is_open ∙ is;
+      closed = λ is. x.nothing.away.upstream.links.open_to ∙ is;
       number = ap (λ (c : Caller). c.number) x.nothing.caller;
     })
 
@@ -195,7 +239,7 @@ pub record Ending
     (old : Standing) (line : Line) (upstream : Upstream) (caller : Caller) (result : Ended)
     : Type 0 where
   pub cause : CauseOf result old.line line
-  pub closed : old.upstream.is_open ≡ false → upstream.is_open ≡ false
+  pub closed : old.upstream.open_to ≡ None → upstream.open_to ≡ None
   pub number : caller.number ≡ old.caller.number
 
 ending_by : (old mid new : Standing) (result : Ended) → Lasts old mid → Lasts mid new
@@ -209,15 +253,25 @@ ending_by old mid new result first second cause =
       number = all.number;
     }
 
+told_rose : (old new : Standing) → new ≡ having_told true old → new.line.closings
+    ≡ raised old.line.closings
+told_rose old new is = ap (λ (s : Standing). s.line.closings) is
+
 ending_of : (settings : SettingsValue) (rule : Rule) (n retries : ℕ)
     (before behind : Option BudgetValue) (old new : Standing) (result : Ended)
     → Sessions settings rule n retries before behind old new result
     → Ending old new.line new.upstream new.caller result
-ending_of settings rule n retries before behind old new result (inl (mid, served, x)) =
+ending_of settings rule n retries before behind old new result (inl (mid, served, inl x)) =
     ending_by old mid new result
     (served_lasts settings rule n retries before behind old mid None served)
     (without_lasts mid new result x)
     (ends_without x.end mid x.mid new result x.reads x.answers).0
+ending_of settings rule n retries before behind old new result (inl (mid, served, inr x)) =
+    ending_by old mid new result
+    (served_lasts settings rule n retries before behind old mid None served)
+    (subst (Lasts mid) (sym x.closing) (told_last true mid))
+    (subst (λ (e : Ended). CauseOf e mid.line new.line) (sym x.is)
+    (rose_by mid.line.closings new.line.closings (told_rose mid new x.closing)))
 ending_of settings rule zero retries before behind old new result (inr served) =
     absurd (some_never result served.2)
 ending_of settings rule (suc n) retries before behind old new result
@@ -225,8 +279,7 @@ ending_of settings rule (suc n) retries before behind old new result
     ending_by old mid new result
     (served_lasts settings rule n earlier before between old mid None served)
     (serves_last settings rule _ more between behind mid new (Some result) next)
-    (cause_some result mid.line new.line
-    (serves_cause settings rule _ more between behind mid new (Some result) next))
+    (serves_cause settings rule _ more between behind mid new result next)
 
 pub session_ending : (settings : SettingsValue) (rule : Rule) (before behind : Option BudgetValue)
     (old new : Standing) (result : Ended)
@@ -240,21 +293,20 @@ session_ending settings rule before behind old new result x =
 all_of : (n : ℕ) → eqb (n + 1) 10000 ≡ true → suc n ≡ 10000
 all_of n is = grind (arith, nat_tests)
 
-spent_last : (last : Bool) (e : Ended) → e ≡ ended.Spent → FitsLast last (Some e) → last ≡ true
-spent_last last e is fits = subst (λ (x : Ended). FitsLast last (Some x)) is fits
-
 spends_by : (settings : SettingsValue) (rule : Rule) (n retries : ℕ)
     (before behind : Option BudgetValue) (old new : Standing) (result : Ended)
     → Sessions settings rule n retries before behind (begun old) new result
     → result ≡ ended.Spent → Spends settings rule before behind old new
-spends_by settings rule n retries before behind old new result (inl (mid, served, x)) is =
+spends_by settings rule n retries before behind old new result (inl (mid, served, inl x)) is =
     absurd ((ends_without x.end mid x.mid new result x.reads x.answers).2 is)
+spends_by settings rule n retries before behind old new result (inl (mid, served, inr x)) is =
+    let other : ended.Drained ≡ ended.Spent = sym x.is ∙ is in absurd (cc)
 spends_by settings rule zero retries before behind old new result (inr served) is =
     absurd (some_never result served.2)
 spends_by settings rule (suc n) retries before behind old new result
     (inr (mid, between, earlier, more, served, next, all)) is =
-    let last : eqb (n + 1) 10000 ≡ true = spent_last _ result is
-    (request_fits settings rule next.1 _ more between behind next.0 new (Some result) next.3) in (
+    let last : eqb (n + 1) 10000 ≡ true = is_spent settings rule (eqb (n + 1) 10000) more between
+    behind mid new next.0 result is next.1 in (
       suc n,
       retries,
       all_of n last,
@@ -278,7 +330,67 @@ no_fault ended.PeerEnded old new cause none = tt
 no_fault ended.Cut old new cause none = tt
 no_fault ended.Closed old new cause none = tt
 no_fault ended.Spent old new cause none = tt
+no_fault ended.Drained old new cause none = tt
 no_fault ended.ReadFault old new cause none = none.reads cause
 no_fault ended.WriteFault old new cause none = none.writes cause
 no_fault ended.UpstreamCut old new cause none = tt
 no_fault ended.OutOfMemory old new cause none = tt
+
+-- ---- how a session heard that the listeners are closing
+
+hears_by : (settings : SettingsValue) (rule : Rule) (n retries : ℕ)
+    (before behind : Option BudgetValue) (old new : Standing) (result : Ended)
+    → Sessions settings rule n retries before behind (begun old) new result
+    → HearsClosing settings rule before behind old new result
+hears_by settings rule n retries before behind old new result (inl (mid, served, inl x)) =
+    let w = ends_without x.end mid x.mid new result x.reads x.answers in
+    inl (
+      w.4 ∙ (x.reads.closings ∙ served_quiet settings rule n retries before behind (begun old) mid
+          served),
+      w.3,
+    )
+hears_by settings rule n retries before behind old new result (inl (mid, served, inr x)) =
+    let quiet = served_quiet settings rule n retries before behind (begun old) mid served in
+    inr (record {
+      requests = n;
+      retries = retries;
+      more = 0;
+      between = behind;
+      mid = mid;
+      served = served;
+      quiet = quiet;
+      rose = told_rose mid new x.closing ∙ ap raised quiet;
+      ends = inl (x, record { none = refl; same = refl });
+    })
+hears_by settings rule zero retries before behind old new result (inr served) =
+    absurd (some_never result served.2)
+hears_by settings rule (suc n) retries before behind old new result
+    (inr (mid, between, earlier, more, served, (false, x), all)) =
+    inl (
+      serves_quiet settings rule _ more between behind mid new false (Some result) refl x
+          ∙ served_quiet settings rule n earlier before between (begun old) mid served,
+      never_drained settings rule _ more between behind mid new result x,
+    )
+hears_by settings rule (suc n) retries before behind old new result
+    (inr (mid, between, earlier, more, served, (true, x), all)) =
+    let quiet = served_quiet settings rule n earlier before between (begun old) mid served in
+    inr (record {
+      requests = n;
+      retries = earlier;
+      more = more;
+      between = between;
+      mid = mid;
+      served = served;
+      quiet = quiet;
+      rose =
+          serves_rose settings rule _ more between behind mid new (Some result) x
+          ∙ ap raised quiet;
+      ends = inr x;
+    })
+
+pub session_hears : (settings : SettingsValue) (rule : Rule) (before behind : Option BudgetValue)
+    (old new : Standing) (result : Ended)
+    → SessionsTo settings rule before behind old new result
+    → HearsClosing settings rule before behind old new result
+session_hears settings rule before behind old new result x =
+    hears_by settings rule x.requests x.retries before behind old new result x.serves

@@ -1,5 +1,6 @@
 -- How the parts of an exchange make it up.
-use Rattle.std.proofs.Common.{◌≡◌, ℕ, Bool, List, refl, sym, subst, ap, ◌∙◌, inl, inr, Option, Err}
+use Rattle.std.proofs.Common.{◌≡◌, ℕ, Bool, not, List, refl, sym, subst, ap, ◌∙◌, inl, inr, Option}
+use Rattle.std.proofs.Common.{Err}
 use Rattle.std.specs.Prelude.{IfSome, ◌<◌}
 use Rattle.addr_book.specs.declared.addr.Addr.{Addr}
 use Rattle.http_wire.specs.declared.ended.Ended.{Ended}
@@ -58,19 +59,20 @@ word_found (none why) names (found.Replica choice texts) says word = absurd says
 word_found (none why) names (found.None other) says word = tt
 
 -- a request goes on as one that seeks this
-pub record IsFor (sought : Sought) (going : Onward) : Type 0 where
+pub record IsFor (sought : Sought) (keeps : Bool) (going : Onward) : Type 0 where
   pub host : going.host.now ≡ sought.host
   pub line : going.target.now ≡ sought.line
   pub framing : going.framing ≡ sought.framing
+  pub closes : going.closes ≡ not keeps
 
-module _ (sought : Sought) (going : Onward) (is_for : IsFor sought going)
+module _ (sought : Sought) (keeps : Bool) (going : Onward) (is_for : IsFor sought keeps going)
     (path : (ask_of going.ask.now).path ≡ sought.path) (rules : (ask_of going.ask.now).own
     ≡ sought.rules) where
   -- its head to a replica that was found is that of its request
   forwarded_so : (r : Replica) (choice : Choice) (names : Names) (texts : Texts)
       → IsReplica r choice (client_in names texts) (residual_in names texts)
       → (bytes : List ℕ) → IsHeadOf going choice.addr names texts bytes
-      → IsForwarded going.head.now sought r bytes
+      → IsForwarded going.head.now sought (not keeps) r bytes
   forwarded_so r choice names texts is bytes h = record {
     to = h.to;
     host_is =
@@ -82,12 +84,14 @@ module _ (sought : Sought) (going : Onward) (is_for : IsFor sought going)
     service_is = h.service_is ∙ path;
     client_is = h.client_is ∙ is.client_is;
     residual_is = h.residual_is ∙ is.residual_is;
+    closes_is = h.closes_is ∙ is_for.closes;
     bytes_are = h.bytes_are;
   }
 
 module _
-    (settings : SettingsValue) (sought : Sought) (going : Onward) (is_for : IsFor sought going)
-    (old new : Standing) (found_by : Caller) (before behind : Option BudgetValue)
+    (settings : SettingsValue) (sought : Sought) (going : Onward) (old new : Standing)
+    (is_for : IsFor sought old.upstream.keeps going) (found_by : Caller)
+    (before behind : Option BudgetValue)
     (path : (ask_of going.ask.now).path ≡ sought.path)
     (rules : (ask_of going.ask.now).own ≡ sought.rules)
   where
@@ -103,12 +107,13 @@ module _
         → IsSent settings going.head.now going.last going.framing choice.addr choice.slot
         (IsHeadOf going choice.addr names texts) mid new result
         → IsSent settings going.head.now going.last sought.framing r.addr r.slot
-        (IsForwarded going.head.now sought r) (having_asked old found_by old.moments new.words) new
-        result
+        (IsForwarded going.head.now sought (not old.upstream.keeps) r)
+        (having_asked old found_by old.moments new.words) new result
     resent result r choice names texts is s = record {
       onward = s.onward;
       is_head =
-          forwarded_so sought going is_for path rules r choice names texts is s.onward s.is_head;
+          forwarded_so sought old.upstream.keeps going is_for path rules r choice names texts is
+          s.onward s.is_head;
       how = s.how;
       between = s.between;
       tries = rw (sym is_for.framing, sym is.addr) s.tries;
@@ -123,12 +128,13 @@ module _
         → IsSentInVain settings going.head.now going.last going.framing choice.addr choice.slot
         (IsHeadOf going choice.addr names texts) going.fewer before mid new
         → IsSentInVain settings going.head.now going.last sought.framing r.addr r.slot
-        (IsForwarded going.head.now sought r) going.fewer before
+        (IsForwarded going.head.now sought (not old.upstream.keeps) r) going.fewer before
         (having_asked old found_by old.moments new.words) new
     resent_in_vain r choice names texts is s = record {
       onward = s.onward;
       is_head =
-          forwarded_so sought going is_for path rules r choice names texts is s.onward s.is_head;
+          forwarded_so sought old.upstream.keeps going is_for path rules r choice names texts is
+          s.onward s.is_head;
       how = s.how;
       followed = rw (sym is_for.framing) s.followed;
       tries = rw (sym is_for.framing, sym is.addr) s.tries;

@@ -1,5 +1,6 @@
 -- How an exchange on a connection's last request ends, and how on another.
-use Rattle.std.proofs.Common.{◌≡◌, ℕ, Bool, true, false, List, refl, sym, subst, inl, inr, Option, Some, Result, Ok, Err}
+use Rattle.std.proofs.Common.{◌≡◌, ℕ, Bool, true, false, List, refl, sym, subst, inl, inr, Option}
+use Rattle.std.proofs.Common.{Some, Result, Ok, Err}
 use Rattle.addr_book.specs.declared.addr.Addr.{Addr}
 use Rattle.http_wire.specs.declared.ended.Ended.{Ended}
 use Rattle.http_wire.specs.declared.ended.Ended.TheVariants as ended
@@ -29,6 +30,7 @@ told_fits old new reply closes last (Err ended.PeerEnded) w = absurd w
 told_fits old new reply closes last (Err ended.Cut) w = absurd w
 told_fits old new reply closes last (Err ended.Closed) w = absurd w
 told_fits old new reply closes last (Err ended.Spent) w = absurd w
+told_fits old new reply closes last (Err ended.Drained) w = absurd w
 told_fits old new reply closes last (Err ended.ReadFault) w = absurd w
 told_fits old new reply closes last (Err ended.UpstreamCut) w = absurd w
 
@@ -44,6 +46,7 @@ ends_fits : (how : Tried) (head : Head) (last : Bool) (old new : Line) (r : Opti
     → Ends how head last old new r → FitsLast last r
 ends_fits tried.NotDialed head last old new r ends = refuses_fits _ head last old new r ends
 ends_fits tried.NotSent head last old new r ends = refuses_fits _ head last old new r ends
+ends_fits tried.Silent head last old new r ends = refuses_fits _ head last old new r ends
 ends_fits tried.NoReply head last old new r ends = refuses_fits _ head last old new r ends
 ends_fits tried.BadBody head last old new r ends = refuses_fits _ head last old new r ends
 ends_fits tried.LongBody head last old new r ends = refuses_fits _ head last old new r ends
@@ -55,7 +58,7 @@ ends_fits tried.WrittenShort head last old new r ends =
     fits_as last (Some ended.WriteFault) r ends.1 tt
 ends_fits tried.OutOfMemory head last old new r ends =
     fits_as last (Some ended.OutOfMemory) r ends.1 tt
-ends_fits (tried.Whole status closes) head last old new r ends =
+ends_fits (tried.Whole status closes reusable) head last old new r ends =
     fits_as last (end_of closes last) r ends.1 (end_fits closes last)
 
 settles_fits : (settings : SettingsValue) (head : Head) (last : Bool) (addr : Addr) (how : Tried)

@@ -1,5 +1,6 @@
 -- How the heads of a reply are received, one behind the other.
-use Rattle.std.proofs.Common.{◌≡◌, ℕ, ◌+◌, ◌≤◌, List, ◌++◌, true, refl, sym, ap, ◌∙◌, subst, Option, Result, Ok, Err, add-one, arith}
+use Rattle.std.proofs.Common.{◌≡◌, ℕ, ◌+◌, ◌≤◌, List, ◌++◌, true, refl, sym, ap, ◌∙◌, subst, Option}
+use Rattle.std.proofs.Common.{Result, Ok, Err, add-one, arith}
 use Rattle.line_base.specs.declared.dialer.DialEvent.{DialEvent}
 use Rattle.http_wire.specs.declared.frames.Framing.{Framing}
 use Rattle.http_wire.specs.declared.head.ReplyHead.{ReplyHead}
@@ -62,7 +63,7 @@ module _ (left0 left1 : Option (List ℕ)) (l0 l1 l2 : Option (List DialEvent)) 
       (result : Result (ReplyHead × Framing) HeadFault) → n ≤ 8
       → (read : ReadsReply left0 left1 l1 l2 k1 k2 shown) → f1 ≡ f0 → f2
       ≡ raised_at (is_fault shown) f1 → f1 ≤ f2
-      → Decides method n shown result
+      → Decides method n k2 shown result
       → (pieces : List (List ℕ)) × LogsGot l0 l2 pieces × Hears method k0 k2 pieces f0 f2 result
   heard method f0 f1 f2 shown result few read first raises second decides = (
     before.pieces ++ read.pieces,

@@ -11,7 +11,7 @@ use Rattle.proxy_session.specs.Onward.{IsHeadTo}
 pub heads_to : (head : Head) (to : Going) (bytes : List ℕ) (r : Result (Unit {0}) AllocError)
     → OnOk r (bytes ≡ forwarded head to)
     → OnOk r (IsHeadTo head to.host.now to.target.now to.framing (rules_of to.local.now)
-    to.service.now to.client.now to.residual.now bytes)
+    to.service.now to.closes to.client.now to.residual.now bytes)
 heads_to head to bytes (Ok x) is = record {
   to = to;
   host_is = refl;
@@ -21,6 +21,7 @@ heads_to head to bytes (Ok x) is = record {
   service_is = refl;
   client_is = refl;
   residual_is = refl;
+  closes_is = refl;
   bytes_are = is;
 }
 heads_to head to bytes (Err e) is = tt

@@ -1,10 +1,11 @@
 -- What each exchange and each session leaves as it was.
-use Rattle.std.proofs.Common.{◌≡◌, ℕ, Bool, false, List, ap, ◌∙◌, inl, inr, ◌⊎◌, Option, Some, None}
+use Rattle.std.proofs.Common.{◌≡◌, ℕ, Bool, List, ap, ◌∙◌, inl, inr, ◌⊎◌, Option, Some, None}
 use Rattle.addr_book.specs.declared.addr.Addr.{Addr}
 use Rattle.http_wire.specs.declared.ended.Ended.{Ended}
 use Rattle.http_wire.specs.declared.head.Head.{Head}
 use Rattle.identifier.specs.declared.rule.Rule.{Rule}
 use Rattle.machine.specs.Values.{SettingsValue, AskValue, PickValue, none, replica}
+use Rattle.proxy_session.proofs.Closed.{tries_closed}
 use Rattle.proxy_session.specs.declared.tried.Tried.{Tried}
 use Rattle.proxy_session.specs.Answering.{report_of}
 use Rattle.proxy_session.specs.Asking.{Finding, StopsAsking}
@@ -67,13 +68,14 @@ module _ (settings : SettingsValue) (rule : Rule) (head : Head) (last : Bool) (o
       ∙ (s.holds.number ∙ finding_number settings old.caller x.found _ (replica x.to) x.finds)
 
   -- where no connection to a replica was open, none is
-  pub exchange_closed : Exchanges settings rule head last old new r → old.upstream.is_open ≡ false
-      → new.upstream.is_open ≡ false
-  exchange_closed (inl x) closed = x.nothing.away.upstream.is_open ∙ closed
-  exchange_closed (inr (inl x)) closed = x.nothing.away.upstream.is_open ∙ closed
+  pub exchange_closed : Exchanges settings rule head last old new r → old.upstream.open_to ≡ None
+      → new.upstream.open_to ≡ None
+  exchange_closed (inl x) closed = x.nothing.away.upstream.links.open_to ∙ closed
+  exchange_closed (inr (inl x)) closed = x.nothing.away.upstream.links.open_to ∙ closed
   exchange_closed (inr (inr (sought, seeks, (moment, moments, draws, inl x)))) closed =
-      x.away.upstream.is_open ∙ closed
+      x.away.upstream.links.open_to ∙ closed
   exchange_closed (inr (inr (sought, seeks, (moment, moments, draws, inr (inl x))))) closed =
-      x.away.upstream.is_open ∙ closed
+      x.away.upstream.links.open_to ∙ closed
   exchange_closed (inr (inr (sought, seeks, (moment, moments, draws, inr (inr x))))) closed =
-      x.sent.tries.1
+      tries_closed head x.sent.onward sought.framing last x.to.addr x.sent.between new.kept
+      new.upstream x.sent.how old.line old.kept old.upstream x.sent.tries

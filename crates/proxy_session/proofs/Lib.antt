@@ -2,6 +2,7 @@ pub mod Growing
 pub mod Hearing
 pub mod Tests
 pub mod Resting
+pub mod Closed
 pub mod Speaking
 pub mod Writing
 pub mod Hosts
@@ -14,8 +15,11 @@ pub mod Exchanging
 pub mod Attempting
 pub mod Splitting
 pub mod Bounding
+pub mod Reading
 pub mod Serving
 pub mod Rising
+pub mod Closings
+pub mod Draining
 pub mod Lasting
 pub mod Fitting
 pub mod Ending

@@ -1,5 +1,8 @@
 -- What goes on of a request that was read is read as it was meant.
-use Rattle.std.proofs.Common.{◌≡◌, ◌<◌, ◌≤◌, ◌^◌, ◌⊎◌, ℕ, zero, suc, Bool, true, List, [], ◌∷◌, ◌++◌, length, map, refl, sym, ap, subst, ◌∙◌, inl, inr, IsUtf8, append-nil, Option, Some, None, Result, Ok, Err}
+use Rattle.std.proofs.Common.{◌≡◌, ◌<◌, ◌≤◌, ◌^◌, ◌⊎◌, ℕ, zero, suc, eqb, ◌&&◌, Bool, true}
+use Rattle.std.proofs.Common.{false, not, cond, List, [], ◌∷◌, ◌++◌, length, map, refl, sym, ap}
+use Rattle.std.proofs.Common.{subst, ◌∙◌, inl, inr, IsUtf8, append-nil, Option, Some, None, Result}
+use Rattle.std.proofs.Common.{Ok, Err}
 use Rattle.std.specs.List.{concat}
 use Rattle.httparse.specs.Grammar.{AllPass, is_uri_byte, is_value_byte, trim_ows}
 use Rattle.name_tree.specs.Canon.{AreByteLabels}
@@ -12,6 +15,8 @@ use Rattle.http_wire.specs.declared.ended.Ended.{Ended}
 use Rattle.http_wire.specs.declared.frames.Framing.{Framing}
 use Rattle.http_wire.specs.declared.frames.FramingFault.{FramingFault}
 use Rattle.http_wire.specs.declared.head.Head.{Head}
+use Rattle.http_wire.specs.declared.head.ReplyHead.{ReplyHead}
+use Rattle.http_wire.specs.Fields.{names_close}
 use Rattle.http_wire.specs.Framing.{framing_of}
 use Rattle.http_wire.specs.Heads.{most, BeginsWith}
 use Rattle.http_wire.specs.Host.{host_of}
@@ -21,35 +26,49 @@ use Rattle.identifier.specs.Local.{local_rules}
 use Rattle.identifier.specs.Naming.{identified}
 use Rattle.identifier.proofs.Sounds.{sound_local}
 use Rattle.body_wire.specs.declared.end.BodyEnd.{BodyEnd}
-use Rattle.body_wire.specs.declared.end.BodyEnd.TheVariants.{BadChunk, Cut, TooLong, ReadFault, WriteFault, SendFault, RecvFault, OutOfMemory}
-use Rattle.body_wire.specs.Bodies.{IsFrontBody}
-use Rattle.body_wire.specs.Passing.{IsFrontOf, form_of, most_passed, IsSent as WasSent}
+use Rattle.body_wire.specs.declared.end.BodyEnd.TheVariants.{BadChunk, Cut, TooLong, ReadFault}
+use Rattle.body_wire.specs.declared.end.BodyEnd.TheVariants.{WriteFault, SendFault, RecvFault}
+use Rattle.body_wire.specs.declared.end.BodyEnd.TheVariants.{OutOfMemory}
+use Rattle.body_wire.specs.Bodies.{IsFrontBody, IsWholeBody}
+use Rattle.body_wire.specs.Passing.{Ends, IsFrontOf, form_of, most_passed, runs_to_end}
+use Rattle.body_wire.specs.Passing.{IsSent as WasSent}
 use Rattle.machine.specs.Values.{SettingsValue, Replica}
 use Rattle.forward.specs.declared.going.Going.{Going}
 use Rattle.forward.specs.Forwarded.{forwarded}
 use Rattle.forward.specs.Laws.{table_texts, IsPlainWay, IsRequestFraming, ReadsBack}
 use Rattle.forward.proofs.CanonBytes.{path_text}
 use Rattle.forward.proofs.Written.{heads_read_back as written_reads_back}
+use Rattle.proxy_session.specs.declared.final_head.HeadFault.{HeadFault}
 use Rattle.proxy_session.specs.declared.tried.Tried.{Tried}
+use Rattle.proxy_session.specs.Heads.{Hears}
 use Rattle.proxy_session.specs.Attempts.{Failed, FailedAttempt}
 use Rattle.proxy_session.specs.Exchange.{Exchanges, Routes, Standing}
 use Rattle.proxy_session.specs.Requests.{TriesAgain}
 use Rattle.retry_budget.specs.Budget.{BudgetValue}
-use Rattle.proxy_session.specs.Laws.{ExchangesReadBack, HeadsReadBack, RequestsReadBack, SendsAgain, SendsHead, IsByteReplica, IsByteRule, ReadsAs, WasRead}
+use Rattle.proxy_session.specs.Laws.{ExchangesReadBack, HeadsReadBack, RequestsReadBack, SendsAgain}
+use Rattle.proxy_session.specs.Laws.{SendsHead, SendsOnce, SendsTry, IsAnsweredWhole, IsByteReplica}
+use Rattle.proxy_session.specs.Laws.{IsByteRule, IsWholeReply, ReadsAs, WasRead}
 use Rattle.proxy_session.specs.Onward.{IsForwarded, host_for}
 use Rattle.line_base.specs.Dials.{Grows, Upstream}
 use Rattle.line_base.specs.Lines.{Line}
-use Rattle.proxy_session.specs.Trying.{Converses, GoesOn, Tries}
+use Rattle.proxy_session.specs.Trying.{Backs, Converses, GoesOn, Replies, Tries, TriesAnew, Visits}
+use Rattle.proxy_session.specs.Trying.{closes_behind, is_repeatable, is_reusable, knows_chunks}
+use Rattle.proxy_session.specs.Trying.{leaves_reusable, stop_of, tried_of_back, tried_of_body}
+use Rattle.proxy_session.specs.Trying.{tried_of_head}
+use Rattle.line_base.specs.declared.dialer.DialEvent.{DialEvent}
+use Rattle.line_base.specs.declared.dialer.DialEvent.TheVariants.{Dialed, Resumed, Hung, Kept}
 use Rattle.proxy_session.specs.Seeking.{by_framing, by_host, by_path, by_table, Seeks, Sought}
 use Rattle.proxy_session.proofs.Attempting.{last_routes}
 use Rattle.proxy_session.proofs.Growing.{grows_nothing}
 use Rattle.proxy_session.proofs.Addresses.{addr_field}
 use Rattle.proxy_session.proofs.Asked.{asked_form, asked_host, IsByteTarget}
 use Rattle.proxy_session.proofs.Bodies.{front_of_body}
-use Rattle.proxy_session.proofs.FieldTexts.{are_bytes, both_pass, is_byte, uri_bytes, value_bytes, IsFieldText}
+use Rattle.proxy_session.proofs.FieldTexts.{are_bytes, both_pass, is_byte, uri_bytes, value_bytes}
+use Rattle.proxy_session.proofs.FieldTexts.{IsFieldText}
 use Rattle.proxy_session.proofs.Framed.{request_framing}
 use Rattle.proxy_session.proofs.Named.{named_labels}
 use Rattle.proxy_session.proofs.Received.{received, IsReceived}
+use Rattle.proxy_session.proofs.Untouched.{and_right, nothing_of, zero_of}
 
 -- ---- what a request seeks
 
@@ -160,10 +179,11 @@ reads_so head sought to bytes way read is line framing host rules back = record 
   table = back.table ∙ ap (λ (all : List DtabRule). map trim_ows (table_texts all)) rules;
 }
 
-reads_back : (head : Head) (sought : Sought) (to : Replica) (bytes : List ℕ) → IsReceived head
-    → MayGoOn sought → IsByteReplica to → IsForwarded head sought to bytes
+reads_back : (head : Head) (sought : Sought) (closes : Bool) (to : Replica) (bytes : List ℕ)
+    → IsReceived head
+    → MayGoOn sought → IsByteReplica to → IsForwarded head sought closes to bytes
     → length bytes ≤ most → (read : Head) × ReadsAs head sought to bytes read
-reads_back head sought to bytes received well replica goes short =
+reads_back head sought closes to bytes received well replica goes short =
     let way = goes.to in
     let host : IsFieldText (host_for sought.host to.addr) = asks_well sought.host to.addr well.host
     replica.ip replica.port in
@@ -200,8 +220,8 @@ was_received head was =
     received was.received head was.len (are_bytes was.received was.bytes) was.begins
 
 pub heads_read_back : HeadsReadBack
-heads_read_back rule head sought to bytes of_bytes was seeks replica goes short =
-    let read = was_received head was in reads_back head sought to bytes read
+heads_read_back rule head sought closes to bytes of_bytes was seeks replica goes short =
+    let read = was_received head was in reads_back head sought closes to bytes read
     (seeks_well rule head sought of_bytes read seeks) replica goes short
 
 -- ---- exchanges
@@ -218,19 +238,144 @@ front_of all sent (Err WriteFault) front = front
 front_of all sent (Err SendFault) front = front
 front_of all sent (Err OutOfMemory) front = front
 
--- what was sent is a front of the head and of what goes on of a body
-record GoesBehind (onward : List ℕ) (framing : Framing) (sent : List ℕ) : Type 0 where
+-- ---- replies
+
+-- a reply that went back whole, over a connection that may carry another request
+went_whole : (status : ℕ) (closes reusable : Bool) (r : Result ℕ BodyEnd)
+    → leaves_reusable (tried_of_back status closes reusable r) ≡ true
+    → (n : ℕ) × (r ≡ Ok n) × (reusable ≡ true)
+went_whole status closes reusable (Ok n) is = (n, refl, is)
+went_whole status closes reusable (Err (BadChunk n)) is = absurd (cc)
+went_whole status closes reusable (Err Cut) is = absurd (cc)
+went_whole status closes reusable (Err TooLong) is = absurd (cc)
+went_whole status closes reusable (Err ReadFault) is = absurd (cc)
+went_whole status closes reusable (Err WriteFault) is = absurd (cc)
+went_whole status closes reusable (Err SendFault) is = absurd (cc)
+went_whole status closes reusable (Err RecvFault) is = absurd (cc)
+went_whole status closes reusable (Err OutOfMemory) is = absurd (cc)
+
+-- no reply came, and no request went on whole
+never_by_head : (fault : HeadFault) → leaves_reusable (tried_of_head fault) ≡ true → ⊥
+never_by_head HeadFault.Silent is = cc
+never_by_head HeadFault.NoReply is = cc
+never_by_head HeadFault.OutOfMemory is = cc
+
+never_by_body : (end : BodyEnd) → leaves_reusable (tried_of_body end) ≡ true → ⊥
+never_by_body (BadChunk n) is = cc
+never_by_body Cut is = cc
+never_by_body TooLong is = cc
+never_by_body ReadFault is = cc
+never_by_body WriteFault is = cc
+never_by_body SendFault is = cc
+never_by_body RecvFault is = cc
+never_by_body OutOfMemory is = cc
+
+-- nothing is left behind a reply after which the connection may carry another request
+nothing_left : (reply : ReplyHead) (framing : Framing) (left : List ℕ)
+    → is_reusable reply framing left ≡ true → left ≡ []
+nothing_left reply framing left is =
+    let unnamed = and_right (eqb reply.version 1) _ is in
+    let ended = and_right (not (names_close reply.fields)) _ unnamed in
+    nothing_of left (zero_of (length left) (and_right (not (runs_to_end framing)) _ ended))
+
+-- all that was got behind a final head is the body that it frames
+all_taken : (kept taken kept_after : List ℕ) (behind : List (List ℕ))
+    → kept ++ concat behind ≡ taken ++ kept_after → kept_after ≡ [] → taken ≡ kept ++ concat behind
+all_taken kept taken kept_after behind is none =
+    sym (is ∙ ap (λ (k : List ℕ). taken ++ k) none ∙ append-nil taken)
+
+went_back : (head : Head) (last : Bool) (reply : ReplyHead) (framing : Framing) (old new : Line)
+    (kept : List ℕ) (f0 f1 f2 : ℕ) (before behind got : List (List ℕ)) (how : Tried)
+    → leaves_reusable how ≡ true → Hears head.method [] kept before f0 f1 (Ok (reply, framing))
+    → got ≡ before ++ behind → Backs head last reply framing old new kept f1 f2 behind how
+    → IsWholeReply head.method got
+went_back head last reply framing old new kept f0 f1 f2 before behind got how is hears all
+    (inl none) =
+    let never = subst (λ (h : Tried). leaves_reusable h ≡ true) none.3 is in absurd (cc)
+went_back head last reply framing old new kept f0 f1 f2 before behind got how is hears all
+    (inr (kept_after, r, goes, way)) =
+    let reusable = is_reusable reply framing kept_after in
+    let chunked = knows_chunks head in
+    let p = goes.passes in
+    let whole = went_whole reply.status (closes_behind head framing) reusable r
+    (subst (λ (h : Tried). leaves_reusable h ≡ true) way is) in
+    let none = nothing_left reply framing kept_after whole.2 in
+    let ends : Ends framing (form_of chunked) most_passed p.taken p.passed p.count kept_after
+    (Ok whole.0) = subst (λ (x : Result ℕ BodyEnd). Ends framing (form_of chunked) most_passed
+    p.taken p.passed p.count kept_after x) whole.1 p.ends in
+    let body = subst (λ (k : List ℕ). IsWholeBody framing (form_of chunked) p.taken p.passed p.count
+    k) none ends.1 in
+    record {
+      reply = reply;
+      framing = framing;
+      heads = before;
+      behind = behind;
+      all = all;
+      left = kept;
+      faults = f0;
+      faults_now = f1;
+      heard = hears;
+      chunked = chunked;
+      passed = p.passed;
+      count = p.count;
+      body =
+          subst (λ (t : List ℕ). IsWholeBody framing (form_of chunked) t p.passed p.count [])
+          (all_taken kept p.taken kept_after behind p.bytes none) body;
+      lasts = subst (λ (k : List ℕ). is_reusable reply framing k ≡ true) none whole.2;
+    }
+
+replied : (head : Head) (last : Bool) (old new : Line) (f0 f1 : ℕ) (got : List (List ℕ))
+    (how : Tried) → leaves_reusable how ≡ true → Replies head last old new f0 f1 got how
+    → IsWholeReply head.method got
+replied head last old new f0 f1 got how is (inl (fault, kept, hears, rests, way)) =
+    absurd (never_by_head fault (subst (λ (h : Tried). leaves_reusable h ≡ true) way is))
+replied head last old new f0 f1 got how is
+    (inr (reply, framing, kept, between, before, behind, hears, backs, all)) =
+    went_back head last reply framing old new kept f0 between f1 before behind got how is hears all
+    backs
+
+-- ---- visits
+
+-- What was sent is a front of the head and of what goes on of a body. Where the connection may
+-- carry another request, the request was answered whole
+record GoesBehind
+    (method onward : List ℕ) (framing : Framing) (sent : List ℕ) (got : List (List ℕ)) (how : Tried)
+    : Type 0 where
   taken : List ℕ
   behind : List ℕ
   count : ℕ
   body : IsFrontBody framing (form_of true) most_passed taken behind count
   front : IsFrontOf (onward ++ behind) sent
+  lasts : leaves_reusable how ≡ true
+      → IsAnsweredWhole method framing onward taken behind count sent got
 
-goes_behind : (onward : List ℕ) (framing : Framing) (old new : Line) (kept kept_after : List ℕ)
-    (faults faults_now : ℕ) (sent : List ℕ) (result : Result ℕ BodyEnd)
-    → GoesOn onward framing old new kept kept_after faults faults_now sent result
-    → GoesBehind onward framing sent
-goes_behind onward framing old new kept kept_after faults faults_now sent result goes =
+-- a request that went on whole, and its whole reply
+answered_whole : (method onward : List ℕ) (framing : Framing) (taken passed kept_after : List ℕ)
+    (count : ℕ) (sent : List ℕ) (result : Result ℕ BodyEnd) (got : List (List ℕ))
+    → WasSent (onward ++ passed) sent result
+    → Ends framing (form_of true) most_passed taken passed count kept_after result
+    → (n : ℕ) × (result ≡ Ok n) × IsWholeReply method got
+    → IsAnsweredWhole method framing onward taken passed count sent got
+answered_whole method onward framing taken passed kept_after count sent result got sends ends
+    (n, is, reply) =
+    let whole : Ends framing (form_of true) most_passed taken passed count kept_after (Ok n) =
+    subst (λ (r : Result ℕ BodyEnd). Ends framing (form_of true) most_passed taken passed count
+    kept_after r) is ends in
+    record {
+      sent_is = subst (λ (r : Result ℕ BodyEnd). WasSent (onward ++ passed) sent r) is sends;
+      after = kept_after;
+      body = whole.1;
+      reply = reply;
+    }
+
+goes_behind : (method onward : List ℕ) (framing : Framing) (old new : Line)
+    (kept kept_after : List ℕ) (faults faults_now : ℕ) (sent : List ℕ) (result : Result ℕ BodyEnd)
+    (got : List (List ℕ)) (how : Tried)
+    → (goes : GoesOn onward framing old new kept kept_after faults faults_now sent result)
+    → (leaves_reusable how ≡ true → (n : ℕ) × (result ≡ Ok n) × IsWholeReply method got)
+    → GoesBehind method onward framing sent got how
+goes_behind method onward framing old new kept kept_after faults faults_now sent result got how goes
+    lasts =
     let p = goes.passes in
     record {
       taken = p.taken;
@@ -240,68 +385,134 @@ goes_behind onward framing old new kept kept_after faults faults_now sent result
           front_of_body true most_passed p.taken p.passed p.count p.within kept_after framing result
           p.ends;
       front = front_of (onward ++ p.passed) sent result p.sends;
+      lasts =
+          λ is. answered_whole method onward framing p.taken p.passed kept_after p.count sent result
+          got p.sends p.ends (lasts is);
     }
 
 conversed : (head : Head) (onward : List ℕ) (framing : Framing) (last : Bool) (old new : Line)
     (kept kept_after : List ℕ) (faults faults_now : ℕ) (sent : List ℕ) (got : List (List ℕ))
     (how : Tried)
     → Converses head onward framing last old new kept kept_after faults faults_now sent got how
-    → GoesBehind onward framing sent
+    → GoesBehind head.method onward framing sent got how
 conversed head onward framing last old new kept kept_after faults faults_now sent got how
-    (inl (end, goes, nothing, is)) =
-    goes_behind onward framing old new kept kept_after faults faults_now sent (Err end) goes
+    (inl (end, goes, nothing, way)) =
+    goes_behind head.method onward framing old new kept kept_after faults faults_now sent (Err end)
+    got how goes
+    (λ is. absurd (never_by_body end (subst (λ (h : Tried). leaves_reusable h ≡ true) way is)))
 conversed head onward framing last old new kept kept_after faults faults_now sent got how
     (inr (n, mid, between, goes, replies)) =
-    goes_behind onward framing old mid kept kept_after faults between sent (Ok n) goes
+    goes_behind head.method onward framing old mid kept kept_after faults between sent (Ok n) got
+    how goes (λ is. (n, refl, replied head last mid new between faults_now got how is replies))
 
-tried : (rule : Rule) (head : Head) (sought : Sought) (to : Replica) (onward : List ℕ) (last : Bool)
-    (old new : Line) (kept kept_after : List ℕ) (before now : Upstream) (how : Tried)
-    → IsReceived head → MayGoOn sought → Seeks rule head (Ok sought)
-    → IsForwarded head sought to onward
-    → Tries head onward sought.framing last to.addr old new kept kept_after before now how
-    → Grows before.log now.log [] ⊎ SendsHead rule head before now
-tried rule head sought to onward last old new kept kept_after before now how read well seeks goes (inl not_dialed, closed) =
-    inl not_dialed.log
-tried rule head sought to onward last old new kept kept_after before now how read well seeks goes
-    (inr spoken, closed) =
-    let goes_on = conversed head onward sought.framing last old new kept kept_after before.faults
-    now.faults (concat spoken.sent) spoken.got how spoken.spoke in
-    inr (record {
-      sought = sought;
-      seeks = seeks;
-      to = to;
-      onward = onward;
-      reads = λ replica short. reads_back head sought to onward read well replica goes short;
-      sent = spoken.sent;
-      got = spoken.got;
-      log = spoken.log;
-      taken = goes_on.taken;
-      behind = goes_on.behind;
-      count = goes_on.count;
-      body = goes_on.body;
-      front = goes_on.front;
-    })
+-- a connection is ended; or it is kept, and may carry another request
+stops_by : (keeps lasts t : Bool) → (keeps && lasts) ≡ t
+    → (cond t Kept Hung ≡ Hung) ⊎ ((cond t Kept Hung ≡ Kept) × (lasts ≡ true))
+stops_by keeps lasts true is = inr (refl, and_right keeps lasts is)
+stops_by keeps lasts false is = inl refl
+
+ended_or_kept : (stop : DialEvent) (lasts : Bool) (Whole : Type 0)
+    → (stop ≡ Hung) ⊎ ((stop ≡ Kept) × (lasts ≡ true)) → (lasts ≡ true → Whole)
+    → (stop ≡ Hung) ⊎ ((stop ≡ Kept) × Whole)
+ended_or_kept stop lasts Whole (inl hung) whole = inl hung
+ended_or_kept stop lasts Whole (inr (kept, is)) whole = inr (kept, whole is)
+
+module _ (rule : Rule) (head : Head) (sought : Sought) (to : Replica) (onward : List ℕ)
+    (last : Bool) (read : IsReceived head) (well : MayGoOn sought)
+    (seeks : Seeks rule head (Ok sought)) (closes : Bool)
+    (goes : IsForwarded head sought closes to onward) where
+  visited : (start : DialEvent)
+      → (start ≡ Dialed to.addr.ip to.addr.port)
+      ⊎ ((start ≡ Resumed to.addr.ip to.addr.port)
+      × (is_repeatable head sought.framing ≡ true))
+      → (old new : Line) (kept kept_after : List ℕ) (before now : Upstream) (how : Tried)
+      → Visits start head onward sought.framing last old new kept kept_after before now how
+      → SendsHead rule head before now
+  visited start starts old new kept kept_after before now how v =
+      let goes_on = conversed head onward sought.framing last old new kept kept_after before.faults
+      now.faults (concat v.sent) v.got how v.spoke in
+      record {
+        sought = sought;
+        seeks = seeks;
+        to = to;
+        onward = onward;
+        reads = λ replica short. reads_back head sought closes to onward read well replica goes
+            short;
+        taken = goes_on.taken;
+        behind = goes_on.behind;
+        count = goes_on.count;
+        body = goes_on.body;
+        start = start;
+        starts = starts;
+        sent = v.sent;
+        front = goes_on.front;
+        got = v.got;
+        stop = stop_of before.keeps how;
+        stops =
+            ended_or_kept (stop_of before.keeps how) (leaves_reusable how) _
+            (stops_by before.keeps (leaves_reusable how) _ refl) goes_on.lasts;
+        log = v.log;
+      }
+
+  tried_anew : (old new : Line) (kept kept_after : List ℕ) (before now : Upstream) (how : Tried)
+      → TriesAnew head onward sought.framing last to.addr old new kept kept_after before now how
+      → SendsOnce rule head before now
+  tried_anew old new kept kept_after before now how (inl none) = inl none.log
+  tried_anew old new kept kept_after before now how (inr v) =
+      inr (visited (Dialed to.addr.ip to.addr.port) (inl refl) old new kept kept_after before now
+      how v)
+
+  tried : (old new : Line) (kept kept_after : List ℕ) (before now : Upstream) (how : Tried)
+      → Tries head onward sought.framing last to.addr old new kept kept_after before now how
+      → SendsTry rule head before now
+  tried old new kept kept_after before now how (inl anew) = (
+    before,
+    inl (grows_nothing before.log),
+    tried_anew old new kept kept_after before now how anew,
+  )
+  tried old new kept kept_after before now how (inr (any, again, inl answered)) = (
+    before,
+    inl (grows_nothing before.log),
+    inr
+        (visited (Resumed to.addr.ip to.addr.port) (inr (refl, again)) old new kept kept_after
+        before now how answered.visit),
+  )
+  tried old new kept kept_after before now how (inr (any, again, inr t)) = (
+    t.mid,
+    inr
+        (visited (Resumed to.addr.ip to.addr.port) (inr (refl, again)) old t.line kept t.left before
+        t.mid t.first t.visit),
+    tried_anew t.line new t.left kept_after t.mid now how t.anew,
+  )
+
+-- nothing was done
+idles : (rule : Rule) (head : Head) (old new : Upstream) → Grows old.log new.log []
+    → SendsTry rule head old new
+idles rule head old new nothing = (old, inl (grows_nothing old.log), inl nothing)
 
 routed : (settings : SettingsValue) (rule : Rule) (head : Head) (last : Bool) (sought : Sought)
     (old new : Standing) (result : Option Ended)
     → IsReceived head → MayGoOn sought → Seeks rule head (Ok sought)
     → Routes settings head last sought old new result
-    → Grows old.upstream.log new.upstream.log [] ⊎ SendsHead rule head old.upstream new.upstream
-routed settings rule head last sought old new result read well seeks (moment, moments, draws, inl stops) =
-    inl stops.away.upstream.log
-routed settings rule head last sought old new result read well seeks (moment, moments, draws, inr (inl unbound)) =
-    inl unbound.away.upstream.log
+    → SendsTry rule head old.upstream new.upstream
+routed settings rule head last sought old new result read well seeks
+    (moment, moments, draws, inl stops) =
+    idles rule head old.upstream new.upstream stops.away.upstream.log
+routed settings rule head last sought old new result read well seeks
+    (moment, moments, draws, inr (inl unbound)) =
+    idles rule head old.upstream new.upstream unbound.away.upstream.log
 routed settings rule head last sought old new result read well seeks
     (moment, moments, draws, inr (inr found)) =
-    tried rule head sought found.to found.sent.onward last old.line found.sent.between old.kept
-    new.kept old.upstream new.upstream found.sent.how read well seeks found.sent.is_head
+    tried rule head sought found.to found.sent.onward last read well seeks (not old.upstream.keeps)
+    found.sent.is_head
+    old.line found.sent.between old.kept new.kept old.upstream new.upstream found.sent.how
     found.sent.tries
 
 pub exchanges_read_back : ExchangesReadBack
 exchanges_read_back settings rule head last old new result of_bytes was (inl refused) =
-    inl refused.nothing.away.upstream.log
+    idles rule head old.upstream new.upstream refused.nothing.away.upstream.log
 exchanges_read_back settings rule head last old new result of_bytes was (inr (inl stops)) =
-    inl stops.nothing.away.upstream.log
+    idles rule head old.upstream new.upstream stops.nothing.away.upstream.log
 exchanges_read_back settings rule head last old new result of_bytes was
     (inr (inr (sought, seeks, routes))) =
     let read = was_received head was in routed settings rule head last sought old new result read
@@ -313,10 +524,11 @@ module _ (settings : SettingsValue) (rule : Rule) (head : Head) (last : Bool) (s
     (read : IsReceived head) (well : MayGoOn sought) (seeks : Seeks rule head (Ok sought)) where
   attempted : (fewer : Bool) (budget : Option BudgetValue) (old new : Standing)
       → FailedAttempt settings head last sought fewer budget old new
-      → Grows old.upstream.log new.upstream.log [] ⊎ SendsHead rule head old.upstream new.upstream
+      → SendsTry rule head old.upstream new.upstream
   attempted fewer budget old new (moment, moments, draws, x) =
-      tried rule head sought x.to x.sent.onward last old.line new.line old.kept new.kept
-      old.upstream new.upstream x.sent.how read well seeks x.sent.is_head x.sent.tries
+      tried rule head sought x.to x.sent.onward last read well seeks (not old.upstream.keeps)
+      x.sent.is_head old.line
+      new.line old.kept new.kept old.upstream new.upstream x.sent.how x.sent.tries
 
   failed : (n : ℕ) (before behind : Option BudgetValue) (old new : Standing)
       → Failed settings head last sought n before behind old new

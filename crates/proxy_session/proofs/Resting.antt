@@ -1,6 +1,7 @@
 -- Where nothing moves.
 use Rattle.std.proofs.Common.{refl}
 use Rattle.std.proofs.KnownBytes.{Keeps-refl}
+use Rattle.line_base.proofs.Links.{links_same}
 use Rattle.line_base.specs.Dials.{IsIdle, Upstream}
 use Rattle.line_base.specs.Lines.{Line, Rests}
 use Rattle.proxy_session.proofs.Growing.{grows_nothing}
@@ -12,7 +13,8 @@ rests_same a = record {
   read_faults = refl;
   write_faults = refl;
   ends = refl;
+  closings = refl;
 }
 
 pub idle_same : (a : Upstream) → IsIdle a a
-idle_same a = record { log = grows_nothing a.log; is_open = refl; faults = refl }
+idle_same a = record { log = grows_nothing a.log; links = links_same a; faults = refl }

@@ -1,9 +1,12 @@
 -- Which counts rise in an exchange and in a session.
-use Rattle.std.proofs.Common.{◌≡◌, ℕ, ◌≤◌, Bool, true, false, List, refl, sym, subst, inl, inr, Option, Some, None, Result, Ok, Err, arith}
+use Rattle.std.proofs.Common.{◌≡◌, ℕ, ◌≤◌, Bool, true, false, List, refl, sym, subst, inl, inr}
+use Rattle.std.proofs.Common.{Option, Some, None, Result, Ok, Err, arith}
 use Rattle.line_base.specs.Counts.{Rose, raised}
 use Rattle.addr_book.specs.declared.addr.Addr.{Addr}
 use Rattle.body_wire.specs.declared.end.BodyEnd.{BodyEnd}
-use Rattle.body_wire.specs.declared.end.BodyEnd.TheVariants.{BadChunk, Cut, TooLong, ReadFault, WriteFault, SendFault, RecvFault, OutOfMemory}
+use Rattle.body_wire.specs.declared.end.BodyEnd.TheVariants.{BadChunk, Cut, TooLong, ReadFault}
+use Rattle.body_wire.specs.declared.end.BodyEnd.TheVariants.{WriteFault, SendFault, RecvFault}
+use Rattle.body_wire.specs.declared.end.BodyEnd.TheVariants.{OutOfMemory}
 use Rattle.body_wire.specs.Passing.{CountsEnd, RaisedAt, is_at_end}
 use Rattle.http_wire.specs.declared.ended.Ended.{Ended}
 use Rattle.http_wire.specs.declared.ended.Ended.TheVariants as ended
@@ -22,7 +25,9 @@ use Rattle.proxy_session.specs.Causes.{HasCauseOf, Later, NoneFell}
 use Rattle.proxy_session.specs.Exchange.{Exchanges, Settles, Standing}
 use Rattle.line_base.specs.Dials.{Upstream}
 use Rattle.line_base.specs.Lines.{Line, Rests}
-use Rattle.proxy_session.specs.Trying.{Backs, Converses, GoesBack, GoesOn, Replies, Tries, tried_of_back, tried_of_body, tried_of_head}
+use Rattle.proxy_session.specs.Trying.{Backs, Converses, GoesBack, GoesOn, Replies, Tries}
+use Rattle.proxy_session.specs.Trying.{TriesAnew}
+use Rattle.proxy_session.specs.Trying.{tried_of_back, tried_of_body, tried_of_head}
 
 pub later_same : (a b : ℕ) → b ≡ a → Later a b
 later_same a b is = omega arith
@@ -30,7 +35,7 @@ later_same a b is = omega arith
 pub later_below : (a b : ℕ) → a ≤ b → Later a b
 later_below a b le = omega arith
 
-later_raised : (a b : ℕ) → b ≡ raised a → Later a b
+pub later_raised : (a b : ℕ) → b ≡ raised a → Later a b
 later_raised a b is = omega arith
 
 later_on : (a b c : ℕ) → Later a b → Later b c → Later a c
@@ -50,6 +55,7 @@ none_fell_on a b c p q = record {
   reads = later_on a.read_faults b.read_faults c.read_faults p.reads q.reads;
   writes = later_on a.write_faults b.write_faults c.write_faults p.writes q.writes;
   ends = later_on a.ends b.ends c.ends p.ends q.ends;
+  closings = later_on a.closings b.closings c.closings p.closings q.closings;
 }
 
 pub rests_fell : (a b : Line) → Rests a b → NoneFell a b
@@ -57,6 +63,7 @@ rests_fell a b r = record {
   reads = later_same _ _ r.read_faults;
   writes = later_same _ _ r.write_faults;
   ends = later_same _ _ r.ends;
+  closings = later_same _ _ r.closings;
 }
 
 -- ---- bodies
@@ -97,6 +104,7 @@ module _ (head : List ℕ) (framing : Framing) (old new : Line) (kept kept_after
       reads = raised_reads old.read_faults new.read_faults r x.reads;
       writes = later_same old.write_faults new.write_faults x.writes;
       ends = counts_end (is_at_end framing r) framing old.ends new.ends r refl x.ends;
+      closings = later_same old.closings new.closings x.closings;
     }
 
     back_fell : (chunked : Bool) (got : List (List ℕ)) (r : Result ℕ BodyEnd)
@@ -105,6 +113,7 @@ module _ (head : List ℕ) (framing : Framing) (old new : Line) (kept kept_after
       reads = later_same old.read_faults new.read_faults x.reads;
       writes = raised_writes old.write_faults new.write_faults r x.writes;
       ends = later_same old.ends new.ends x.ends;
+      closings = later_same old.closings new.closings x.closings;
     }
 
 -- ---- tries
@@ -118,10 +127,11 @@ WayCause tried.NotDialed old new = Unit {0}
 WayCause tried.NotSent old new = Unit {0}
 WayCause tried.BadBody old new = Unit {0}
 WayCause tried.LongBody old new = Unit {0}
+WayCause tried.Silent old new = Unit {0}
 WayCause tried.NoReply old new = Unit {0}
 WayCause tried.ReplyCut old new = Unit {0}
 WayCause tried.OutOfMemory old new = Unit {0}
-WayCause (tried.Whole status closes) old new = Unit {0}
+WayCause (tried.Whole status closes reusable) old new = Unit {0}
 
 body_cause : (head : List ℕ) (framing : Framing) (old new : Line) (kept kept_after : List ℕ)
     (f0 f1 : ℕ) (sent : List ℕ) (e : BodyEnd)
@@ -137,20 +147,21 @@ body_cause head framing old new kept kept_after f0 f1 sent SendFault x = tt
 body_cause head framing old new kept kept_after f0 f1 sent RecvFault x = tt
 body_cause head framing old new kept kept_after f0 f1 sent OutOfMemory x = tt
 
-back_cause : (status : ℕ) (closes : Bool) (old new : Line) (r : Result ℕ BodyEnd)
+back_cause : (status : ℕ) (closes reusable : Bool) (old new : Line) (r : Result ℕ BodyEnd)
     → RaisedAt (Err WriteFault) old.write_faults new.write_faults r
-    → WayCause (tried_of_back status closes r) old new
-back_cause status closes old new (Ok n) x = tt
-back_cause status closes old new (Err (BadChunk n)) x = tt
-back_cause status closes old new (Err Cut) x = tt
-back_cause status closes old new (Err TooLong) x = tt
-back_cause status closes old new (Err ReadFault) x = tt
-back_cause status closes old new (Err WriteFault) x = rose_by _ _ (x.here refl)
-back_cause status closes old new (Err SendFault) x = tt
-back_cause status closes old new (Err RecvFault) x = tt
-back_cause status closes old new (Err OutOfMemory) x = tt
+    → WayCause (tried_of_back status closes reusable r) old new
+back_cause status closes reusable old new (Ok n) x = tt
+back_cause status closes reusable old new (Err (BadChunk n)) x = tt
+back_cause status closes reusable old new (Err Cut) x = tt
+back_cause status closes reusable old new (Err TooLong) x = tt
+back_cause status closes reusable old new (Err ReadFault) x = tt
+back_cause status closes reusable old new (Err WriteFault) x = rose_by _ _ (x.here refl)
+back_cause status closes reusable old new (Err SendFault) x = tt
+back_cause status closes reusable old new (Err RecvFault) x = tt
+back_cause status closes reusable old new (Err OutOfMemory) x = tt
 
 head_cause : (fault : HeadFault) (old new : Line) → WayCause (tried_of_head fault) old new
+head_cause HeadFault.Silent old new = tt
 head_cause HeadFault.NoReply old new = tt
 head_cause HeadFault.OutOfMemory old new = tt
 
@@ -167,10 +178,11 @@ cause_behind tried.NotDialed a b c fell cause = tt
 cause_behind tried.NotSent a b c fell cause = tt
 cause_behind tried.BadBody a b c fell cause = tt
 cause_behind tried.LongBody a b c fell cause = tt
+cause_behind tried.Silent a b c fell cause = tt
 cause_behind tried.NoReply a b c fell cause = tt
 cause_behind tried.ReplyCut a b c fell cause = tt
 cause_behind tried.OutOfMemory a b c fell cause = tt
-cause_behind (tried.Whole status closes) a b c fell cause = tt
+cause_behind (tried.Whole status closes reusable) a b c fell cause = tt
 
 backs_went : (head : Head) (last : Bool) (reply : ReplyHead) (framing : Framing) (old new : Line)
     (kept : List ℕ) (f0 f1 : ℕ) (got : List (List ℕ)) (how : Tried)
@@ -180,7 +192,7 @@ backs_went head last reply framing old new kept f0 f1 got how (inl none) =
 backs_went head last reply framing old new kept f0 f1 got how (inr (kept_after, r, back, is)) = (
   back_fell _ _ old new _ _ _ _ _ _ r back,
   subst (λ (h : Tried). WayCause h old new) (sym is)
-      (back_cause reply.status _ old new r back.writes),
+      (back_cause reply.status _ _ old new r back.writes),
 )
 
 replies_went : (head : Head) (last : Bool) (old new : Line) (f0 f1 : ℕ) (got : List (List ℕ))
@@ -219,15 +231,32 @@ converses_went head onward framing last old new kept kept_after f0 f1 sent got h
     let then' = replies_went head last mid new between f1 got how replies in
     (none_fell_on old mid new first then'.0, cause_behind how old mid new first then'.1)
 
+anew_went : (head : Head) (onward : List ℕ) (framing : Framing) (last : Bool) (addr : Addr)
+    (old new : Line) (kept kept_after : List ℕ) (before now : Upstream) (how : Tried)
+    → TriesAnew head onward framing last addr old new kept kept_after before now how
+    → Went how old new
+anew_went head onward framing last addr old new kept kept_after before now how (inl none) =
+    (rests_fell old new none.line, subst (λ (h : Tried). WayCause h old new) (sym none.how_is) tt)
+anew_went head onward framing last addr old new kept kept_after before now how (inr visit) =
+    converses_went head onward framing last old new kept kept_after before.faults now.faults _
+    visit.got how visit.spoke
+
 tries_went : (head : Head) (onward : List ℕ) (framing : Framing) (last : Bool) (addr : Addr)
     (old new : Line) (kept kept_after : List ℕ) (before now : Upstream) (how : Tried)
     → Tries head onward framing last addr old new kept kept_after before now how → Went how old new
-tries_went head onward framing last addr old new kept kept_after before now how (inl none, closed) =
-    (rests_fell old new none.line, subst (λ (h : Tried). WayCause h old new) (sym none.how_is) tt)
-tries_went head onward framing last addr old new kept kept_after before now how (inr spoken, closed)
-    =
+tries_went head onward framing last addr old new kept kept_after before now how (inl anew) =
+    anew_went head onward framing last addr old new kept kept_after before now how anew
+tries_went head onward framing last addr old new kept kept_after before now how
+    (inr (any, again, inl answered)) =
     converses_went head onward framing last old new kept kept_after before.faults now.faults _
-    spoken.got how spoken.spoke
+    answered.visit.got how answered.visit.spoke
+tries_went head onward framing last addr old new kept kept_after before now how
+    (inr (any, again, inr t)) =
+    let first = converses_went head onward framing last old t.line kept t.left before.faults
+    t.mid.faults _ t.visit.got t.first t.visit.spoke in
+    let second = anew_went head onward framing last addr t.line new t.left kept_after t.mid now how
+    t.anew in
+    (none_fell_on old t.line new first.0 second.0, cause_behind how old t.line new first.0 second.1)
 
 -- ---- answers
 
@@ -247,6 +276,7 @@ writes_done old new reply closes last (Ok x) w = (
     reads = later_same _ _ w.0.read_faults;
     writes = later_same _ _ w.1;
     ends = later_same _ _ w.0.ends;
+    closings = later_same _ _ w.0.closings;
   },
   done_of closes last old new,
 )
@@ -255,6 +285,7 @@ writes_done old new reply closes last (Err ended.WriteFault) w = (
     reads = later_same _ _ w.1.read_faults;
     writes = later_raised _ _ w.3;
     ends = later_same _ _ w.1.ends;
+    closings = later_same _ _ w.1.closings;
   },
   rose_by _ _ w.3,
 )
@@ -263,6 +294,7 @@ writes_done old new reply closes last (Err ended.PeerEnded) w = absurd w
 writes_done old new reply closes last (Err ended.Cut) w = absurd w
 writes_done old new reply closes last (Err ended.Closed) w = absurd w
 writes_done old new reply closes last (Err ended.Spent) w = absurd w
+writes_done old new reply closes last (Err ended.Drained) w = absurd w
 writes_done old new reply closes last (Err ended.ReadFault) w = absurd w
 writes_done old new reply closes last (Err ended.UpstreamCut) w = absurd w
 
@@ -300,6 +332,7 @@ cause_on a b c (Some ended.WriteFault) fell cause =
     rose_behind a.write_faults b.write_faults c.write_faults fell.writes cause
 cause_on a b c (Some ended.Closed) fell cause = tt
 cause_on a b c (Some ended.Spent) fell cause = tt
+cause_on a b c (Some ended.Drained) fell cause = cause
 cause_on a b c (Some ended.UpstreamCut) fell cause = tt
 cause_on a b c (Some ended.OutOfMemory) fell cause = tt
 
@@ -311,6 +344,8 @@ ends_done : (how : Tried) (head : Head) (last : Bool) (a b c : Line) (r : Option
 ends_done tried.NotDialed head last a b c r went ends =
     done_on a b c r went.0 (refuses_done _ head last b c r ends)
 ends_done tried.NotSent head last a b c r went ends =
+    done_on a b c r went.0 (refuses_done _ head last b c r ends)
+ends_done tried.Silent head last a b c r went ends =
     done_on a b c r went.0 (refuses_done _ head last b c r ends)
 ends_done tried.NoReply head last a b c r went ends =
     done_on a b c r went.0 (refuses_done _ head last b c r ends)
@@ -330,7 +365,7 @@ ends_done tried.WrittenShort head last a b c r went ends =
 ends_done tried.ReplyCut head last a b c r went ends = behind_try a b c _ r went.0 ends.0 ends.1 tt
 ends_done tried.OutOfMemory head last a b c r went ends =
     behind_try a b c _ r went.0 ends.0 ends.1 tt
-ends_done (tried.Whole status closes) head last a b c r went ends =
+ends_done (tried.Whole status closes reusable) head last a b c r went ends =
     behind_try a b c _ r went.0 ends.0 ends.1 (done_of closes last a c)
 
 settles_done : (settings : SettingsValue) (head : Head) (last : Bool) (addr : Addr) (how : Tried)

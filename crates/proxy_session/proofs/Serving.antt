@@ -1,23 +1,25 @@
 -- The requests of a connection, one behind the other.
-use Rattle.std.proofs.Common.{◌≡◌, ℕ, suc, ◌+◌, ◌<◌, eqb, Bool, false, refl, sym, subst, inl, inr, Option, Some, None, Ok, add-one, arith}
+use Rattle.std.proofs.Common.{◌≡◌, ℕ, suc, ◌+◌, ◌<◌, ◌||◌, eqb, Bool, false, refl, sym, subst, inl, inr, Option, Some, None, Ok, add-one, arith}
 use Rattle.std.proofs.lemmas.Bool.Decides.{nat_tests}
 use Rattle.http_wire.specs.declared.ended.Ended.{Ended}
+use Rattle.http_wire.specs.Ended.{drained}
+use Rattle.http_wire.specs.Next.{IsAsked}
 use Rattle.http_wire.specs.declared.head.Head.{Head}
 use Rattle.identifier.specs.declared.rule.Rule.{Rule}
 use Rattle.machine.specs.Values.{SettingsValue}
 use Rattle.retry_budget.specs.Budget.{BudgetValue}
 use Rattle.proxy_session.specs.Exchange.{Standing}
 use Rattle.proxy_session.specs.Requests.{Requests}
-use Rattle.proxy_session.specs.Session.{Reads, Served, Serves, ServesNext, Sessions, SessionsTo, begun}
+use Rattle.proxy_session.specs.Session.{Reads, Served, Serves, ServesNext, ServesSo, Sessions, SessionsTo, begun, having_told}
 use Rattle.proxy_session.proofs.Bounding.{session_bounded}
-use Rattle.proxy_session.proofs.Splitting.{request_fits}
+use Rattle.proxy_session.proofs.Draining.{not_spent}
 
 -- a request behind which the connection goes on is not the last one
 not_last : (settings : SettingsValue) (rule : Rule) (last : Bool) (retries : ℕ)
     (before behind : Option BudgetValue) (old new : Standing)
     → Serves settings rule last retries before behind old new None → last ≡ false
-not_last settings rule last retries before behind old new (mid, head, reads, request) =
-    request_fits settings rule head last retries before behind mid new None request
+not_last settings rule last retries before behind old new (closing, x) =
+    not_spent settings rule last retries before behind old new closing x
 
 fewer : (n : ℕ) → n < 10000 → eqb (n + 1) 10000 ≡ false → n + 1 < 10000
 fewer n less other = grind (arith, nat_tests)
@@ -55,18 +57,36 @@ serves_next : (settings : SettingsValue) (rule : Rule) (last : Bool) (retries : 
 serves_next settings rule last retries before behind old new None serves = serves
 serves_next settings rule last retries before behind old new (Some e) serves = inr serves
 
--- a request whose head was read is served, the last one by what the connection has carried
+-- a request whose head was read is served, the last one by what the connection has carried and said
 pub head_served : (settings : SettingsValue) (rule : Rule) (n m : ℕ)
-    (budget before behind : Option BudgetValue) (old mid new : Standing) (head : Head)
-    (r : Option Ended) → m ≡ n → before ≡ budget → Reads old mid (Ok head)
-    → ((retries : ℕ)
-    × Requests settings rule head (eqb (m + 1) 10000) retries before behind mid new r)
-    → (retries : ℕ)
+    (budget before behind : Option BudgetValue) (old mid asked new : Standing) (head : Head)
+    (closing last : Bool) (end r : Option Ended) → m ≡ n → before ≡ budget
+    → Reads old mid (Ok head) → IsAsked (eqb (m + 1) 10000) closing
+    → asked ≡ having_told closing mid → last ≡ (eqb (m + 1) 10000 || closing)
+    → ((retries : ℕ) × Requests settings rule head last retries before behind asked new end)
+    → r ≡ drained closing end → (retries : ℕ)
     × ServesNext settings rule (eqb (n + 1) 10000) retries budget behind old new r
-head_served settings rule n m budget before behind old mid new head r count same reads
-    (retries, request) =
+head_served settings rule n m budget before behind old mid asked new head closing last end r count
+    same reads is_asked told is_last (retries, request) is =
+    let served_so : ServesSo settings rule (eqb (m + 1) 10000) closing retries before behind old new
+    r
+    = record {
+      mid = mid;
+      head = head;
+      reads = reads;
+      asked = is_asked;
+      end = end;
+      request =
+          subst
+          (λ (s : Standing). Requests settings rule head (eqb (m + 1) 10000 || closing) retries
+          before behind s new end) told
+          (subst
+          (λ (l : Bool). Requests settings rule head l retries before behind asked new end) is_last
+          request);
+      is = is;
+    } in
     let serves : Serves settings rule (eqb (m + 1) 10000) retries before behind old new r
-    = (mid, head, reads, request) in (
+    = (closing, served_so) in (
       retries,
       serves_next settings rule (eqb (n + 1) 10000) retries budget behind old new r
           (subst

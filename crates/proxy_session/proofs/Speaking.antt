@@ -1,10 +1,12 @@
 -- How two sides speak over a connection.
-use Rattle.std.proofs.Common.{◌≡◌, ℕ, ◌||◌, Bool, true, false, List, [], ◌∷◌, ◌++◌, map, refl, sym, subst, ap, ◌∙◌, append_assoc, append-nil, inl, inr, Option, Result, Ok, Err}
+use Rattle.std.proofs.Common.{◌≡◌, ℕ, ◌&&◌, ◌||◌, Bool, true, false, not, cond, List, [], ◌∷◌, ◌++◌}
+use Rattle.std.proofs.Common.{map, refl, sym, subst, ap, ◌∙◌, append_assoc, append-nil, inl, inr}
+use Rattle.std.proofs.Common.{Option, Some, None, Result, Ok, Err}
 use Rattle.std.specs.List.{concat}
-use Rattle.line_base.specs.Counts.{raised}
+use Rattle.std.specs.Option.{IsSome}
 use Rattle.line_base.specs.declared.dialer.DialEvent.{DialEvent}
-use Rattle.line_base.specs.declared.dialer.DialEvent.TheVariants.{Dialed, Sent, Got, Hung}
-use Rattle.line_base.specs.Dials.{KeepsLog, Logs, LogsHang}
+use Rattle.line_base.specs.declared.dialer.DialEvent.TheVariants.{Dialed, Resumed, Sent, Got}
+use Rattle.line_base.specs.declared.dialer.DialEvent.TheVariants.{Hung, Kept}
 use Rattle.addr_book.specs.declared.addr.Addr.{Addr}
 use Rattle.http_wire.specs.declared.frames.Framing.{Framing}
 use Rattle.http_wire.specs.declared.head.Head.{Head}
@@ -15,12 +17,18 @@ use Rattle.body_wire.specs.Passing.{Sends}
 use Rattle.forward.specs.Returned.{returned}
 use Rattle.proxy_session.specs.declared.final_head.HeadFault.{HeadFault}
 use Rattle.proxy_session.specs.declared.tried.Tried.{Tried}
-use Rattle.proxy_session.specs.declared.tried.Tried.TheVariants as tried
 use Rattle.proxy_session.specs.Heads.{Hears}
-use Rattle.line_base.specs.Dials.{Grows, Upstream}
+use Rattle.line_base.specs.Counts.{raised}
+use Rattle.line_base.specs.Dials.{Grows, HasSameLinks, Logs, LogsHang, Upstream}
 use Rattle.line_base.specs.Lines.{Line, Rests}
-use Rattle.proxy_session.specs.Trying.{Backs, Converses, GoesBack, GoesOn, Replies, Tries, closes_behind, knows_chunks, tried_of_back, tried_of_body, tried_of_head}
-use Rattle.proxy_session.proofs.Growing.{grows_by_heads, grows_by_more, grows_by_none, grows_by_one, grows_by_sends, grows_on}
+use Rattle.proxy_session.specs.Trying.{Backs, Converses, GoesBack, GoesOn, GoesOnKept, Replies}
+use Rattle.proxy_session.specs.Trying.{Speaks, Tries}
+use Rattle.proxy_session.specs.Trying.{TriesAnew, Visits, closes_behind, is_repeatable, is_reusable}
+use Rattle.proxy_session.specs.Trying.{is_silent}
+use Rattle.proxy_session.specs.Trying.{knows_chunks, leaves_reusable, stop_of, tried_of_back}
+use Rattle.proxy_session.specs.Trying.{tried_of_body, tried_of_head}
+use Rattle.proxy_session.proofs.Growing.{grows_by_heads, grows_by_more, grows_by_one}
+use Rattle.proxy_session.proofs.Growing.{grows_by_sends, grows_on}
 
 -- what a conversation comes to
 abbrev pub Talks : Head → List ℕ → Framing → Bool → Line → Line → List ℕ → List ℕ → ℕ → ℕ
@@ -121,64 +129,162 @@ module _ (head : Head) (last : Bool) (old : Line) (f0 f1 : ℕ) (l0 l1 : Option 
     ),
   )
 
-module _ (head : Head) (onward : List ℕ) (framing : Framing) (last : Bool) (addr : Addr)
-    (old new : Line) (kept kept_after : List ℕ) (before now : Upstream) (how : Tried) where
-  -- the two spoke over a connection that was opened and ended
-  pub spoken : (l1 l2 : Option (List DialEvent)) (f1 f2 : ℕ) (is_open : Bool)
-      → Logs before.log l1 (Dialed addr.ip addr.port) → f1 ≡ before.faults
-      → Talks head onward framing last old new kept kept_after f1 f2 l1 l2 how → is_open ≡ true
-      → LogsHang is_open l2 now.log → now.faults ≡ f2 → now.is_open ≡ false
-      → Tries head onward framing last addr old new kept kept_after before now how
-  spoken l1 l2 f1 f2 is_open dialed same talk open_ hung still closed =
+module _ (head : Head) (onward : List ℕ) (framing : Framing) (last : Bool) (old new : Line)
+    (kept kept_after : List ℕ) (before now : Upstream) (how : Tried) where
+  -- the two spoke, and then the connection was kept or ended
+  pub speaks : (mid : Upstream) → HasSameLinks before mid
+      → Talks head onward framing last old new kept kept_after before.faults mid.faults before.log
+      mid.log how
+      → (stop : DialEvent) → stop ≡ stop_of before.keeps how → Logs mid.log now.log stop
+      → now.faults ≡ mid.faults → now.open_to ≡ None → now.keeps ≡ mid.keeps
+      → Speaks head onward framing last old new kept kept_after before now how
+  speaks mid links talk stop is logs still closed keeps =
       let sends = map Sent talk.0 in
       let gots = map Got talk.1 in
-      let first = grows_on before.log l1 l2 (Dialed addr.ip addr.port ∷ []) (sends ++ gots)
-      (grows_by_one before.log l1 (Dialed addr.ip addr.port) dialed) talk.2 in
-      let logs : Logs l2 now.log Hung = subst (λ (b : Bool). LogsHang b l2 now.log) open_ hung in
-      let all = grows_on before.log l2 now.log (Dialed addr.ip addr.port ∷ (sends ++ gots))
-      (Hung ∷ []) first (grows_by_one l2 now.log Hung logs) in (
-        inr (record {
-          sent = talk.0;
-          got = talk.1;
-          log =
-              subst (λ (es : List DialEvent). Grows before.log now.log
-              (Dialed addr.ip addr.port ∷ es)) (append_assoc sends gots (Hung ∷ [])) all;
-          spoke =
-              subst (λ (f : ℕ). Converses head onward framing last old new kept kept_after f
-              now.faults (concat talk.0) talk.1 how) same
-              (subst (λ (f : ℕ). Converses head onward framing last old new kept kept_after f1 f
-              (concat talk.0) talk.1 how) (sym still) talk.3);
+      let all = grows_on before.log mid.log now.log (sends ++ gots) (stop ∷ []) talk.2
+      (grows_by_one mid.log now.log stop logs) in
+      record {
+        sent = talk.0;
+        got = talk.1;
+        log =
+            subst (λ (e : DialEvent). Grows before.log now.log (sends ++ (gots ++ e ∷ []))) is
+            (subst (λ (es : List DialEvent). Grows before.log now.log es)
+            (append_assoc sends gots (stop ∷ [])) all);
+        spoke =
+            subst (λ (f : ℕ). Converses head onward framing last old new kept kept_after
+            before.faults f (concat talk.0) talk.1 how) (sym still) talk.3;
+        closed = closed;
+        keeps = keeps ∙ links.keeps;
+      }
+
+  -- a connection was opened or taken up again first
+  pub visits : (first : Upstream) (start : DialEvent) → Logs before.log first.log start
+      → first.faults ≡ before.faults → first.keeps ≡ before.keeps
+      → Speaks head onward framing last old new kept kept_after first now how
+      → Visits start head onward framing last old new kept kept_after before now how
+  visits first start logs same keeps s =
+      record {
+        sent = s.sent;
+        got = s.got;
+        log =
+            grows_on before.log first.log now.log (start ∷ [])
+            (map Sent s.sent ++ (map Got s.got ++ stop_of before.keeps how ∷ []))
+            (grows_by_one before.log first.log start logs)
+            (subst (λ (k : Bool). Grows first.log now.log
+            (map Sent s.sent ++ (map Got s.got ++ stop_of k how ∷ []))) keeps s.log);
+        spoke =
+            subst (λ (f : ℕ). Converses head onward framing last old new kept kept_after f
+            now.faults (concat s.sent) s.got how) same s.spoke;
+        closed = s.closed;
+        keeps = s.keeps ∙ keeps;
+      }
+
+-- a hang ends what is open
+pub hangs : (open_to : Option (ℕ × ℕ)) (l m : Option (List DialEvent)) → IsSome open_to
+    → LogsHang open_to l m → Logs l m Hung
+hangs None l m open_ logs = absurd (cc)
+hangs (Some address) l m open_ logs = logs
+
+-- it is kept exactly where the dialer keeps any and the connection may carry another request
+module _ (before mid told : Bool) (how : Tried) (is_kept : Bool)
+    (is : is_kept ≡ (told && leaves_reusable how)) (tells : told ≡ mid) (stays : mid ≡ before) where
+  kept_so : is_kept ≡ (before && leaves_reusable how)
+  kept_so = is ∙ ap (λ (k : Bool). k && leaves_reusable how) (tells ∙ stays)
+
+  pub kept_by : is_kept ≡ true → Kept ≡ stop_of before how
+  kept_by so = ap (λ (b : Bool). cond b Kept Hung) (sym so ∙ kept_so)
+
+  pub hung_by : is_kept ≡ false → Hung ≡ stop_of before how
+  hung_by so = ap (λ (b : Bool). cond b Kept Hung) (sym so ∙ kept_so)
+
+-- a request was lost or not, by what the dialer tells
+pub lost_by : (how : Tried) (told late is_lost answer : Bool)
+    → is_lost ≡ (is_silent how && not told)
+    → told ≡ late → is_lost ≡ answer → (is_silent how && not late) ≡ answer
+lost_by how told late is_lost answer is tells so =
+    sym (is ∙ ap (λ (l : Bool). is_silent how && not l) tells) ∙ so
+
+module _ (head : Head) (onward : List ℕ) (framing : Framing) (last : Bool) (addr : Addr)
+    (old new : Line) (kept kept_after : List ℕ) (before first now : Upstream) (how : Tried) where
+  -- once a kept connection was taken up
+  pub tries_kept : Logs before.log first.log (Resumed addr.ip addr.port)
+      → first.faults ≡ before.faults → first.keeps ≡ before.keeps → before.keeps ≡ true
+      → is_repeatable head framing ≡ true
+      → GoesOnKept head onward framing last addr old new kept kept_after first now how
+      → Tries head onward framing last addr old new kept kept_after before now how
+  tries_kept logs same keeps any again (inl (s, heard)) =
+      inr (
+        any,
+        again,
+        inl (record {
+          visit =
+              visits head onward framing last old new kept kept_after before now how first
+              (Resumed addr.ip addr.port) logs same keeps s;
+          heard = heard;
         }),
-        closed,
+      )
+  tries_kept logs same keeps any again (inr (line, left, mid, silence, s, silent, anew)) =
+      inr (
+        any,
+        again,
+        inr (record {
+          line = line;
+          left = left;
+          mid = mid;
+          first = silence;
+          visit =
+              visits head onward framing last old line kept left before mid silence first
+              (Resumed addr.ip addr.port) logs same keeps s;
+          silent = silent;
+          anew = anew;
+        }),
       )
 
-  -- no connection was opened
-  pub not_dialed : Rests old new → kept_after ≡ kept → KeepsLog before.log now.log → now.faults
-      ≡ raised before.faults → now.is_open ≡ false → how ≡ tried.NotDialed
-      → Tries head onward framing last addr old new kept kept_after before now how
-  not_dialed rests same logs fault closed is = (
-    inl (record {
-      line = rests;
-      kept_is = same;
-      log = grows_by_none before.log now.log logs;
-      fault = fault;
-      how_is = is;
-    }),
-    closed,
-  )
+  -- where none was taken up, which the log doesn't show
+  pub tries_anew : Grows before.log first.log [] → first.faults ≡ before.faults
+      → first.keeps ≡ before.keeps
+      → TriesAnew head onward framing last addr old new kept kept_after first now how
+      → TriesAnew head onward framing last addr old new kept kept_after before now how
+  tries_anew quiet same keeps (inl none) =
+      inl (record {
+        line = none.line;
+        kept_is = none.kept_is;
+        log = grows_on before.log first.log now.log [] [] quiet none.log;
+        fault = none.fault ∙ ap raised same;
+        how_is = none.how_is;
+        closed = none.closed;
+        keeps = none.keeps ∙ keeps;
+      })
+  tries_anew quiet same keeps (inr v) =
+      inr (record {
+        sent = v.sent;
+        got = v.got;
+        log =
+            grows_on before.log first.log now.log []
+            (Dialed addr.ip addr.port
+            ∷ (map Sent v.sent ++ (map Got v.got ++ stop_of before.keeps how ∷ []))) quiet
+            (subst (λ (k : Bool). Grows first.log now.log (Dialed addr.ip addr.port
+            ∷ (map Sent v.sent ++ (map Got v.got ++ stop_of k how ∷ [])))) keeps v.log);
+        spoke =
+            subst (λ (f : ℕ). Converses head onward framing last old new kept kept_after f
+            now.faults (concat v.sent) v.got how) same v.spoke;
+        closed = v.closed;
+        keeps = v.keeps ∙ keeps;
+      })
 
 -- the reply goes back behind the head that was made for it
 pub backs_by :
     (head : Head) (last : Bool) (reply : ReplyHead) (framing : Framing) (old new : Line)
     (kept kept_after : List ℕ) (f0 f1 : ℕ) (got : List (List ℕ))
-    (chunked closes closing : Bool) (bytes : List ℕ) → chunked ≡ knows_chunks head → closes
+    (chunked closes closing reusable : Bool) (bytes : List ℕ) → chunked ≡ knows_chunks head → closes
     ≡ closes_behind head framing → closing ≡ (closes || last)
     → bytes ≡ returned reply framing chunked closing → (r : Result ℕ BodyEnd)
     → GoesBack bytes framing chunked old new kept kept_after f0 f1 got r
-    → (how : Tried) → how ≡ tried_of_back reply.status closes r
+    → reusable ≡ is_reusable reply framing kept_after
+    → (how : Tried) → how ≡ tried_of_back reply.status closes reusable r
     → Backs head last reply framing old new kept f0 f1 got how
-backs_by head last reply framing old new kept kept_after f0 f1 got chunked closes closing bytes k c
-    l b r back how is =
+backs_by head last reply framing old new kept kept_after f0 f1 got chunked closes closing reusable
+    bytes k c l b r back u how is =
     let one = subst (λ (x : List ℕ). GoesBack x framing chunked old new kept kept_after f0 f1 got r)
     b back in
     let two = subst (λ (x : Bool). GoesBack (returned reply framing chunked x) framing chunked old
@@ -186,4 +292,10 @@ backs_by head last reply framing old new kept kept_after f0 f1 got chunked close
     let three =
     subst (λ (x : Bool). GoesBack (returned reply framing x (closes_behind head framing || last))
     framing x old new kept kept_after f0 f1 got r) k two in
-    inr (kept_after, r, three, is ∙ ap (λ (y : Bool). tried_of_back reply.status y r) c)
+    inr (
+      kept_after,
+      r,
+      three,
+      is ∙ ap (λ (y : Bool). tried_of_back reply.status y reusable r) c
+          ∙ ap (λ (y : Bool). tried_of_back reply.status (closes_behind head framing) y r) u,
+    )

@@ -1,5 +1,6 @@
 -- A request is an exchange behind attempts that failed.
-use Rattle.std.proofs.Common.{◌≡◌, ℕ, zero, suc, Bool, false, refl, sym, subst, ◌∙◌, inl, inr, Option, Some, None}
+use Rattle.std.proofs.Common.{◌≡◌, ℕ, zero, suc, Bool, refl, sym, subst, ◌∙◌, inl, inr}
+use Rattle.std.proofs.Common.{Option, Some, None}
 use Rattle.http_wire.specs.declared.ended.Ended.{Ended}
 use Rattle.http_wire.specs.declared.head.Head.{Head}
 use Rattle.identifier.specs.declared.rule.Rule.{Rule}
@@ -13,8 +14,10 @@ use Rattle.proxy_session.specs.Exchange.{Exchanges, Standing}
 use Rattle.proxy_session.specs.Requests.{Requests, TriesAgain}
 use Rattle.proxy_session.specs.Seeking.{Sought}
 use Rattle.proxy_session.proofs.Attempting.{last_routes}
+use Rattle.proxy_session.proofs.Closed.{tries_closed}
 use Rattle.proxy_session.proofs.Fitting.{exchange_fits}
-use Rattle.proxy_session.proofs.Lasting.{done_number, exchange_closed, exchange_number, finding_number}
+use Rattle.proxy_session.proofs.Lasting.{done_number, exchange_closed, exchange_number}
+use Rattle.proxy_session.proofs.Lasting.{finding_number}
 use Rattle.proxy_session.proofs.Resting.{rests_same}
 use Rattle.proxy_session.proofs.Rising.{cause_on, exchange_done, none_fell_on, rests_fell}
 use Rattle.proxy_session.proofs.Untouched.{rests_on}
@@ -23,7 +26,7 @@ use Rattle.proxy_session.proofs.Untouched.{rests_on}
 pub record StaysPut (old new : Standing) : Type 0 where
   pub line : Rests old.line new.line
   pub kept : new.kept ≡ old.kept
-  pub closed : old.upstream.is_open ≡ false → new.upstream.is_open ≡ false
+  pub closed : old.upstream.open_to ≡ None → new.upstream.open_to ≡ None
   pub number : new.caller.number ≡ old.caller.number
 
 put_same : (a : Standing) → StaysPut a a
@@ -50,7 +53,9 @@ module _ (settings : SettingsValue) (head : Head) (last : Bool) (sought : Sought
       record {
         line = s.line;
         kept = s.kept_is;
-        closed = λ is. s.tries.1;
+        closed =
+            λ is. tries_closed head s.onward sought.framing last x.to.addr new.line new.kept
+            new.upstream s.how old.line old.kept old.upstream s.tries;
         number =
             done_number settings s.held new.caller (report_of s.how) x.to.addr moments new.moments
             s.reported
@@ -119,7 +124,7 @@ module _ (settings : SettingsValue) (rule : Rule) (head : Head) (last : Bool) (n
   pub request_fits : FitsLast last result
   request_fits = exchange_fits settings rule head last split.0 new result split.2
 
-  pub request_closed : old.upstream.is_open ≡ false → new.upstream.is_open ≡ false
+  pub request_closed : old.upstream.open_to ≡ None → new.upstream.open_to ≡ None
   request_closed is =
       exchange_closed settings rule head last split.0 new result split.2 (split.1.closed is)
 

@@ -1,5 +1,6 @@
 -- What is left of a client's bytes, while its requests are served.
-use Rattle.std.proofs.Common.{◌≡◌, ◌<◌, ℕ, Bool, List, [], ◌++◌, sym, subst, inl, inr, All, Option, Some, None, IsSomeAnd, Result, Ok, Err}
+use Rattle.std.proofs.Common.{◌≡◌, ◌<◌, ℕ, Bool, true, false, List, [], ◌++◌, sym, subst, inl, inr}
+use Rattle.std.proofs.Common.{All, Option, Some, None, IsSomeAnd, Result, Ok, Err}
 use Rattle.std.specs.List.{concat}
 use Rattle.std.specs.Io.KnownBytes.{Consumes, Keeps}
 use Rattle.std.proofs.lemmas.List.Elements.{All-append, All-drop, All-nil}
@@ -20,8 +21,8 @@ use Rattle.proxy_session.specs.Exchange.{Exchanges, Settles, Standing}
 use Rattle.proxy_session.specs.Laws.{GivesBytes, WasRead}
 use Rattle.line_base.specs.Dials.{Upstream}
 use Rattle.line_base.specs.Lines.{Line, Rests}
-use Rattle.proxy_session.specs.Session.{Reads}
-use Rattle.proxy_session.specs.Trying.{Converses, GoesOn, Replies, Tries}
+use Rattle.proxy_session.specs.Session.{Reads, having_told}
+use Rattle.proxy_session.specs.Trying.{Converses, GoesOn, Replies, Tries, TriesAnew}
 use Rattle.proxy_session.specs.Requests.{Requests}
 use Rattle.retry_budget.specs.Budget.{BudgetValue}
 use Rattle.proxy_session.proofs.FieldTexts.{back, front}
@@ -62,6 +63,7 @@ writes old new reply (Err ended.PeerEnded) all never = absurd never
 writes old new reply (Err ended.Cut) all never = absurd never
 writes old new reply (Err ended.Closed) all never = absurd never
 writes old new reply (Err ended.Spent) all never = absurd never
+writes old new reply (Err ended.Drained) all never = absurd never
 writes old new reply (Err ended.ReadFault) all never = absurd never
 writes old new reply (Err ended.UpstreamCut) all never = absurd never
 
@@ -76,6 +78,7 @@ ends : (how : Tried) (head : Head) (last : Bool) (old new : Line) (result : Opti
     → HasBytes old.left → Ends how head last old new result → HasBytes new.left
 ends tried.NotDialed head last old new result all done = refuses _ head last old new result all done
 ends tried.NotSent head last old new result all done = refuses _ head last old new result all done
+ends tried.Silent head last old new result all done = refuses _ head last old new result all done
 ends tried.NoReply head last old new result all done = refuses _ head last old new result all done
 ends tried.BadBody head last old new result all done = refuses _ head last old new result all done
 ends tried.LongBody head last old new result all done = refuses _ head last old new result all done
@@ -84,7 +87,7 @@ ends tried.BodyFault head last old new result all done = rests old new all done.
 ends tried.ReplyCut head last old new result all done = rests old new all done.0
 ends tried.WrittenShort head last old new result all done = rests old new all done.0
 ends tried.OutOfMemory head last old new result all done = rests old new all done.0
-ends (tried.Whole status closes) head last old new result all done = rests old new all done.0
+ends (tried.Whole status closes reusable) head last old new result all done = rests old new all done.0
 
 settles : (settings : SettingsValue) (head : Head) (last : Bool) (addr : Addr) (how : Tried)
     (c d : Caller) (m n : Option (List ℕ)) (old new : Line) (result : Option Ended)
@@ -141,16 +144,32 @@ converses head onward framing last old new kept kept_after faults faults_now sen
     let gone = goes_on onward framing old mid kept kept_after faults between sent (Ok n) all goes in
     (replies head last mid new between faults_now got how gone.0 came, gone.1)
 
+tries_anew : (head : Head) (onward : List ℕ) (framing : Framing) (last : Bool) (addr : Addr)
+    (old new : Line) (kept kept_after : List ℕ) (before now : Upstream) (how : Tried)
+    → AreBytes old kept
+    → TriesAnew head onward framing last addr old new kept kept_after before now how
+    → AreBytes new kept_after
+tries_anew head onward framing last addr old new kept kept_after before now how all (inl none) =
+    (rests old new all.0 none.line, subst (All IsByte) (sym none.kept_is) all.1)
+tries_anew head onward framing last addr old new kept kept_after before now how all (inr visit) =
+    converses head onward framing last old new kept kept_after before.faults now.faults
+    (concat visit.sent) visit.got how all visit.spoke
+
 tries : (head : Head) (onward : List ℕ) (framing : Framing) (last : Bool) (addr : Addr)
     (old new : Line) (kept kept_after : List ℕ) (before now : Upstream) (how : Tried)
     → AreBytes old kept → Tries head onward framing last addr old new kept kept_after before now how
     → AreBytes new kept_after
-tries head onward framing last addr old new kept kept_after before now how all (inl none, closed) =
-    (rests old new all.0 none.line, subst (All IsByte) (sym none.kept_is) all.1)
-tries head onward framing last addr old new kept kept_after before now how all (inr spoken, closed)
-    =
+tries head onward framing last addr old new kept kept_after before now how all (inl anew) =
+    tries_anew head onward framing last addr old new kept kept_after before now how all anew
+tries head onward framing last addr old new kept kept_after before now how all
+    (inr (any, again, inl answered)) =
     converses head onward framing last old new kept kept_after before.faults now.faults
-    (concat spoken.sent) spoken.got how all spoken.spoke
+    (concat answered.visit.sent) answered.visit.got how all answered.visit.spoke
+tries head onward framing last addr old new kept kept_after before now how all
+    (inr (any, again, inr t)) =
+    tries_anew head onward framing last addr t.line new t.left kept_after t.mid now how
+    (converses head onward framing last old t.line kept t.left before.faults t.mid.faults
+    (concat t.visit.sent) t.visit.got t.first all t.visit.spoke) t.anew
 
 -- ---- exchanges
 
@@ -223,3 +242,10 @@ head_supplies old new head gives reads =
             reads.head.answers.1 [];
       },
     )
+
+-- ---- what the connection says
+
+pub told_supplies : (closing : Bool) (s : Standing) → GivesBytes s
+    → GivesBytes (having_told closing s)
+told_supplies false s gives = record { kept = gives.kept; left = gives.left }
+told_supplies true s gives = record { kept = gives.kept; left = gives.left }

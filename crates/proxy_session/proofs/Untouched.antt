@@ -1,12 +1,16 @@
 -- A try behind which another attempt follows leaves the client's connection as it was.
-use Rattle.std.proofs.Common.{◌≡◌, ◌≢◌, ℕ, eqb, ◌&&◌, Bool, true, false, List, [], ◌∷◌, ◌++◌, length, refl, sym, subst, ap, ◌∙◌, inl, inr, append-nil, Option, Some, None, Result, Ok, Err, arith}
+use Rattle.std.proofs.Common.{◌≡◌, ◌≢◌, ℕ, eqb, ◌&&◌, Bool, true, false, List, [], ◌∷◌, ◌++◌}
+use Rattle.std.proofs.Common.{length, refl, sym, subst, ap, ◌∙◌, inl, inr, append-nil, Option, Some}
+use Rattle.std.proofs.Common.{None, Result, Ok, Err, arith}
 use Rattle.std.specs.List.{concat}
 use Rattle.std.specs.Io.KnownBytes.{Consumes, Keeps}
 use Rattle.std.proofs.KnownBytes.{Keeps-trans}
 use Rattle.std.proofs.lemmas.Bool.Decides.{nat_tests}
 use Rattle.addr_book.specs.declared.addr.Addr.{Addr}
 use Rattle.body_wire.specs.declared.end.BodyEnd.{BodyEnd}
-use Rattle.body_wire.specs.declared.end.BodyEnd.TheVariants.{BadChunk, Cut, TooLong, ReadFault, WriteFault, SendFault, RecvFault, OutOfMemory}
+use Rattle.body_wire.specs.declared.end.BodyEnd.TheVariants.{BadChunk, Cut, TooLong, ReadFault}
+use Rattle.body_wire.specs.declared.end.BodyEnd.TheVariants.{WriteFault, SendFault, RecvFault}
+use Rattle.body_wire.specs.declared.end.BodyEnd.TheVariants.{OutOfMemory}
 use Rattle.body_wire.specs.Bodies.{IsFrontBody, IsUnfinished}
 use Rattle.body_wire.specs.Passing.{InTurn, form_of, is_at_end, most_passed, runs_to_end}
 use Rattle.http_wire.specs.declared.frames.Framing.{Framing}
@@ -15,8 +19,11 @@ use Rattle.line_base.specs.Dials.{Upstream}
 use Rattle.line_base.specs.Lines.{Line, Rests}
 use Rattle.proxy_session.specs.declared.final_head.HeadFault.{HeadFault}
 use Rattle.proxy_session.specs.declared.tried.Tried.{Tried}
-use Rattle.proxy_session.specs.Attempts.{is_repeatable, is_without_body, may_repeat}
-use Rattle.proxy_session.specs.Trying.{Converses, GoesOn, Replies, Tries, tried_of_back, tried_of_body, tried_of_head}
+use Rattle.proxy_session.specs.declared.tried.Tried.TheVariants as tried
+use Rattle.proxy_session.specs.Attempts.{may_repeat}
+use Rattle.proxy_session.specs.Trying.{Converses, GoesOn, Replies, Tries, TriesAnew}
+use Rattle.proxy_session.specs.Trying.{is_repeatable, is_silent, is_without_body, tried_of_back}
+use Rattle.proxy_session.specs.Trying.{tried_of_body, tried_of_head}
 use Rattle.proxy_session.proofs.Bodies.{front_of_body}
 
 -- the first of two tests that both hold
@@ -30,11 +37,11 @@ and_right false b is = absurd (cc)
 
 -- ---- a body that has no byte
 
-nothing_of : (xs : List ℕ) → length xs ≡ 0 → xs ≡ []
+pub nothing_of : (xs : List ℕ) → length xs ≡ 0 → xs ≡ []
 nothing_of [] is = refl
 nothing_of (x ∷ xs) is = absurd (omega (arith, is))
 
-zero_of : (n : ℕ) → eqb n 0 ≡ true → n ≡ 0
+pub zero_of : (n : ℕ) → eqb n 0 ≡ true → n ≡ 0
 zero_of n is = grind (arith, nat_tests)
 
 none_taken : (framing : Framing) (chunked : Bool) (limit : ℕ) (taken passed : List ℕ) (count : ℕ)
@@ -101,6 +108,7 @@ body_untouched onward framing old new kept kept_after f0 f1 sent result goes bar
         read_faults = goes.reads.others read;
         write_faults = goes.writes;
         ends = goes.ends.others before_end;
+        closings = goes.closings;
       },
       sym (ap (λ (l : List ℕ). l ++ kept_after) nothing)
           ∙ (sym p.bytes ∙ (ap (λ (c : List (List ℕ)). kept ++ concat c) none ∙ append-nil kept)),
@@ -113,6 +121,7 @@ rests_on a b c p q = record {
   read_faults = q.read_faults ∙ p.read_faults;
   write_faults = q.write_faults ∙ p.write_faults;
   ends = q.ends ∙ p.ends;
+  closings = q.closings ∙ p.closings;
 }
 
 -- ---- the ways of a try
@@ -140,20 +149,21 @@ module _ (head : Head) (framing : Framing) where
   stopped onward old new kept kept_after f0 f1 sent OutOfMemory is goes = absurd (cc)
 
   no_head : (fault : HeadFault) → Repeats (tried_of_head fault) → is_without_body framing ≡ true
+  no_head HeadFault.Silent is = bare is
   no_head HeadFault.NoReply is = bare is
   no_head HeadFault.OutOfMemory is = absurd (cc)
 
-  never_back : (status : ℕ) (closes : Bool) (r : Result ℕ BodyEnd)
-      → Repeats (tried_of_back status closes r) → ⊥
-  never_back status closes (Ok n) is = cc
-  never_back status closes (Err (BadChunk n)) is = cc
-  never_back status closes (Err Cut) is = cc
-  never_back status closes (Err TooLong) is = cc
-  never_back status closes (Err ReadFault) is = cc
-  never_back status closes (Err WriteFault) is = cc
-  never_back status closes (Err SendFault) is = cc
-  never_back status closes (Err RecvFault) is = cc
-  never_back status closes (Err OutOfMemory) is = cc
+  never_back : (status : ℕ) (closes reusable : Bool) (r : Result ℕ BodyEnd)
+      → Repeats (tried_of_back status closes reusable r) → ⊥
+  never_back status closes reusable (Ok n) is = cc
+  never_back status closes reusable (Err (BadChunk n)) is = cc
+  never_back status closes reusable (Err Cut) is = cc
+  never_back status closes reusable (Err TooLong) is = cc
+  never_back status closes reusable (Err ReadFault) is = cc
+  never_back status closes reusable (Err WriteFault) is = cc
+  never_back status closes reusable (Err SendFault) is = cc
+  never_back status closes reusable (Err RecvFault) is = cc
+  never_back status closes reusable (Err OutOfMemory) is = cc
 
   replied : (last : Bool) (old new : Line) (f0 f1 : ℕ) (got : List (List ℕ)) (how : Tried)
       → Repeats how → Replies head last old new f0 f1 got how
@@ -162,10 +172,10 @@ module _ (head : Head) (framing : Framing) where
       (rests, no_head fault (subst Repeats is repeats))
   replied last old new f0 f1 got how repeats
       (inr (reply, fr, kept, between, before, behind, hears, inl none, is)) =
-      let never : Repeats Tried.OutOfMemory = subst Repeats none.3 repeats in absurd (cc)
+      let never : Repeats tried.OutOfMemory = subst Repeats none.3 repeats in absurd (cc)
   replied last old new f0 f1 got how repeats
       (inr (reply, fr, kept, between, before, behind, hears, inr (after, r, goes, way), is)) =
-      absurd (never_back _ _ r (subst Repeats way repeats))
+      absurd (never_back _ _ _ r (subst Repeats way repeats))
 
   conversed : (onward : List ℕ) (last : Bool) (old new : Line) (kept kept_after : List ℕ)
       (f0 f1 : ℕ) (sent : List ℕ) (got : List (List ℕ)) (how : Tried) → Repeats how
@@ -181,14 +191,50 @@ module _ (head : Head) (framing : Framing) where
       behind.1 (λ no. cc) (ends_elsewhere framing behind.1) in
       (rests_on old mid new body.0 behind.0, body.1)
 
+  anew_untouched : (onward : List ℕ) (last : Bool) (addr : Addr) (old new : Line)
+      (kept kept_after : List ℕ) (before now : Upstream) (how : Tried)
+      → may_repeat head framing how ≡ true
+      → TriesAnew head onward framing last addr old new kept kept_after before now how
+      → Untouched old new kept kept_after
+  anew_untouched onward last addr old new kept kept_after before now how repeats (inl none) =
+      (none.line, none.kept_is)
+  anew_untouched onward last addr old new kept kept_after before now how repeats (inr visit) =
+      conversed onward last old new kept kept_after before.faults now.faults (concat visit.sent)
+      visit.got how repeats visit.spoke
+
+  -- a silent try of a request that may be sent again is one that may be repeated
+  silence_repeats : (how : Tried) → is_repeatable head framing ≡ true → is_silent how ≡ true
+      → may_repeat head framing how ≡ true
+  silence_repeats tried.NotSent again silent = again
+  silence_repeats tried.Silent again silent = again
+  silence_repeats tried.NotDialed again silent = refl
+  silence_repeats tried.BadBody again silent = absurd (cc)
+  silence_repeats tried.LongBody again silent = absurd (cc)
+  silence_repeats tried.BodyCut again silent = absurd (cc)
+  silence_repeats tried.BodyFault again silent = absurd (cc)
+  silence_repeats tried.NoReply again silent = again
+  silence_repeats tried.ReplyCut again silent = absurd (cc)
+  silence_repeats tried.WrittenShort again silent = absurd (cc)
+  silence_repeats (tried.Whole status closes reusable) again silent = absurd (cc)
+  silence_repeats tried.OutOfMemory again silent = absurd (cc)
+
   pub tried_untouched : (onward : List ℕ) (last : Bool) (addr : Addr) (old new : Line)
       (kept kept_after : List ℕ) (before now : Upstream) (how : Tried)
       → may_repeat head framing how ≡ true
       → Tries head onward framing last addr old new kept kept_after before now how
       → Rests old new × (kept_after ≡ kept)
+  tried_untouched onward last addr old new kept kept_after before now how repeats (inl anew) =
+      anew_untouched onward last addr old new kept kept_after before now how repeats anew
   tried_untouched onward last addr old new kept kept_after before now how repeats
-      (inl none, closed) = (none.line, none.kept_is)
+      (inr (any, again, inl answered)) =
+      conversed onward last old new kept kept_after before.faults now.faults
+      (concat answered.visit.sent) answered.visit.got how repeats answered.visit.spoke
   tried_untouched onward last addr old new kept kept_after before now how repeats
-      (inr spoken, closed) =
-      conversed onward last old new kept kept_after before.faults now.faults (concat spoken.sent)
-      spoken.got how repeats spoken.spoke
+      (inr (any, again, inr twice)) =
+      let t = twice in
+      let first = conversed onward last old t.line kept t.left before.faults t.mid.faults
+      (concat t.visit.sent) t.visit.got t.first
+      (silence_repeats t.first again (and_left (is_silent t.first) _ t.silent)) t.visit.spoke in
+      let second = anew_untouched onward last addr t.line new t.left kept_after t.mid now how repeats
+      t.anew in
+      (rests_on old t.line new first.0 second.0, second.1 ∙ first.1)

@@ -1,18 +1,24 @@
 -- What the dialer does in a session.
-use Rattle.std.proofs.Common.{◌≡◌, ◌⊎◌, ℕ, zero, suc, ◌+◌, eqb, Bool, List, [], append-nil, subst, sym, inl, inr, Option, Some, None, arith}
+use Rattle.std.proofs.Common.{◌≡◌, ℕ, zero, suc, ◌+◌, ◌||◌, eqb, Bool, List, [], ◌∷◌, ◌++◌}
+use Rattle.std.proofs.Common.{map, append-nil}
+use Rattle.std.proofs.Common.{subst, sym, inl, inr, Option, Some, None, arith}
 use Rattle.http_wire.specs.declared.ended.Ended.{Ended}
 use Rattle.http_wire.specs.declared.head.Head.{Head}
 use Rattle.identifier.specs.declared.rule.Rule.{Rule}
 use Rattle.line_base.specs.declared.dialer.DialEvent.{DialEvent}
+use Rattle.line_base.specs.declared.dialer.DialEvent.TheVariants.{Sent, Got}
 use Rattle.line_base.specs.Dials.{Grows, Upstream}
 use Rattle.machine.specs.Values.{SettingsValue}
 use Rattle.retry_budget.specs.Budget.{BudgetValue}
 use Rattle.proxy_session.specs.Exchange.{Standing}
-use Rattle.proxy_session.specs.Laws.{GivesBytes, IsByteRule, SendsAgain, SendsHead, SendsHeads, SessionsReadBack, Visits, WasRead}
-use Rattle.proxy_session.specs.Session.{Served, Serves, Sessions, most_requests}
+use Rattle.proxy_session.specs.Laws.{GivesBytes, IsByteRule, SendsAgain, SendsHead, SendsHeads}
+use Rattle.proxy_session.specs.Laws.{SendsOnce}
+use Rattle.proxy_session.specs.Laws.{SendsTry}
+use Rattle.proxy_session.specs.Laws.{SessionsReadBack, Visits, WasRead}
+use Rattle.proxy_session.specs.Session.{Served, Serves, Sessions, having_told, most_requests}
 use Rattle.proxy_session.proofs.Growing.{grows_nothing, grows_on}
 use Rattle.proxy_session.proofs.ReadingBack.{requests_read_back}
-use Rattle.proxy_session.proofs.Supplying.{head_supplies, request_supplies}
+use Rattle.proxy_session.proofs.Supplying.{head_supplies, request_supplies, told_supplies}
 
 with_none : (m : ℕ) → m ≡ m + 0
 with_none m = omega arith
@@ -28,36 +34,50 @@ all_of : (n retries earlier more : ℕ) → retries ≡ earlier + more
 all_of n retries earlier more is = omega (arith, is)
 
 module _ (settings : SettingsValue) (rule : Rule) (of_bytes : IsByteRule rule) where
+  -- a visit, by what a log that begins or ends elsewhere shows of it
+  shown_so : (head : Head) (old new first last : Upstream) (s : SendsHead rule head old new)
+      → Grows first.log last.log
+      (s.start ∷ (map Sent s.sent ++ (map Got s.got ++ s.stop ∷ [])))
+      → SendsHead rule head first last
+  shown_so head old new first last s log = record {
+    sought = s.sought;
+    seeks = s.seeks;
+    to = s.to;
+    onward = s.onward;
+    reads = s.reads;
+    taken = s.taken;
+    behind = s.behind;
+    count = s.count;
+    body = s.body;
+    start = s.start;
+    starts = s.starts;
+    sent = s.sent;
+    front = s.front;
+    got = s.got;
+    stop = s.stop;
+    stops = s.stops;
+    log = log;
+  }
+
   -- behind calls that the log does not show
-  visits_behind : (old mid new : Upstream) → Grows old.log mid.log [] → Grows mid.log new.log []
-      ⊎ ((head : Head) × WasRead head × SendsHead rule head mid new) → Visits rule old new
+  once_behind : (head : Head) (old mid new : Upstream) → Grows old.log mid.log []
+      → SendsOnce rule head mid new → SendsOnce rule head old new
+  once_behind head old mid new quiet (inl nothing) =
+      inl (grows_on old.log mid.log new.log [] [] quiet nothing)
+  once_behind head old mid new quiet (inr sends) =
+      inr (shown_so head mid new old new sends
+      (grows_on old.log mid.log new.log [] _ quiet sends.log))
+
+  visits_behind : (old mid new : Upstream) → Grows old.log mid.log [] → Visits rule mid new
+      → Visits rule old new
   visits_behind old mid new quiet (inl nothing) =
       inl (grows_on old.log mid.log new.log [] [] quiet nothing)
-  visits_behind old mid new quiet (inr (head, was, sends)) =
-      inr (
-        head,
-        was,
-        record {
-          sought = sends.sought;
-          seeks = sends.seeks;
-          to = sends.to;
-          onward = sends.onward;
-          reads = sends.reads;
-          sent = sends.sent;
-          got = sends.got;
-          log = grows_on old.log mid.log new.log [] _ quiet sends.log;
-          taken = sends.taken;
-          behind = sends.behind;
-          count = sends.count;
-          body = sends.body;
-          front = sends.front;
-        },
-      )
+  visits_behind old mid new quiet (inr (head, was, (between, first, second))) =
+      inr (head, was, (between, once_behind head old mid between quiet first, second))
 
-  with_head : (head : Head) (old new : Upstream) → WasRead head → Grows old.log new.log []
-      ⊎ SendsHead rule head old new → Visits rule old new
-  with_head head old new was (inl nothing) = inl nothing
-  with_head head old new was (inr sends) = inr (head, was, sends)
+  with_head : (head : Head) (old new : Upstream) → WasRead head → SendsTry rule head old new
+      → Visits rule old new
+  with_head head old new was sends = inr (head, was, sends)
 
   with_heads : (n : ℕ) (head : Head) (old new : Upstream) → WasRead head
       → SendsAgain rule head n old new → SendsHeads rule n old new
@@ -79,32 +99,21 @@ module _ (settings : SettingsValue) (rule : Rule) (of_bytes : IsByteRule rule) w
   sends_behind (suc (suc n)) old mid new quiet (between, first, visit) =
       (between, sends_behind (suc n) old mid between quiet first, visit)
 
+  once_before : (head : Head) (old mid new : Upstream) → SendsOnce rule head old mid
+      → Grows mid.log new.log [] → SendsOnce rule head old new
+  once_before head old mid new (inl nothing) quiet =
+      inl (grows_on old.log mid.log new.log [] [] nothing quiet)
+  once_before head old mid new (inr sends) quiet =
+      inr (shown_so head old mid old new sends
+      (subst (λ (events : List DialEvent). Grows old.log new.log events) (append-nil _)
+      (grows_on old.log mid.log new.log _ [] sends.log quiet)))
+
   visits_before : (old mid new : Upstream) → Visits rule old mid → Grows mid.log new.log []
       → Visits rule old new
   visits_before old mid new (inl nothing) quiet =
       inl (grows_on old.log mid.log new.log [] [] nothing quiet)
-  visits_before old mid new (inr (head, was, sends)) quiet =
-      inr (
-        head,
-        was,
-        record {
-          sought = sends.sought;
-          seeks = sends.seeks;
-          to = sends.to;
-          onward = sends.onward;
-          reads = sends.reads;
-          sent = sends.sent;
-          got = sends.got;
-          log =
-              subst (λ (events : List DialEvent). Grows old.log new.log events) (append-nil _)
-              (grows_on old.log mid.log new.log _ [] sends.log quiet);
-          taken = sends.taken;
-          behind = sends.behind;
-          count = sends.count;
-          body = sends.body;
-          front = sends.front;
-        },
-      )
+  visits_before old mid new (inr (head, was, (between, first, second))) quiet =
+      inr (head, was, (between, first, once_before head between mid new second quiet))
 
   sends_before : (n : ℕ) (old mid new : Upstream) → SendsHeads rule n old mid
       → Grows mid.log new.log [] → SendsHeads rule n old new
@@ -125,13 +134,15 @@ module _ (settings : SettingsValue) (rule : Rule) (of_bytes : IsByteRule rule) w
       (result : Option Ended) → GivesBytes old
       → Serves settings rule last n before behind old new result
       → GivesBytes new × SendsHeads rule (suc n) old.upstream new.upstream
-  serves last n before behind old new result gives (mid, head, reads, request) =
-      let supplied = head_supplies old mid head gives reads in (
-        request_supplies settings rule head last n before behind mid new result supplied.0 request,
-        sends_behind (suc n) old.upstream mid.upstream new.upstream reads.upstream.log
-            (with_heads (suc n) head mid.upstream new.upstream supplied.1
-            (requests_read_back settings rule head last n before behind mid new result of_bytes
-            supplied.1 request)),
+  serves last n before behind old new result gives (closing, x) =
+      let supplied = head_supplies old x.mid x.head gives x.reads in
+      let asked = having_told closing x.mid in (
+        request_supplies settings rule x.head (last || closing) n before behind asked new x.end
+            (told_supplies closing x.mid supplied.0) x.request,
+        sends_behind (suc n) old.upstream x.mid.upstream new.upstream x.reads.upstream.log
+            (with_heads (suc n) x.head x.mid.upstream new.upstream supplied.1
+            (requests_read_back settings rule x.head (last || closing) n before behind asked new
+            x.end of_bytes supplied.1 x.request)),
       )
 
   served : (n retries : ℕ) (before behind : Option BudgetValue) (old new : Standing)
@@ -160,7 +171,12 @@ module _ (settings : SettingsValue) (rule : Rule) (of_bytes : IsByteRule rule) w
       (end : Ended) → GivesBytes old
       → Sessions settings rule requests retries before behind old new end
       → SendsHeads rule (requests + retries) old.upstream new.upstream
-  session requests retries before behind old new end gives (inl (mid, all, without)) =
+  session requests retries before behind old new end gives (inl (mid, all, inr x)) =
+      sends_before (requests + retries) old.upstream mid.upstream new.upstream
+      (served requests retries before behind old mid None gives all).1
+      (subst (λ (s : Standing). Grows mid.upstream.log s.upstream.log []) (sym x.closing)
+      (grows_nothing mid.upstream.log))
+  session requests retries before behind old new end gives (inl (mid, all, inl without)) =
       sends_before (requests + retries) old.upstream mid.upstream new.upstream
       (served requests retries before behind old mid None gives all).1
       (grows_on mid.upstream.log without.mid.upstream.log new.upstream.log [] []

@@ -1,5 +1,6 @@
 -- What the client is answered, and how an exchange ends.
-use Rattle.std.specs.Prelude.{◌≡◌, ℕ, ◌||◌, nat_lt, Bool, true, false, not, List, bytes_eq, codes, Option, Some, None, Result, Ok, Err}
+use Rattle.std.specs.Prelude.{◌≡◌, ℕ, ◌||◌, nat_lt, Bool, true, false, not, List, bytes_eq, codes}
+use Rattle.std.specs.Prelude.{Option, Some, None, Result, Ok, Err}
 use Rattle.line_base.specs.Counts.{raised}
 use Rattle.body_wire.specs.Passing.{IsFrontOf}
 use Rattle.http_wire.specs.declared.ended.Ended.{Ended}
@@ -81,6 +82,7 @@ Writes old new reply (Err ended.PeerEnded) = ⊥
 Writes old new reply (Err ended.Cut) = ⊥
 Writes old new reply (Err ended.Closed) = ⊥
 Writes old new reply (Err ended.Spent) = ⊥
+Writes old new reply (Err ended.Drained) = ⊥
 Writes old new reply (Err ended.ReadFault) = ⊥
 Writes old new reply (Err ended.UpstreamCut) = ⊥
 
@@ -110,9 +112,10 @@ own_of_why why.TooWide = own.TooWide
 abbrev pub report_of : Tried → Option Bool
 report_of tried.NotDialed = Some false
 report_of tried.NotSent = Some false
+report_of tried.Silent = Some false
 report_of tried.NoReply = Some false
 report_of tried.ReplyCut = Some false
-report_of (tried.Whole status closes) = Some (nat_lt status 500)
+report_of (tried.Whole status closes reusable) = Some (nat_lt status 500)
 report_of tried.BadBody = None
 report_of tried.LongBody = None
 report_of tried.BodyCut = None
@@ -125,6 +128,7 @@ report_of tried.OutOfMemory = None
 abbrev pub Ends : Tried → Head → Bool → Line → Line → Option Ended → Type 0
 Ends tried.NotDialed head last old new result = Refuses own.Dial head last old new result
 Ends tried.NotSent head last old new result = Refuses own.Upstream head last old new result
+Ends tried.Silent head last old new result = Refuses own.Upstream head last old new result
 Ends tried.NoReply head last old new result = Refuses own.Upstream head last old new result
 Ends tried.BadBody head last old new result = Refuses own.Body head last old new result
 Ends tried.LongBody head last old new result = Refuses own.TooLong head last old new result
@@ -133,5 +137,5 @@ Ends tried.BodyFault head last old new result = Rests old new × (result ≡ Som
 Ends tried.ReplyCut head last old new result = Rests old new × (result ≡ Some ended.UpstreamCut)
 Ends tried.WrittenShort head last old new result = Rests old new × (result ≡ Some ended.WriteFault)
 Ends tried.OutOfMemory head last old new result = Rests old new × (result ≡ Some ended.OutOfMemory)
-Ends (tried.Whole status closes) head last old new result =
+Ends (tried.Whole status closes reusable) head last old new result =
     Rests old new × (result ≡ end_of closes last)

@@ -1,8 +1,8 @@
 -- The attempts of a request that is routed. Each asks for a replica anew; all but the last failed,
 -- and were granted one more.
-use Rattle.std.specs.Prelude.{◌≡◌, ◌⊎◌, ℕ, zero, suc, ◌==◌, ◌&&◌, nat_lt, Bool, true, false, List, Option, Some, None}
+use Rattle.std.specs.Prelude.{◌≡◌, ◌⊎◌, ℕ, zero, suc, ◌&&◌, nat_lt, Bool, not, true, false}
+use Rattle.std.specs.Prelude.{List, Option, Some, None}
 use Rattle.addr_book.specs.declared.addr.Addr.{Addr}
-use Rattle.http.specs.Method.{idempotent_methods, is_among}
 use Rattle.http_wire.specs.declared.ended.Ended.{Ended}
 use Rattle.http_wire.specs.declared.ended.Ended.TheVariants as ended
 use Rattle.http_wire.specs.declared.frames.Framing.{Framing}
@@ -15,29 +15,20 @@ use Rattle.proxy_session.specs.declared.tried.Tried.TheVariants as tried
 use Rattle.proxy_session.specs.Answering.{report_of}
 use Rattle.proxy_session.specs.Asking.{Finding, drawn}
 use Rattle.proxy_session.specs.Callers.{Caller, Holds}
-use Rattle.proxy_session.specs.Exchange.{Draws, IsTried, IsUnbound, ReportDone, Standing, StopsAsked, having_asked}
+use Rattle.proxy_session.specs.Exchange.{Draws, IsTried, IsUnbound, ReportDone, Standing}
+use Rattle.proxy_session.specs.Exchange.{StopsAsked, having_asked}
 use Rattle.proxy_session.specs.Onward.{IsForwarded}
 use Rattle.proxy_session.specs.Seeking.{Sought}
-use Rattle.proxy_session.specs.Trying.{Tries}
+use Rattle.proxy_session.specs.Trying.{Tries, is_repeatable}
 
 -- ---- which tries are followed by another attempt
-
--- no byte of the client's connection is read for a body that is framed so
-abbrev pub is_without_body : Framing → Bool
-is_without_body Framing.Nothing = true
-is_without_body (Framing.Length n) = n == 0
-is_without_body Framing.Chunked = false
-is_without_body Framing.ToEnd = false
-
--- a request that a replica may be sent again, though one may have carried it out already
-abbrev pub is_repeatable : Head → Framing → Bool
-is_repeatable head framing = is_without_body framing && is_among idempotent_methods head.method
 
 -- a try behind which the request may be sent to another replica: the first was not reached, or gave
 -- no reply to a request that may be repeated
 abbrev pub may_repeat : Head → Framing → Tried → Bool
 may_repeat head framing tried.NotDialed = true
 may_repeat head framing tried.NotSent = is_repeatable head framing
+may_repeat head framing tried.Silent = is_repeatable head framing
 may_repeat head framing tried.NoReply = is_repeatable head framing
 may_repeat head framing tried.BadBody = false
 may_repeat head framing tried.LongBody = false
@@ -45,7 +36,7 @@ may_repeat head framing tried.BodyCut = false
 may_repeat head framing tried.BodyFault = false
 may_repeat head framing tried.ReplyCut = false
 may_repeat head framing tried.WrittenShort = false
-may_repeat head framing (tried.Whole status closes) = false
+may_repeat head framing (tried.Whole status closes reusable) = false
 may_repeat head framing tried.OutOfMemory = false
 
 -- how many retries a request may have: none, where there is no budget
@@ -109,7 +100,8 @@ pub record IsTriedInVain
   pub found : Caller
   pub finds : Finding settings old.caller found ask (replica to)
   pub sent :
-      IsSentInVain settings head last sought.framing to.addr to.slot (IsForwarded head sought to)
+      IsSentInVain settings head last sought.framing to.addr to.slot
+      (IsForwarded head sought (not old.upstream.keeps) to)
       fewer budget (having_asked old found moments new.words) new
 
 -- no attempt follows a try that was answered so: it is not one that is followed, or memory was

@@ -14,6 +14,7 @@ pub record NoneFell (old new : Line) : Type 0 where
   pub reads : Later old.read_faults new.read_faults
   pub writes : Later old.write_faults new.write_faults
   pub ends : Later old.ends new.ends
+  pub closings : Later old.closings new.closings
 
 -- the count that rose, where an end says that one did
 abbrev pub CauseOf : Ended → Line → Line → Type 0
@@ -23,13 +24,16 @@ CauseOf ended.ReadFault old new = Rose old.read_faults new.read_faults
 CauseOf ended.WriteFault old new = Rose old.write_faults new.write_faults
 CauseOf ended.Closed old new = Unit {0}
 CauseOf ended.Spent old new = Unit {0}
+CauseOf ended.Drained old new = Rose old.closings new.closings
 CauseOf ended.UpstreamCut old new = Unit {0}
 CauseOf ended.OutOfMemory old new = Unit {0}
 
--- the same of an exchange, which may go on. It never ends as one that found no request
+-- the same of an exchange, which may go on. It never ends as a connection does that has no further
+-- request
 abbrev pub HasCauseOf : Option Ended → Line → Line → Type 0
 HasCauseOf None old new = Unit {0}
 HasCauseOf (Some ended.PeerEnded) old new = ⊥
+HasCauseOf (Some ended.Drained) old new = ⊥
 HasCauseOf (Some e) old new = CauseOf e old new
 
 -- the connection goes on only behind a request that is not its last, and is spent only by the last

@@ -1,5 +1,5 @@
 -- One request on a connection, from its head on.
-use Rattle.std.specs.Prelude.{◌≡◌, ◌⊎◌, ℕ, Bool, List, Option, Some, None, Ok, Err}
+use Rattle.std.specs.Prelude.{◌≡◌, ◌⊎◌, ℕ, Bool, not, List, Option, Some, None, Ok, Err}
 use Rattle.rand_pcg.specs.Lcg.{Lcg}
 use Rattle.line_base.specs.Clocks.{Tells}
 use Rattle.addr_book.specs.declared.addr.Addr.{Addr}
@@ -158,7 +158,8 @@ pub record IsTried
   pub found : Caller
   pub finds : Finding settings old.caller found ask (replica to)
   pub sent :
-      IsSent settings head last sought.framing to.addr to.slot (IsForwarded head sought to)
+      IsSent settings head last sought.framing to.addr to.slot
+      (IsForwarded head sought (not old.upstream.keeps) to)
       (having_asked old found moments new.words) new
       result
 

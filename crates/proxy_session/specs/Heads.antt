@@ -1,5 +1,6 @@
 -- The final head of a reply, behind those of interim replies (RFC 9110 section 15.2).
-use Rattle.std.specs.Prelude.{◌≡◌, ◌⊎◌, ℕ, zero, suc, ◌≤◌, ◌==◌, nat_le, ◌&&◌, ◌||◌, Bool, true, false, List, [], ◌++◌, Result, Ok, Err, IsErr}
+use Rattle.std.specs.Prelude.{◌≡◌, ◌⊎◌, ℕ, zero, suc, ◌≤◌, ◌==◌, nat_le, ◌&&◌, ◌||◌, Bool, true}
+use Rattle.std.specs.Prelude.{false, List, [], ◌++◌, length, Result, Ok, Err, IsErr}
 use Rattle.http_wire.specs.declared.frames.Framing.{Framing}
 use Rattle.http_wire.specs.declared.head.ReplyHead.{ReplyHead}
 use Rattle.http_wire.specs.declared.reading.HeadEnd.{HeadEnd}
@@ -56,23 +57,33 @@ HeadDecides method n head (Err HeadFault.NoReply) =
     ⊎ (((is_interim head.status ≡ true) × (n ≡ most_interims))
     ⊎ ((is_interim head.status ≡ false) × IsErr
     (reply_framing_of method head.status (framing_of head.version head.fields))))
+HeadDecides method n head (Err HeadFault.Silent) = ⊥
 HeadDecides method n head (Err HeadFault.OutOfMemory) = ⊥
 
--- bytes that begin no head, a head that is too long, an early end and a failed receive are no reply
-abbrev pub fault_of : HeadEnd → HeadFault
-fault_of HeadEnd.Ended = HeadFault.NoReply
-fault_of HeadEnd.Cut = HeadFault.NoReply
-fault_of HeadEnd.Bad = HeadFault.NoReply
-fault_of HeadEnd.Version = HeadFault.NoReply
-fault_of HeadEnd.TooLarge = HeadFault.NoReply
-fault_of HeadEnd.ReadFault = HeadFault.NoReply
-fault_of HeadEnd.OutOfMemory = HeadFault.OutOfMemory
+-- bytes that begin no head, a head that is too long, an early end and a failed receive are no
+-- reply. Where there was no byte either, it is silence
+abbrev pub no_reply : Bool → HeadFault
+no_reply true = HeadFault.Silent
+no_reply false = HeadFault.NoReply
 
--- what the last head that was received decides
-abbrev pub Decides : List ℕ → ℕ → Result ReplyHead HeadEnd → Result (ReplyHead × Framing) HeadFault
-    → Type 0
-Decides method n (Ok head) result = HeadDecides method n head result
-Decides method n (Err end) result = result ≡ Err (fault_of end)
+abbrev pub fault_of : Bool → HeadEnd → HeadFault
+fault_of nothing HeadEnd.Ended = no_reply nothing
+fault_of nothing HeadEnd.Cut = no_reply nothing
+fault_of nothing HeadEnd.Bad = no_reply nothing
+fault_of nothing HeadEnd.Version = no_reply nothing
+fault_of nothing HeadEnd.TooLarge = no_reply nothing
+fault_of nothing HeadEnd.ReadFault = no_reply nothing
+fault_of nothing HeadEnd.OutOfMemory = HeadFault.OutOfMemory
+
+-- no byte was received: no interim head, and nothing is left
+abbrev pub is_nothing : ℕ → List ℕ → Bool
+is_nothing interims left = (interims == 0) && (length left == 0)
+
+-- what the last head that was received decides, behind which these bytes are left
+abbrev pub Decides : List ℕ → ℕ → List ℕ → Result ReplyHead HeadEnd
+    → Result (ReplyHead × Framing) HeadFault → Type 0
+Decides method n left (Ok head) result = HeadDecides method n head result
+Decides method n left (Err end) result = result ≡ Err (fault_of (is_nothing n left) end)
 
 -- the pieces that were got for a final head: those of at most eight interim heads, and those behind
 -- that decide. The dialer's count of faults rose by one where the last receive failed, and no
@@ -89,7 +100,7 @@ pub record Hears
   pub shown : Result ReplyHead HeadEnd
   pub dropped : Interims interims kept mid before
   pub shows : Shows mid kept_after last shown
-  pub decides : Decides method interims shown result
+  pub decides : Decides method interims kept_after shown result
   pub causes : faults_now ≡ raised_at (is_fault shown) faults
   pub whole : pieces ≡ before ++ last
   pub later : faults ≤ faults_now

@@ -1,27 +1,35 @@
 -- What is read of a head that goes on to a replica.
-use Rattle.std.specs.Prelude.{◌≡◌, ◌⊎◌, ◌+◌, ◌<◌, ◌≤◌, ◌^◌, ℕ, zero, suc, Bool, true, List, [], ◌∷◌, ◌++◌, length, map, codes, All, IsSomeAnd, Option, Ok}
+use Rattle.std.specs.Prelude.{◌≡◌, ◌⊎◌, ◌+◌, ◌<◌, ◌≤◌, ◌^◌, ℕ, zero, suc, Bool, true, List, []}
+use Rattle.std.specs.Prelude.{◌∷◌, ◌++◌, length, map, codes, All, IsSomeAnd, Option, Ok}
 use Rattle.std.specs.List.{concat}
 use Rattle.httparse.specs.Grammar.{trim_ows}
-use Rattle.line_base.specs.declared.dialer.DialEvent.TheVariants.{Dialed, Sent, Got, Hung}
+use Rattle.line_base.specs.declared.dialer.DialEvent.{DialEvent}
+use Rattle.line_base.specs.declared.dialer.DialEvent.TheVariants.{Dialed, Resumed, Sent, Got}
+use Rattle.line_base.specs.declared.dialer.DialEvent.TheVariants.{Hung, Kept}
 use Rattle.name_tree.specs.Canon.{AreByteLabels}
 use Rattle.http_wire.specs.declared.ended.Ended.{Ended}
+use Rattle.http_wire.specs.declared.frames.Framing.{Framing}
 use Rattle.http_wire.specs.declared.head.Head.{Head}
+use Rattle.http_wire.specs.declared.head.ReplyHead.{ReplyHead}
 use Rattle.http_wire.specs.Fields.{values_of}
 use Rattle.http_wire.specs.Framing.{framing_of}
 use Rattle.http_wire.specs.Heads.{most, BeginsWith}
 use Rattle.identifier.specs.declared.rule.Kind.{Kind}
-use Rattle.identifier.specs.declared.rule.Kind.TheVariants.{Token, MethodAndHost, Segments, PathField, Static}
+use Rattle.identifier.specs.declared.rule.Kind.TheVariants.{Token, MethodAndHost, Segments}
+use Rattle.identifier.specs.declared.rule.Kind.TheVariants.{PathField, Static}
 use Rattle.identifier.specs.declared.rule.Rule.{Rule}
 use Rattle.machine.specs.Values.{SettingsValue, Replica}
-use Rattle.body_wire.specs.Bodies.{IsFrontBody}
+use Rattle.body_wire.specs.Bodies.{IsFrontBody, IsWholeBody}
 use Rattle.body_wire.specs.Passing.{IsFrontOf, form_of, most_passed}
 use Rattle.forward.specs.Laws.{table_texts}
 use Rattle.proxy_session.specs.Exchange.{Exchanges, Standing}
+use Rattle.proxy_session.specs.Heads.{Hears}
 use Rattle.proxy_session.specs.Onward.{IsForwarded, host_for}
 use Rattle.line_base.specs.Dials.{Grows, Upstream}
 use Rattle.proxy_session.specs.Seeking.{Seeks, Sought}
 use Rattle.proxy_session.specs.Requests.{Requests}
 use Rattle.proxy_session.specs.Session.{Sessions}
+use Rattle.proxy_session.specs.Trying.{is_repeatable, is_reusable}
 use Rattle.retry_budget.specs.Budget.{BudgetValue}
 
 -- a head that was read off some bytes
@@ -69,13 +77,50 @@ pub record ReadsAs
 -- may be
 abbrev pub HeadsReadBack : Type 0
 HeadsReadBack =
-    (rule : Rule) (head : Head) (sought : Sought) (to : Replica) (bytes : List ℕ)
+    (rule : Rule) (head : Head) (sought : Sought) (closes : Bool) (to : Replica) (bytes : List ℕ)
     → IsByteRule rule → WasRead head → Seeks rule head (Ok sought) → IsByteReplica to
-    → IsForwarded head sought to bytes → length bytes ≤ most
+    → IsForwarded head sought closes to bytes → length bytes ≤ most
     → (read : Head) × ReadsAs head sought to bytes read
 
--- A replica was dialled, and what was sent to it is a head that is read so and what goes on behind
--- it for a front of a body that is framed so, or a front of these
+-- The pieces that were got are one whole reply to a request with this method, and nothing besides:
+-- the heads of interim replies, the final head, and the body that it frames. It is a reply behind
+-- which the connection may carry another request
+pub record IsWholeReply (method : List ℕ) (got : List (List ℕ)) : Type 0 where
+  pub reply : ReplyHead
+  pub framing : Framing
+  pub heads : List (List ℕ)
+  pub behind : List (List ℕ)
+  pub all : got ≡ heads ++ behind
+  pub left : List ℕ
+  pub faults : ℕ
+  pub faults_now : ℕ
+  pub heard : Hears method [] left heads faults faults_now (Ok (reply, framing))
+  pub chunked : Bool
+  pub passed : List ℕ
+  pub count : ℕ
+  pub body :
+      IsWholeBody framing (form_of chunked) (left ++ concat behind) passed count []
+  pub lasts : is_reusable reply framing [] ≡ true
+
+-- all of a request was sent: this head, and what goes on behind it for the whole of its body; and
+-- what was got is one whole reply to it
+pub record IsAnsweredWhole
+    (method : List ℕ) (framing : Framing) (onward taken behind : List ℕ) (count : ℕ)
+    (sent : List ℕ) (got : List (List ℕ))
+    : Type 0 where
+  pub sent_is : sent ≡ onward ++ behind
+  pub after : List ℕ
+  pub body : IsWholeBody framing (form_of true) taken behind count after
+  pub reply : IsWholeReply method got
+
+-- One visit to a replica. A connection to it was opened; or, for a request that may be repeated,
+-- one that was kept was taken up again. What was sent over it is a head that is read so and what
+-- goes on behind it for a front of a body that is framed so, or a front of these; and what was got
+-- came behind that. Then the connection was ended; or it was kept, where the request was answered
+-- whole.
+--
+-- So over one connection, from the event that opened it to its end, requests and replies alternate,
+-- and none is sent before the reply to the one before it was got whole, with nothing behind it
 pub record SendsHead (rule : Rule) (head : Head) (old new : Upstream) : Type 0 where
   pub sought : Sought
   pub seeks : Seeks rule head (Ok sought)
@@ -83,31 +128,47 @@ pub record SendsHead (rule : Rule) (head : Head) (old new : Upstream) : Type 0 w
   pub onward : List ℕ
   pub reads : IsByteReplica to → length onward ≤ most → (read : Head)
       × ReadsAs head sought to onward read
-  pub sent : List (List ℕ)
-  pub got : List (List ℕ)
-  pub log :
-      Grows old.log new.log (Dialed to.addr.ip to.addr.port ∷
-      (map Sent sent ++ (map Got got ++ Hung ∷ [])))
   pub taken : List ℕ
   pub behind : List ℕ
   pub count : ℕ
   pub body : IsFrontBody sought.framing (form_of true) most_passed taken behind count
+  pub start : DialEvent
+  pub starts :
+      (start ≡ Dialed to.addr.ip to.addr.port)
+      ⊎ ((start ≡ Resumed to.addr.ip to.addr.port)
+      × (is_repeatable head sought.framing ≡ true))
+  pub sent : List (List ℕ)
   pub front : IsFrontOf (onward ++ behind) (concat sent)
+  pub got : List (List ℕ)
+  pub stop : DialEvent
+  pub stops :
+      (stop ≡ Hung)
+      ⊎ ((stop ≡ Kept)
+      × IsAnsweredWhole head.method sought.framing onward taken behind count (concat sent) got)
+  pub log : Grows old.log new.log (start ∷ (map Sent sent ++ (map Got got ++ stop ∷ [])))
 
--- in an exchange of a head that was read the dialer did nothing that its log shows, or just this
+-- the dialer did nothing that its log shows, or just this
+abbrev pub SendsOnce : Rule → Head → Upstream → Upstream → Type 0
+SendsOnce rule head old new = Grows old.log new.log [] ⊎ SendsHead rule head old new
+
+-- a try: where a connection that was kept was silent, once over that, and then once more
+abbrev pub SendsTry : Rule → Head → Upstream → Upstream → Type 0
+SendsTry rule head old new =
+    (mid : Upstream) × SendsOnce rule head old mid × SendsOnce rule head mid new
+
+-- in an exchange of a head that was read the dialer did just this
 abbrev pub ExchangesReadBack : Type 0
 ExchangesReadBack =
     (settings : SettingsValue) (rule : Rule) (head : Head) (last : Bool) (old new : Standing)
     (result : Option Ended)
     → IsByteRule rule → WasRead head → Exchanges settings rule head last old new result
-    → Grows old.upstream.log new.upstream.log [] ⊎ SendsHead rule head old.upstream new.upstream
+    → SendsTry rule head old.upstream new.upstream
 
 -- so often, for one head
 abbrev pub SendsAgain : Rule → Head → ℕ → Upstream → Upstream → Type 0
 SendsAgain rule head zero old new = Grows old.log new.log []
 SendsAgain rule head (suc n) old new =
-    (mid : Upstream) × SendsAgain rule head n old mid
-    × (Grows mid.log new.log [] ⊎ SendsHead rule head mid new)
+    (mid : Upstream) × SendsAgain rule head n old mid × SendsTry rule head mid new
 
 -- in a request whose head was read the dialer did just this, at most once more than it has retries
 abbrev pub RequestsReadBack : Type 0
@@ -127,15 +188,15 @@ pub record GivesBytes (s : Standing) : Type 0 where
 -- the dialer did nothing that its log shows, or just this for some request that was read
 abbrev pub Visits : Rule → Upstream → Upstream → Type 0
 Visits rule old new =
-    Grows old.log new.log [] ⊎ ((head : Head) × WasRead head × SendsHead rule head old new)
+    Grows old.log new.log [] ⊎ ((head : Head) × WasRead head × SendsTry rule head old new)
 
 -- so often
 abbrev pub SendsHeads : Rule → ℕ → Upstream → Upstream → Type 0
 SendsHeads rule zero old new = Grows old.log new.log []
 SendsHeads rule (suc n) old new = (mid : Upstream) × SendsHeads rule n old mid × Visits rule mid new
 
--- in a session over the bytes of a client the dialer did nothing else, at most once for each request
--- and once for each retry
+-- in a session over the bytes of a client the dialer did nothing else, at most once for each
+-- request and once for each retry
 abbrev pub SessionsReadBack : Type 0
 SessionsReadBack =
     (settings : SettingsValue) (rule : Rule) (requests retries : ℕ)

@@ -13,5 +13,6 @@ pub mod Requests
 pub mod Standing
 pub mod Sending
 pub mod Session
+pub mod Idle
 pub mod Causes
 pub mod Laws

@@ -1,5 +1,5 @@
 -- The head with which a request goes on to a replica.
-use Rattle.std.specs.Prelude.{◌≡◌, ℕ, List, [], ◌∷◌}
+use Rattle.std.specs.Prelude.{◌≡◌, ℕ, Bool, List, [], ◌∷◌}
 use Rattle.name_tree.specs.Path.{Labels, canon_path}
 use Rattle.dtab_table.specs.Dtab.{rules_of}
 use Rattle.dtab_table.specs.Rules.{Rule}
@@ -20,7 +20,7 @@ host_for (b ∷ host) addr = b ∷ host
 -- these are the bytes of a request's head on this way
 pub record IsHeadTo
     (head : Head) (host line : List ℕ) (framing : Framing) (rules : List Rule) (service : Labels)
-    (client residual bytes : List ℕ)
+    (closes : Bool) (client residual bytes : List ℕ)
     : Type 0 where
   pub to : Going
   pub host_is : to.host.now ≡ host
@@ -30,10 +30,12 @@ pub record IsHeadTo
   pub service_is : to.service.now ≡ service
   pub client_is : to.client.now ≡ client
   pub residual_is : to.residual.now ≡ residual
+  pub closes_is : to.closes ≡ closes
   pub bytes_are : bytes ≡ forwarded head to
 
--- those of its head to a replica, for what it seeks
-abbrev pub IsForwarded : Head → Sought → Replica → List ℕ → Type 0
-IsForwarded head sought to bytes =
+-- those of its head to a replica, for what it seeks. `closes` says whether the replica is asked to
+-- end the connection behind its reply
+abbrev pub IsForwarded : Head → Sought → Bool → Replica → List ℕ → Type 0
+IsForwarded head sought closes to bytes =
     IsHeadTo head (host_for sought.host to.addr) sought.line sought.framing sought.rules sought.path
-    (canon_path to.client) (canon_path to.residual) bytes
+    closes (canon_path to.client) (canon_path to.residual) bytes

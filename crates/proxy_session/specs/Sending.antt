@@ -48,7 +48,7 @@ abbrev pub IsHeadOf : Onward → Addr → Names → Texts → List ℕ → Type 
 IsHeadOf going addr names texts =
     IsHeadTo going.head.now (host_for going.host.now addr) going.target.now going.framing
     (rules_of going.ask.now.local)
-    going.ask.now.path (client_in names texts) (residual_in names texts)
+    going.ask.now.path going.closes (client_in names texts) (residual_in names texts)
 
 -- an attempt on the replica at an address, with a head of this kind
 abbrev pub SendsSo : SettingsValue → Onward → Addr → Option ℕ → (List ℕ → Type 0)

@@ -1,10 +1,14 @@
 -- The requests of a connection, one after another.
-use Rattle.std.specs.Prelude.{◌≡◌, ◌⊎◌, ℕ, zero, suc, ◌+◌, ◌*◌, ◌/◌, ◌≤◌, ◌==◌, Bool, true, [], Option, Some, None, Result, Ok, Err}
+use Rattle.std.specs.Prelude.{◌≡◌, ◌≢◌, ◌⊎◌, ℕ, zero, suc, ◌+◌, ◌*◌, ◌/◌, ◌≤◌, ◌==◌, ◌||◌, Bool, true, [], Option, Some, None, Result, Ok, Err}
 use Rattle.std.specs.Io.KnownBytes.{Keeps}
 use Rattle.http_wire.specs.declared.ended.Ended.{Ended}
 use Rattle.http_wire.specs.declared.ended.Ended.TheVariants as ended
 use Rattle.http_wire.specs.declared.head.Head.{Head}
+use Rattle.http_wire.specs.declared.next.NextHead.{NextHead}
+use Rattle.http_wire.specs.declared.next.NextHead.TheVariants as next
 use Rattle.http_wire.specs.declared.reading.HeadEnd.{HeadEnd}
+use Rattle.http_wire.specs.Ended.{drained}
+use Rattle.http_wire.specs.Next.{IsAsked}
 use Rattle.http_wire.specs.Reading.{HasCauses, ReadsHead}
 use Rattle.identifier.specs.declared.rule.Rule.{Rule}
 use Rattle.machine.specs.Values.{SettingsValue}
@@ -16,7 +20,8 @@ use Rattle.proxy_session.specs.Exchange.{AsksNothing, Standing}
 use Rattle.proxy_session.specs.Requests.{IsUntried, Requests}
 use Rattle.retry_budget.specs.Budget.{BudgetValue}
 use Rattle.line_base.specs.Dials.{IsIdle}
-use Rattle.line_base.specs.Lines.{Line, Rests}
+use Rattle.line_base.specs.Counts.{raised}
+use Rattle.line_base.specs.Lines.{Line, Rests, told_closing}
 
 -- the most requests of one connection
 abbrev pub most_requests : ℕ
@@ -41,17 +46,50 @@ pub record Reads (old new : Standing) (result : Result Head HeadEnd) : Type 0 wh
       HasCauses old.line.ends new.line.ends old.line.read_faults new.line.read_faults result
   pub given : Keeps old.line.given new.line.given
   pub writes : new.line.write_faults ≡ old.line.write_faults
+  pub closings : new.line.closings ≡ old.line.closings
   pub upstream : IsIdle old.upstream new.upstream
   pub caller : new.caller ≡ old.caller
   pub moments : new.moments ≡ old.moments
   pub words : new.words ≡ old.words
 
--- a request: its head was read, and then it was served, with so many retries
+-- the client's connection said whether its listeners are closing, and nothing else moved
+abbrev pub having_told : Bool → Standing → Standing
+having_told closing s = record {
+  line = told_closing closing s.line;
+  kept = s.kept;
+  upstream = s.upstream;
+  caller = s.caller;
+  moments = s.moments;
+  words = s.words;
+}
+
+-- a further request was waited for, and its head was read; or it was seen that there is none; or the
+-- listeners are closing, and no byte of one has come
+abbrev pub ReadsNext : Standing → Standing → NextHead → Type 0
+ReadsNext old new (next.Head head) = Reads old new (Ok head)
+ReadsNext old new (next.Ended end) = Reads old new (Err end)
+ReadsNext old new next.Closing = (old.kept ≡ []) × (new ≡ having_told true old)
+
+-- A request: its head was read, and then it was served, with so many retries. It is the connection's
+-- last where that is spent by it, or where the listeners are closing
+pub record ServesSo
+    (settings : SettingsValue) (rule : Rule) (spent closing : Bool) (retries : ℕ)
+    (before behind : Option BudgetValue) (old new : Standing) (result : Option Ended)
+    : Type 0 where
+  pub mid : Standing
+  pub head : Head
+  pub reads : Reads old mid (Ok head)
+  pub asked : IsAsked spent closing
+  pub end : Option Ended
+  pub request :
+      Requests settings rule head (spent || closing) retries before behind
+      (having_told closing mid) new end
+  pub is : result ≡ drained closing end
+
 abbrev pub Serves : SettingsValue → Rule → Bool → ℕ → Option BudgetValue → Option BudgetValue
     → Standing → Standing → Option Ended → Type 0
-Serves settings rule last retries before behind old new result =
-    (mid : Standing) × (head : Head) × Reads old mid (Ok head)
-    × Requests settings rule head last retries before behind mid new result
+Serves settings rule spent retries before behind old new result =
+    (closing : Bool) × ServesSo settings rule spent closing retries before behind old new result
 
 -- a session ended with no head: the bytes of the client ended, or are none, or could not be read
 abbrev pub own_of_end : HeadEnd → Option OwnError
@@ -88,6 +126,15 @@ pub record EndsWithout (old new : Standing) (result : Ended) : Type 0 where
   pub nothing : AsksNothing mid new
   pub answers : AnswersEnd (own_of_end end) mid.line new.line (ended_of_end end) result
 
+-- no further request, since the listeners are closing: no byte of one has come
+pub record EndsClosing (old new : Standing) (result : Ended) : Type 0 where
+  pub none : old.kept ≡ []
+  pub closing : new ≡ having_told true old
+  pub is : result ≡ ended.Drained
+
+abbrev pub Stops : Standing → Standing → Ended → Type 0
+Stops old new result = EndsWithout old new result ⊎ EndsClosing old new result
+
 -- so many requests were served, with so many retries. The last of them ended so, and behind each
 -- other one the connection went on
 abbrev pub Served : SettingsValue → Rule → ℕ → ℕ → Option BudgetValue → Option BudgetValue
@@ -106,7 +153,7 @@ abbrev pub ServesNext : SettingsValue → Rule → Bool → ℕ → Option Budge
 ServesNext settings rule last retries before behind old new None =
     Serves settings rule last retries before behind old new None
 ServesNext settings rule last retries before behind old new (Some end) =
-    (EndsWithout old new end × IsUntried retries before behind)
+    (Stops old new end × IsUntried retries before behind)
     ⊎ Serves settings rule last retries before behind old new (Some end)
 
 -- so many requests, with so many retries: the last one ended the session, or there was no further
@@ -115,7 +162,7 @@ abbrev pub Sessions : SettingsValue → Rule → ℕ → ℕ → Option BudgetVa
     → Standing → Standing → Ended → Type 0
 Sessions settings rule requests retries before behind old new result =
     ((mid : Standing) × Served settings rule requests retries before behind old mid None
-    × EndsWithout mid new result)
+    × Stops mid new result)
     ⊎ Served settings rule requests retries before behind old new (Some result)
 
 -- as many retries as so many requests have out of a budget, at most: what its balance was and what
@@ -142,3 +189,30 @@ abbrev pub Spends : SettingsValue → Rule → Option BudgetValue → Option Bud
 Spends settings rule before behind old new =
     (n : ℕ) × (retries : ℕ) × (n ≡ most_requests)
     × Served settings rule n retries before behind (begun old) new (Some ended.Spent)
+
+-- the listeners' closing was told once, behind all requests but one at most: where a further one was
+-- waited for, or of the last one, when its head was read
+pub record Drains
+    (settings : SettingsValue) (rule : Rule) (before behind : Option BudgetValue)
+    (old new : Standing) (result : Ended)
+    : Type 0 where
+  pub requests : ℕ
+  pub retries : ℕ
+  pub more : ℕ
+  pub between : Option BudgetValue
+  pub mid : Standing
+  pub served : Served settings rule requests retries before between (begun old) mid None
+  pub quiet : mid.line.closings ≡ old.line.closings
+  pub rose : new.line.closings ≡ raised old.line.closings
+  pub ends :
+      (EndsClosing mid new result × IsUntried more between behind)
+      ⊎ ServesSo settings rule (requests + 1 == most_requests) true more between behind mid new
+      (Some result)
+
+-- how a session heard that the listeners are closing: not at all, and then it did not end by that; or
+-- once, and then it ended there
+abbrev pub HearsClosing : SettingsValue → Rule → Option BudgetValue → Option BudgetValue → Standing
+    → Standing → Ended → Type 0
+HearsClosing settings rule before behind old new result =
+    ((new.line.closings ≡ old.line.closings) × (result ≢ ended.Drained))
+    ⊎ Drains settings rule before behind old new result

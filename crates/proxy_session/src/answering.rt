@@ -47,6 +47,7 @@ impl Try<'_> {
         match tried {
             Tried::NotDialed => refuse(alloc, self.head, self.last, OwnError::Dial, peer),
             Tried::NotSent => refuse(alloc, self.head, self.last, OwnError::Upstream, peer),
+            Tried::Silent => refuse(alloc, self.head, self.last, OwnError::Upstream, peer),
             Tried::NoReply => refuse(alloc, self.head, self.last, OwnError::Upstream, peer),
             Tried::BadBody => refuse(alloc, self.head, self.last, OwnError::Body, peer),
             Tried::LongBody => refuse(alloc, self.head, self.last, OwnError::TooLong, peer),
@@ -55,7 +56,11 @@ impl Try<'_> {
             Tried::ReplyCut => Some(Ended::UpstreamCut),
             Tried::WrittenShort => Some(Ended::WriteFault),
             Tried::OutOfMemory => Some(Ended::OutOfMemory),
-            Tried::Whole { status: _, closes } => end_of(closes, self.last),
+            Tried::Whole {
+                status: _,
+                closes,
+                reusable: _,
+            } => end_of(closes, self.last),
         }
     }
 }

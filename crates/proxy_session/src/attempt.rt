@@ -62,6 +62,7 @@ impl<J: Naming, D: Dialer, C: Clock> Server<J, D, C> {
                     target: request.target.line.as_slice(),
                     host: request.host.as_slice(),
                     ask: &request.ask,
+                    closes: !self.way.dialer.keeps(),
                 };
                 self.send_found(context, connection, &going, &found)
             }

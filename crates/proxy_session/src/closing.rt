@@ -1,10 +1,12 @@
 //! Behind which replies a connection closes.
 ghost use Rattle.std.specs.Prelude.{◌≡◌, ◌||◌};
 ghost use Rattle.body_wire.specs.Passing.{runs_to_end};
-ghost use Rattle.proxy_session.specs.Answering.{end_of, has_body, has_reply_body, is_early, own_closes};
-ghost use Rattle.proxy_session.specs.Trying.{asks_to_close, closes_behind, knows_chunks};
+ghost use Rattle.proxy_session.specs.Answering.{end_of, has_body, has_reply_body, is_early};
+ghost use Rattle.proxy_session.specs.Answering.{own_closes};
+ghost use Rattle.proxy_session.specs.Trying.{asks_to_close, closes_behind, is_reusable};
+ghost use Rattle.proxy_session.specs.Trying.{knows_chunks};
 
-use http_wire::{Ended, Framing, FramingFault, Head, framing, names_close};
+use http_wire::{Ended, Framing, FramingFault, Head, ReplyHead, Rest, framing, names_close};
 use own_reply::OwnError;
 
 /// Whether the client knows chunks.
@@ -33,6 +35,17 @@ pub(crate) fn closes_behind(head: &Head, framing: Framing) -> bool
     ensures { result ≡ closes_behind head.now framing }
 {
     asks_to_close(head) || runs_to_end(framing)
+}
+
+/// Whether the connection to a replica may carry another request behind a reply that it gave whole,
+/// where this is left of what was received.
+pub(crate) fn is_reusable(reply: &ReplyHead, framing: Framing, left: &Rest) -> bool
+    ensures { result ≡ is_reusable reply.now framing left.now }
+{
+    reply.version == 1
+        && !names_close(&reply.fields)
+        && !runs_to_end(framing)
+        && left.kept().is_empty()
 }
 
 /// Whether a body runs to the end of the connection.

@@ -47,8 +47,8 @@ impl<J: Naming, D: Dialer, C: Clock> Server<J, D, C> {
         ensures cause { HasCauseOf result (P.line connection.old.peer)
             (P.line connection.new.peer) }
         ensures last { FitsLast last result }
-        ensures closed { (D.upstream self.old.way.dialer).is_open ≡ false
-            → (D.upstream self.new.way.dialer).is_open ≡ false }
+        ensures closed { (D.upstream self.old.way.dialer).open_to ≡ None
+            → (D.upstream self.new.way.dialer).open_to ≡ None }
         ensures number { number_in self.new.pass ≡ number_in self.old.pass }
         ensures served { connection.new.served ≡ connection.old.served }
     {

@@ -1,7 +1,8 @@
 //! The head of a reply behind those of interim replies.
-ghost use Rattle.std.specs.Prelude.{◌≡◌, ◌<◌, ◌≤◌, true, ℕ, List, IfSome, IfNone, IsTrue};
+ghost use Rattle.std.specs.Prelude.{◌≡◌, ◌<◌, ◌≤◌, true, ℕ, List, IfSome, IfNone, IsSome};
 ghost use Rattle.http_wire.specs.ReplyReading.{LogsGot};
-ghost use Rattle.proxy_session.specs.Heads.{HeadDecides, Hears, fault_of, is_interim};
+ghost use Rattle.proxy_session.specs.Heads.{HeadDecides, Hears, fault_of, is_interim, is_nothing};
+ghost use Rattle.line_base.specs.Dials.{HasSameLinks};
 
 use http::Method;
 use http_wire::{Framing, HeadEnd, ReplyHead, Rest, read_reply_head, reply_framing};
@@ -15,19 +16,28 @@ const MOST_HEADS: u32 = 9;
 /// Why no final head came.
 #[derive(Clone, Copy, Debug, PartialEq, Eq)]
 pub(crate) enum HeadFault {
-    /// What came is no reply that can be passed on, or nothing more came.
+    /// No byte came: the end did, or a receive failed.
+    Silent,
+    /// What came is no reply that can be passed on, or no more of it came.
     NoReply,
     /// There was no memory for the head.
     OutOfMemory,
 }
 
 impl HeadFault {
-    /// Why no final head came, where this is why no head did.
-    fn of_end(end: HeadEnd) -> HeadFault
-        ensures { result ≡ fault_of end }
+    /// Why no final head came, where this is why no head did. `nothing` says that no byte came.
+    fn of_end(end: HeadEnd, nothing: bool) -> HeadFault
+        ensures { result ≡ fault_of nothing end }
     {
         match end {
             HeadEnd::OutOfMemory => HeadFault::OutOfMemory,
+            HeadEnd::Ended
+            | HeadEnd::Cut
+            | HeadEnd::Bad
+            | HeadEnd::Version
+            | HeadEnd::TooLarge
+            | HeadEnd::ReadFault
+                if nothing => HeadFault::Silent,
             HeadEnd::Ended
             | HeadEnd::Cut
             | HeadEnd::Bad
@@ -54,11 +64,11 @@ pub(crate) fn receive_final<D: Dialer>(
     dialer: &mut D,
     rest: &mut Rest,
 ) -> Result<(ReplyHead, Framing), HeadFault>
-    requires { IsTrue (D.upstream dialer.old).is_open }
+    requires { IsSome (D.upstream dialer.old).open_to }
     ensures hears { (pieces : List (List ℕ)) × LogsGot (D.upstream dialer.old).log
         (D.upstream dialer.new).log pieces × Hears method.now rest.old rest.new pieces
         (D.upstream dialer.old).faults (D.upstream dialer.new).faults result }
-    ensures stays { (D.upstream dialer.new).is_open ≡ (D.upstream dialer.old).is_open }
+    ensures stays { HasSameLinks (D.upstream dialer.old) (D.upstream dialer.new) }
 {
     'heads: for dropped in 0..MOST_HEADS {
         match read_reply_head(alloc, dialer, rest) {
@@ -66,10 +76,20 @@ pub(crate) fn receive_final<D: Dialer>(
                 Some(decided) => return decided,
                 None => {}
             },
-            Err(end) => return Err(HeadFault::of_end(end)),
+            Err(end) => {
+                let nothing = is_nothing(dropped, rest);
+                return Err(HeadFault::of_end(end, nothing));
+            }
         }
     }
     unreachable!()
+}
+
+/// Whether no byte was received: no head was dropped, and nothing is left.
+fn is_nothing(dropped: u32, rest: &Rest) -> bool
+    ensures { result ≡ is_nothing dropped rest.now }
+{
+    dropped == 0 && rest.kept().is_empty()
 }
 
 /// What a head is behind so many that were dropped: the final one, none that can be passed on, or

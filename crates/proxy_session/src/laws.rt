@@ -1,5 +1,6 @@
 //! The laws of the heads that go on. The function does nothing: its contract is the laws.
-ghost use Rattle.proxy_session.specs.Laws.{ExchangesReadBack, HeadsReadBack, RequestsReadBack, SessionsReadBack};
+ghost use Rattle.proxy_session.specs.Laws.{ExchangesReadBack, HeadsReadBack, RequestsReadBack};
+ghost use Rattle.proxy_session.specs.Laws.{SessionsReadBack};
 
 /// The head with which a request goes on to a replica is read, by the definition of
 /// [`read_request_head`](http_wire::read_request_head), as one head with nothing behind it. It has
@@ -8,13 +9,19 @@ ghost use Rattle.proxy_session.specs.Laws.{ExchangesReadBack, HeadsReadBack, Req
 /// head is one that was read off bytes, the paths of the rule and the names of the replica are of
 /// bytes, and the head that goes on has at most 65,536.
 ///
-/// In an exchange of a head that was read, the dialer does nothing that its log shows; or it dials
-/// a replica, and what is sent there is such a head and what goes on for a front of a body that is
-/// framed so, or a front of these. In a request, as
-/// [`Server::proxy_once`](crate::Server::proxy_once) has one, it does so at most once more than the
-/// request is tried again; and in a session over the bytes of a client, as
-/// [`Server::serve_session`](crate::Server::serve_session) has one, at most once for each request
-/// and once for each retry.
+/// In an exchange of a head that was read, the dialer does nothing that its log shows, or it makes
+/// a visit to a replica, or two. A visit opens a connection; or it takes up a kept one, if the
+/// request may be repeated. What is sent over it is such a head and what goes on for a front of a
+/// body that is framed so, or a front of these, and what is got comes behind that. Then the
+/// connection is ended; or it is kept, where all of the request was sent and what was got is one
+/// whole reply to it, with nothing behind it. So in the log of a dialer, over one connection,
+/// requests and replies alternate, and no request is sent before the reply to the one before it was
+/// got whole.
+///
+/// In a request, as [`Server::proxy_once`](crate::Server::proxy_once) has one, the dialer does so
+/// at most once more than the request is tried again; and in a session over the bytes of a client,
+/// as [`Server::serve_session`](crate::Server::serve_session) has one, at most once for each
+/// request and once for each retry. It does nothing else that its log shows.
 pub fn heads_that_go_on_are_read_back()
     ensures heads { HeadsReadBack }
     ensures exchanges { ExchangesReadBack }

@@ -31,6 +31,8 @@ pub(crate) struct Onward<'a> {
     pub(crate) host: &'a [u8],
     /// What was asked for it.
     pub(crate) ask: &'a Ask,
+    /// Whether the replica is asked to end the connection behind its reply: it is not kept.
+    pub(crate) closes: bool,
 }
 
 impl Onward<'_> {
@@ -46,7 +48,8 @@ impl Onward<'_> {
     ) -> Mem<()>
         ensures { OnOk result (IsHeadTo self.now.head.now (host_for self.now.host.now addr)
             self.now.target.now self.now.framing (rules_of self.now.ask.now.local)
-            self.now.ask.now.path (client_in names.now texts.now) (residual_in names.now texts.now)
+            self.now.ask.now.path self.now.closes
+            (client_in names.now texts.now) (residual_in names.now texts.now)
             out.new.items) }
     {
         match texts {
@@ -69,7 +72,7 @@ impl Onward<'_> {
     ) -> Mem<()>
         ensures { OnOk result (IsHeadTo self.now.head.now (host_for self.now.host.now addr)
             self.now.target.now self.now.framing (rules_of self.now.ask.now.local)
-            self.now.ask.now.path client.now residual.now out.new.items) }
+            self.now.ask.now.path self.now.closes client.now residual.now out.new.items) }
     {
         if !self.host.is_empty() {
             return self.write_to(alloc, self.host, client, residual, out);
@@ -90,7 +93,8 @@ impl Onward<'_> {
         out: &mut Bytes,
     ) -> Mem<()>
         ensures { OnOk result (IsHeadTo self.now.head.now host.now self.now.target.now
-            self.now.framing (rules_of self.now.ask.now.local) self.now.ask.now.path client.now
+            self.now.framing (rules_of self.now.ask.now.local) self.now.ask.now.path
+            self.now.closes client.now
             residual.now out.new.items) }
     {
         let to = Going {
@@ -101,6 +105,7 @@ impl Onward<'_> {
             service: &self.ask.path,
             client,
             residual,
+            closes: self.closes,
         };
         forward_head_into(alloc, self.head, &to, out)
     }

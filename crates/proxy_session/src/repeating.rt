@@ -1,6 +1,8 @@
 //! Which tries are followed by another attempt, and what that takes out of a budget.
 ghost use Rattle.std.specs.Prelude.{◌≡◌};
-ghost use Rattle.proxy_session.specs.Attempts.{behind_grant, has_retry, is_followed, is_without_body, may_repeat, most_of, paid};
+ghost use Rattle.proxy_session.specs.Attempts.{behind_grant, has_retry, is_followed};
+ghost use Rattle.proxy_session.specs.Attempts.{may_repeat, most_of, paid};
+ghost use Rattle.proxy_session.specs.Trying.{is_repeatable, is_without_body};
 
 use crate::tried::Tried;
 use crate::trying::Try;
@@ -31,9 +33,7 @@ impl Try<'_> {
     {
         match tried {
             Tried::NotDialed => true,
-            Tried::NotSent | Tried::NoReply => {
-                is_without_body(self.framing) && self.head.method.is_idempotent()
-            }
+            Tried::NotSent | Tried::Silent | Tried::NoReply => self.is_repeatable(),
             Tried::BadBody
             | Tried::LongBody
             | Tried::BodyCut
@@ -44,8 +44,17 @@ impl Try<'_> {
             Tried::Whole {
                 status: _,
                 closes: _,
+                reusable: _,
             } => false,
         }
+    }
+
+    /// Whether a replica may be sent the request again, though one may have carried it out already:
+    /// it has no body, and its method is idempotent.
+    pub(crate) fn is_repeatable(&self) -> bool
+        ensures { result ≡ is_repeatable self.now.head.now self.now.framing }
+    {
+        is_without_body(self.framing) && self.head.method.is_idempotent()
     }
 }
 

@@ -17,6 +17,8 @@ pub struct Room {
     pub(crate) back: Rest,
     /// For the head that goes on to a replica, and then for the one that goes back to the client.
     pub(crate) out: Bytes,
+    /// For a copy of the head that goes on.
+    pub(crate) again: Bytes,
 }
 
 /// How many bytes a head has room for from the start.
@@ -30,6 +32,7 @@ impl Room {
             names: Names::room(alloc)?,
             back: Rest::room(alloc)?,
             out: Vec::with_capacity(alloc, HEAD_ROOM)?,
+            again: Vec::new(alloc),
         })
     }
 }

@@ -1,15 +1,16 @@
 //! The requests of a connection, one after another.
-ghost use Rattle.std.specs.Prelude.{◌≡◌, ◌+◌, ◌<◌, ◌==◌, ℕ, false, None, Some};
+ghost use Rattle.std.specs.Prelude.{◌≡◌, ◌+◌, ◌<◌, ◌==◌, ◌||◌, ℕ, false, None, Some};
 ghost use Rattle.router.specs.Passes.{number_in, slot_in};
 ghost use Rattle.proxy_session.specs.Causes.{CauseOf, IsNoFault, NoneFailed};
-ghost use Rattle.proxy_session.specs.Session.{AnswersEnd, Reads, ServesNext, SessionsTo, Spends, ended_of_end, most_requests, own_of_end};
+ghost use Rattle.proxy_session.specs.Idle.{EndsIdle};
+ghost use Rattle.proxy_session.specs.Session.{AnswersEnd, HearsClosing, ReadsNext, ServesNext, SessionsTo, Spends, ended_of_end, most_requests, own_of_end};
 ghost use Rattle.proxy_session.specs.Standing.{standing};
 
 use crate::connection::Connection;
 use crate::context::Context;
 use crate::refusing::write_own;
 use crate::server::Server;
-use http_wire::{Ended, Head, HeadEnd, read_request_head};
+use http_wire::{Ended, HeadEnd, NextHead, drained, hears_closing, read_next_head};
 use line_base::{Clock, Dialer, Gate, Peer};
 use own_reply::OwnError;
 use router::Naming;
@@ -23,6 +24,10 @@ impl<J: Naming, D: Dialer, C: Clock> Server<J, D, C> {
     /// Serves a connection: its requests, one after another, until it ends or one closes it, and at
     /// most 10,000 of them. The gate is told when each begins and when it is answered.
     ///
+    /// Once the listeners are closing, the request that is served is the connection's last, and its
+    /// reply says so by `Connection: close`; a connection that waits for its next request ends. So a
+    /// shutdown loses no request that was begun.
+    ///
     /// Where the connection has a budget of retries, it is that of all its requests: over the whole
     /// session the attempts behind the first of each request are at most
     /// `reserve + percent * requests / 100`.
@@ -30,7 +35,8 @@ impl<J: Naming, D: Dialer, C: Clock> Server<J, D, C> {
     /// It gives `PeerEnded` and `Cut` only where a read gave the end, and `ReadFault` and
     /// `WriteFault` only where a read or a write failed. So where none does, every request that the
     /// client's bytes begin with is answered, up to one that closes, unless memory is wanting.
-    /// `Spent` says that 10,000 were.
+    /// `Spent` says that 10,000 were, and `Drained` that the listeners are closing: it comes only
+    /// where the client's connection said so.
     pub fn serve_session<P: Peer, G: Gate, R: Wait>(
         &mut self,
         context: &Context<'_, J, R>,
@@ -50,8 +56,11 @@ impl<J: Naming, D: Dialer, C: Clock> Server<J, D, C> {
         ensures spent { let at = standing P.line D.upstream C.to_come in result ≡ Ended.Spent
             → Spends J.settings context.now.rule.now connection.old.budget connection.new.budget
             (at connection.old self.old) (at connection.new self.new) }
-        ensures closed { (D.upstream self.old.way.dialer).is_open ≡ false
-            → (D.upstream self.new.way.dialer).is_open ≡ false }
+        ensures drained { let at = standing P.line D.upstream C.to_come in HearsClosing J.settings
+            context.now.rule.now connection.old.budget connection.new.budget
+            (at connection.old self.old) (at connection.new self.new) result }
+        ensures closed { (D.upstream self.old.way.dialer).open_to ≡ None
+            → (D.upstream self.new.way.dialer).open_to ≡ None }
         ensures number { number_in self.new.pass ≡ number_in self.old.pass }
     {
         self.rest.clear();
@@ -63,20 +72,28 @@ impl<J: Naming, D: Dialer, C: Clock> Server<J, D, C> {
         }
     }
 
-    /// Reads the head of a connection's next request: of the bytes that are kept and those that the
-    /// client gives behind them.
-    pub fn read_head<P: Peer>(
-        &mut self,
-        alloc: Global,
-        connection: &mut Connection<P>,
-    ) -> Result<Head, HeadEnd>
-        ensures reads { let at = standing P.line D.upstream C.to_come in Reads
+    /// Ends the connections to replicas that were kept for too long. Call it behind each session,
+    /// since the next client may be long in coming.
+    pub fn end_idle(&mut self)
+        ensures ends { EndsIdle (D.upstream self.old.way.dialer) (D.upstream self.new.way.dialer) }
+        ensures pass { self.new.pass ≡ self.old.pass }
+        ensures clock { self.new.clock ≡ self.old.clock }
+        ensures words { self.new.words ≡ self.old.words }
+    {
+        self.way.dialer.end_idle();
+    }
+
+    /// Waits for a connection's next request, and reads its head: of the bytes that are kept and
+    /// those that the client gives behind them; or the listeners are closing, and no byte of it has
+    /// come.
+    pub fn next_head<P: Peer>(&mut self, alloc: Global, connection: &mut Connection<P>) -> NextHead
+        ensures reads { let at = standing P.line D.upstream C.to_come in ReadsNext
             (at connection.old self.old) (at connection.new self.new) result }
         ensures slot { slot_in self.new.pass ≡ slot_in self.old.pass }
         ensures served { connection.new.served ≡ connection.old.served }
         ensures budget { connection.new.budget ≡ connection.old.budget }
     {
-        read_request_head(alloc, &mut connection.peer, &mut self.rest)
+        read_next_head(alloc, &mut connection.peer, &mut self.rest)
     }
 
     /// Serves the next request of a connection, and says how the connection ends behind it, if it
@@ -98,18 +115,29 @@ impl<J: Naming, D: Dialer, C: Clock> Server<J, D, C> {
         ensures slot { slot_in self.new.pass ≡ None }
         ensures counts { result ≡ None → connection.new.served ≡ connection.old.served + 1 }
     {
-        match self.read_head(context.alloc, connection) {
-            Ok(head) => {
+        match self.next_head(context.alloc, connection) {
+            NextHead::Head(head) => {
                 connection.served += 1;
-                let last = connection.served == MOST_REQUESTS;
+                let spent = connection.served == MOST_REQUESTS;
+                let closing = hears_closing(spent, &mut connection.peer);
                 gate.begin(worker);
-                let ended = self.proxy_once(context, connection, &head, last);
+                let ended = self.proxy_once(context, connection, &head, is_last(spent, closing));
                 gate.done(worker);
-                ended
+                drained(closing, ended)
             }
-            Err(end) => Some(end_without_head(context.alloc, end, &mut connection.peer)),
+            NextHead::Ended(end) => {
+                Some(end_without_head(context.alloc, end, &mut connection.peer))
+            }
+            NextHead::Closing => Some(Ended::Drained),
         }
     }
+}
+
+/// Whether a request is its connection's last.
+fn is_last(spent: bool, closing: bool) -> bool
+    ensures { result ≡ (spent || closing) }
+{
+    spent || closing
 }
 
 /// How a session ends that has no further request. Bytes that are no head are refused.

@@ -1,7 +1,8 @@
 //! How a try of a replica goes.
 ghost use Rattle.std.specs.Prelude.{◌≡◌};
 ghost use Rattle.proxy_session.specs.Answering.{report_of};
-ghost use Rattle.proxy_session.specs.Trying.{tried_of_back, tried_of_body, tried_of_head};
+ghost use Rattle.proxy_session.specs.Trying.{is_silent, leaves_reusable, tried_of_back};
+ghost use Rattle.proxy_session.specs.Trying.{tried_of_body, tried_of_head};
 
 use crate::final_head::HeadFault;
 use body_wire::BodyEnd;
@@ -21,7 +22,9 @@ pub(crate) enum Tried {
     BodyCut,
     /// The request's body could not be read.
     BodyFault,
-    /// No reply came, or none that can be passed on.
+    /// No byte of a reply came.
+    Silent,
+    /// No whole reply came, or none that can be passed on.
     NoReply,
     /// The reply's body was cut, or is badly chunked.
     ReplyCut,
@@ -31,8 +34,10 @@ pub(crate) enum Tried {
     Whole {
         /// Its status.
         status: u16,
-        /// Whether the connection closes behind it, whatever the number of its requests.
+        /// Whether the client's connection closes behind it, whatever the number of its requests.
         closes: bool,
+        /// Whether the replica's connection may carry another request.
+        reusable: bool,
     },
     /// Memory was wanting.
     OutOfMemory,
@@ -58,17 +63,27 @@ impl Tried {
         ensures { result ≡ tried_of_head fault }
     {
         match fault {
+            HeadFault::Silent => Tried::Silent,
             HeadFault::NoReply => Tried::NoReply,
             HeadFault::OutOfMemory => Tried::OutOfMemory,
         }
     }
 
     /// How a try ends whose reply has this status, and went back so far.
-    pub(crate) fn of_back(status: u16, closes: bool, passed: Result<u64, BodyEnd>) -> Tried
-        ensures { result ≡ tried_of_back status closes passed }
+    pub(crate) fn of_back(
+        status: u16,
+        closes: bool,
+        reusable: bool,
+        passed: Result<u64, BodyEnd>,
+    ) -> Tried
+        ensures { result ≡ tried_of_back status closes reusable passed }
     {
         match passed {
-            Ok(_) => Tried::Whole { status, closes },
+            Ok(_) => Tried::Whole {
+                status,
+                closes,
+                reusable,
+            },
             Err(BodyEnd::BadChunk(_)) => Tried::ReplyCut,
             Err(BodyEnd::Cut | BodyEnd::TooLong | BodyEnd::RecvFault) => Tried::ReplyCut,
             Err(BodyEnd::WriteFault) => Tried::WrittenShort,
@@ -83,14 +98,66 @@ impl Tried {
         ensures { result ≡ report_of self }
     {
         match self {
-            Tried::NotDialed | Tried::NotSent | Tried::NoReply | Tried::ReplyCut => Some(false),
-            Tried::Whole { status, closes: _ } => Some(status < 500),
+            Tried::NotDialed | Tried::NotSent | Tried::Silent | Tried::NoReply | Tried::ReplyCut =>
+                Some(false),
+            Tried::Whole {
+                status,
+                closes: _,
+                reusable: _,
+            } => Some(status < 500),
             Tried::BadBody
             | Tried::LongBody
             | Tried::BodyCut
             | Tried::BodyFault
             | Tried::WrittenShort
             | Tried::OutOfMemory => None,
+        }
+    }
+
+    /// Whether the connection to the replica may carry another request.
+    pub(crate) fn leaves_reusable(self) -> bool
+        ensures { result ≡ leaves_reusable self }
+    {
+        match self {
+            Tried::Whole {
+                status: _,
+                closes: _,
+                reusable,
+            } => reusable,
+            Tried::NotDialed
+            | Tried::NotSent
+            | Tried::BadBody
+            | Tried::LongBody
+            | Tried::BodyCut
+            | Tried::BodyFault
+            | Tried::Silent
+            | Tried::NoReply
+            | Tried::ReplyCut
+            | Tried::WrittenShort
+            | Tried::OutOfMemory => false,
+        }
+    }
+
+    /// Whether no byte of a reply came, though the request was sent, or should have been.
+    pub(crate) fn is_silent(self) -> bool
+        ensures { result ≡ is_silent self }
+    {
+        match self {
+            Tried::NotSent | Tried::Silent => true,
+            Tried::NotDialed
+            | Tried::BadBody
+            | Tried::LongBody
+            | Tried::BodyCut
+            | Tried::BodyFault
+            | Tried::NoReply
+            | Tried::ReplyCut
+            | Tried::WrittenShort
+            | Tried::OutOfMemory => false,
+            Tried::Whole {
+                status: _,
+                closes: _,
+                reusable: _,
+            } => false,
         }
     }
 }

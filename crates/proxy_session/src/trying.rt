@@ -1,13 +1,16 @@
 //! A try of a replica: the request goes on, and the reply goes back.
-ghost use Rattle.std.specs.Prelude.{◌≡◌, ◌++◌, ◌<◌, ℕ, List, None, IfSome, IsTrue, map};
+ghost use Rattle.std.specs.Prelude.{◌≡◌, ◌++◌, ◌&&◌, ◌<◌, ℕ, true, false, not, List, map, None};
+ghost use Rattle.std.specs.Prelude.{IfSome, IsSome};
 ghost use Rattle.std.specs.List.{concat};
 ghost use Rattle.line_base.specs.declared.dialer.DialEvent.TheVariants.{Sent, Got};
-ghost use Rattle.line_base.specs.Dials.{Grows};
+ghost use Rattle.line_base.specs.Dials.{Grows, HasSameLinks};
 ghost use Rattle.router.specs.Passes.{slot_in};
 ghost use Rattle.proxy_session.specs.Callers.{Holds, caller_of};
-ghost use Rattle.proxy_session.specs.Trying.{Backs, Converses, Replies, Tries};
+ghost use Rattle.proxy_session.specs.Trying.{Backs, Converses, GoesOnKept, Replies, Tries};
+ghost use Rattle.proxy_session.specs.Trying.{Speaks, TakesNone, TakesUp, TriesAnew};
+ghost use Rattle.proxy_session.specs.Trying.{is_silent, leaves_reusable};
 
-use crate::closing::{closes_behind, is_closing, knows_chunks};
+use crate::closing::{closes_behind, is_closing, is_reusable, knows_chunks};
 use crate::context::Context;
 use crate::final_head::receive_final;
 use crate::server::Way;
@@ -61,11 +64,12 @@ impl Try<'_> {
         tried
     }
 
-    /// Tries the replica, whose slot this pass holds: dials its address, sends the request's head
-    /// and its body, and passes the reply back. No connection is open behind it.
+    /// Tries the replica, whose slot this pass holds: sends the request's head and its body to its
+    /// address, and passes the reply back. No connection is open behind it.
     ///
-    /// Each side's bytes go on as they come: the head leaves with the first bytes of the body, on
-    /// both ways.
+    /// A request that may be sent again goes over a connection that was kept to the address, where
+    /// there is one. The replica may have ended that at any moment, so where it gives no byte, the
+    /// same bytes go over a new connection. Every other request goes over a new one.
     fn run<J: Naming, P: Peer, D: Dialer>(
         &self,
         alloc: Global,
@@ -79,14 +83,93 @@ impl Try<'_> {
             self.now.addr (P.line peer.old) (P.line peer.new) rest.old rest.new
             (D.upstream way.old.dialer) (D.upstream way.new.dialer) result }
     {
+        if self.resume(way) {
+            return self.run_kept(alloc, peer, rest, way);
+        }
+        self.run_anew(alloc, peer, rest, way)
+    }
+
+    /// Takes up a connection again that was kept to the replica, where the request may be sent
+    /// again and there is memory for a copy of its head.
+    fn resume<D: Dialer>(&self, way: &mut Way<D>) -> bool
+        ensures taken { result ≡ true → TakesUp self.now.head.now self.now.framing self.now.addr
+            (D.upstream way.old.dialer) (D.upstream way.new.dialer) }
+        ensures none { result ≡ false → TakesNone (D.upstream way.old.dialer)
+            (D.upstream way.new.dialer) }
+        ensures copied { result ≡ true → way.new.again.items ≡ way.old.out.items }
+        ensures out { way.new.out.items ≡ way.old.out.items }
+    {
+        if !self.is_repeatable() || !way.dialer.keeps() || !way.copy_head() {
+            return false;
+        }
+        way.dialer.resume(self.addr.ip, self.addr.port)
+    }
+
+    /// Tries the replica over the open connection, which was kept to it, and over a new one where
+    /// it was silent.
+    fn run_kept<P: Peer, D: Dialer>(
+        &self,
+        alloc: Global,
+        peer: &mut P,
+        rest: &mut Rest,
+        way: &mut Way<D>,
+    ) -> Tried
+        requires open_ { IsSome (D.upstream way.old.dialer).open_to }
+        requires copied { way.old.again.items ≡ way.old.out.items }
+        ensures { GoesOnKept self.now.head.now way.old.out.items self.now.framing self.now.last
+            self.now.addr (P.line peer.old) (P.line peer.new) rest.old rest.new
+            (D.upstream way.old.dialer) (D.upstream way.new.dialer) result }
+    {
+        let tried = self.visit(alloc, peer, rest, way);
+        if is_lost(tried, way.dialer.is_late()) {
+            way.take_copy();
+            return self.run_anew(alloc, peer, rest, way);
+        }
+        tried
+    }
+
+    /// Tries the replica over a new connection.
+    fn run_anew<P: Peer, D: Dialer>(
+        &self,
+        alloc: Global,
+        peer: &mut P,
+        rest: &mut Rest,
+        way: &mut Way<D>,
+    ) -> Tried
+        ensures { TriesAnew self.now.head.now way.old.out.items self.now.framing self.now.last
+            self.now.addr (P.line peer.old) (P.line peer.new) rest.old rest.new
+            (D.upstream way.old.dialer) (D.upstream way.new.dialer) result }
+    {
         match way.dialer.dial(self.addr.ip, self.addr.port) {
-            Ok(()) => {
-                let tried = self.converse(alloc, peer, rest, way);
-                way.dialer.hang();
-                tried
-            }
+            Ok(()) => self.visit(alloc, peer, rest, way),
             Err(_) => Tried::NotDialed,
         }
+    }
+
+    /// Speaks with the replica over the open connection, and then keeps it or ends it.
+    ///
+    /// Each side's bytes go on as they come: the head leaves with the first bytes of the body, on
+    /// both ways.
+    fn visit<P: Peer, D: Dialer>(
+        &self,
+        alloc: Global,
+        peer: &mut P,
+        rest: &mut Rest,
+        way: &mut Way<D>,
+    ) -> Tried
+        requires { IsSome (D.upstream way.old.dialer).open_to }
+        ensures speaks { Speaks self.now.head.now way.old.out.items self.now.framing self.now.last
+            (P.line peer.old) (P.line peer.new) rest.old rest.new
+            (D.upstream way.old.dialer) (D.upstream way.new.dialer) result }
+        ensures copy { way.new.again.items ≡ way.old.again.items }
+    {
+        let tried = self.converse(alloc, peer, rest, way);
+        if is_kept(way.dialer.keeps(), tried) {
+            way.dialer.keep();
+            return tried;
+        }
+        way.dialer.hang();
+        tried
     }
 
     /// Speaks with the replica over an open connection.
@@ -97,14 +180,15 @@ impl Try<'_> {
         rest: &mut Rest,
         way: &mut Way<D>,
     ) -> Tried
-        requires { IsTrue (D.upstream way.old.dialer).is_open }
+        requires { IsSome (D.upstream way.old.dialer).open_to }
         ensures spoke { (sent : List (List ℕ)) × (got : List (List ℕ))
             × Grows (D.upstream way.old.dialer).log (D.upstream way.new.dialer).log
             (map Sent sent ++ map Got got) × Converses self.now.head.now way.old.out.items
             self.now.framing self.now.last (P.line peer.old) (P.line peer.new) rest.old rest.new
             (D.upstream way.old.dialer).faults (D.upstream way.new.dialer).faults (concat sent) got
             result }
-        ensures stays { (D.upstream way.new.dialer).is_open ≡ (D.upstream way.old.dialer).is_open }
+        ensures stays { HasSameLinks (D.upstream way.old.dialer) (D.upstream way.new.dialer)
+            × (way.new.again.items ≡ way.old.again.items) }
     {
         match pass_body(peer, rest, self.framing, &mut way.out, &mut way.dialer) {
             Ok(_) => self.receive_reply(alloc, peer, way),
@@ -119,12 +203,13 @@ impl Try<'_> {
         peer: &mut P,
         way: &mut Way<D>,
     ) -> Tried
-        requires { IsTrue (D.upstream way.old.dialer).is_open }
+        requires { IsSome (D.upstream way.old.dialer).open_to }
         ensures replies { (got : List (List ℕ)) × Grows (D.upstream way.old.dialer).log
             (D.upstream way.new.dialer).log (map Got got) × Replies self.now.head.now self.now.last
             (P.line peer.old) (P.line peer.new) (D.upstream way.old.dialer).faults
             (D.upstream way.new.dialer).faults got result }
-        ensures stays { (D.upstream way.new.dialer).is_open ≡ (D.upstream way.old.dialer).is_open }
+        ensures stays { HasSameLinks (D.upstream way.old.dialer) (D.upstream way.new.dialer)
+            × (way.new.again.items ≡ way.old.again.items) }
     {
         way.back.clear();
         match receive_final(alloc, &self.head.method, &mut way.dialer, &mut way.back) {
@@ -142,12 +227,13 @@ impl Try<'_> {
         peer: &mut P,
         way: &mut Way<D>,
     ) -> Tried
-        requires { IsTrue (D.upstream way.old.dialer).is_open }
+        requires { IsSome (D.upstream way.old.dialer).open_to }
         ensures backs { (got : List (List ℕ)) × Grows (D.upstream way.old.dialer).log
             (D.upstream way.new.dialer).log (map Got got) × Backs self.now.head.now self.now.last
             reply.now framing (P.line peer.old) (P.line peer.new) way.old.back
             (D.upstream way.old.dialer).faults (D.upstream way.new.dialer).faults got result }
-        ensures stays { (D.upstream way.new.dialer).is_open ≡ (D.upstream way.old.dialer).is_open }
+        ensures stays { HasSameLinks (D.upstream way.old.dialer) (D.upstream way.new.dialer)
+            × (way.new.again.items ≡ way.old.again.items) }
     {
         let chunked = knows_chunks(self.head);
         let closes = closes_behind(self.head, framing);
@@ -170,6 +256,21 @@ impl Try<'_> {
             &mut way.out,
             peer,
         );
-        Tried::of_back(reply.status, closes, passed)
+        let reusable = is_reusable(reply, framing, &way.back);
+        Tried::of_back(reply.status, closes, reusable, passed)
     }
+}
+
+/// Whether a connection is kept behind a try.
+fn is_kept(keeps: bool, tried: Tried) -> bool
+    ensures { result ≡ (keeps && leaves_reusable tried) }
+{
+    keeps && tried.leaves_reusable()
+}
+
+/// Whether a request was lost on a kept connection: nothing came back, and not since it was late.
+fn is_lost(tried: Tried, late: bool) -> bool
+    ensures { result ≡ (is_silent tried && not late) }
+{
+    tried.is_silent() && !late
 }

@@ -80,6 +80,7 @@ module _ {J L D C S P : Type 0} {g : Ghosts J} (line_of : P → Line) (state : L
         tended = closed.0;
         dialer = upstream old.server.server.way.dialer;
         new_dialer = (posted.log, posted.hung);
+        pool = (posted.none_kept, posted.keeps);
         clock = to_come old.server.server.clock;
         forked = posted.clock;
         final = final;

@@ -95,3 +95,9 @@ handed f new old x whole rest all grown cut same =
     map_push : {A B : Type 0} (h : A → B) (xs : List A) (y : A) → map h (xs ++ y ∷ []) ≡ map h xs ++ h y ∷ []
     map_push h [] y = refl
     map_push h (z ∷ xs) y = ap (λ (zs : List _). h z ∷ zs) (map_push h xs y)
+
+-- whether one was such, once none is left
+pub none_left : {A : Type 0} (f : A → Bool) (old all : Bool) (left : List A) → length left ≡ 0
+    → (old || list_any f left) ≡ all → old ≡ all
+none_left f old all [] none same = any_done old all false refl same
+none_left f old all (x ∷ left) none same = absurd (omega (arith, none))

@@ -6,6 +6,7 @@ use Rattle.router.specs.declared.naming.Naming.{Ghosts}
 use Rattle.router.specs.declared.pass.Pass.{Pass}
 use Rattle.line_base.specs.Lines.{Line}
 use Rattle.admin_api.specs.declared.serving.Which.{Which}
+use Rattle.admin_api.specs.Reading.{raised_where}
 use Rattle.admin_api.specs.Serving.{HasCauses, IsServing, calls_after}
 use Rattle.serving.specs.Sessions.{lacked_behind}
 
@@ -24,7 +25,9 @@ module _ {J : Type 0} {g : Ghosts J} where
     pub left : Consumes line.left line_after.left came
     pub given : Appends line.given line_after.given gave
     pub stops : now.stops ≡ calls_after before.stops stopped
-    pub serves : IsServing which old new came gave stopped end
+    pub closing : Bool
+    pub closings : line_after.closings ≡ raised_where closing line.closings
+    pub serves : IsServing which old new came gave stopped closing end
     pub causes : HasCauses line.ends line_after.ends line.read_faults line_after.read_faults line.write_faults line_after.write_faults (Some end)
     pub lacked : now.lacked_memory ≡ lacked_behind before.lacked_memory end
 

@@ -1,5 +1,5 @@
 -- What a job has, how a new one is posted, and what a run of it does.
-use Rattle.std.specs.Prelude.{◌≡◌, ℕ, Bool, false, List, ◌++◌, map, Option, None}
+use Rattle.std.specs.Prelude.{◌≡◌, ℕ, Bool, false, nat_lt, List, [], ◌++◌, map, Option, None}
 use Rattle.std.specs.List.{AllZip, list_any}
 use Rattle.rand_core.specs.Pcg32Seed.{pcg32_seed}
 use Rattle.rand_pcg.specs.Pcg.{pcg64_of_seed}
@@ -25,6 +25,7 @@ use Rattle.serving.specs.declared.job.ServingJob.{ServingJob}
 use Rattle.serving.specs.declared.job.ServingJob.TheVariants as job
 use Rattle.serving.specs.declared.proxy.ProxyServer.{ProxyServer}
 use Rattle.serving.specs.Interfaces.{AnswersNext, standing_of}
+use Rattle.serving.specs.Pools.{most_kept}
 use Rattle.serving.specs.Posts.{Post, clients, interface}
 use Rattle.serving.specs.Returning.{all_ended, is_broken}
 use Rattle.serving.specs.Sessions.{Attends, Going, going_by}
@@ -61,7 +62,9 @@ module _ {J L D C S P : Type 0} {g : Ghosts J} (state : L → Listening P) (upst
   pub record IsProxyPosted (endpoint : Endpoint) (seed : ℕ) (j : ProxyJob J L D C S g) : Type 0 where
     pub listener : IsNew told endpoint (state j.listener)
     pub log : IsNewLog told (upstream j.server.server.way.dialer).log
-    pub hung : (upstream j.server.server.way.dialer).is_open ≡ false
+    pub hung : (upstream j.server.server.way.dialer).open_to ≡ None
+    pub none_kept : (upstream j.server.server.way.dialer).kept ≡ []
+    pub keeps : (upstream j.server.server.way.dialer).keeps ≡ nat_lt 0 (most_kept policy.pool)
     pub clock : Begins moments (to_come j.server.server.clock)
     pub words : j.server.server.words ≡ pcg64_of_seed (pcg32_seed 32 seed)
     pub policy_is : j.server.policy.now ≡ policy

@@ -3,6 +3,7 @@ pub mod Faults
 pub mod Interfaces
 pub mod Jobs
 pub mod Passes
+pub mod Pools
 pub mod Posts
 pub mod Returning
 pub mod Running

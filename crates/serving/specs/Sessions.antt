@@ -13,6 +13,7 @@ use Rattle.proxy_session.specs.Callers.{Caller, caller_of}
 use Rattle.proxy_session.specs.Exchange.{Standing}
 use Rattle.line_base.specs.Dials.{Upstream}
 use Rattle.line_base.specs.Lines.{Line}
+use Rattle.proxy_session.specs.Idle.{EndsIdle}
 use Rattle.proxy_session.specs.Session.{SessionsTo}
 
 -- what goes on from one connection to the next: the dialer, the pass, the clock's moments to come and
@@ -31,6 +32,7 @@ lacked_behind before ended.PeerEnded = before
 lacked_behind before ended.Cut = before
 lacked_behind before ended.Closed = before
 lacked_behind before ended.Spent = before
+lacked_behind before ended.Drained = before
 lacked_behind before ended.ReadFault = before
 lacked_behind before ended.WriteFault = before
 lacked_behind before ended.UpstreamCut = before
@@ -63,11 +65,23 @@ beside line kept s =
 abbrev pub budget_by : Option Tries → Option BudgetValue
 budget_by retries = option_map opening retries
 
+-- what goes on, with a dialer that tells this
+abbrev pub with_upstream : Upstream → Going → Going
+with_upstream upstream s = record {
+  upstream = upstream;
+  caller = s.caller;
+  moments = s.moments;
+  words = s.words;
+  lacked_memory = s.lacked_memory;
+}
+
 -- one connection: a session with what the one before it left, and with a budget of its own. What of
--- its bytes was read and not used is dropped
+-- its bytes was read and not used is dropped, and connections to replicas that were kept for too long
+-- are ended
 abbrev pub Attends : SettingsValue → Policy → Going → Line → Line → Going → Type 0
 Attends settings policy old line line_after new =
-    (end : Ended) × (rest : List ℕ) × (left : Option BudgetValue)
+    (end : Ended) × (rest : List ℕ) × (left : Option BudgetValue) × (dialer : Upstream)
     × SessionsTo settings policy.rule (budget_by policy.retries) left (beside line [] old)
-    (beside line_after rest new) end
+    (beside line_after rest (with_upstream dialer new)) end
+    × EndsIdle dialer new.upstream
     × (new.lacked_memory ≡ lacked_behind old.lacked_memory end)

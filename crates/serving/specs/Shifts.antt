@@ -1,5 +1,5 @@
 -- What came of the connections of one listener.
-use Rattle.std.specs.Prelude.{◌≡◌, ℕ, Bool, false, List, Option, None}
+use Rattle.std.specs.Prelude.{◌≡◌, ℕ, Bool, false, nat_lt, List, [], Option, None}
 use Rattle.rand_core.specs.Pcg32Seed.{pcg32_seed}
 use Rattle.rand_pcg.specs.Pcg.{pcg64_of_seed}
 use Rattle.line_base.specs.declared.listener.Endpoint.{Endpoint}
@@ -16,6 +16,7 @@ use Rattle.line_base.specs.Dials.{Upstream}
 use Rattle.line_base.specs.Lines.{Line}
 use Rattle.admin_api.specs.declared.serving.Which.{Which}
 use Rattle.serving.specs.Interfaces.{AnswersNext, standing_of}
+use Rattle.serving.specs.Pools.{most_kept}
 use Rattle.serving.specs.Posts.{Post, clients, interface}
 use Rattle.serving.specs.Sessions.{Attends, Going}
 
@@ -42,12 +43,14 @@ module _ {J P : Type 0} {g : Ghosts J} where
     pub run : s.ended.listener.run ≡ 0
     pub number : number_in s.behind ≡ number_in s.before
 
-  -- each connection of a client was a session, with what the one before it left: the first one with a new dialer, a fork of a clock with these moments, and a generator with this
-  -- seed. Its stop was never called
+  -- each connection of a client was a session, with what the one before it left: the first one with a
+  -- new dialer, which keeps connections as the policy says, a fork of a clock with these moments, and a
+  -- generator with this seed. Its stop was never called
   pub record HasSessions (line_of : P → Line) (policy : Policy) (moments : Option (List ℕ)) (told : Option (Returns P)) (endpoint : Endpoint) (seed : ℕ) (s : Shift J P g) : Type 0 where
     pub tended : IsTended told endpoint s
     pub dialer : Upstream
-    pub new_dialer : IsNewLog told dialer.log × (dialer.is_open ≡ false)
+    pub new_dialer : IsNewLog told dialer.log × (dialer.open_to ≡ None)
+    pub pool : (dialer.kept ≡ []) × (dialer.keeps ≡ nat_lt 0 (most_kept policy.pool))
     pub clock : Option (List ℕ)
     pub forked : Begins moments clock
     pub final : Going

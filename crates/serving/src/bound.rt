@@ -5,6 +5,7 @@ ghost use Rattle.serving.specs.Returning.{listened};
 ghost use Rattle.serving.specs.Posts.{feed_jobs, jobs_of};
 ghost use Rattle.serving.specs.Running.{AreNewFeed, AreNewFrom, Listens};
 
+use crate::pool::pool_by;
 use crate::site::{API_JOBS, FEED_JOBS, Feeding, Site};
 use line_base::{Net, NetFault};
 use linker_config::Port;
@@ -23,15 +24,15 @@ pub struct Bound<L> {
     pub feed: Vec<L>,
 }
 
-/// The listeners of an address.
-fn listen<N: Net>(net: &mut N, port: Port, copies: u32) -> Result<Vec<N::L>, NetFault>
+/// The listeners of an address. Beside each of them there may be so many kept connections.
+fn listen<N: Net>(net: &mut N, port: Port, copies: u32, kept: u32) -> Result<Vec<N::L>, NetFault>
     ensures count { IfOk result (λ ls. length ls.items ≡ copies) }
     ensures new { IfOk result (λ ls. AreNewFrom N.L.state (N.state net.old).told port 0 ls.items) }
     ensures state { IfOk result (λ _. N.state net.new ≡ listened copies (N.state net.old)) }
     ensures few { copies < 2 ^ 32 }
     ensures cause { HasNetCause (N.faults net.old) (N.faults net.new) result }
 {
-    match net.listen(port.ip, port.port, copies) {
+    match net.listen(port.ip, port.port, copies, kept) {
         Ok(listeners) => Ok(listeners.into_items()),
         Err(fault) => Err(fault),
     }
@@ -50,7 +51,7 @@ fn listen_for_feed<N: Net>(
     ensures cause { HasNetCause (N.faults net.old) (N.faults net.new) result }
 {
     match feed {
-        Some(feeding) => listen(net, feeding.port, FEED_JOBS),
+        Some(feeding) => listen(net, feeding.port, FEED_JOBS, 0),
         None => Ok(Vec::new(alloc)),
     }
 }
@@ -63,15 +64,16 @@ pub(crate) fn bind<N: Net>(alloc: Global, net: &mut N, site: &Site) -> Result<Bo
         (N.state net.old)) }
     ensures cause { HasNetCause (N.faults net.old) (N.faults net.new) result }
 {
-    let server = match listen(net, site.server, site.workers) {
+    let pool = pool_by(site.policy.pool);
+    let server = match listen(net, site.server, site.workers, pool.max_size) {
         Ok(listeners) => listeners,
         Err(fault) => return Err(fault),
     };
-    let namerd = match listen(net, site.namerd, API_JOBS) {
+    let namerd = match listen(net, site.namerd, API_JOBS, 0) {
         Ok(listeners) => listeners,
         Err(fault) => return Err(fault),
     };
-    let admin = match listen(net, site.admin, API_JOBS) {
+    let admin = match listen(net, site.admin, API_JOBS, 0) {
         Ok(listeners) => listeners,
         Err(fault) => return Err(fault),
     };

@@ -14,6 +14,7 @@ ghost use Rattle.serving.specs.Running.{AreNewFeed, AreNewFrom, Listens};
 use crate::bound::Bound;
 use crate::interface::ApiServer;
 use crate::job::{ApiJob, ProxyJob, ServingJob};
+use crate::pool::pool_by;
 use crate::proxy::ProxyServer;
 use crate::site::Site;
 use admin_api::Which;
@@ -90,7 +91,7 @@ fn add_proxy_jobs<'a, J: Naming, N: Net, C: Clock>(
         };
         let parts = Parts {
             pass,
-            dialer: net.dialer(),
+            dialer: net.dialer(pool_by(site.policy.pool)),
             clock: clock.fork(),
             words: Pcg64::seed_from_u64(site.seed.wrapping_add(u64::from(number))),
         };

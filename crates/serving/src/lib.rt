@@ -30,6 +30,7 @@ mod job;
 mod jobs;
 mod loading;
 mod policy;
+mod pool;
 mod proxy;
 mod running;
 mod site;

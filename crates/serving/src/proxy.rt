@@ -37,6 +37,7 @@ pub(crate) fn lacked_behind(before: bool, end: Ended) -> bool
         Ended::Cut => before,
         Ended::Closed => before,
         Ended::Spent => before,
+        Ended::Drained => before,
         Ended::ReadFault => before,
         Ended::WriteFault => before,
         Ended::UpstreamCut => before,
@@ -76,6 +77,7 @@ impl<P: Peer, J: Naming, D: Dialer, C: Clock> Serve<P> for ProxyServer<'_, J, D,
         let ended = self
             .server
             .serve_session(&context, &mut connection, gate, worker);
+        self.server.end_idle();
         self.lacked_memory = lacked_behind(self.lacked_memory, ended);
         connection.into_peer()
     }

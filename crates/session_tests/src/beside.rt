@@ -9,7 +9,7 @@ ghost use Rattle.snap_cell.specs.Writers.{cell_written, opening_written};
 use crate::scene::{Mem, Scene, by_host, client, clock, settings, spelling, spelt};
 use http_wire::Ended;
 use identifier::Rule;
-use line_base::{Failed, Gate, MemClock, MemDialer, MemPeer, Peer};
+use line_base::{Failed, Gate, MemClock, MemDialer, MemPeer, Next, Peer};
 use proxy_session::{Connection, Context, Parts, Room, Server};
 use rand_core::SeedableRng;
 use rand_pcg::Pcg64;
@@ -108,6 +108,14 @@ impl Peer for Client<'_> {
 
     fn read(&mut self, into: &mut [u8]) -> Result<usize, Failed> {
         self.peer.read(into)
+    }
+
+    fn read_next(&mut self, into: &mut [u8]) -> Result<Next, Failed> {
+        self.peer.read_next(into)
+    }
+
+    fn is_closing(&mut self) -> bool {
+        self.peer.is_closing()
     }
 
     fn write(&mut self, bytes: &[u8]) -> Result<usize, Failed> {

@@ -1,14 +1,19 @@
 //! Whole sessions over peers, dialers and clocks in memory: worked exchanges with the bytes on both
-//! sides, hostile requests, each failing call, limits, and requests that are tried again; one
-//! request by itself; what a dialer sees of the router; and two sessions beside one another.
+//! sides, hostile requests, each failing call, limits, requests that are tried again, and
+//! connections that are kept; one request by itself; what a dialer sees of the router; and two
+//! sessions beside one another.
 #![tactic(auto)]
 
 #[cfg(test)]
 mod beside;
 #[cfg(test)]
+mod draining;
+#[cfg(test)]
 mod first_request;
 #[cfg(test)]
 mod hostile;
+#[cfg(test)]
+mod keeping;
 #[cfg(test)]
 mod limits;
 #[cfg(test)]

@@ -12,7 +12,7 @@ use crate::scene::{
 };
 use addr_book::Addr;
 use dtab_table::Dtab;
-use http_wire::Ended;
+use http_wire::{Ended, NextHead};
 use identifier::Rule;
 use line_base::{DialEvent, Gate, MemClock, MemDialer, MemPeer};
 use machine::{Ask, Change, Reply};
@@ -40,7 +40,8 @@ impl Gate for Free {
 pub(crate) struct Played {
     /// What the client was given, spelt.
     pub(crate) written: String,
-    /// What the dialer did: `<` and `>` stand round what each try sent, spelt.
+    /// What the dialer did: what was sent over a connection, spelt, stands behind `<` or `(`, where
+    /// it was opened or resumed, and before `>` or `)`, where it was ended or kept.
     pub(crate) sent: String,
     /// How many receives were made.
     pub(crate) receives: usize,
@@ -65,6 +66,9 @@ fn sent_of(alloc: Global, log: &[DialEvent]) -> Mem<Bytes> {
             DialEvent::Sent(piece) => sent.extend_from_slice(piece.bytes())?,
             DialEvent::Got(_) => {}
             DialEvent::Hung => sent.push(b'>')?,
+            DialEvent::Resumed(0x7f000001, 9001) => sent.push(b'(')?,
+            DialEvent::Resumed(_, _) => sent.push(b'!')?,
+            DialEvent::Kept => sent.push(b')')?,
         }
     }
     Ok(sent)
@@ -160,7 +164,7 @@ fn serve_first<J: Naming, R: Wait>(
 ) -> Option<Ended>
     requires { slot_in server.old.pass ≡ None }
 {
-    let Ok(head) = server.read_head(context.alloc, connection) else {
+    let NextHead::Head(head) = server.next_head(context.alloc, connection) else {
         return Some(Ended::Cut);
     };
     server.proxy_once(context, connection, &head, false)

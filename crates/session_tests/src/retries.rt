@@ -1,5 +1,6 @@
 //! Requests that are tried again, and what their budget grants.
 use crate::played::play;
+use crate::row::joined;
 use crate::scene::{FIXED, Failing, Scene};
 use http_wire::Ended::{self, Closed, PeerEnded, UpstreamCut};
 use retry_budget::{Budget, Tries};
@@ -237,15 +238,6 @@ fn told(
 ) -> Result<String, Fail> {
     let (failed, opened) = dials;
     Ok(format!(in alloc; "{written} {failed} {opened} {ended:?}")?)
-}
-
-/// These texts behind one another.
-fn joined(alloc: Global, texts: &[&str]) -> Result<String, Fail> {
-    let mut all = String::new(alloc);
-    for text in texts {
-        all.push_str(text)?;
-    }
-    Ok(all)
 }
 
 impl Case {

@@ -6,7 +6,8 @@ use std::alloc::Global;
 use std::sync::Wait;
 use std::test::Fail;
 
-/// Reports on the address of `web`, which had failed once: how many were taken in, and how often it has failed since it last did well.
+/// Reports on the address of `web`, which had failed once: how many were taken in, and how often it
+/// has failed since it last did well.
 pub(crate) type Reported = (u64, u32);
 
 /// No report was made.
@@ -37,8 +38,17 @@ pub(crate) struct Row {
     pub(crate) reported: Reported,
 }
 
+/// These texts behind one another.
+pub(crate) fn joined(alloc: Global, texts: &[&str]) -> Mem<String> {
+    let mut all = String::new(alloc);
+    for text in texts {
+        all.push_str(text)?;
+    }
+    Ok(all)
+}
+
 /// What came of a session, as one text.
-fn told(
+pub(crate) fn told(
     alloc: Global,
     written: &str,
     sent: &str,

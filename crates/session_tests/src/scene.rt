@@ -64,8 +64,14 @@ pub(crate) struct Scene<'a> {
     /// The most bytes that a call moves.
     pub(crate) most: usize,
     pub(crate) failing: Failing,
+    /// The dialer keeps connections, and those of its calls that fail and are listed here do so
+    /// because they waited for too long. `None` where it keeps none.
+    pub(crate) keeping: Option<&'a [u64]>,
     /// The budget of retries that the client's connection has.
     pub(crate) tries: Option<Tries>,
+    /// The client's connection says that its listeners are closing from the question of this number
+    /// on.
+    pub(crate) closing: Option<u64>,
 }
 
 impl<'a> Scene<'a> {
@@ -80,6 +86,8 @@ impl<'a> Scene<'a> {
             replies,
             most: usize::MAX,
             failing: Failing::Nothing,
+            closing: None,
+            keeping: None,
             tries: None,
         }
     }
@@ -220,7 +228,10 @@ pub(crate) fn client(alloc: Global, scene: &Scene<'_>) -> Mem<MemPeer> {
         listed(alloc, read)?,
     );
     let sink = MemSink::of(alloc, scene.sizes(alloc)?, listed(alloc, write)?);
-    Ok(MemPeer::of(source, sink))
+    Ok(match scene.closing {
+        Some(question) => MemPeer::closing(source, sink, question),
+        None => MemPeer::of(source, sink),
+    })
 }
 
 /// The upstreams of a scene.
@@ -229,12 +240,16 @@ pub(crate) fn upstreams(alloc: Global, scene: &Scene<'_>) -> Mem<MemDialer> {
     for reply in scene.replies {
         replies.push(spelt(alloc, reply)?)?;
     }
-    Ok(MemDialer::of(
+    let dialer = MemDialer::of(
         alloc,
         replies,
         scene.sizes(alloc)?,
         dials(alloc, scene.failing)?,
-    ))
+    );
+    Ok(match scene.keeping {
+        Some(waiting) => dialer.keeping(true, Vec::from_slice(alloc, waiting)?),
+        None => dialer,
+    })
 }
 
 /// A clock that stands still.

@@ -83,9 +83,21 @@ impl<J: Naming, R: Wait> Dialer for Watcher<'_, J, R> {
 
     ghost upstream = { λ w. upstream_of w.dialer };
 
+    fn keeps(&self) -> bool {
+        self.dialer.keeps()
+    }
+
+    fn is_late(&self) -> bool {
+        self.dialer.is_late()
+    }
+
     fn dial(&mut self, ip: u32, port: u16) -> Result<(), Failed> {
         self.watch(port);
         self.dialer.dial(ip, port)
+    }
+
+    fn resume(&mut self, ip: u32, port: u16) -> bool {
+        self.dialer.resume(ip, port)
     }
 
     fn send(&mut self, bytes: &[u8]) -> Result<usize, Failed> {
@@ -98,6 +110,14 @@ impl<J: Naming, R: Wait> Dialer for Watcher<'_, J, R> {
 
     fn hang(&mut self) {
         self.dialer.hang()
+    }
+
+    fn keep(&mut self) {
+        self.dialer.keep()
+    }
+
+    fn end_idle(&mut self) {
+        self.dialer.end_idle()
     }
 }
 

@@ -1,7 +1,7 @@
 //! A net over loopback, and the other adapters over the machine.
 use line_base::{
-    Clock, Dialer, Failed, Folder, FolderFault, Found, Listener, Net, NetFault, Peer, Sink, Source,
-    Stop,
+    Clock, ConnectionPool, Dialer, Failed, Folder, FolderFault, Found, Listener, Net, NetFault,
+    Peer, Sink, Source, Stop,
 };
 use net_edge::{FileSystem, ReaderSource, SocketNet, SystemClock, WriterSink};
 use std::net::{Ipv4Addr, SocketAddr, SocketAddrV4, TcpListener, TcpStream};
@@ -112,7 +112,7 @@ fn listen<N: Net>(
     copies: u32,
     parts: &mut Vec<Part<N::L, N::D, N::S>>,
 ) -> Result<(), Fail> {
-    for listener in net.listen(LOOPBACK, port, copies)?.into_items() {
+    for listener in net.listen(LOOPBACK, port, copies, 0)?.into_items() {
         parts.push(Part::Answers {
             listener,
             served: 0,
@@ -155,7 +155,10 @@ fn net_over_loopback(rt: HostRuntime) -> Result<(), Fail> {
     let mut parts = Vec::new(rt.alloc());
     let one = free_port(&rt)?;
     listen(&mut net, one, 2, &mut parts)?;
-    assert_eq!(rt; net.listen(LOOPBACK, one, 1).err(), Some(NetFault::Failed));
+    assert_eq!(rt;
+        net.listen(LOOPBACK, one, 1, 0).err(),
+        Some(NetFault::Failed)
+    );
     assert_eq!(rt;
         net.refused().map(|refusal| refusal.address()),
         Some(address(one))
@@ -163,7 +166,7 @@ fn net_over_loopback(rt: HostRuntime) -> Result<(), Fail> {
     let other = free_port(&rt)?;
     listen(&mut net, other, 1, &mut parts)?;
     parts.push(Part::Asks {
-        dialer: net.dialer(),
+        dialer: net.dialer(ConnectionPool::NONE),
         stop: net.stopper(),
         heard: 0,
     })?;
@@ -174,8 +177,14 @@ fn net_over_loopback(rt: HostRuntime) -> Result<(), Fail> {
         &|_, part| play(part, [one, other]),
     );
     assert_eq!(rt; end(&mut net, parts), (4, 3, 4));
-    assert_eq!(rt; ask(&mut net.dialer(), one), Err(Failed));
-    assert_eq!(rt; ask(&mut net.dialer(), other), Err(Failed));
+    assert_eq!(rt;
+        ask(&mut net.dialer(ConnectionPool::NONE), one),
+        Err(Failed)
+    );
+    assert_eq!(rt;
+        ask(&mut net.dialer(ConnectionPool::NONE), other),
+        Err(Failed)
+    );
     Ok(())
 }
 

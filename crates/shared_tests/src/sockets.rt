@@ -1,5 +1,5 @@
 //! Connections over loopback: what is sent arrives, and what is cut is a fault.
-use line_base::{Clock, Dialer, Failed, Listener, Net, Peer, Stop};
+use line_base::{Clock, ConnectionPool, Dialer, Failed, Listener, Net, Next, Peer, Stop};
 use net_edge::{SocketNet, SystemClock};
 use std::io::{self, Read, Write};
 use std::net::{self, Ipv4Addr, SocketAddr, SocketAddrV4, TcpListener, TcpStream};
@@ -26,7 +26,7 @@ fn listener_of<N: Net>(
     listener: io::Result<TcpListener>,
 ) -> Result<(N::L, u16), Fail> {
     let port = listener?.local_addr()?.port();
-    match net.listen(LOOPBACK, port, 1)?.into_items().pop() {
+    match net.listen(LOOPBACK, port, 1, 0)?.into_items().pop() {
         Some(listener) => Ok((listener, port)),
         None => Err(Fail::from("no listener")),
     }
@@ -114,7 +114,7 @@ fn exchange<D: Dialer>(dialer: &mut D, port: u16, bytes: &[u8]) -> [Result<usize
 #[test]
 fn what_is_sent_arrives(rt: HostRuntime) -> Result<(), Fail> {
     let mut net = SocketNet::of(&rt)?;
-    let mut dialer = net.dialer();
+    let mut dialer = net.dialer(ConnectionPool::NONE);
     let listener = TcpListener::bind(&rt, at(LOOPBACK, 0))?;
     let port = listener.local_addr()?.port();
     let bytes = Vec::from_elem(rt.alloc(), 7u8, MANY)?;
@@ -134,7 +134,7 @@ fn what_is_sent_arrives(rt: HostRuntime) -> Result<(), Fail> {
 fn a_reply_behind_an_unread_body_arrives(rt: HostRuntime) -> Result<(), Fail> {
     let mut net = SocketNet::of(&rt)?;
     let (mut listener, port) = listener_of(&mut net, TcpListener::bind(&rt, at(LOOPBACK, 0)))?;
-    let mut dialer = net.dialer();
+    let mut dialer = net.dialer(ConnectionPool::NONE);
     let bytes = Vec::from_elem(rt.alloc(), 7u8, 5 * MANY)?;
     let (is_taken, ends) = thread::join(
         &rt,
@@ -195,10 +195,76 @@ fn receive_cut<D: Dialer>(
 fn resets_are_faults(rt: HostRuntime) -> Result<(), Fail> {
     let mut net = SocketNet::of(&rt)?;
     let (mut listener, port) = listener_of(&mut net, TcpListener::bind(&rt, at(LOOPBACK, 0)))?;
-    let mut dialer = net.dialer();
+    let mut dialer = net.dialer(ConnectionPool::NONE);
     let body = read_cut(&mut listener, TcpStream::connect(&rt, at(LOOPBACK, port)))?;
     let reply = receive_cut(&mut dialer, TcpListener::bind(&rt, at(OTHER, 0)))?;
     assert_eq!(rt; [body, reply], [[Ok(4), Err(Failed)], [Ok(4), Err(Failed)]]);
+    Ok(())
+}
+
+/// What becomes of a kept connection.
+#[derive(Clone, Copy)]
+enum Fate {
+    /// Nothing: the replica answers the next request over it.
+    Quiet,
+    /// The replica says something that nobody asked for.
+    Speaks,
+    /// The replica ends it.
+    Ends,
+}
+
+/// A connection is dialed and kept, and has this fate; then it is asked for again. Gives whether it
+/// is resumed, and how many bytes of a reply are received over it then.
+fn resume_behind<D: Dialer>(
+    dialer: &mut D,
+    replica: io::Result<TcpListener>,
+    fate: Fate,
+) -> io::Result<(bool, Result<usize, Failed>)> {
+    let replica = replica?;
+    let port = replica.local_addr()?.port();
+    let Ok(()) = dialer.dial(LOOPBACK, port) else {
+        return Err(io::Error::from(io::ErrorKind::NotConnected));
+    };
+    let (mut stream, _) = replica.accept()?;
+    if dialer.keeps() {
+        dialer.keep();
+    }
+    match fate {
+        Fate::Quiet => {}
+        Fate::Speaks => {
+            stream.write(b"408")?;
+        }
+        Fate::Ends => stream.shutdown(net::Shutdown::Both)?,
+    }
+    if !dialer.resume(LOOPBACK, port) {
+        return Ok((false, Err(Failed)));
+    }
+    let mut piece = [0u8; 8];
+    stream.write(b"reply")?;
+    let got = dialer.recv(&mut piece);
+    dialer.hang();
+    Ok((true, got))
+}
+
+/// A kept connection is resumed where it is quiet, and not where anything came over it, nor where it
+/// was kept for too long.
+#[test]
+fn kept_connections_are_looked_at(rt: HostRuntime) -> Result<(), Fail> {
+    let mut net = SocketNet::of(&rt)?;
+    let rows = [
+        (Fate::Quiet, 10_000, (true, Ok(5))),
+        (Fate::Speaks, 10_000, (false, Err(Failed))),
+        (Fate::Ends, 10_000, (false, Err(Failed))),
+        (Fate::Quiet, 0, (false, Err(Failed))),
+    ];
+    for (fate, idle_ms, gives) in rows {
+        let pool = ConnectionPool {
+            max_size: 2,
+            idle_ms,
+        };
+        let replica = TcpListener::bind(&rt, at(LOOPBACK, 0));
+        assert_eq!(rt; resume_behind(&mut net.dialer(pool), replica, fate)?, gives);
+    }
     Ok(())
 }
 
@@ -240,5 +306,32 @@ fn moments_are_milliseconds(rt: HostRuntime) -> Result<(), Fail> {
     let (first, then) = moments(&rt, &mut SystemClock::of(&rt), 50);
     let waited = then.saturating_sub(first);
     assert!(rt; first > 1_700_000_000_000 && waited >= 50 && waited < 10_000);
+    Ok(())
+}
+
+/// Who waits for a next request is told that the listeners are closing, and gets what has come of
+/// one before.
+#[test]
+fn who_waits_is_told(rt: HostRuntime) -> Result<(), Fail> {
+    let mut net = SocketNet::of(&rt)?;
+    let (mut listener, port) = listener_of(&mut net, TcpListener::bind(&rt, at(LOOPBACK, 0)))?;
+    let mut stop = net.stopper();
+    let mut client = TcpStream::connect(&rt, at(LOOPBACK, port))?;
+    let Ok(Some(peer)) = listener.accept() else {
+        return Err(Fail::from("no client"));
+    };
+    let mut peer = peer;
+    let before = peer.is_closing();
+    client.write_all(b"GET")?;
+    stop.stop();
+    let mut buffer = [0u8; 16];
+    let first = peer.read_next(&mut buffer);
+    let second = peer.read_next(&mut buffer);
+    let behind = peer.is_closing();
+    listener.finish(peer);
+    assert_eq!(rt;
+        (before, first, second, behind),
+        (false, Ok(Next::Bytes(3)), Ok(Next::Closing), true)
+    );
     Ok(())
 }

@@ -1,5 +1,5 @@
 //! Bodies that are passed on over peers and dialers in memory.
-ghost use Rattle.std.specs.Prelude.{◌≡◌, IfOk, IsTrue};
+ghost use Rattle.std.specs.Prelude.{◌≡◌, IfOk, IsSome};
 
 use body_wire::{BodyEnd, Bytes, Mem, pass_back, pass_body, read_body, write_all};
 use http_wire::{Framing, Rest};
@@ -79,7 +79,7 @@ fn peer_of(alloc: Global, bytes: &[u8], gives: Calls, takes: Calls) -> Mem<MemPe
 
 /// An open dialer that gives this reply, whose calls behind the dial are such.
 fn dialed(alloc: Global, reply: &[u8], calls: Calls) -> Result<MemDialer, Fail>
-    ensures { IfOk result (λ dialer. IsTrue dialer.is_open) }
+    ensures { IfOk result (λ dialer. IsSome dialer.open_to) }
 {
     let mut replies = Vec::new(alloc);
     replies.push(Vec::from_slice(alloc, reply)?)?;

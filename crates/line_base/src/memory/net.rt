@@ -1,10 +1,13 @@
 //! A net in memory.
-ghost use Rattle.std.specs.Prelude.{◌≡◌, ◌≤◌, ◌<◌, ◌↔◌, ℕ, [], length, false, Some, Err, IsErr, IfOk, IfSome, slice_index_or};
+ghost use Rattle.std.specs.Prelude.{◌≡◌, ◌≤◌, ◌<◌, ◌↔◌, ℕ, [], nat_lt, length, None, Some, Err};
+ghost use Rattle.std.specs.Prelude.{IsErr, IfOk, IfSome, slice_index_or};
 ghost use Rattle.line_base.specs.Accepts.{new_listening};
 ghost use Rattle.line_base.specs.Counts.{HasCause};
 ghost use Rattle.line_base.specs.Memory.{FailsNext, called, upstream_of};
-ghost use Rattle.line_base.specs.Nets.{AreNew, HasNetCause, after_end, after_listen, after_stopper, log_of};
+ghost use Rattle.line_base.specs.Nets.{AreNew, HasNetCause, after_end, after_listen, after_stopper};
+ghost use Rattle.line_base.specs.Nets.{log_of};
 
+use crate::dialer::ConnectionPool;
 use crate::listener::{Endpoint, Listeners};
 use crate::memory::dialer::MemDialer;
 use crate::memory::listener::MemListener;
@@ -53,7 +56,11 @@ impl<P: Peer + Drop> Model for MemEnded<P> {
 
     ghost Value = { Ended P };
 
-    ghost view = { λ e. record { listener = e.listener.state; log = log_of upstream_of e.dialer; stops = e.stop } };
+    ghost view = { λ e. record {
+      listener = e.listener.state;
+      log = log_of upstream_of e.dialer;
+      stops = e.stop;
+    } };
 }
 
 impl<P: Peer + Drop> MemEnded<P> {
@@ -102,7 +109,12 @@ impl<P: Peer + Drop> Model for MemNet<P> {
     ghost Value = { Linking P };
 
     ghost view = { λ n. record {
-      state = record { told = Some (record { ended = n.ended.items; room = n.room }); clean = n.clean; stops_given = n.stops_given; stops_returned = n.stops_returned };
+      state = record {
+        told = Some (record { ended = n.ended.items; room = n.room });
+        clean = n.clean;
+        stops_given = n.stops_given;
+        stops_returned = n.stops_returned;
+      };
       plan = n.plan;
       faults = n.faults;
     } };
@@ -112,17 +124,23 @@ impl<P: Peer + Drop> Model for MemNet<P> {
 }
 
 impl<P: Peer + Drop> MemNet<P> {
-    /// A net with these peers to come to each address, and these dials to be answered for each dialer, in order; past them, none.
+    /// A net with these peers to come to each address, and these dials to be answered for each
+    /// dialer, in order; past them, none.
     ///
-    /// Listeners of an address get its visits by their places, also those of a later call, which go on behind them. The calls of `listen` whose numbers are in
-    /// `failing` fail.
+    /// Listeners of an address get its visits by their places, also those of a later call, which go
+    /// on behind them. The calls of `listen` whose numbers are in `failing` fail.
     pub fn of(
         alloc: Global,
         addresses: Vec<MemAddress<P>>,
         dials: Vec<MemDials>,
         failing: Vec<u64>,
     ) -> MemNet<P>
-        ensures state { result.state ≡ record { told = Some (record { ended = []; room = 0 }); clean = 0; stops_given = 0; stops_returned = 0 } }
+        ensures state { result.state ≡ record {
+          told = Some (record { ended = []; room = 0 });
+          clean = 0;
+          stops_given = 0;
+          stops_returned = 0;
+        } }
         ensures plan { result.plan ≡ record { sizes = []; failing = failing.items; calls = 0 } }
         ensures faults { result.faults ≡ 0 }
     {
@@ -193,6 +211,18 @@ fn next_visits<P>(addresses: &mut Vec<MemAddress<P>>, ip: u32, port: u16) -> Opt
     None
 }
 
+/// What the other ends of the next dialer give, and nothing past the last.
+fn next_dials(alloc: Global, dials: &mut Vec<MemDials>) -> MemDials {
+    if dials.is_empty() {
+        return MemDials {
+            replies: Vec::new(alloc),
+            sizes: Vec::new(alloc),
+            failing: Vec::new(alloc),
+        };
+    }
+    dials.remove(0)
+}
+
 /// Listeners for an address, each with what is to come to it.
 fn listeners_at<P: Peer + Drop>(
     alloc: Global,
@@ -203,7 +233,8 @@ fn listeners_at<P: Peer + Drop>(
 ) -> Result<Vec<MemListener<P>>, NetFault>
     ensures count { IfOk result (λ ls. length ls.items ≡ copies) }
     ensures new { IfOk result (λ ls. (at : ℕ) (d : _) → at < length ls.items
-        → (slice_index_or ls.items at d).state ≡ new_listening (Some (record { ip = ip; port = port; place = at }))) }
+        → (slice_index_or ls.items at d).state
+        ≡ new_listening (Some (record { ip = ip; port = port; place = at }))) }
     ensures only { result ≡ Err NetFault.Failed → ⊥ }
 {
     let mut listeners = Vec::new(alloc);
@@ -238,6 +269,7 @@ impl<P: Peer + Drop + Send> Net for MemNet<P> {
         ip: u32,
         port: u16,
         copies: u32,
+        _kept: u32,
     ) -> Result<Listeners<MemListener<P>>, NetFault>
         ensures count { IfOk result (λ ls. length ls ≡ copies) }
         ensures new { IfOk result (AreNew (λ l. l.state) self.old.state.told ip port) }
@@ -264,20 +296,23 @@ impl<P: Peer + Drop + Send> Net for MemNet<P> {
         Ok(Listeners::of(listeners))
     }
 
-    fn dialer(&mut self) -> MemDialer
-        ensures closed { (result.log ≡ []) × (result.is_open ≡ false) }
-        ensures kept { (self.new.state ≡ self.old.state) × (self.new.faults ≡ self.old.faults) × (self.new.plan ≡ self.old.plan) }
+    /// The dialer keeps as many connections as are put aside, for any time, where the pool has room
+    /// for one.
+    fn dialer(&mut self, pool: ConnectionPool) -> MemDialer
+        ensures closed { (result.log ≡ []) × (result.open_to ≡ None) }
+        ensures none_kept { (upstream_of result).kept ≡ [] }
+        ensures keeps { result.keeps ≡ nat_lt 0 pool.max_size }
+        ensures kept { (self.new.state ≡ self.old.state) × (self.new.faults ≡ self.old.faults)
+            × (self.new.plan ≡ self.old.plan) }
     {
         let alloc = *self.ended.allocator();
-        if self.dials.is_empty() {
-            return MemDialer::of(alloc, Vec::new(alloc), Vec::new(alloc), Vec::new(alloc));
-        }
         let MemDials {
             replies,
             sizes,
             failing,
-        } = self.dials.remove(0);
-        MemDialer::of(alloc, replies, sizes, failing)
+        } = next_dials(alloc, &mut self.dials);
+        let dialer = MemDialer::of(alloc, replies, sizes, failing);
+        dialer.keeping(pool.max_size > 0, Vec::new(alloc))
     }
 
     fn stopper(&mut self) -> MemStop
@@ -295,7 +330,11 @@ impl<P: Peer + Drop + Send> Net for MemNet<P> {
         dialer: Option<MemDialer>,
         stop: MemStop,
     ) -> Result<(), Failed>
-        ensures state { self.new.state ≡ after_end self.old.state (record { listener = listener.state; log = log_of upstream_of dialer; stops = stop }) }
+        ensures state { self.new.state ≡ after_end self.old.state (record {
+          listener = listener.state;
+          log = log_of upstream_of dialer;
+          stops = stop;
+        }) }
         ensures broken { IsErr result ↔ (BROKEN_RUN ≤ listener.state.run) }
         ensures cause { HasCause self.old.faults self.new.faults result }
         ensures plan { self.new.plan ≡ self.old.plan }

@@ -18,7 +18,11 @@ impl Model for CallPlan {
 
     ghost Value = { Plan };
 
-    ghost view = { λ p. record { sizes = p.sizes.items; failing = p.failing.items; calls = p.calls } };
+    ghost view = { λ p. record {
+      sizes = p.sizes.items;
+      failing = p.failing.items;
+      calls = p.calls;
+    } };
 }
 
 impl CallPlan {
@@ -33,7 +37,15 @@ impl CallPlan {
         }
     }
 
-    /// Counts a call, and gives the most bytes that it may move, at least 1; or it is one of those that fail.
+    /// The number of the next call.
+    pub(crate) fn next(&self) -> u64
+        ensures { result ≡ self.now.calls }
+    {
+        self.calls
+    }
+
+    /// Counts a call, and gives the most bytes that it may move, at least 1; or it is one of those
+    /// that fail.
     pub(crate) fn call(&mut self) -> Result<usize, Failed>
         ensures called { self.new ≡ called self.old }
         ensures fails { IsErr result ↔ FailsNext self.old }

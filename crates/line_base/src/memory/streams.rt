@@ -1,17 +1,22 @@
 //! Sources, sinks and peers in memory.
-ghost use Rattle.std.specs.Prelude.{◌≡◌, ◌≤◌, ◌<◌, ◌+◌, ◌↔◌, ◌⊎◌, [], length, min, Some, IsErr, IfOk, OnErr};
+ghost use Rattle.std.specs.Prelude.{◌≡◌, ◌≤◌, ◌<◌, ◌+◌, ◌↔◌, ◌⊎◌, [], length, min, true, Ok, Some};
+ghost use Rattle.std.specs.Prelude.{IsErr, IfOk, OnErr};
 ghost use Rattle.std.specs.Io.{ReadsAtMost, WritesAtMost};
 ghost use Rattle.std.specs.Io.KnownBytes.{ReadConsumes, WriteAppends};
 ghost use Rattle.line_base.specs.Counts.{HasCause, CountsEnds, MovesNothing};
-ghost use Rattle.line_base.specs.Memory.{FailsNext, piece_of, behind_call, input_of, output_of, line_of};
+ghost use Rattle.line_base.specs.Lines.{WaitsForNext, told_closing};
+ghost use Rattle.line_base.specs.Memory.{FailsNext, piece_of, behind_call, input_of, output_of};
+ghost use Rattle.line_base.specs.Memory.{line_of, is_due, no_notice, questioned};
 
+use crate::memory::notice::Notice;
 use crate::memory::plan::CallPlan;
 use crate::memory::unread::Unread;
-use crate::outside::{Failed, Peer, Sink, Source};
+use crate::outside::{Failed, Next, Peer, Sink, Source};
 use std::alloc::Global;
 use std::marker::Model;
 
-/// Bytes in memory, given in pieces of stated sizes. Calls are counted from 0; a read into no room is no call.
+/// Bytes in memory, given in pieces of stated sizes. Calls are counted from 0; a read into no room
+/// is no call.
 #[derive(Debug, Drop)]
 pub struct MemSource {
     unread: Unread,
@@ -25,15 +30,22 @@ impl Model for MemSource {
 
     ghost Value = { Giving };
 
-    ghost view = { λ s. record { left = s.unread; plan = s.plan; faults = s.faults; ends = s.ends } };
+    ghost view = { λ s. record {
+      left = s.unread;
+      plan = s.plan;
+      faults = s.faults;
+      ends = s.ends;
+    } };
 }
 
 impl MemSource {
-    /// A source of these bytes. Call number `n` gives at most `sizes[n]` bytes, at least one where one is left, and
-    /// as many as there is room for past the last size. The calls whose numbers are in `failing` fail.
+    /// A source of these bytes. Call number `n` gives at most `sizes[n]` bytes, at least one where
+    /// one is left, and as many as there is room for past the last size. The calls whose numbers
+    /// are in `failing` fail.
     pub fn of(bytes: Vec<u8>, sizes: Vec<usize>, failing: Vec<u64>) -> MemSource
         ensures left { result.left ≡ bytes.items }
-        ensures plan { result.plan ≡ record { sizes = sizes.items; failing = failing.items; calls = 0 } }
+        ensures plan { result.plan
+            ≡ record { sizes = sizes.items; failing = failing.items; calls = 0 } }
         ensures counts { (result.faults ≡ 0) × (result.ends ≡ 0) }
     {
         MemSource {
@@ -78,7 +90,8 @@ impl Source for MemSource {
         ensures nothing { MovesNothing self.old.faults self.new.faults result (length into.new) }
         ensures plan { self.new.plan ≡ behind_call (length into.new) self.old.plan }
         ensures fails { 0 < length into.new → IsErr result ↔ FailsNext self.old.plan }
-        ensures size { IfOk result (λ n. n ≡ min (min (length into.new) (piece_of self.old.plan)) (length self.old.left)) }
+        ensures size { IfOk result
+            (λ n. n ≡ min (min (length into.new) (piece_of self.old.plan)) (length self.old.left)) }
     {
         if into.is_empty() {
             return Ok(0);
@@ -95,8 +108,8 @@ impl Source for MemSource {
     }
 }
 
-/// A list in memory that takes bytes in pieces of stated sizes. Calls are counted from 0; a write of nothing is no
-/// call.
+/// A list in memory that takes bytes in pieces of stated sizes. Calls are counted from 0; a write
+/// of nothing is no call.
 #[derive(Debug, Drop)]
 pub struct MemSink {
     held: Vec<u8>,
@@ -110,15 +123,21 @@ impl Model for MemSink {
 
     ghost Value = { Taking };
 
-    ghost view = { λ s. record { held = s.held.items; room = vec_capacity s.held; plan = s.plan; faults = s.faults } };
+    ghost view = { λ s. record {
+      held = s.held.items;
+      room = vec_capacity s.held;
+      plan = s.plan;
+      faults = s.faults;
+    } };
 }
 
 impl MemSink {
-    /// A sink that holds nothing. Call number `n` takes at most `sizes[n]` bytes, at least one, and all past the last
-    /// size. The calls whose numbers are in `failing` fail.
+    /// A sink that holds nothing. Call number `n` takes at most `sizes[n]` bytes, at least one, and
+    /// all past the last size. The calls whose numbers are in `failing` fail.
     pub fn of(alloc: Global, sizes: Vec<usize>, failing: Vec<u64>) -> MemSink
         ensures held { result.held ≡ [] }
-        ensures plan { result.plan ≡ record { sizes = sizes.items; failing = failing.items; calls = 0 } }
+        ensures plan { result.plan
+            ≡ record { sizes = sizes.items; failing = failing.items; calls = 0 } }
         ensures faults { result.faults ≡ 0 }
     {
         MemSink {
@@ -146,7 +165,8 @@ impl MemSink {
 impl Sink for MemSink {
     ghost output = { output_of };
 
-    /// Fails at the calls that are listed, and else only where there is no memory for what it holds.
+    /// Fails at the calls that are listed, and else only where there is no memory for what it
+    /// holds.
     fn write(&mut self, bytes: &[u8]) -> Result<usize, Failed>
         ensures bound { WritesAtMost result bytes.now }
         ensures moves { IfOk result (λ n. 0 < length bytes.now → 0 < n) }
@@ -155,7 +175,8 @@ impl Sink for MemSink {
         ensures nothing { MovesNothing self.old.faults self.new.faults result (length bytes.now) }
         ensures plan { self.new.plan ≡ behind_call (length bytes.now) self.old.plan }
         ensures fails { 0 < length bytes.now → FailsNext self.old.plan → IsErr result }
-        ensures only { OnErr result (FailsNext self.old.plan ⊎ (self.old.room < length self.old.held + length bytes.now)) }
+        ensures only { OnErr result (FailsNext self.old.plan
+            ⊎ (self.old.room < length self.old.held + length bytes.now)) }
         ensures size { IfOk result (λ n. n ≡ min (length bytes.now) (piece_of self.old.plan)) }
     {
         if bytes.is_empty() {
@@ -174,11 +195,14 @@ impl Sink for MemSink {
     }
 }
 
-/// A connection in memory: a source that it gives from and a sink that it takes into. Each has calls of its own.
+/// A connection in memory: a source that it gives from and a sink that it takes into. Each has
+/// calls of its own. It may be told from which question on it says that its listeners are closing:
+/// calls of `read_next` and `is_closing` are its questions, and are counted together from 0.
 #[derive(Debug, Drop)]
 pub struct MemPeer {
     source: MemSource,
     sink: MemSink,
+    notice: Notice,
 }
 
 impl Model for MemPeer {
@@ -186,15 +210,34 @@ impl Model for MemPeer {
 
     ghost Value = { Meeting };
 
-    ghost view = { λ p. record { source = p.source; sink = p.sink } };
+    ghost view = { λ p. record { source = p.source; sink = p.sink; notice = p.notice } };
 }
 
 impl MemPeer {
-    /// A peer that gives from the one and takes into the other.
+    /// A peer that gives from the one and takes into the other. Its listeners stay open.
     pub fn of(source: MemSource, sink: MemSink) -> MemPeer
-        ensures { result ≡ record { source = source; sink = sink } }
+        ensures { result ≡ record { source = source; sink = sink; notice = no_notice } }
     {
-        MemPeer { source, sink }
+        MemPeer {
+            source,
+            sink,
+            notice: Notice::never(),
+        }
+    }
+
+    /// A peer whose listeners are closing from the question of this number on.
+    pub fn closing(source: MemSource, sink: MemSink, question: u64) -> MemPeer
+        ensures { result ≡ record {
+          source = source;
+          sink = sink;
+          notice = record { from = Some question; asked = 0; told = 0 };
+        } }
+    {
+        MemPeer {
+            source,
+            sink,
+            notice: Notice::from(question),
+        }
     }
 
     /// What it gives from.
@@ -210,6 +253,13 @@ impl MemPeer {
     {
         &self.sink
     }
+
+    /// How often it said that its listeners are closing.
+    pub fn closings(&self) -> u64
+        ensures { result ≡ self.now.notice.told }
+    {
+        self.notice.told()
+    }
 }
 
 impl Peer for MemPeer {
@@ -218,28 +268,61 @@ impl Peer for MemPeer {
     /// A read of its source.
     fn read(&mut self, into: &mut [u8]) -> Result<usize, Failed>
         ensures bound { ReadsAtMost result into.new }
-        ensures bytes { ReadConsumes (Some self.old.source.left) (Some self.new.source.left) result into.new }
-        ensures others { self.new.sink ≡ self.old.sink }
+        ensures bytes { ReadConsumes (Some self.old.source.left) (Some self.new.source.left) result
+            into.new }
+        ensures others { (self.new.sink ≡ self.old.sink) × (self.new.notice ≡ self.old.notice) }
         ensures cause { HasCause self.old.source.faults self.new.source.faults result }
-        ensures end { CountsEnds self.old.source.ends self.new.source.ends result (length into.new) }
-        ensures nothing { MovesNothing self.old.source.faults self.new.source.faults result (length into.new) }
+        ensures end { CountsEnds self.old.source.ends self.new.source.ends result
+            (length into.new) }
+        ensures nothing { MovesNothing self.old.source.faults self.new.source.faults result
+            (length into.new) }
         ensures plan { self.new.source.plan ≡ behind_call (length into.new) self.old.source.plan }
         ensures fails { 0 < length into.new → IsErr result ↔ FailsNext self.old.source.plan }
     {
         self.source.read(into)
     }
 
+    /// A question, and a read of its source where its listeners are open.
+    fn read_next(&mut self, into: &mut [u8]) -> Result<Next, Failed>
+        ensures next { WaitsForNext (line_of self.old) (line_of self.new) into.new result }
+        ensures due { is_due self.old.notice ≡ true → result ≡ Ok Next.Closing }
+        ensures only { result ≡ Ok Next.Closing → is_due self.old.notice ≡ true }
+        ensures asked { self.new.notice ≡ questioned self.old.notice }
+    {
+        if self.notice.ask() {
+            return Ok(Next::Closing);
+        }
+        match self.source.read(into) {
+            Ok(0) => Ok(Next::End),
+            Ok(count) => Ok(Next::Bytes(count)),
+            Err(failed) => Err(failed),
+        }
+    }
+
+    /// A question.
+    fn is_closing(&mut self) -> bool
+        ensures told { line_of self.new ≡ told_closing result (line_of self.old) }
+        ensures due { result ≡ is_due self.old.notice }
+        ensures asked { self.new.notice ≡ questioned self.old.notice }
+        ensures others { (self.new.source ≡ self.old.source) × (self.new.sink ≡ self.old.sink) }
+    {
+        self.notice.ask()
+    }
+
     /// A write to its sink.
     fn write(&mut self, bytes: &[u8]) -> Result<usize, Failed>
         ensures bound { WritesAtMost result bytes.now }
         ensures moves { IfOk result (λ n. 0 < length bytes.now → 0 < n) }
-        ensures bytes { WriteAppends (Some self.old.sink.held) (Some self.new.sink.held) result bytes.now }
-        ensures others { self.new.source ≡ self.old.source }
+        ensures bytes { WriteAppends (Some self.old.sink.held) (Some self.new.sink.held) result
+            bytes.now }
+        ensures others { (self.new.source ≡ self.old.source) × (self.new.notice ≡ self.old.notice) }
         ensures cause { HasCause self.old.sink.faults self.new.sink.faults result }
-        ensures nothing { MovesNothing self.old.sink.faults self.new.sink.faults result (length bytes.now) }
+        ensures nothing { MovesNothing self.old.sink.faults self.new.sink.faults result
+            (length bytes.now) }
         ensures plan { self.new.sink.plan ≡ behind_call (length bytes.now) self.old.sink.plan }
         ensures fails { 0 < length bytes.now → FailsNext self.old.sink.plan → IsErr result }
-        ensures only { OnErr result (FailsNext self.old.sink.plan ⊎ (self.old.sink.room < length self.old.sink.held + length bytes.now)) }
+        ensures only { OnErr result (FailsNext self.old.sink.plan
+            ⊎ (self.old.sink.room < length self.old.sink.held + length bytes.now)) }
     {
         self.sink.write(bytes)
     }

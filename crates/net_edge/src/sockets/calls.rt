@@ -36,6 +36,15 @@ pub(crate) fn write_some(stream: &mut TcpStream, bytes: &[u8]) -> io::Result<usi
     Err(io::Error::from(ErrorKind::Interrupted))
 }
 
+/// Whether nothing has come over a connection that was not read: no byte, no end and no fault. It
+/// looks without waiting, and leaves what is there (recv(2), `MSG_PEEK`).
+pub(crate) fn is_quiet(stream: &TcpStream) -> bool {
+    let mut one = [0u8; 1];
+    let flags = net::MSG_PEEK | net::MSG_DONTWAIT;
+    let count = unsafe { net::recv(stream.as_raw_fd(), &mut one, flags) };
+    count < 0 && os::errno() == libc::EAGAIN
+}
+
 /// Connects a socket to an address, within its limit of writes. A call that a signal interrupted
 /// goes on connecting, and the next waits for it.
 pub(crate) fn connect(stream: &TcpStream, raw: &[u8; _SS_SIZE]) -> bool {

@@ -32,9 +32,18 @@ impl Flow {
     /// The bytes of this socket, of which nothing is held. A read may wait for so long as
     /// [`IDLE_SECONDS`] say, and a write for this long.
     pub(crate) fn over(stream: TcpStream, write_limit: Duration) -> io::Result<Flow> {
-        let idle = Duration::from_secs(IDLE_SECONDS);
+        Flow::with_limits(stream, Duration::from_secs(IDLE_SECONDS), write_limit)
+    }
+
+    /// The bytes of this socket, of which nothing is held. A read and a write may wait for this
+    /// long.
+    pub(crate) fn with_limits(
+        stream: TcpStream,
+        read_limit: Duration,
+        write_limit: Duration,
+    ) -> io::Result<Flow> {
         stream.set_nodelay(true)?;
-        stream.set_read_timeout(Some(idle))?;
+        stream.set_read_timeout(Some(read_limit))?;
         stream.set_write_timeout(Some(write_limit))?;
         give_up_after(&stream, IDLE_SECONDS)?;
         Ok(Flow {

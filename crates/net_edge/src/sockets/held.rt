@@ -18,20 +18,23 @@ const OTHER_DESCRIPTORS: u64 = 16;
 
 /// The queues of a net's addresses, and the sockets of the dialers to come.
 ///
-/// A listener has one client at a time, and a dialer one socket. So a job takes two descriptors at
-/// most, and an address one more. All of them are there when `listen` is answered: the sockets of
-/// dialers are open, and room for the clients of all listeners was seen. What is closed later, a
+/// A listener has one client at a time, and a dialer one socket beside those of its pool. So a job
+/// takes two descriptors and those of its dialer's pool at most, and an address one more. All of
+/// them are there when `listen` is answered: the sockets of dialers are open, and room for the
+/// clients of all listeners and for what their dialers may keep was seen. What is closed later, a
 /// client's connection or a dialer's socket, gives its descriptor back before the same job opens
 /// the next. So where a process opens nothing else behind its last `listen`, no accept and no dial
 /// ever lacks a descriptor.
 #[derive(Drop)]
 pub(crate) struct HeldSockets {
-    alloc: Global,
+    pub(crate) alloc: Global,
     closing: Closing,
     queues: Queues,
     for_dialers: Vec<DialSocket>,
     /// How many listeners there are.
     listeners: u32,
+    /// How many connections their dialers may keep.
+    kept: u32,
 }
 
 /// These queues, and one more.
@@ -74,16 +77,18 @@ impl HeldSockets {
             queues: Arc::new(alloc, Vec::new(alloc))?,
             for_dialers: Vec::new(alloc),
             listeners: 0,
+            kept: 0,
         })
     }
 
     /// So many listeners of an address. They share one queue, and each has a descriptor for a
-    /// client of its own and for a dialer.
+    /// client of its own and for a dialer, and so many for what that dialer may keep.
     pub(crate) fn listen<'a, R: Net<Listener = TcpListener, Stream = TcpStream>>(
         &mut self,
         rt: &'a R,
         address: SocketAddr,
         copies: u32,
+        kept: u32,
     ) -> io::Result<Vec<SocketListener<'a, R>>>
         ensures count { IfOk result (λ ls. length ls.items ≡ copies) }
         ensures fresh { IfOk result (λ ls. AllFresh ls.items) }
@@ -95,8 +100,10 @@ impl HeldSockets {
             self.for_dialers.push(DialSocket::open(rt)?)?;
         }
         let clients = self.listeners.saturating_add(copies);
-        queue.make_sure(self.alloc, clients)?;
+        let kept = self.kept.saturating_add(copies.saturating_mul(kept));
+        queue.make_sure(self.alloc, clients.saturating_add(kept))?;
         self.listeners = clients;
+        self.kept = kept;
         self.queues = queues;
         Ok(listeners)
     }
@@ -113,11 +120,14 @@ impl HeldSockets {
         SocketStop::of(self.closing.share().ok(), Arc::try_clone(&self.queues).ok())
     }
 
-    /// How many descriptors the process wants for so many listeners more.
-    pub(crate) fn wanted_descriptors(&self, copies: u32) -> u64 {
+    /// How many descriptors the process wants for so many listeners more, whose dialers may keep so
+    /// many connections each.
+    pub(crate) fn wanted_descriptors(&self, copies: u32, kept: u32) -> u64 {
         let addresses = (self.queues.len() as u64).saturating_add(1);
         let jobs = u64::from(self.listeners.saturating_add(copies));
+        let pools = u64::from(self.kept.saturating_add(copies.saturating_mul(kept)));
         jobs.saturating_mul(2)
+            .saturating_add(pools)
             .saturating_add(addresses)
             .saturating_add(OTHER_DESCRIPTORS)
     }

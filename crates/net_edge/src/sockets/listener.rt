@@ -34,7 +34,7 @@ pub struct SocketListener<'a, R> {
 /// The next client of a queue; none once the listeners are closed and nobody waits any more.
 fn next_peer(queue: &Queue, closing: &Closing) -> io::Result<Option<SocketPeer>> {
     match queue.accept() {
-        Ok(stream) => Ok(Some(SocketPeer::over(stream)?)),
+        Ok(stream) => Ok(Some(SocketPeer::over(stream, closing.share()?)?)),
         Err(_) if closing.is_closed() => {
             // Others may wait for a client that comes no more.
             queue.end();

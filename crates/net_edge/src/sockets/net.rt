@@ -10,7 +10,7 @@ use super::held::HeldSockets;
 use super::listener::SocketListener;
 use super::refusal::Refusal;
 use super::stop::SocketStop;
-use line_base::{BROKEN_RUN, Failed, Listeners, Net, NetFault};
+use line_base::{BROKEN_RUN, ConnectionPool, Failed, Listeners, Net, NetFault};
 use std::alloc::{AllocError, AllocGlobal};
 use std::io::ErrorKind;
 use std::net::{self, TcpListener, TcpStream};
@@ -73,13 +73,14 @@ impl<'a, R: net::Net<Listener = TcpListener, Stream = TcpStream> + rt::Clock + S
         ip: u32,
         port: u16,
         copies: u32,
+        kept: u32,
     ) -> Result<Listeners<SocketListener<'a, R>>, NetFault> {
         let address = address(ip, port);
-        match self.held.listen(self.rt, address, copies) {
+        match self.held.listen(self.rt, address, copies, kept) {
             Ok(listeners) => Ok(Listeners::of(listeners)),
             Err(error) if error.kind() == ErrorKind::OutOfMemory => Err(NetFault::OutOfMemory),
             Err(error) => {
-                let wanted = self.held.wanted_descriptors(copies);
+                let wanted = self.held.wanted_descriptors(copies, kept);
                 self.refused = Some(Refusal::of(address, error, wanted));
                 self.faults = self.faults.saturating_add(1);
                 Err(NetFault::Failed)
@@ -87,8 +88,8 @@ impl<'a, R: net::Net<Listener = TcpListener, Stream = TcpStream> + rt::Clock + S
         }
     }
 
-    fn dialer(&mut self) -> SocketDialer<'a, R> {
-        SocketDialer::of(self.rt, self.held.for_dialer())
+    fn dialer(&mut self, pool: ConnectionPool) -> SocketDialer<'a, R> {
+        SocketDialer::of(self.rt, self.held.alloc, self.held.for_dialer(), pool)
     }
 
     fn stopper(&mut self) -> SocketStop {

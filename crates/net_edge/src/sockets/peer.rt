@@ -2,7 +2,9 @@
 ghost use Rattle.std.specs.Prelude.{None};
 
 use super::flow::{Flow, IDLE_SECONDS};
-use line_base::{Failed, Peer};
+use super::stop::Closing;
+use super::waiting::{SLICE_SECONDS, read_in_slices, read_next_in_slices};
+use line_base::{Failed, Next, Peer};
 use std::io::{self, Read};
 use std::net::{Shutdown, TcpStream};
 use std::rt;
@@ -24,20 +26,26 @@ const LINGER_PIECE: usize = 16_384;
 #[derive(Drop)]
 pub struct SocketPeer {
     flow: Flow,
+    closing: Closing,
     read_faults: u64,
     write_faults: u64,
     ends: u64,
+    closings: u64,
 }
 
 impl SocketPeer {
-    /// A connection over this socket, with no fault and no end so far. It ends its reads and writes
-    /// in time.
-    pub(crate) fn over(stream: TcpStream) -> io::Result<SocketPeer> {
+    /// A connection over this socket, with no fault and no end so far, whose listeners are closed
+    /// by `closing`. It ends its reads and writes in time.
+    pub(crate) fn over(stream: TcpStream, closing: Closing) -> io::Result<SocketPeer> {
+        let slice = Duration::from_secs(SLICE_SECONDS);
+        let idle = Duration::from_secs(IDLE_SECONDS);
         Ok(SocketPeer {
-            flow: Flow::over(stream, Duration::from_secs(IDLE_SECONDS))?,
+            flow: Flow::with_limits(stream, slice, idle)?,
+            closing,
             read_faults: 0,
             write_faults: 0,
             ends: 0,
+            closings: 0,
         })
     }
 
@@ -47,9 +55,11 @@ impl SocketPeer {
     pub(crate) fn end<R: rt::Clock>(self, rt: &R) {
         let SocketPeer {
             flow,
+            closing: _,
             read_faults: _,
             write_faults: _,
             ends,
+            closings: _,
         } = self;
         let stream = flow.stream;
         let silence = Duration::from_millis(SILENCE_MILLISECONDS);
@@ -85,13 +95,14 @@ impl Peer for SocketPeer {
       read_faults = p.read_faults;
       write_faults = p.write_faults;
       ends = p.ends;
+      closings = p.closings;
     } };
 
     fn read(&mut self, into: &mut [u8]) -> Result<usize, Failed> {
         if into.is_empty() {
             return Ok(0);
         }
-        match self.flow.read(into) {
+        match read_in_slices(&mut self.flow, into) {
             Ok(0) => {
                 self.ends = self.ends.saturating_add(1);
                 Ok(0)
@@ -102,6 +113,32 @@ impl Peer for SocketPeer {
                 Err(Failed)
             }
         }
+    }
+
+    fn read_next(&mut self, into: &mut [u8]) -> Result<Next, Failed> {
+        match read_next_in_slices(&mut self.flow, &self.closing, into) {
+            Ok(Next::Bytes(count)) => Ok(Next::Bytes(count)),
+            Ok(Next::End) => {
+                self.ends = self.ends.saturating_add(1);
+                Ok(Next::End)
+            }
+            Ok(Next::Closing) => {
+                self.closings = self.closings.saturating_add(1);
+                Ok(Next::Closing)
+            }
+            Err(_) => {
+                self.read_faults = self.read_faults.saturating_add(1);
+                Err(Failed)
+            }
+        }
+    }
+
+    fn is_closing(&mut self) -> bool {
+        let is_closing = self.closing.is_closed();
+        if is_closing {
+            self.closings = self.closings.saturating_add(1);
+        }
+        is_closing
     }
 
     fn write(&mut self, bytes: &[u8]) -> Result<usize, Failed> {

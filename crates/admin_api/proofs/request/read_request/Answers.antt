@@ -1,31 +1,66 @@
-use Rattle.std.proofs.Common.{ap, Err}
+use Rattle.std.proofs.Common.{[], ap, subst, sym, ◌∙◌, append-nil, Err}
+use Rattle.std.specs.Io.KnownBytes.{Consumes, Keeps}
+use Rattle.std.proofs.KnownBytes.{Consumes-nil, Keeps-refl}
+use Rattle.line_base.specs.Lines.{Line}
 use Rattle.admin_api.specs.declared.request.Request.{Request}
 use Rattle.admin_api.proofs.Requesting.{bad_test, body_causes, no_body, no_head, whole_request}
 use Rattle.admin_api.proofs.request.read_request.Goals as goal
 
+pub returns-in-Ended-clause-bytes : goal.returns-in-Ended-clause-bytes
+returns-in-Ended-clause-bytes g c =
+    no_head (g.P.Peer.line c.args.peer.now).left (g.P.Peer.line c.read_next_head.new.peer).left c.args.rest.now c.read_next_head.new.rest c.in-Ended.end c.of_head.result c.of_head.ensures c.in-Ended.ensures.head
+
 pub returns-in-Err-clause-bytes : goal.returns-in-Err-clause-bytes
 returns-in-Err-clause-bytes g c =
-    no_head (g.P.Peer.line c.args.peer.now).left (g.P.Peer.line c.read_request_head.new.peer).left c.args.rest.now c.read_request_head.new.rest c.in-Err.end c.of_head.result c.of_head.ensures c.in-Err.ensures.head
-
-pub returns-in-Err-tested-clause-bytes : goal.returns-in-Err-tested-clause-bytes
-returns-in-Err-tested-clause-bytes g c =
-    bad_test (g.P.Peer.line c.args.peer.now).left (g.P.Peer.line c.read_request_head.new.peer).left c.args.rest.now c.read_request_head.new.rest c.in-Ok.head c.in-Err-tested.refused c.in-Ok.ensures.head c.in-Err-tested.ensures
+    bad_test (g.P.Peer.line c.args.peer.now).left (g.P.Peer.line c.read_next_head.new.peer).left c.args.rest.now c.read_next_head.new.rest c.in-Head.head c.in-Err.refused c.in-Head.ensures.head c.in-Err.ensures
 
 pub returns-in-Ok-read_body-clause-bytes : goal.returns-in-Ok-read_body-clause-bytes
 returns-in-Ok-read_body-clause-bytes g c =
-    whole_request (g.P.Peer.line c.args.peer.now).left (g.P.Peer.line c.read_request_head.new.peer).left (g.P.Peer.line c.read_body.new.peer).left c.args.rest.now c.read_request_head.new.rest c.read_body.new.rest
-    c.in-Ok.head c.in-Ok-tested.framing c.in-Ok.ensures.head c.in-Ok-tested.ensures c.in-Ok-read_body.body c.in-Ok-read_body.ensures.body
+    whole_request (g.P.Peer.line c.args.peer.now).left (g.P.Peer.line c.read_next_head.new.peer).left (g.P.Peer.line c.read_body.new.peer).left c.args.rest.now c.read_next_head.new.rest c.read_body.new.rest
+    c.in-Head.head c.in-Ok.framing c.in-Head.ensures.head c.in-Ok.ensures c.in-Ok-read_body.body c.in-Ok-read_body.ensures.body
 
 pub returns-in-Err-read_body-clause-bytes : goal.returns-in-Err-read_body-clause-bytes
 returns-in-Err-read_body-clause-bytes g c =
     let never = c.in-Err-read_body.ensures.never in
-    no_body (g.P.Peer.line c.args.peer.now).left (g.P.Peer.line c.read_request_head.new.peer).left (g.P.Peer.line c.read_body.new.peer).left c.args.rest.now c.read_request_head.new.rest c.read_body.new.rest
-    c.in-Ok.head c.in-Ok-tested.framing c.in-Ok.ensures.head c.in-Ok-tested.ensures c.in-Err-read_body.end c.has_body.result c.of_body.result c.has_body.ensures c.of_body.ensures
+    no_body (g.P.Peer.line c.args.peer.now).left (g.P.Peer.line c.read_next_head.new.peer).left (g.P.Peer.line c.read_body.new.peer).left c.args.rest.now c.read_next_head.new.rest c.read_body.new.rest
+    c.in-Head.head c.in-Ok.framing c.in-Head.ensures.head c.in-Ok.ensures c.in-Err-read_body.end c.has_body.result c.of_body.result c.has_body.ensures c.of_body.ensures
     c.in-Err-read_body.ensures.body (λ e. never.0 (ap Err e)) (λ e. never.1 (ap Err e)) (λ e. never.2 (ap Err e))
 
 pub returns-in-Err-read_body-clause-causes : goal.returns-in-Err-read_body-clause-causes
 returns-in-Err-read_body-clause-causes g c =
-    let first = c.in-Ok.ensures.causes in
-    body_causes Request (g.P.Peer.line c.args.peer.now).ends (g.P.Peer.line c.read_request_head.new.peer).ends (g.P.Peer.line c.read_body.new.peer).ends (g.P.Peer.line c.args.peer.now).read_faults
-    (g.P.Peer.line c.read_request_head.new.peer).read_faults (g.P.Peer.line c.read_body.new.peer).read_faults c.in-Ok-tested.framing (first.ends_later) (first.faults_later) c.in-Err-read_body.end c.has_body.result
+    let first = c.in-Head.ensures.causes in
+    body_causes Request (g.P.Peer.line c.args.peer.now).ends (g.P.Peer.line c.read_next_head.new.peer).ends (g.P.Peer.line c.read_body.new.peer).ends (g.P.Peer.line c.args.peer.now).read_faults
+    (g.P.Peer.line c.read_next_head.new.peer).read_faults (g.P.Peer.line c.read_body.new.peer).read_faults c.in-Ok.framing (first.ends_later) (first.faults_later) c.in-Err-read_body.end c.has_body.result
     c.in-Err-read_body.ensures.ends c.in-Err-read_body.ensures.reads c.of_body.result c.of_body.ensures
+
+pub returns-in-Closing-clause-bytes : goal.returns-in-Closing-clause-bytes
+returns-in-Closing-clause-bytes g c =
+    let old = g.P.Peer.line c.args.peer.now in (
+      [],
+      subst (λ (l : Line). Consumes old.left l.left []) (sym c.in-Closing.ensures.closing)
+          (Consumes-nil old.left),
+      append-nil c.args.rest.now ∙ c.in-Closing.ensures.none,
+    )
+
+pub returns-in-Closing-clause-given : goal.returns-in-Closing-clause-given
+returns-in-Closing-clause-given g c =
+    let old = g.P.Peer.line c.args.peer.now in
+    subst (λ (l : Line). Keeps old.given l.given) (sym c.in-Closing.ensures.closing)
+    (Keeps-refl old.given)
+
+pub returns-in-Closing-clause-writes : goal.returns-in-Closing-clause-writes
+returns-in-Closing-clause-writes g c =
+    ap (λ (l : Line). l.write_faults) c.in-Closing.ensures.closing
+
+pub returns-in-Closing-clause-closings : goal.returns-in-Closing-clause-closings
+returns-in-Closing-clause-closings g c =
+    ap (λ (l : Line). l.closings) c.in-Closing.ensures.closing
+
+pub returns-in-Closing-clause-causes : goal.returns-in-Closing-clause-causes
+returns-in-Closing-clause-causes g c = record {
+  peer_ended = λ is. absurd (cc);
+  cut = λ is. absurd (cc);
+  read_fault = λ is. absurd (cc);
+  ends_later = λ is. absurd (cc);
+  faults_later = λ is. absurd (cc);
+}

@@ -1,5 +1,6 @@
-use Rattle.std.proofs.Common.{List, ℕ, [], ◌++◌, false, refl, sym, subst, ap, ◌∙◌, arith, inr}
+use Rattle.std.proofs.Common.{Bool, List, ℕ, [], ◌++◌, false, refl, sym, subst, ap, ◌∙◌, arith, inr}
 use Rattle.std.proofs.KnownBytes.{Appends-nil, Appends-trans, Consumes-nil, Consumes-trans}
+use Rattle.admin_api.specs.Reading.{raised_where}
 use Rattle.admin_api.specs.Serving.{Serves, begun, calls_after}
 use Rattle.admin_api.proofs.Turning.{all_causes, few_served, serves_all, serves_more}
 use Rattle.admin_api.proofs.serving.serve_admin.Goals as goal
@@ -19,6 +20,7 @@ requests-init g c = record {
   ends = omega arith;
   reads = omega arith;
   writes = omega arith;
+  closings = refl;
 }
 
 pub requests-preserved : goal.requests-preserved
@@ -30,19 +32,23 @@ requests-preserved g c =
     let f = c.in-None.ensures.causes.reading.faults_later refl in
     let w = c.in-None.ensures.causes.writes_later in
     record {
-      few = few_served c.args.which c.args.pass.now c.requests.served c.requests.pass c.serve_next.new.pass s.0 s.1 t.0 t.1 c.requests.rest c.serve_next.new.rest s.4 i.few t.2 t.6;
+      few = few_served c.args.which c.args.pass.now c.requests.served c.requests.pass c.serve_next.new.pass s.0 s.1 t.0 t.1 c.requests.rest c.serve_next.new.rest s.4 i.few t.2 t.3 t.8;
       number = c.in-None.ensures.number ∙ i.number;
-      calls = t.5 ∙ ap (calls_after (g.S.Stop.calls c.requests.stop)) t.6.0 ∙ i.calls;
+      calls = t.6 ∙ ap (calls_after (g.S.Stop.calls c.requests.stop)) t.8.0 ∙ i.calls;
       serves = (
         s.0 ++ t.0,
         s.1 ++ t.1,
-        Consumes-trans (g.P.Peer.line c.args.peer.now).left (g.P.Peer.line c.requests.peer).left (g.P.Peer.line c.serve_next.new.peer).left s.0 t.0 s.2 t.3,
-        Appends-trans (g.P.Peer.line c.args.peer.now).given (g.P.Peer.line c.requests.peer).given (g.P.Peer.line c.serve_next.new.peer).given s.1 t.1 s.3 t.4,
-        serves_more c.args.which c.args.pass.now c.requests.served c.requests.pass c.serve_next.new.pass s.0 s.1 t.0 t.1 c.requests.rest c.serve_next.new.rest s.4 t.2 t.6,
+        Consumes-trans (g.P.Peer.line c.args.peer.now).left (g.P.Peer.line c.requests.peer).left (g.P.Peer.line c.serve_next.new.peer).left s.0 t.0 s.2 t.4,
+        Appends-trans (g.P.Peer.line c.args.peer.now).given (g.P.Peer.line c.requests.peer).given (g.P.Peer.line c.serve_next.new.peer).given s.1 t.1 s.3 t.5,
+        serves_more c.args.which c.args.pass.now c.requests.served c.requests.pass c.serve_next.new.pass s.0 s.1 t.0 t.1 c.requests.rest c.serve_next.new.rest s.4 t.2 t.3 t.8,
       );
       ends = let h = i.ends in omega (arith, h, e);
       reads = let h = i.reads in omega (arith, h, f);
       writes = let h = i.writes in omega (arith, h, w);
+      closings =
+          t.7
+          ∙ (ap (λ (b : Bool). raised_where b (g.P.Peer.line c.requests.peer).closings) t.8.1
+          ∙ i.closings);
     }
 
 pub returns-in-Some-clause-number : goal.returns-in-Some-clause-number
@@ -56,10 +62,12 @@ returns-in-Some-clause-serves g c =
       s.0 ++ t.0,
       s.1 ++ t.1,
       t.2,
-      Consumes-trans (g.P.Peer.line c.args.peer.now).left (g.P.Peer.line c.requests.peer).left (g.P.Peer.line c.serve_next.new.peer).left s.0 t.0 s.2 t.3,
-      Appends-trans (g.P.Peer.line c.args.peer.now).given (g.P.Peer.line c.requests.peer).given (g.P.Peer.line c.serve_next.new.peer).given s.1 t.1 s.3 t.4,
-      t.5 ∙ ap (λ (n : ℕ). calls_after n t.2) i.calls,
-      serves_all c.args.which c.args.pass.now c.requests.served c.requests.pass c.serve_next.new.pass s.0 s.1 t.0 t.1 c.requests.rest c.serve_next.new.rest s.4 t.2 c.in-Some.ended t.6,
+      t.3,
+      Consumes-trans (g.P.Peer.line c.args.peer.now).left (g.P.Peer.line c.requests.peer).left (g.P.Peer.line c.serve_next.new.peer).left s.0 t.0 s.2 t.4,
+      Appends-trans (g.P.Peer.line c.args.peer.now).given (g.P.Peer.line c.requests.peer).given (g.P.Peer.line c.serve_next.new.peer).given s.1 t.1 s.3 t.5,
+      t.6 ∙ ap (λ (n : ℕ). calls_after n t.2) i.calls,
+      t.7 ∙ ap (raised_where t.3) i.closings,
+      serves_all c.args.which c.args.pass.now c.requests.served c.requests.pass c.serve_next.new.pass s.0 s.1 t.0 t.1 c.requests.rest c.serve_next.new.rest s.4 t.2 t.3 c.in-Some.ended t.8,
     )
 
 pub returns-in-Some-clause-causes : goal.returns-in-Some-clause-causes
@@ -74,8 +82,10 @@ returns-in_default-clause-serves g c = (
   [],
   [],
   false,
+  false,
   Consumes-nil (g.P.Peer.line c.args.peer.now).left,
   Appends-nil (g.P.Peer.line c.args.peer.now).given,
   refl,
-  record { count = 0; mid = c.args.pass.now; rest = []; first = []; final = []; serves = begun; ends = inr (refl, refl, refl); all = refl },
+  refl,
+  record { count = 0; mid = c.args.pass.now; rest = []; first = []; final = []; serves = begun; ends = inr (refl, refl, refl, refl); all = refl },
 )

@@ -14,4 +14,5 @@ invariant-requests g l = record {
   ends : (g.P.Peer.line l.fn.peer).ends ≤ (g.P.Peer.line l.peer).ends;
   reads : (g.P.Peer.line l.fn.peer).read_faults ≤ (g.P.Peer.line l.peer).read_faults;
   writes : (g.P.Peer.line l.fn.peer).write_faults ≤ (g.P.Peer.line l.peer).write_faults;
+  closings : (g.P.Peer.line l.peer).closings ≡ (g.P.Peer.line l.fn.peer).closings;
 }

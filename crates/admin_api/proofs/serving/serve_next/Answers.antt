@@ -1,55 +1,110 @@
-use Rattle.std.proofs.Common.{[], ◌++◌, false, refl, sym, inr}
+use Rattle.std.proofs.Common.{List, ℕ, Option, [], ◌++◌, false, refl, sym, subst, ap, ◌∙◌, inr}
+use Rattle.std.proofs.Common.{Some}
+use Rattle.std.specs.Io.KnownBytes.{Consumes, Keeps}
 use Rattle.std.proofs.KnownBytes.{Consumes-kept}
-use Rattle.admin_api.proofs.Turning.{given_behind, gives_none, is_taken, quiet_turn, refused_turn, replied_causes, turned}
+use Rattle.http_wire.specs.declared.ended.Ended.{Ended}
+use Rattle.admin_api.specs.declared.request.Request.{Request}
+use Rattle.admin_api.specs.Reading.{is_drained, raised_where}
+use Rattle.admin_api.proofs.Turning.{ends_told, given_behind, gives_none, is_taken, own_told}
+use Rattle.admin_api.proofs.Turning.{quiet_turn, refusal_open, refused_turn, replied_causes, turned}
+use Rattle.admin_api.proofs.Turning.{was_asked}
 use Rattle.admin_api.proofs.serving.serve_next.Goals as goal
 
-pub reply_to-requires : goal.reply_to-requires
-reply_to-requires g c =
+pub reply_to-ended-requires : goal.reply_to-ended-requires
+reply_to-ended-requires g c =
     let r = c.in-Ok.ensures.bytes in is_taken (c.args.rest.now ++ r.0) c.read_request.new.rest c.in-Ok.request.head c.in-Ok.request.body.items r.2
 
 pub returns-in-Ok-clause-turn : goal.returns-in-Ok-clause-turn
 returns-in-Ok-clause-turn g c =
     let r = c.in-Ok.ensures.bytes in
-    let a = c.reply_to.ensures.answers in (
+    let a = c.reply_to-ended.ensures.answers in
+    let closing = c.hears_closing-closing.result in
+    let old = g.P.Peer.line c.args.peer.now in
+    let read = g.P.Peer.line c.read_request.new.peer in
+    let told = g.P.Peer.line c.hears_closing-closing.new.peer in
+    let new = g.P.Peer.line c.reply_to-ended.new.peer in
+    let w = was_asked closing read told c.hears_closing-closing.ensures.told in (
       r.0,
       a.0,
       a.1,
-      Consumes-kept (g.P.Peer.line c.args.peer.now).left (g.P.Peer.line c.read_request.new.peer).left (g.P.Peer.line c.reply_to.new.peer).left r.0 r.1 c.reply_to.ensures.others.left,
-      given_behind (g.P.Peer.line c.args.peer.now).given (g.P.Peer.line c.read_request.new.peer).given (g.P.Peer.line c.reply_to.new.peer).given a.0 c.in-Ok.ensures.others.given a.2,
+      closing,
+      Consumes-kept old.left told.left new.left r.0
+          (subst (λ (l : Option (List ℕ)). Consumes old.left l r.0) (sym w.left) r.1)
+          c.reply_to-ended.ensures.others.left,
+      given_behind old.given told.given new.given a.0
+          (subst (λ (l : Option (List ℕ)). Keeps old.given l) (sym w.given) c.in-Ok.ensures.given)
+          a.2,
       a.3,
-      turned c.args.which c.args.last c.in-Ok.request.head c.in-Ok.request.body.items c.args.pass.now c.reply_to.new.pass a.0 (c.args.rest.now ++ r.0) c.read_request.new.rest a.1 c.reply_to.result r.2 a.4,
+      c.reply_to-ended.ensures.others.closings
+          ∙ (w.closings ∙ ap (raised_where closing) c.in-Ok.ensures.closings),
+      turned c.args.which c.is_last-last.result c.in-Ok.request.head c.in-Ok.request.body.items
+          c.args.pass.now c.reply_to-ended.new.pass a.0 (c.args.rest.now ++ r.0)
+          c.read_request.new.rest c.args.spent closing a.1 c.reply_to-ended.result c.drained.result
+          c.is_last-last.ensures c.hears_closing-closing.ensures.asked r.2 a.4 c.drained.ensures,
     )
 
 pub returns-in-Ok-clause-causes : goal.returns-in-Ok-clause-causes
 returns-in-Ok-clause-causes g c =
-    let a = c.reply_to.ensures.answers in
-    let o = c.reply_to.ensures.others in
-    replied_causes (g.P.Peer.line c.args.peer.now).ends (g.P.Peer.line c.read_request.new.peer).ends (g.P.Peer.line c.reply_to.new.peer).ends (g.P.Peer.line c.args.peer.now).read_faults
-    (g.P.Peer.line c.read_request.new.peer).read_faults (g.P.Peer.line c.reply_to.new.peer).read_faults (g.P.Peer.line c.args.peer.now).write_faults (g.P.Peer.line c.read_request.new.peer).write_faults
-    (g.P.Peer.line c.reply_to.new.peer).write_faults c.in-Ok.ensures.causes o.ends o.read_faults c.in-Ok.ensures.others.write_faults c.reply_to.ensures.later c.args.which c.args.last c.in-Ok.request.head
-    c.in-Ok.request.body.items c.args.pass.now c.reply_to.new.pass a.0 a.1 c.reply_to.result a.4 c.reply_to.ensures.cause
+    let a = c.reply_to-ended.ensures.answers in
+    let o = c.reply_to-ended.ensures.others in
+    let closing = c.hears_closing-closing.result in
+    let old = g.P.Peer.line c.args.peer.now in
+    let read = g.P.Peer.line c.read_request.new.peer in
+    let told = g.P.Peer.line c.hears_closing-closing.new.peer in
+    let new = g.P.Peer.line c.reply_to-ended.new.peer in
+    let w = was_asked closing read told c.hears_closing-closing.ensures.told in
+    replied_causes old.ends read.ends new.ends old.read_faults read.read_faults new.read_faults
+    old.write_faults told.write_faults new.write_faults c.in-Ok.ensures.causes (o.ends ∙ w.ends)
+    (o.read_faults ∙ w.reads) (w.writes ∙ c.in-Ok.ensures.writes) c.reply_to-ended.ensures.later
+    c.args.which c.is_last-last.result c.in-Ok.request.head c.in-Ok.request.body.items
+    c.args.pass.now c.reply_to-ended.new.pass a.0 a.1 c.drained.result closing
+    c.reply_to-ended.result c.drained.ensures a.4 c.reply_to-ended.ensures.cause
 
 pub returns-in-Err-Own-clause-turn : goal.returns-in-Err-Own-clause-turn
 returns-in-Err-Own-clause-turn g c =
     let b = c.in-Err-Own.ensures.bytes in
-    let r = c.refuse.ensures.bytes in (
+    let r = c.refuse.ensures.bytes in
+    let old = g.P.Peer.line c.args.peer.now in
+    let read = g.P.Peer.line c.read_request.new.peer in
+    let new = g.P.Peer.line c.refuse.new.peer in (
       b.0,
       r.0,
       false,
-      Consumes-kept (g.P.Peer.line c.args.peer.now).left (g.P.Peer.line c.read_request.new.peer).left (g.P.Peer.line c.refuse.new.peer).left b.0 b.1 c.refuse.ensures.others.left,
-      given_behind (g.P.Peer.line c.args.peer.now).given (g.P.Peer.line c.read_request.new.peer).given (g.P.Peer.line c.refuse.new.peer).given r.0 c.in-Err-Own.ensures.others.given r.1,
+      false,
+      Consumes-kept old.left read.left new.left b.0 b.1 c.refuse.ensures.others.left,
+      given_behind old.given read.given new.given r.0 c.in-Err-Own.ensures.given r.1,
       refl,
-      inr (refl, refl, refused_turn (c.args.rest.now ++ b.0) c.in-Err-Own.field-0 _ _ _ _ r.0 c.refuse.result c.in-Err-Own.field-0-is b.2 r.2 (sym c.in-Err-Own.err-is) (sym c.in-Err-Own.with_body-is)),
+      c.refuse.ensures.others.closings
+          ∙ own_told Request old.closings read.closings c.in-Err-Own.field-0
+          c.in-Err-Own.ensures.closings _ _ c.in-Err-Own.field-0-is,
+      inr (
+        refl,
+        refl,
+        refusal_open _ _ r.0 c.refuse.result r.2,
+        refused_turn (c.args.rest.now ++ b.0) c.in-Err-Own.field-0 _ _ _ _ r.0 c.refuse.result
+            c.in-Err-Own.field-0-is b.2 r.2 (sym c.in-Err-Own.err-is) (sym c.in-Err-Own.with_body-is),
+      ),
     )
 
 pub returns-in-Err-Ends-clause-turn : goal.returns-in-Err-Ends-clause-turn
 returns-in-Err-Ends-clause-turn g c =
-    let b = c.in-Err-Ends.ensures.bytes in (
+    let b = c.in-Err-Ends.ensures.bytes in
+    let old = g.P.Peer.line c.args.peer.now in
+    let read = g.P.Peer.line c.read_request.new.peer in (
       b.0,
       [],
       false,
+      is_drained (Some c.in-Err-Ends.ended),
       b.1,
-      gives_none (g.P.Peer.line c.args.peer.now).given (g.P.Peer.line c.read_request.new.peer).given c.in-Err-Ends.ensures.others.given,
+      gives_none old.given read.given c.in-Err-Ends.ensures.given,
       refl,
-      inr (refl, refl, quiet_turn (c.args.rest.now ++ b.0) c.in-Err-Ends.field-0 _ _ c.in-Err-Ends.field-0-is b.2 (sym c.in-Err-Ends.ended-is)),
+      ends_told Request old.closings read.closings c.in-Err-Ends.field-0
+          c.in-Err-Ends.ensures.closings _ c.in-Err-Ends.ended c.in-Err-Ends.field-0-is refl,
+      inr (
+        refl,
+        refl,
+        ap (λ (e : Ended). is_drained (Some e)) (sym c.in-Err-Ends.ended-is),
+        quiet_turn (c.args.rest.now ++ b.0) c.in-Err-Ends.field-0 _ _ c.in-Err-Ends.field-0-is b.2
+            (sym c.in-Err-Ends.ended-is),
+      ),
     )

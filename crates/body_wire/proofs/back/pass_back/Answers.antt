@@ -1,4 +1,5 @@
 use Rattle.std.proofs.Common.{[], ◌∷◌, ◌++◌, refl, sym, ap, ◌∙◌}
+use Rattle.line_base.proofs.Links.{links_on, links_same}
 use Rattle.std.proofs.KnownBytes.{Appends-nil, Appends-trans, Consumes-nil, Consumes-kept, Keeps-refl, Keeps-trans}
 use Rattle.body_wire.specs.declared.end.BodyEnd.{BodyEnd}
 use Rattle.body_wire.specs.Passing.{form_of, most_passed}
@@ -19,10 +20,11 @@ pieces-init g c = record {
         (c.of-decoder.ensures.form ∙ c.of.ensures) c.of-decoder.ensures.limit,
   );
   faults = refl;
-  open_ = refl;
+  open_ = links_same (g.D.Dialer.upstream c.args.dialer.now);
   writes = refl;
   reads = refl;
   ends = refl;
+  closings = refl;
   left = Keeps-refl (g.P.Peer.line c.args.peer.now).left;
 }
 
@@ -81,10 +83,11 @@ pieces-preserved g c =
             c.write_turn-turn.ensures.out b.5 c.in-Ok.ensures.most,
       );
       faults = c.in-Ok.ensures.cause.kept ∙ i.faults;
-      open_ = c.in-Ok.ensures.stays ∙ i.open_;
+      open_ = links_on i.open_ c.in-Ok.ensures.stays;
       writes = c.write_turn-turn.ensures.cause.others (λ failed. cc) ∙ i.writes;
       reads = c.write_turn-turn.ensures.others.read_faults ∙ i.reads;
       ends = c.write_turn-turn.ensures.others.ends ∙ i.ends;
+      closings = c.write_turn-turn.ensures.others.closings ∙ i.closings;
       left = Keeps-trans (g.P.Peer.line c.args.peer.now).left (g.P.Peer.line c.pieces.peer).left (g.P.Peer.line c.write_turn-turn.new.peer).left i.left c.write_turn-turn.ensures.others.left;
     }
 

@@ -1,4 +1,5 @@
 use Rattle.std.proofs.Common.{◌≡◌, ◌-◌, List, ℕ, length}
+use Rattle.line_base.specs.Dials.{HasSameLinks}
 use Rattle.std.specs.List.{concat}
 use Rattle.std.specs.Io.KnownBytes.{Appends, Consumes, Keeps}
 use Rattle.body_wire.specs.Passing.{ReceivesPieces, form_of, most_passed}
@@ -13,10 +14,11 @@ invariant-pieces g l = record {
       × ReceivesPieces (g.D.Dialer.upstream l.fn.dialer).log (g.D.Dialer.upstream l.dialer).log pieces × Appends (g.P.Peer.line l.fn.peer).given (g.P.Peer.line l.peer).given sent
       × OnWay l.fn.framing (form_of l.fn.chunked) most_passed l.decoder l.fn.out.items l.fn.rest pieces sent l.out.items l.rest;
   faults : (g.D.Dialer.upstream l.dialer).faults ≡ (g.D.Dialer.upstream l.fn.dialer).faults;
-  open_ : (g.D.Dialer.upstream l.dialer).is_open ≡ (g.D.Dialer.upstream l.fn.dialer).is_open;
+  open_ : HasSameLinks (g.D.Dialer.upstream l.fn.dialer) (g.D.Dialer.upstream l.dialer);
   writes : (g.P.Peer.line l.peer).write_faults ≡ (g.P.Peer.line l.fn.peer).write_faults;
   reads : (g.P.Peer.line l.peer).read_faults ≡ (g.P.Peer.line l.fn.peer).read_faults;
   ends : (g.P.Peer.line l.peer).ends ≡ (g.P.Peer.line l.fn.peer).ends;
+  closings : (g.P.Peer.line l.peer).closings ≡ (g.P.Peer.line l.fn.peer).closings;
   left : Keeps (g.P.Peer.line l.fn.peer).left (g.P.Peer.line l.peer).left;
 }
 

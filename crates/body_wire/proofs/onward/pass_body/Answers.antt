@@ -1,4 +1,5 @@
 use Rattle.std.proofs.Common.{◌<◌, [], ◌∷◌, ◌++◌, refl, sym, ◌∙◌, arith}
+use Rattle.line_base.proofs.Links.{links_on, links_same}
 use Rattle.std.proofs.KnownBytes.{Consumes-nil, Consumes-kept, Keeps-refl, Keeps-trans}
 use Rattle.body_wire.specs.declared.end.BodyEnd.{BodyEnd}
 use Rattle.body_wire.specs.declared.form.Form.{Form}
@@ -18,11 +19,12 @@ pieces-init g c = record {
         c.of-decoder.ensures.limit,
   );
   ends = refl;
+  closings = refl;
   reads = refl;
   given = Keeps-refl (g.P.Peer.line c.args.peer.now).given;
   writes = refl;
   faults = refl;
-  open_ = refl;
+  open_ = links_same (g.D.Dialer.upstream c.args.dialer.now);
   left = Keeps-refl (g.D.Dialer.upstream c.args.dialer.now).left;
 }
 
@@ -82,11 +84,12 @@ pieces-preserved g c =
             c.in-Ok.ensures.most,
       );
       ends = c.in-Ok.ensures.end.given some ∙ i.ends;
+      closings = c.in-Ok.ensures.others.closings ∙ i.closings;
       reads = c.in-Ok.ensures.cause.kept ∙ i.reads;
       given = Keeps-trans (g.P.Peer.line c.args.peer.now).given (g.P.Peer.line c.pieces.peer).given (g.P.Peer.line c.pull.new.peer).given i.given c.in-Ok.ensures.others.given;
       writes = c.in-Ok.ensures.others.write_faults ∙ i.writes;
       faults = c.send_turn-turn.ensures.cause.others (λ failed. cc) ∙ i.faults;
-      open_ = c.send_turn-turn.ensures.stays.0 ∙ i.open_;
+      open_ = links_on i.open_ c.send_turn-turn.ensures.stays.0;
       left = Keeps-trans (g.D.Dialer.upstream c.args.dialer.now).left (g.D.Dialer.upstream c.pieces.dialer).left (g.D.Dialer.upstream c.send_turn-turn.new.dialer).left i.left c.send_turn-turn.ensures.stays.1;
     }
 

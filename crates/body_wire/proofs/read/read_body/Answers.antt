@@ -80,6 +80,7 @@ pieces-preserved g c =
         piece_came c.args.framing c.take_all.new.decoder c.args.rest.now r.0 c.take_all.new.out.items c.take_all.new.rest b.0 c.pull.new.self on b.3,
       );
       ends = c.in-Ok.ensures.end.given some ∙ i.ends;
+      closings = c.in-Ok.ensures.others.closings ∙ i.closings;
       faults = c.in-Ok.ensures.cause.kept ∙ i.faults;
       given = Keeps-trans (g.P.Peer.line c.args.peer.now).given (g.P.Peer.line c.pieces.peer).given (g.P.Peer.line c.pull.new.peer).given i.given c.in-Ok.ensures.others.given;
       writes = c.in-Ok.ensures.others.write_faults ∙ i.writes;

@@ -10,6 +10,7 @@ loop-at-init g c = record {
   left = Keeps-refl (g.P.Peer.line c.args.peer.now).left;
   reads = refl;
   ends = refl;
+  closings = refl;
   faults = refl;
 }
 
@@ -20,6 +21,7 @@ loop-at-preserved g c = record {
   left = Keeps-trans _ _ _ c.loop-at.invariant.left c.in-Ok.ensures.others.left;
   reads = c.in-Ok.ensures.others.read_faults ∙ c.loop-at.invariant.reads;
   ends = c.in-Ok.ensures.others.ends ∙ c.loop-at.invariant.ends;
+  closings = c.in-Ok.ensures.others.closings ∙ c.loop-at.invariant.closings;
   faults = c.in-Ok.ensures.cause.kept ∙ c.loop-at.invariant.faults;
 }
 
@@ -31,6 +33,7 @@ returns-in-Err-clause-others g c = record {
   left = Keeps-trans _ _ _ c.loop-at.invariant.left c.in-Err.ensures.others.left;
   read_faults = c.in-Err.ensures.others.read_faults ∙ c.loop-at.invariant.reads;
   ends = c.in-Err.ensures.others.ends ∙ c.loop-at.invariant.ends;
+  closings = c.in-Err.ensures.others.closings ∙ c.loop-at.invariant.closings;
 }
 
 pub returns-clause-bytes : goal.returns-clause-bytes

@@ -9,6 +9,7 @@ invariant-loop-at g l = record {
   left : Keeps (g.P.Peer.line l.fn.peer).left (g.P.Peer.line l.peer).left;
   reads : (g.P.Peer.line l.peer).read_faults ≡ (g.P.Peer.line l.fn.peer).read_faults;
   ends : (g.P.Peer.line l.peer).ends ≡ (g.P.Peer.line l.fn.peer).ends;
+  closings : (g.P.Peer.line l.peer).closings ≡ (g.P.Peer.line l.fn.peer).closings;
   faults : (g.P.Peer.line l.peer).write_faults ≡ (g.P.Peer.line l.fn.peer).write_faults;
 }
 

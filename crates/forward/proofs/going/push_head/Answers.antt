@@ -16,8 +16,8 @@ returns c =
     (left_kept never_kept listed c.items-2.result.now c.args.head.now.fields c.items-2.ensures stands) in
     head_joined c.args.head.now c.args.to.now c.as_str.result.now c.as_bytes.result.now c.args.out.now.items c.push_request_line.new.head.items
     c.push_line.new.head.items c.push_kept.new.head.items c.push_framing.new.head.items c.push_line-2.new.head.items c.push_table.new.head.items
-    c.push_service.new.head.items c.push_line-3.new.head.items c.push_residual.new.head.items c.push_line-4.new.head.items c.end_line.new.head.items
+    c.push_service.new.head.items c.push_line-3.new.head.items c.push_residual.new.head.items c.push_closing.new.head.items c.end_line.new.head.items
     c.as_str.ensures.value (c.as_bytes.ensures.value ∙ c.via.ensures)
     c.in_ok-push_request_line.ensures c.in_ok-push_line.ensures kept c.in_ok-push_framing.ensures c.in_ok-push_line-2.ensures
-    c.in_ok-push_table.ensures c.in_ok-push_service.ensures c.in_ok-push_line-3.ensures c.in_ok-push_residual.ensures c.in_ok-push_line-4.ensures
+    c.in_ok-push_table.ensures c.in_ok-push_service.ensures c.in_ok-push_line-3.ensures c.in_ok-push_residual.ensures c.in_ok-push_closing.ensures
     c.in_ok-end_line.ensures

@@ -15,6 +15,7 @@ loop-answer-init g c = record {
   faults = c.in-More.ensures.bytes.2;
   given = c.in-More.ensures.others.given;
   write_faults = c.in-More.ensures.others.write_faults;
+  closings = c.in-More.ensures.others.closings;
 }
 
 pub loop-answer-preserved : goal.loop-answer-preserved
@@ -29,6 +30,7 @@ loop-answer-preserved g c =
       faults = more.2 ∙ before.faults;
       given = Keeps-trans _ _ _ before.given turn.others.given;
       write_faults = turn.others.write_faults ∙ before.write_faults;
+      closings = turn.others.closings ∙ before.closings;
     }
 
 pub returns-in-Answered-take_turn-clause-head : goal.returns-in-Answered-take_turn-clause-head

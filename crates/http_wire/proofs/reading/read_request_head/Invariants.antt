@@ -12,6 +12,7 @@ invariant-loop-answer g l = record {
   faults : (g.P.Peer.line l.peer).read_faults ≡ (g.P.Peer.line l.fn.peer).read_faults;
   given : Keeps (g.P.Peer.line l.fn.peer).given (g.P.Peer.line l.peer).given;
   write_faults : (g.P.Peer.line l.peer).write_faults ≡ (g.P.Peer.line l.fn.peer).write_faults;
+  closings : (g.P.Peer.line l.peer).closings ≡ (g.P.Peer.line l.fn.peer).closings;
 }
 
 abbrev pub decreases-loop-answer : goal.decreases-loop-answer

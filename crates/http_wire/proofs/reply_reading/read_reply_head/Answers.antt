@@ -1,4 +1,5 @@
 use Rattle.std.proofs.Common.{rules, ◌≡◌, List, ℕ, [], refl, sym, ap, arith, subst, ◌∙◌, length-append, length}
+use Rattle.line_base.proofs.Links.{links_on, links_same, still_open}
 use Rattle.http_wire.specs.Reading.{is_read_fault, raised_at}
 use Rattle.http_wire.specs.Replies.{Tracks}
 use Rattle.http_wire.proofs.Receiving.{looked_reply, nothing_yet, one_more, quiet_after, stopped_reply, tracked_open}
@@ -10,12 +11,12 @@ pub loop-watch-init : goal.loop-watch-init
 loop-watch-init g c = record {
   read = nothing_yet _ _ c.args.rest.now;
   tracks = subst (λ (bytes : List ℕ). Tracks bytes c.follow.new.self.place) c.kept.ensures (c.follow.ensures [] (subst (Tracks []) (sym c.new-watch.ensures) tracks_first));
-  stays = refl;
+  stays = links_same (g.D.Dialer.upstream c.args.dialer.now);
   faults = refl;
 }
 
 pub receive_once-requires-clause-open_ : goal.receive_once-requires-clause-open_
-receive_once-requires-clause-open_ g c = c.loop-watch.invariant.stays ∙ c.requires
+receive_once-requires-clause-open_ g c = still_open c.loop-watch.invariant.stays c.requires
 
 pub receive_once-requires-clause-tracks : goal.receive_once-requires-clause-tracks
 receive_once-requires-clause-tracks g c = c.loop-watch.invariant.tracks
@@ -34,7 +35,7 @@ loop-watch-preserved g c =
       read = one_more _ _ _ _ _ _ c.args.rest.now c.loop-watch.rest c.receive_once.new.rest before.read
           (tracked_open c.loop-watch.rest c.loop-watch.watch.place open_.1 open_.0 before.tracks) c.in-Ok.ensures.bytes;
       tracks = c.in-Ok.ensures.tracks;
-      stays = c.receive_once.ensures.stays ∙ before.stays;
+      stays = links_on before.stays c.receive_once.ensures.stays;
       faults = c.in-Ok.ensures.fault ∙ before.faults;
     }
 
@@ -53,7 +54,8 @@ pub returns-in-Err-clause-faults : goal.returns-in-Err-clause-faults
 returns-in-Err-clause-faults g c = omega (arith, c.loop-watch.invariant.faults, c.receive_once.ensures.faults)
 
 pub returns-in-Err-clause-stays : goal.returns-in-Err-clause-stays
-returns-in-Err-clause-stays g c = c.receive_once.ensures.stays ∙ c.loop-watch.invariant.stays
+returns-in-Err-clause-stays g c =
+    links_on c.loop-watch.invariant.stays c.receive_once.ensures.stays
 
 pub answer-requires : goal.answer-requires
 answer-requires g c few =

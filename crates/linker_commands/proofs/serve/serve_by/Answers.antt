@@ -105,6 +105,7 @@ returns-clause-served g c = λ path right.
         admin = refl;
         rule = refl;
         retries = refl;
+        pool = refl;
         workers = refl;
         seed = refl;
         feed = c.feeding.ensures;

@@ -39,11 +39,11 @@ returns-in_err-server c =
     told_on_by routed_of (router_told (view c.args.value.now)) c.in_err-server.field-0.0 c.from_residual-in_err-server.result c.from_residual-in_err-server.ensures.1 c.in_err-server.ensures.0
     (λ some. rw (c.in_ok-check_router_keys.ensures, c.in_ok-needed_word.ensures, c.in_ok-base.ensures.told, c.in_ok-prefix.ensures, c.in_ok-kind.ensures, c.in_err-server.ensures.1 some))
 
-pub returns-in_err-limits : goal.returns-in_err-limits
+pub returns-in_err-client : goal.returns-in_err-client
 unfolding router_told
-returns-in_err-limits c =
-    told_on_by routed_of (router_told (view c.args.value.now)) c.in_err-limits.field-0.0 c.from_residual-in_err-limits.result c.from_residual-in_err-limits.ensures.1 c.in_err-limits.ensures.told.0
-    (λ some. rw (c.in_ok-check_router_keys.ensures, c.in_ok-needed_word.ensures, c.in_ok-base.ensures.told, c.in_ok-prefix.ensures, c.in_ok-kind.ensures, c.in_ok-server.ensures, c.in_err-limits.ensures.told.1 some))
+returns-in_err-client c =
+    told_on_by routed_of (router_told (view c.args.value.now)) c.in_err-client.field-0.0 c.from_residual-in_err-client.result c.from_residual-in_err-client.ensures.1 c.in_err-client.ensures.told.0
+    (λ some. rw (c.in_ok-check_router_keys.ensures, c.in_ok-needed_word.ensures, c.in_ok-base.ensures.told, c.in_ok-prefix.ensures, c.in_ok-kind.ensures, c.in_ok-server.ensures, c.in_err-client.ensures.told.1 some))
 
 pub returns-in_err-retries : goal.returns-in_err-retries
 unfolding router_told
@@ -58,7 +58,7 @@ returns-in_err-retries c =
       c.in_ok-prefix.ensures,
       c.in_ok-kind.ensures,
       c.in_ok-server.ensures,
-      c.in_ok-limits.ensures.told,
+      c.in_ok-client.ensures.told,
       c.in_err-retries.ensures.told.1 some,
     ))
 
@@ -66,7 +66,7 @@ pub invariant_of-result : goal.invariant_of-result
 invariant_of-result c =
     record {
       sound = c.in_ok-base.ensures.sound;
-      failures = c.in_ok-limits.ensures.failures;
+      failures = c.in_ok-client.ensures.failures;
       allowed = c.in_ok-retries.ensures.allowed;
     }
 
@@ -80,6 +80,6 @@ returns c =
       c.in_ok-prefix.ensures,
       c.in_ok-kind.ensures,
       c.in_ok-server.ensures,
-      c.in_ok-limits.ensures.told,
+      c.in_ok-client.ensures.told,
       c.in_ok-retries.ensures.told,
     )

@@ -1,4 +1,6 @@
 use Rattle.std.proofs.Common.{Err, ◌∙◌, ap, arith}
+use Rattle.line_base.proofs.Links.{links_on}
+use Rattle.proxy_session.specs.Heads.{fault_of}
 use Rattle.proxy_session.proofs.Hearing.{heard, one_dropped}
 use Rattle.proxy_session.proofs.final_head.receive_final.Goals as goal
 
@@ -18,7 +20,8 @@ returns-in-Err-clause-hears g c =
     (g.D.Dialer.upstream c.args.dialer.now).faults (g.D.Dialer.upstream c.heads.dialer).faults
     (g.D.Dialer.upstream c.read_reply_head.new.dialer).faults _ (Err c.of_end.result) i.few
     c.in-Err.ensures.head i.faults c.in-Err.ensures.fault c.in-Err.ensures.faults
-    (ap Err c.of_end.ensures)
+    (ap Err (c.of_end.ensures
+    ∙ ap (λ b. fault_of b c.in-Err.end) c.is_nothing-nothing.ensures))
 
 pub heads-preserved : goal.heads-preserved
 heads-preserved g c =
@@ -28,5 +31,5 @@ heads-preserved g c =
       few = omega (arith, n.1);
       dropped = one_dropped _ _ _ _ _ _ _ _ _ i.dropped _ c.in-Ok.ensures.head n.0;
       faults = c.in-Ok.ensures.fault ∙ i.faults;
-      open_ = c.in-Ok.ensures.stays ∙ i.open_;
+      open_ = links_on i.open_ c.in-Ok.ensures.stays;
     }

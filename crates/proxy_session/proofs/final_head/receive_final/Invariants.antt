@@ -1,4 +1,5 @@
 use Rattle.std.proofs.Common.{◌≡◌, ◌≤◌}
+use Rattle.line_base.specs.Dials.{HasSameLinks}
 use Rattle.proxy_session.proofs.Hearing.{Dropped}
 use Rattle.proxy_session.proofs.final_head.receive_final.Given as goal
 
@@ -8,5 +9,5 @@ invariant-heads g l = record {
   dropped : Dropped (g.D.Dialer.upstream l.fn.dialer).log (g.D.Dialer.upstream l.dialer).log
       l.fn.rest l.rest l.dropped;
   faults : (g.D.Dialer.upstream l.dialer).faults ≡ (g.D.Dialer.upstream l.fn.dialer).faults;
-  open_ : (g.D.Dialer.upstream l.dialer).is_open ≡ (g.D.Dialer.upstream l.fn.dialer).is_open;
+  open_ : HasSameLinks (g.D.Dialer.upstream l.fn.dialer) (g.D.Dialer.upstream l.dialer);
 }

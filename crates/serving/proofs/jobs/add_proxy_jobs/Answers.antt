@@ -1,7 +1,8 @@
 use Rattle.rand_core.specs.Pcg32Seed.{pcg32_seed}
 use Rattle.rand_pcg.specs.Pcg.{pcg64_of_seed}
 use Rattle.std.proofs.Common.{◌+◌, ◌%◌, ◌^◌, ℕ, refl, sym, subst, ap, ◌∙◌, arith, length, List}
-use Rattle.std.specs.Prelude.{Option}
+use Rattle.std.specs.Prelude.{Option, nat_lt}
+use Rattle.line_base.specs.declared.dialer.ConnectionPool.{ConnectionPool}
 use Rattle.line_base.specs.Nets.{IsNewLog, Networking, Returns, after_stopper}
 use Rattle.serving.specs.declared.policy.Policy.{Policy}
 use Rattle.linker_config.specs.declared.config.Port.{Port}
@@ -73,6 +74,10 @@ loop-listener-preserved g c =
             listener = next.0;
             log = rw c.of.ensures.dialer (subst (λ (t : Option (Returns g.row.N-L-P.Denot)). IsNewLog t (g.N.D.Dialer.upstream c.dialer.result).log) inv.told c.dialer.ensures.log);
             hung = rw c.of.ensures.dialer c.dialer.ensures.closed;
+            none_kept = rw c.of.ensures.dialer c.dialer.ensures.none_kept;
+            keeps =
+                rw c.of.ensures.dialer (c.dialer.ensures.keeps
+                ∙ ap (λ (p : ConnectionPool). nat_lt 0 p.max_size) c.pool_by.ensures);
             clock = rw c.of.ensures.clock c.fork.ensures.0;
             words = c.of.ensures.words ∙ (c.seed_from_u64.ensures ∙ ap (λ (n : ℕ). pcg64_of_seed (pcg32_seed 32 ((c.args.setup.now.site.now.seed + n) % 2 ^ 64))) c.from.ensures);
             policy_is = refl;

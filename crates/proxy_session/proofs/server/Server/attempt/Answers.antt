@@ -1,4 +1,4 @@
-use Rattle.std.proofs.Common.{refl, inl, ◌∙◌}
+use Rattle.std.proofs.Common.{refl, ap, not, inl, ◌∙◌}
 use Rattle.machine.specs.Code.{ask_of}
 use Rattle.proxy_session.specs.Callers.{caller_of}
 use Rattle.proxy_session.specs.Sought.{sought_of}
@@ -34,15 +34,17 @@ returns-in-Ok-clause-asks g c =
       target = c.as_slice.result;
       host = c.as_slice-in-Ok.result;
       ask = record { ref_ptr = c.args.head.ref_ptr; now = c.args.request.now.ask };
+      closes = not c.keeps.result;
     } in
     asks_sent g.J.Naming.settings (sought_of c.args.request.now) going
+    (at c.args.connection.now c.args.self.now) (at c.send_found.new.connection
+    c.send_found.new.self)
     (record {
       host = c.as_slice-in-Ok.ensures.value;
       line = c.as_slice.ensures.value;
       framing = refl;
-    })
-    (at c.args.connection.now c.args.self.now) (at c.send_found.new.connection
-    c.send_found.new.self) (caller_of c.find.new.pass)
+      closes = ap not c.keeps.ensures;
+    }) (caller_of c.find.new.pass)
     c.args.connection.now.budget c.send_found.new.connection.budget refl refl
     f.0 c.find.new.names c.in-Ok.found c.send_found.result f.1 f.2 c.send_found.ensures.words
     c.send_found.ensures.sends

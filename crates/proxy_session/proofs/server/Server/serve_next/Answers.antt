@@ -1,41 +1,59 @@
-use Rattle.std.proofs.Common.{refl, inl}
+use Rattle.std.proofs.Common.{refl, ap, inl, inr}
+use Rattle.line_base.specs.Lines.{Line}
+use Rattle.proxy_session.specs.Exchange.{Standing}
 use Rattle.proxy_session.specs.Standing.{standing}
+use Rattle.proxy_session.proofs.Reading.{having_read}
 use Rattle.proxy_session.proofs.Resting.{idle_same}
 use Rattle.proxy_session.proofs.Serving.{head_served}
 use Rattle.proxy_session.proofs.server.Server.serve_next.Goals as goal
 
-pub returns-in-Ok-clause-serves : goal.returns-in-Ok-clause-serves
-returns-in-Ok-clause-serves g c =
+pub returns-in-Head-clause-serves : goal.returns-in-Head-clause-serves
+returns-in-Head-clause-serves g c =
     let at = standing g.P.Peer.line g.D.Dialer.upstream g.C.Clock.to_come in
+    let old : Standing = at c.args.connection.now c.args.self.now in
+    let mid : Standing = at c.next_head.new.connection c.next_head.new.self in
     head_served g.J.Naming.settings c.args.context.now.rule.now c.args.connection.now.served
-    c.read_head.new.connection.served c.args.connection.now.budget
-    c.read_head.new.connection.budget c.proxy_once-ended.new.connection.budget
-    (at c.args.connection.now c.args.self.now)
-    (at c.read_head.new.connection c.read_head.new.self)
-    (at c.proxy_once-ended.new.connection c.proxy_once-ended.new.self) c.in-Ok.head
-    c.proxy_once-ended.result c.in-Ok.ensures.served c.in-Ok.ensures.budget c.in-Ok.ensures.reads
-    c.proxy_once-ended.ensures.exchange
+    c.next_head.new.connection.served c.args.connection.now.budget
+    c.next_head.new.connection.budget c.proxy_once-ended.new.connection.budget
+    old mid (having_read mid (g.P.Peer.line c.hears_closing-closing.new.peer) mid.kept)
+    (at c.proxy_once-ended.new.connection c.proxy_once-ended.new.self) c.in-Head.head
+    c.hears_closing-closing.result c.is_last.result c.proxy_once-ended.result c.drained.result
+    c.in-Head.ensures.served c.in-Head.ensures.budget
+    c.in-Head.ensures.reads
+    c.hears_closing-closing.ensures.asked
+    (ap (λ (l : Line). having_read mid l mid.kept) c.hears_closing-closing.ensures.told)
+    c.is_last.ensures c.proxy_once-ended.ensures.exchange c.drained.ensures
 
-pub returns-in-Err-clause-serves : goal.returns-in-Err-clause-serves
-returns-in-Err-clause-serves g c =
+pub returns-in-Closing-clause-serves : goal.returns-in-Closing-clause-serves
+returns-in-Closing-clause-serves g c =
+    let closing = c.in-Closing.ensures.reads in (
+      0,
+      inl (
+        inr (record { none = closing.0; closing = closing.1; is = refl }),
+        record { none = refl; same = c.in-Closing.ensures.budget },
+      ),
+    )
+
+pub returns-in-Ended-clause-serves : goal.returns-in-Ended-clause-serves
+returns-in-Ended-clause-serves g c =
     let at = standing g.P.Peer.line g.D.Dialer.upstream g.C.Clock.to_come in (
       0,
       inl (
-        record {
-          mid = at c.read_head.new.connection c.read_head.new.self;
-          end = c.in-Err.end;
-          reads = c.in-Err.ensures.reads;
+        inl (record {
+          mid = at c.next_head.new.connection c.next_head.new.self;
+          end = c.in-Ended.end;
+          reads = c.in-Ended.ensures.reads;
           nothing = record {
             away = record {
               kept = refl;
-              upstream = idle_same (g.D.Dialer.upstream c.read_head.new.self.way.dialer);
+              upstream = idle_same (g.D.Dialer.upstream c.next_head.new.self.way.dialer);
             };
             caller = refl;
             moments = refl;
             words = refl;
           };
           answers = c.end_without_head.ensures;
-        },
-        record { none = refl; same = c.in-Err.ensures.budget },
+        }),
+        record { none = refl; same = c.in-Ended.ensures.budget },
       ),
     )

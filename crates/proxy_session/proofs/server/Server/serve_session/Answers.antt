@@ -1,7 +1,7 @@
 use Rattle.std.proofs.Common.{refl, arith}
 use Rattle.proxy_session.specs.Exchange.{Standing}
 use Rattle.proxy_session.specs.Standing.{standing}
-use Rattle.proxy_session.proofs.Ending.{no_fault, session_ending, session_spent}
+use Rattle.proxy_session.proofs.Ending.{no_fault, session_ending, session_hears, session_spent}
 use Rattle.proxy_session.proofs.Serving.{few_served, none_served, one_served, session_ends}
 use Rattle.proxy_session.proofs.server.Server.serve_session.Goals as goal
 
@@ -72,6 +72,15 @@ returns-in-Some-clause-spent g c is =
     (at c.args.connection.now c.args.self.now) (at c.serve_next.new.connection
     c.serve_next.new.self)
     c.in-Some.ended (returns-in-Some-clause-session g c) is
+
+pub returns-in-Some-clause-drained : goal.returns-in-Some-clause-drained
+returns-in-Some-clause-drained g c =
+    let at = standing g.P.Peer.line g.D.Dialer.upstream g.C.Clock.to_come in
+    session_hears g.J.Naming.settings c.args.context.now.rule.now c.args.connection.now.budget
+    c.serve_next.new.connection.budget
+    (at c.args.connection.now c.args.self.now) (at c.serve_next.new.connection
+    c.serve_next.new.self)
+    c.in-Some.ended (returns-in-Some-clause-session g c)
 
 pub returns-in-Some-clause-closed : goal.returns-in-Some-clause-closed
 returns-in-Some-clause-closed g c =

@@ -22,6 +22,7 @@ returns-in-Err-clause-spoke g c =
       never = e.never;
       given = e.peer_stays.given;
       writes = e.peer_stays.write_faults;
+      closings = e.peer_stays.closings;
     })
     c.of_body.ensures
 
@@ -48,5 +49,6 @@ returns-in-Ok-clause-spoke g c =
       never = e.never;
       given = e.peer_stays.given;
       writes = e.peer_stays.write_faults;
+      closings = e.peer_stays.closings;
     })
     c.receive_reply.ensures.replies

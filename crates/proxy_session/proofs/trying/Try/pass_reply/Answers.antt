@@ -25,6 +25,7 @@ returns-clause-backs g c =
           (g.D.Dialer.upstream c.args.way.now.dialer).faults
           (g.D.Dialer.upstream c.pass_back-passed.new.dialer).faults b.0
           c.knows_chunks-chunked.result c.closes_behind-closes.result c.is_closing.result
+          c.is_reusable-reusable.result
           c.back_head_into-written.new.out.items c.knows_chunks-chunked.ensures
           c.closes_behind-closes.ensures c.is_closing.ensures c.in-Ok.ensures.ok
           c.pass_back-passed.result
@@ -39,6 +40,7 @@ returns-clause-backs g c =
             left = e.peer_stays.left;
             reads = e.peer_stays.read_faults;
             ends = e.peer_stays.ends;
+            closings = e.peer_stays.closings;
           })
-          c.of_back.result c.of_back.ensures,
+          c.is_reusable-reusable.ensures c.of_back.result c.of_back.ensures,
     )

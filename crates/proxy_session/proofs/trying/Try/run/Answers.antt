@@ -1,28 +1,38 @@
-use Rattle.std.proofs.Common.{refl, ◌∙◌}
-use Rattle.proxy_session.proofs.Resting.{rests_same}
-use Rattle.proxy_session.proofs.Speaking.{not_dialed, spoken}
+use Rattle.std.proofs.Common.{List, ℕ, subst, inl}
+use Rattle.proxy_session.specs.Trying.{GoesOnKept, TriesAnew}
+use Rattle.proxy_session.proofs.Speaking.{tries_anew, tries_kept}
 use Rattle.proxy_session.proofs.trying.Try.run.Goals as goal
 
-pub returns-in-Ok : goal.returns-in-Ok
-returns-in-Ok g c =
-    spoken c.args.self.now.head.now c.args.way.now.out.items c.args.self.now.framing
-    c.args.self.now.last c.args.self.now.addr (g.P.Peer.line c.args.peer.now)
-    (g.P.Peer.line c.converse-tried.new.peer) c.args.rest.now c.converse-tried.new.rest
-    (g.D.Dialer.upstream c.args.way.now.dialer) (g.D.Dialer.upstream c.hang.new.self)
-    c.converse-tried.result (g.D.Dialer.upstream c.dial.new.self).log
-    (g.D.Dialer.upstream c.converse-tried.new.way.dialer).log
-    (g.D.Dialer.upstream c.dial.new.self).faults
-    (g.D.Dialer.upstream c.converse-tried.new.way.dialer).faults
-    (g.D.Dialer.upstream c.converse-tried.new.way.dialer).is_open c.in-Ok.ensures.log
-    c.in-Ok.ensures.cause.kept c.converse-tried.ensures.spoke
-    (c.converse-tried.ensures.stays ∙ c.in-Ok.ensures.opens) c.hang.ensures.log c.hang.ensures.kept
-    c.hang.ensures.closes
+pub run_kept-requires-clause-open_ : goal.run_kept-requires-clause-open_
+run_kept-requires-clause-open_ g c = (c.resume.ensures.taken c.if-resume.true).open_
 
-pub returns-in-Err : goal.returns-in-Err
-returns-in-Err g c =
-    not_dialed c.args.self.now.head.now c.args.way.now.out.items c.args.self.now.framing
-    c.args.self.now.last c.args.self.now.addr (g.P.Peer.line c.args.peer.now)
-    (g.P.Peer.line c.args.peer.now) c.args.rest.now c.args.rest.now
-    (g.D.Dialer.upstream c.args.way.now.dialer)
-    (g.D.Dialer.upstream c.dial.new.self) _ (rests_same (g.P.Peer.line c.args.peer.now)) refl
-    c.in-Err.ensures.log c.in-Err.ensures.cause.by_one c.in-Err.ensures.opens refl
+pub returns-then-resume : goal.returns-then-resume
+returns-then-resume g c =
+    let to = c.args.self.now in
+    let taken = c.resume.ensures.taken c.if-resume.true in
+    let before = g.D.Dialer.upstream c.args.way.now.dialer in
+    let first = g.D.Dialer.upstream c.resume.new.way.dialer in
+    let now = g.D.Dialer.upstream c.run_kept.new.way.dialer in
+    tries_kept to.head.now c.args.way.now.out.items to.framing to.last to.addr
+    (g.P.Peer.line c.args.peer.now) (g.P.Peer.line c.run_kept.new.peer) c.args.rest.now
+    c.run_kept.new.rest before first now c.run_kept.result taken.log taken.faults taken.keeps
+    taken.any taken.again
+    (subst (λ (out : List ℕ). GoesOnKept to.head.now out to.framing to.last to.addr
+    (g.P.Peer.line c.args.peer.now) (g.P.Peer.line c.run_kept.new.peer) c.args.rest.now
+    c.run_kept.new.rest first now c.run_kept.result) c.resume.ensures.out c.run_kept.ensures)
+
+pub returns : goal.returns
+returns g c =
+    let to = c.args.self.now in
+    let none = c.resume.ensures.none c.if-resume.false in
+    let before = g.D.Dialer.upstream c.args.way.now.dialer in
+    let first = g.D.Dialer.upstream c.resume.new.way.dialer in
+    let now = g.D.Dialer.upstream c.run_anew.new.way.dialer in
+    inl (
+    tries_anew to.head.now c.args.way.now.out.items to.framing to.last to.addr
+    (g.P.Peer.line c.args.peer.now) (g.P.Peer.line c.run_anew.new.peer) c.args.rest.now
+    c.run_anew.new.rest before first now c.run_anew.result none.log none.faults none.keeps
+    (subst (λ (out : List ℕ). TriesAnew to.head.now out to.framing to.last to.addr
+    (g.P.Peer.line c.args.peer.now) (g.P.Peer.line c.run_anew.new.peer) c.args.rest.now
+    c.run_anew.new.rest first now c.run_anew.result) c.resume.ensures.out c.run_anew.ensures)
+    )

@@ -1,23 +1,28 @@
-use Rattle.std.proofs.Common.{refl, sym}
+use Rattle.std.proofs.Common.{refl, sym, ap, ◌∙◌}
+use Rattle.router.specs.Passes.{number_in}
 use Rattle.serving.proofs.proxy.ProxyServerServe.serve.Goals as goal
 
 pub returns : goal.returns
 returns g c =
     let did = c.serve_session-ended.ensures in
     let began = c.begin-connection.ensures in
+    let idle = c.end_idle.ensures in
     let s = did.session in (
       (
         c.serve_session-ended.result,
         c.serve_session-ended.new.self.rest,
         c.serve_session-ended.new.connection.budget,
-        rw (c.into_peer.ensures, sym began.0, sym began.2) (record {
-          requests = s.requests;
-          retries = s.retries;
-          serves = s.serves;
-          bounded = s.bounded;
-        }),
+        g.D.Dialer.upstream c.serve_session-ended.new.self.way.dialer,
+        rw (c.into_peer.ensures, sym began.0, sym began.2, idle.pass, idle.clock, idle.words)
+            (record {
+              requests = s.requests;
+              retries = s.retries;
+              serves = s.serves;
+              bounded = s.bounded;
+            }),
+        idle.ends,
         c.lacked_behind-self.ensures,
       ),
       refl,
-      did.number,
+      rw idle.pass did.number,
     )

@@ -1,0 +1,56 @@
+//! Connections whose listeners are closing.
+use crate::connections::{Connection, Served, run};
+use admin_api::Which::Admin;
+use http_wire::Ended::{self, Drained, PeerEnded};
+use std::alloc::Global;
+use std::sync::Wait;
+use std::test::Fail;
+
+/// Two requests, which come at once.
+const TWO: &str =
+    "GET /admin/ping HTTP/1.1\r\nHost: n\r\n\r\nGET /admin/ping HTTP/1.1\r\nHost: n\r\n\r\n";
+
+const PONG: &str = "HTTP/1.1 200 OK\r\nContent-Type: text/plain\r\nContent-Length: 5\r\n\r\npong\n";
+
+/// Behind it the connection closes.
+const LAST: &str =
+    "HTTP/1.1 200 OK\r\nContent-Type: text/plain\r\nContent-Length: 5\r\nConnection: close\r\n\r\npong\n";
+
+/// From which question on the connection says that its listeners are closing, the replies, and the
+/// end. The questions are: a wait for the first request, whether it is the last, whether the second is,
+/// and a wait for a third.
+const ROWS: [(u64, &[&str], Ended); 5] = [
+    (0, &[], Drained),
+    (1, &[LAST], Drained),
+    (2, &[PONG, LAST], Drained),
+    (3, &[PONG, PONG], Drained),
+    (4, &[PONG, PONG], PeerEnded),
+];
+
+/// Serves a connection for each row.
+fn serve_rows<R: Wait>(rt: &R, alloc: Global) -> Result<Vec<Served>, Fail> {
+    let mut all = Vec::new(alloc);
+    for (question, _replies, _ended) in &ROWS {
+        all.push(Connection {
+            closing: Some(*question),
+            ..Connection::of(Admin, Vec::from_slice(alloc, TWO.as_bytes())?)
+        })?;
+    }
+    run(rt, alloc, all.as_slice())
+}
+
+#[test]
+fn a_connection_is_drained(rt: HostRuntime) -> Result<(), Fail> {
+    let alloc = rt.alloc();
+    let served = serve_rows(&rt, alloc)?;
+    assert_eq!(rt; served.len(), ROWS.len());
+    for (one, (question, replies, ended)) in served.iter().zip(&ROWS) {
+        let mut wanted = Vec::new(alloc);
+        for reply in *replies {
+            wanted.extend_from_slice(reply.as_bytes())?;
+        }
+        assert_eq!(rt; one.given.as_slice(), wanted.as_slice(), "{question}");
+        assert_eq!(rt; one.ended, *ended, "{question}");
+    }
+    Ok(())
+}

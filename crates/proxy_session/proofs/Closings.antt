@@ -1,0 +1,155 @@
+-- No exchange asks whether the listeners are closing.
+use Rattle.std.proofs.Common.{◌≡◌, ℕ, Bool, List, ◌∙◌, inl, inr, Option, Result, Ok, Err}
+use Rattle.addr_book.specs.declared.addr.Addr.{Addr}
+use Rattle.http_wire.specs.declared.ended.Ended.{Ended}
+use Rattle.http_wire.specs.declared.ended.Ended.TheVariants as ended
+use Rattle.http_wire.specs.declared.frames.Framing.{Framing}
+use Rattle.http_wire.specs.declared.head.Head.{Head}
+use Rattle.identifier.specs.declared.rule.Rule.{Rule}
+use Rattle.machine.specs.Values.{SettingsValue}
+use Rattle.own_reply.specs.declared.error.OwnError.{OwnError}
+use Rattle.proxy_session.specs.declared.tried.Tried.{Tried}
+use Rattle.proxy_session.specs.declared.tried.Tried.TheVariants as tried
+use Rattle.proxy_session.specs.Answering.{Ends, Refuses, Writes}
+use Rattle.proxy_session.specs.Callers.{Caller}
+use Rattle.proxy_session.specs.Exchange.{Exchanges, Settles, Standing}
+use Rattle.line_base.specs.Dials.{Upstream}
+use Rattle.line_base.specs.Lines.{Line}
+use Rattle.proxy_session.specs.Trying.{Converses, Replies, Tries, TriesAnew}
+use Rattle.proxy_session.specs.Requests.{Requests}
+use Rattle.retry_budget.specs.Budget.{BudgetValue}
+use Rattle.proxy_session.proofs.Splitting.{request_split}
+
+-- the connection did not say so
+abbrev pub Quiet : Line → Line → Type 0
+Quiet old new = new.closings ≡ old.closings
+
+pub writes_quiet : (old new : Line) (reply : List ℕ) (told : Result (Unit {0}) Ended)
+    → Writes old new reply told → Quiet old new
+writes_quiet old new reply (Ok x) done = done.0.closings
+writes_quiet old new reply (Err ended.WriteFault) (sent, gives, fits, fault) = gives.closings
+writes_quiet old new reply (Err ended.OutOfMemory) rests = rests.closings
+writes_quiet old new reply (Err ended.PeerEnded) never = absurd never
+writes_quiet old new reply (Err ended.Cut) never = absurd never
+writes_quiet old new reply (Err ended.Closed) never = absurd never
+writes_quiet old new reply (Err ended.Spent) never = absurd never
+writes_quiet old new reply (Err ended.Drained) never = absurd never
+writes_quiet old new reply (Err ended.ReadFault) never = absurd never
+writes_quiet old new reply (Err ended.UpstreamCut) never = absurd never
+
+refuses_quiet : (err : OwnError) (head : Head) (last : Bool) (old new : Line)
+    (result : Option Ended) → Refuses err head last old new result → Quiet old new
+refuses_quiet err head last old new result (told, wrote, is) = writes_quiet old new _ told wrote
+
+ends_quiet : (how : Tried) (head : Head) (last : Bool) (old new : Line) (result : Option Ended)
+    → Ends how head last old new result → Quiet old new
+ends_quiet tried.NotDialed head last old new result done =
+    refuses_quiet _ head last old new result done
+ends_quiet tried.NotSent head last old new result done =
+    refuses_quiet _ head last old new result done
+ends_quiet tried.NoReply head last old new result done =
+    refuses_quiet _ head last old new result done
+ends_quiet tried.Silent head last old new result done =
+    refuses_quiet _ head last old new result done
+ends_quiet tried.BadBody head last old new result done =
+    refuses_quiet _ head last old new result done
+ends_quiet tried.LongBody head last old new result done =
+    refuses_quiet _ head last old new result done
+ends_quiet tried.BodyCut head last old new result done = done.0.closings
+ends_quiet tried.BodyFault head last old new result done = done.0.closings
+ends_quiet tried.ReplyCut head last old new result done = done.0.closings
+ends_quiet tried.WrittenShort head last old new result done = done.0.closings
+ends_quiet tried.OutOfMemory head last old new result done = done.0.closings
+ends_quiet (tried.Whole status closes reusable) head last old new result done = done.0.closings
+
+settles_quiet : (settings : SettingsValue) (head : Head) (last : Bool) (addr : Addr) (how : Tried)
+    (c d : Caller) (m n : Option (List ℕ)) (old new : Line) (result : Option Ended)
+    → Settles settings head last addr how c d m n old new result → Quiet old new
+settles_quiet settings head last addr how c d m n old new result (inl done) =
+    ends_quiet how head last old new result done.1
+settles_quiet settings head last addr how c d m n old new result (inr fails) = fails.1.closings
+
+replies_quiet : (head : Head) (last : Bool) (old new : Line) (faults faults_now : ℕ)
+    (got : List (List ℕ)) (how : Tried) → Replies head last old new faults faults_now got how
+    → Quiet old new
+replies_quiet head last old new faults faults_now got how
+    (inl (fault, kept, hears, same, is)) = same.closings
+replies_quiet head last old new faults faults_now got how
+    (inr (reply, framing, kept, between, before, behind, hears, inl stops, is)) = stops.0.closings
+replies_quiet head last old new faults faults_now got how
+    (inr (
+      reply,
+      framing,
+      kept,
+      between,
+      before,
+      behind,
+      hears,
+      inr (kept_after, result, goes, way),
+      is,
+    )) =
+    goes.closings
+
+converses_quiet : (head : Head) (onward : List ℕ) (framing : Framing) (last : Bool)
+    (old new : Line) (kept kept_after : List ℕ) (faults faults_now : ℕ) (sent : List ℕ)
+    (got : List (List ℕ)) (how : Tried)
+    → Converses head onward framing last old new kept kept_after faults faults_now sent got how
+    → Quiet old new
+converses_quiet head onward framing last old new kept kept_after faults faults_now sent got how
+    (inl (end, goes, nothing, is)) =
+    goes.closings
+converses_quiet head onward framing last old new kept kept_after faults faults_now sent got how
+    (inr (n, mid, between, goes, came)) =
+    replies_quiet head last mid new between faults_now got how came ∙ goes.closings
+
+anew_quiet : (head : Head) (onward : List ℕ) (framing : Framing) (last : Bool) (addr : Addr)
+    (old new : Line) (kept kept_after : List ℕ) (before now : Upstream) (how : Tried)
+    → TriesAnew head onward framing last addr old new kept kept_after before now how
+    → Quiet old new
+anew_quiet head onward framing last addr old new kept kept_after before now how (inl none) =
+    none.line.closings
+anew_quiet head onward framing last addr old new kept kept_after before now how (inr visit) =
+    converses_quiet head onward framing last old new kept kept_after before.faults now.faults _
+    visit.got how visit.spoke
+
+tries_quiet : (head : Head) (onward : List ℕ) (framing : Framing) (last : Bool) (addr : Addr)
+    (old new : Line) (kept kept_after : List ℕ) (before now : Upstream) (how : Tried)
+    → Tries head onward framing last addr old new kept kept_after before now how → Quiet old new
+tries_quiet head onward framing last addr old new kept kept_after before now how (inl anew) =
+    anew_quiet head onward framing last addr old new kept kept_after before now how anew
+tries_quiet head onward framing last addr old new kept kept_after before now how
+    (inr (any, again, inl answered)) =
+    converses_quiet head onward framing last old new kept kept_after before.faults now.faults _
+    answered.visit.got how answered.visit.spoke
+tries_quiet head onward framing last addr old new kept kept_after before now how
+    (inr (any, again, inr t)) =
+    anew_quiet head onward framing last addr t.line new t.left kept_after t.mid now how t.anew
+    ∙ converses_quiet head onward framing last old t.line kept t.left before.faults t.mid.faults _
+    t.visit.got t.first t.visit.spoke
+
+exchange_quiet : (settings : SettingsValue) (rule : Rule) (head : Head) (last : Bool)
+    (old new : Standing) (result : Option Ended)
+    → Exchanges settings rule head last old new result → Quiet old.line new.line
+exchange_quiet settings rule head last old new result (inl x) =
+    refuses_quiet x.err head last old.line new.line result x.refuses
+exchange_quiet settings rule head last old new result (inr (inl x)) = x.line.closings
+exchange_quiet settings rule head last old new result
+    (inr (inr (sought, seeks, (moment, moments, draws, inl x)))) =
+    x.line.closings
+exchange_quiet settings rule head last old new result
+    (inr (inr (sought, seeks, (moment, moments, draws, inr (inl x))))) =
+    refuses_quiet _ head last old.line new.line result x.refuses
+exchange_quiet settings rule head last old new result
+    (inr (inr (sought, seeks, (moment, moments, draws, inr (inr x))))) =
+    let s = x.sent in
+    settles_quiet settings head last x.to.addr s.how s.held new.caller moments new.moments s.between
+    new.line result s.settles
+    ∙ tries_quiet head s.onward sought.framing last x.to.addr old.line s.between old.kept new.kept
+    old.upstream new.upstream s.how s.tries
+
+pub request_quiet : (settings : SettingsValue) (rule : Rule) (head : Head) (last : Bool) (n : ℕ)
+    (before behind : Option BudgetValue) (old new : Standing) (result : Option Ended)
+    → Requests settings rule head last n before behind old new result → Quiet old.line new.line
+request_quiet settings rule head last n before behind old new result request =
+    let split = request_split settings rule head last n before behind old new result request in
+    exchange_quiet settings rule head last split.0 new result split.2 ∙ split.1.line.closings

@@ -1,0 +1,317 @@
+//! Connections to replicas that are kept: over which each request goes, and behind which replies
+//! they are kept.
+use crate::played::play;
+use crate::row::{FAILED, GOOD, Reported, joined, told};
+use crate::scene::{FIXED, Failing, Scene};
+use http_wire::Ended::{self, Closed, PeerEnded, UpstreamCut};
+use std::alloc::Global;
+use std::sync::Wait;
+use std::test::Fail;
+
+/// A request.
+const GET: &str = "GET / HTTP/1.1|Host: web||";
+
+/// As it goes on.
+const SENT: &str =
+    "GET / HTTP/1.1|Host: web|Via: 1.1 linkerd|l5d-dst-service: /svc/web|l5d-dst-client: /$/inet/127.0.0.1/9001||";
+
+/// One that may not be sent twice, and as it goes on.
+const POST: &str = "POST / HTTP/1.1|Host: web|Content-Length: 2||hi";
+
+const SENT_POST: &str =
+    "POST / HTTP/1.1|Host: web|Content-Length: 2|Via: 1.1 linkerd|l5d-dst-service: /svc/web|l5d-dst-client: /$/inet/127.0.0.1/9001||hi";
+
+/// One whose reply has no body, and as it goes on.
+const HEAD: &str = "HEAD / HTTP/1.1|Host: web||";
+
+const SENT_HEAD: &str =
+    "HEAD / HTTP/1.1|Host: web|Via: 1.1 linkerd|l5d-dst-service: /svc/web|l5d-dst-client: /$/inet/127.0.0.1/9001||";
+
+/// A reply of 40 bytes, and what goes back for it.
+const REPLY: &str = "HTTP/1.1 200 OK|Content-Length: 2||hi";
+
+const WRITTEN: &str = "HTTP/1.1 200 OK|Content-Length: 2|Via: 1.1 linkerd||hi";
+
+/// The refusals where a replica could not be dialled, and where it gave no reply.
+const DIAL: &str =
+    "HTTP/1.1 502 Bad Gateway|Content-Type: text/plain|l5d-err: dial|Content-Length: 5||dial~";
+
+const UPSTREAM: &str =
+    "HTTP/1.1 502 Bad Gateway|Content-Type: text/plain|l5d-err: upstream|Content-Length: 9||upstream~";
+
+/// What goes into a session whose dialer keeps connections, and what comes of it.
+///
+/// The first request makes the dialer's calls 0 to 3: a resume that finds nothing, a dial, a send
+/// and a receive. The second one's are a resume, a send and a receive, where the connection is
+/// kept.
+#[derive(Clone, Copy)]
+struct Case {
+    about: &'static str,
+    gives: &'static [&'static str],
+    /// What the replicas reply, in the order of the dials and the resumes that are answered.
+    replies: &'static [&'static str],
+    /// The calls of the dialer that fail, and those of them that wait for too long.
+    failing: &'static [u64],
+    waiting: &'static [u64],
+    /// The most bytes that a call moves.
+    most: usize,
+    written: &'static [&'static str],
+    /// What the tries send: each behind `<`, where the connection was opened, or `(`, where it was
+    /// resumed; and before `>`, where it was ended, or `)`, where it was kept.
+    sent: &'static [&'static str],
+    ended: Ended,
+    reported: Reported,
+}
+
+/// Two requests that are answered well. The second goes over the connection of the first.
+const TWO: Case = Case {
+    about: "a second request",
+    gives: &[GET, GET],
+    replies: &[REPLY, REPLY],
+    failing: &[],
+    waiting: &[],
+    most: usize::MAX,
+    written: &[WRITTEN, WRITTEN],
+    sent: &["<", SENT, ")(", SENT, ")"],
+    ended: PeerEnded,
+    reported: GOOD,
+};
+
+const CASES: [Case; 24] = [
+    TWO,
+    Case {
+        about: "a dial that fails",
+        replies: &[REPLY],
+        failing: &[1],
+        written: &[DIAL, WRITTEN],
+        sent: &["<", SENT, ")"],
+        reported: (2, 0),
+        ..TWO
+    },
+    Case {
+        about: "a new connection over which a send fails is tried once",
+        replies: &["", REPLY],
+        failing: &[2],
+        written: &[UPSTREAM, WRITTEN],
+        sent: &["<><", SENT, ")"],
+        reported: (2, 0),
+        ..TWO
+    },
+    Case {
+        about: "and so is one over which a receive fails",
+        failing: &[3],
+        written: &[UPSTREAM, WRITTEN],
+        sent: &["<", SENT, "><", SENT, ")"],
+        reported: (2, 0),
+        ..TWO
+    },
+    Case {
+        about: "a request that may not be sent twice in between",
+        gives: &[GET, POST, GET],
+        replies: &[REPLY, REPLY, REPLY],
+        written: &[WRITTEN, WRITTEN, WRITTEN],
+        sent: &["<", SENT, ")<", SENT_POST, ")(", SENT, ")"],
+        ..TWO
+    },
+    Case {
+        about: "a reply that closes",
+        replies: &[
+            "HTTP/1.1 200 OK|Content-Length: 2|Connection: close||hi",
+            REPLY,
+        ],
+        sent: &["<", SENT, "><", SENT, ")"],
+        ..TWO
+    },
+    Case {
+        about: "a reply of HTTP/1.0",
+        replies: &["HTTP/1.0 200 OK|Content-Length: 2||hi", REPLY],
+        written: &[
+            "HTTP/1.1 200 OK|Content-Length: 2|Via: 1.0 linkerd||hi",
+            WRITTEN,
+        ],
+        sent: &["<", SENT, "><", SENT, ")"],
+        ..TWO
+    },
+    Case {
+        about: "a reply up to the end",
+        replies: &["HTTP/1.1 200 OK||hi", REPLY],
+        written: &["HTTP/1.1 200 OK|Via: 1.1 linkerd|Connection: close||hi"],
+        sent: &["<", SENT, ">"],
+        ended: Closed,
+        ..TWO
+    },
+    Case {
+        about: "a reply with a byte behind its end",
+        replies: &["HTTP/1.1 200 OK|Content-Length: 2||hi!", REPLY],
+        sent: &["<", SENT, "><", SENT, ")"],
+        ..TWO
+    },
+    Case {
+        about: "a reply of no content",
+        replies: &["HTTP/1.1 204 No Content||", REPLY],
+        written: &["HTTP/1.1 204 No Content|Via: 1.1 linkerd||", WRITTEN],
+        ..TWO
+    },
+    Case {
+        about: "a 304 with a length",
+        replies: &["HTTP/1.1 304 Not Modified|Content-Length: 5||", REPLY],
+        written: &[
+            "HTTP/1.1 304 Not Modified|Content-Length: 5|Via: 1.1 linkerd||",
+            WRITTEN,
+        ],
+        ..TWO
+    },
+    Case {
+        about: "a reply to HEAD",
+        gives: &[HEAD, GET],
+        replies: &["HTTP/1.1 200 OK|Content-Length: 5||", REPLY],
+        written: &[
+            "HTTP/1.1 200 OK|Content-Length: 5|Via: 1.1 linkerd||",
+            WRITTEN,
+        ],
+        sent: &["<", SENT_HEAD, ")(", SENT, ")"],
+        ..TWO
+    },
+    Case {
+        about: "chunks with a trailer",
+        replies: &[
+            "HTTP/1.1 200 OK|Transfer-Encoding: chunked||5|hello|0|T: 1||",
+            REPLY,
+        ],
+        written: &[
+            "HTTP/1.1 200 OK|Transfer-Encoding: chunked|Via: 1.1 linkerd||5|hello|0||",
+            WRITTEN,
+        ],
+        ..TWO
+    },
+    Case {
+        about: "a reply that is cut",
+        replies: &["HTTP/1.1 200 OK|Content-Length: 5||he", REPLY],
+        written: &["HTTP/1.1 200 OK|Content-Length: 5|Via: 1.1 linkerd||he"],
+        sent: &["<", SENT, ">"],
+        ended: UpstreamCut,
+        reported: FAILED,
+        ..TWO
+    },
+    Case {
+        about: "a kept connection that has ended",
+        failing: &[4],
+        sent: &["<", SENT, ")<", SENT, ")"],
+        ..TWO
+    },
+    Case {
+        about: "a kept connection over which a 408 came",
+        replies: &[
+            "HTTP/1.1 200 OK|Content-Length: 2||hiHTTP/1.1 408 Request Timeout||",
+            REPLY,
+        ],
+        most: 40,
+        sent: &["<", SENT, ")<", SENT, ")"],
+        ..TWO
+    },
+    Case {
+        about: "a kept connection that is reset before a byte is sent",
+        replies: &[REPLY, "", REPLY],
+        failing: &[5],
+        sent: &["<", SENT, ")(><", SENT, ")"],
+        ..TWO
+    },
+    Case {
+        about: "one that is reset behind a part of the head",
+        replies: &[REPLY, "", REPLY],
+        failing: &[7],
+        most: 64,
+        sent: &[
+            "<",
+            SENT,
+            ")(GET / HTTP/1.1|Host: web|Via: 1.1 linkerd|l5d-dst-service: /s><",
+            SENT,
+            ")",
+        ],
+        ..TWO
+    },
+    Case {
+        about: "one that is reset behind the head",
+        replies: &[REPLY, "", REPLY],
+        failing: &[6],
+        sent: &["<", SENT, ")(", SENT, "><", SENT, ")"],
+        ..TWO
+    },
+    Case {
+        about: "one that ends behind the head",
+        replies: &[REPLY, "", REPLY],
+        sent: &["<", SENT, ")(", SENT, "><", SENT, ")"],
+        ..TWO
+    },
+    Case {
+        about: "a replica that is late over a kept connection is not asked twice",
+        failing: &[6],
+        waiting: &[6],
+        written: &[WRITTEN, UPSTREAM],
+        sent: &["<", SENT, ")(", SENT, ">"],
+        reported: (2, 1),
+        ..TWO
+    },
+    Case {
+        about: "nor one that gave a part of a reply",
+        replies: &[REPLY, "HTTP/1.1 200", REPLY],
+        written: &[WRITTEN, UPSTREAM],
+        sent: &["<", SENT, ")(", SENT, ">"],
+        reported: (2, 1),
+        ..TWO
+    },
+    Case {
+        about: "a dial behind a silent visit that fails",
+        replies: &[REPLY, "", REPLY],
+        failing: &[5, 6],
+        written: &[WRITTEN, DIAL],
+        sent: &["<", SENT, ")(>"],
+        reported: (2, 1),
+        ..TWO
+    },
+    Case {
+        about: "a second silence, over the new connection",
+        replies: &[REPLY, "", "", REPLY],
+        written: &[WRITTEN, UPSTREAM],
+        sent: &["<", SENT, ")(", SENT, "><", SENT, ">"],
+        reported: (2, 1),
+        ..TWO
+    },
+];
+
+impl Case {
+    /// What comes of the session, and what is wanted.
+    fn played<R: Wait>(&self, rt: &R, alloc: Global) -> Result<(String, String), Fail> {
+        let gives = joined(alloc, self.gives)?;
+        let scene = Scene {
+            failing: Failing::Dials(self.failing),
+            keeping: Some(self.waiting),
+            most: self.most,
+            ..Scene::of(FIXED, gives.as_str(), self.replies)
+        };
+        let played = play(rt, alloc, &scene)?;
+        let (written, sent) = (played.written.as_str(), played.sent.as_str());
+        Ok((
+            told(alloc, written, sent, played.ended, played.reported)?,
+            self.wanted(alloc)?,
+        ))
+    }
+
+    /// What is wanted of the session.
+    fn wanted(&self, alloc: Global) -> Result<String, Fail> {
+        let written = joined(alloc, self.written)?;
+        let sent = joined(alloc, self.sent)?;
+        let (written, sent) = (written.as_str(), sent.as_str());
+        Ok(told(alloc, written, sent, Some(self.ended), self.reported)?)
+    }
+}
+
+#[test]
+fn connections_are_kept(rt: HostRuntime) -> Result<(), Fail> {
+    let alloc = rt.alloc();
+    for case in CASES.iter() {
+        let (comes, wanted) = case.played(&rt, alloc)?;
+        assert_eq!(rt; comes, wanted, "{}", case.about);
+    }
+    Ok(())
+}
