@@ -106,8 +106,8 @@ class Commands:
 def in_lanes(tasks, lanes, commands):
     """Does tasks side by side on so many processors, and gives for each whether it went well. `tasks` has them by their keys, each behind those that it waits for.
 
-    The one with the longest chain of others behind it comes first, since the whole takes no less time than that chain. It gets the processors that no other
-    task can use, up to four. What waits for one that did not go well isn't done.
+    The one with the longest chain of others behind it comes first, since the whole takes no less time than that chain: it gets up to four processors, whatever
+    else runs. Another one gets those that no other task can use. What waits for one that did not go well isn't done.
     """
     chain = dict.fromkeys(tasks, 0)
     for key in reversed(list(tasks)):
@@ -124,7 +124,8 @@ def in_lanes(tasks, lanes, commands):
                     if not all(went_well[below] for below in tasks[key].waits_for):
                         went_well[key] = False
                     elif idle > 0:
-                        jobs = max(1, min(4, idle // (len(ready) - at)))
+                        is_longest = all(chain[key] >= chain[other] for other in [*left, *(other for other, _ in running.values())])
+                        jobs = min(4, lanes) if is_longest else max(1, min(4, idle // (len(ready) - at)))
                         running[pool.submit(tasks[key].call, jobs)] = key, jobs
                     else:
                         continue
