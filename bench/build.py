@@ -102,13 +102,13 @@ class Build:
             tasks[crate] = Task(waits_for, lines_of(ROOT, crate), functools.partial(self.build, crate))
         in_lanes(tasks, processors(), self.commands)
 
-    def build(self, crate, jobs):
+    def build(self, crate, jobs, niceness):
         """Builds a crate, unless its library is there."""
         start = time.monotonic()
         room = os.path.join(self.rooms, crate)
         if not self.sums.is_beside(out_of(ROOT, crate), crate):
             self.furnish(room, crate)
-            self.prove(room, crate, jobs)
+            self.prove(room, crate, jobs, niceness)
             self.put_back(room, crate)
         shutil.rmtree(room, ignore_errors=True)
         with self.counting:
@@ -127,11 +127,11 @@ class Build:
                     copy = link_tree if os.path.isdir(os.path.join(kept, part)) else shutil.copy2
                     copy(os.path.join(kept, part), os.path.join(own, part))
 
-    def prove(self, room, crate, jobs):
+    def prove(self, room, crate, jobs, niceness):
         """Has `rt` prove the crate, and make the library or the program of it."""
         words = ["run", "--jobs", str(jobs), "--", "replay"] if crate == PROGRAM else ["lib", "--jobs", str(jobs)]
         with open(os.path.join(room, "log"), "w+", errors="replace") as log:
-            status = self.commands.status_of(["rt", *words], os.path.join(room, "crates", crate), log)
+            status = self.commands.status_of(["rt", *words], os.path.join(room, "crates", crate), log, niceness)
             if status != 0:
                 log.seek(0)
                 raise NotBuilt(f"{log.read()}linker: {crate} was not built")

@@ -64,7 +64,7 @@ class Gate:
         }
         return [step for step in STEPS if there[step]]
 
-    def do(self, crate, step, _):
+    def do(self, crate, step, _jobs, _niceness):
         """Does a step. Behind the last one it prints the crate's line."""
         room = os.path.join(self.rooms, f"{crate}-{step}")
         lay_out(self.root, crate, room)

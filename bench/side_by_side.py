@@ -8,8 +8,12 @@ from concurrent.futures import FIRST_COMPLETED, ThreadPoolExecutor, wait
 
 from over_crates import at_or_below, listed_crates, share
 
-# A task: the keys of those that it waits for, how much there is to do, and a call that does it with so many processors and tells whether it went well.
+# A task: the keys of those that it waits for, how much there is to do, and a call that does it with
+# so many processors, at this niceness, and tells whether it went well.
 Task = collections.namedtuple("Task", "waits_for size call")
+
+# How a task of the longest chain is run, and how those beside it are, by `nice`.
+FIRST, BESIDE = 0, 10
 
 # The memory that a check may take, in bytes. A few take more, and `rt` makes a check again that was killed for it.
 MEMORY_OF_A_CHECK = 3_000_000_000
@@ -59,11 +63,16 @@ def lines_of(root, crate):
     return count
 
 
-def processors():
-    """How many processors there are to use, as far as there is memory for a check on each."""
+def checks_in_memory():
+    """For how many checks at once there is memory."""
     with open("/proc/meminfo") as file:
         free = next(int(line.split()[1]) for line in file if line.startswith("MemAvailable:"))
-    return max(1, min(len(os.sched_getaffinity(0)), 1024 * free // MEMORY_OF_A_CHECK))
+    return 1024 * free // MEMORY_OF_A_CHECK
+
+
+def processors():
+    """How many processors there are to use, as far as there is memory for a check on each."""
+    return max(1, min(len(os.sched_getaffinity(0)), checks_in_memory()))
 
 
 class Commands:
@@ -73,13 +82,13 @@ class Commands:
         self.running, self.is_over, self.changing = set(), False, threading.Lock()
 
     @contextlib.contextmanager
-    def started(self, words, folder, output):
+    def started(self, words, folder, output, niceness=FIRST):
         """A command that runs in a folder with nothing on its standard input."""
         with self.changing:
             if self.is_over:
                 raise InterruptedError
             command = subprocess.Popen(
-                words, cwd=folder, stdin=subprocess.DEVNULL, stdout=output, stderr=subprocess.STDOUT, text=True, errors="replace"
+                ["nice", "-n", str(niceness), *words], cwd=folder, stdin=subprocess.DEVNULL, stdout=output, stderr=subprocess.STDOUT, text=True, errors="replace"
             )
             self.running.add(command)
         try:
@@ -89,9 +98,9 @@ class Commands:
             with self.changing:
                 self.running.discard(command)
 
-    def status_of(self, words, folder, output):
+    def status_of(self, words, folder, output, niceness=FIRST):
         """Runs a command to its end, and gives its status."""
-        with self.started(words, folder, output) as command:
+        with self.started(words, folder, output, niceness) as command:
             pass
         return command.returncode
 
@@ -104,10 +113,14 @@ class Commands:
 
 
 def in_lanes(tasks, lanes, commands):
-    """Does tasks side by side on so many processors, and gives for each whether it went well. `tasks` has them by their keys, each behind those that it waits for.
+    """Does tasks side by side on so many processors, and gives for each whether it went well. `tasks`
+    has them by their keys, each behind those that it waits for.
 
-    The one with the longest chain of others behind it comes first, since the whole takes no less time than that chain: it gets up to four processors, whatever
-    else runs. Another one gets those that no other task can use. What waits for one that did not go well isn't done.
+    The one with the longest chain of others behind it comes first, since the whole takes no less
+    time than that chain: it may use up to four processors, before all others. Where it does not use
+    them all, as at the end of a check, when its longest proof is left, those beside it do. They are
+    as many as there is memory for. Without one that comes first, processors that no other task can
+    use go to one task. What waits for one that did not go well isn't done.
     """
     chain = dict.fromkeys(tasks, 0)
     for key in reversed(list(tasks)):
@@ -115,23 +128,30 @@ def in_lanes(tasks, lanes, commands):
         for below in tasks[key].waits_for:
             chain[below] = max(chain[below], chain[key])
     left, running, went_well = sorted(tasks, key=lambda key: -chain[key]), {}, {}
-    with ThreadPoolExecutor(lanes) as pool:
+    most = min(4, lanes)
+    beside = max(0, min(lanes - 1, checks_in_memory() - most))
+    with ThreadPoolExecutor(lanes + beside) as pool:
         try:
             while left or running:
                 ready = [key for key in left if all(below in went_well for below in tasks[key].waits_for)]
                 for at, key in enumerate(ready):
-                    idle = lanes - sum(jobs for _, jobs in running.values())
+                    first = [jobs for _, jobs, niceness in running.values() if niceness == FIRST]
+                    idle = (beside if first else lanes) - sum(
+                        jobs for _, jobs, niceness in running.values() if niceness == BESIDE
+                    )
+                    others = [*left, *(other for other, _, _ in running.values())]
                     if not all(went_well[below] for below in tasks[key].waits_for):
                         went_well[key] = False
+                    elif not first and all(chain[key] >= chain[other] for other in others):
+                        running[pool.submit(tasks[key].call, most, FIRST)] = key, most, FIRST
                     elif idle > 0:
-                        is_longest = all(chain[key] >= chain[other] for other in [*left, *(other for other, _ in running.values())])
-                        jobs = min(4, lanes) if is_longest else max(1, min(4, idle // (len(ready) - at)))
-                        running[pool.submit(tasks[key].call, jobs)] = key, jobs
+                        jobs = max(1, min(4, idle // (len(ready) - at)))
+                        running[pool.submit(tasks[key].call, jobs, BESIDE)] = key, jobs, BESIDE
                     else:
                         continue
                     left.remove(key)
                 for done in wait(running, return_when=FIRST_COMPLETED).done:
-                    key, _ = running.pop(done)
+                    key, _, _ = running.pop(done)
                     went_well[key] = done.result()
         except BaseException:
             commands.end()

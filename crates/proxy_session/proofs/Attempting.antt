@@ -1,5 +1,6 @@
 -- The attempts of a request, one behind the other.
-use Rattle.std.proofs.Common.{◌≡◌, ℕ, zero, suc, ◌+◌, ◌-◌, ◌≤◌, nat_lt, Bool, true, List, refl, sym, subst, ap, ◌∙◌, inl, inr, Option, Some, None, Ok, arith}
+use Rattle.std.proofs.Common.{◌≡◌, ℕ, zero, suc, ◌+◌, ◌-◌, ◌≤◌, nat_lt, Bool, true, List, refl, sym}
+use Rattle.std.proofs.Common.{subst, ap, ◌∙◌, inl, inr, Option, Some, None, Ok, arith}
 use Rattle.std.proofs.lemmas.Bool.Decides.{nat_tests}
 use Rattle.rand_pcg.specs.Lcg.{Lcg}
 use Rattle.dtab_table.specs.Rules.{Rule as DtabRule}
@@ -11,14 +12,16 @@ use Rattle.identifier.specs.declared.rule.Rule.{Rule}
 use Rattle.machine.specs.Values.{SettingsValue, AskValue}
 use Rattle.retry_budget.specs.Budget.{BudgetValue}
 use Rattle.proxy_session.specs.declared.attempt.Attempt.TheVariants as attempt
-use Rattle.proxy_session.specs.declared.tried.Tried.{Tried}
+use Rattle.replica_try.specs.declared.tried.Tried.{Tried}
 use Rattle.proxy_session.specs.Asking.{drawn}
-use Rattle.proxy_session.specs.Attempts.{Attempts, Failed, FailedAttempt, IsTriedInVain, LastAttempt, LastWays, has_retry, is_followed, may_repeat, most_of, paid, spent}
+use Rattle.proxy_session.specs.Attempts.{Attempts, Failed, FailedAttempt, IsTriedInVain}
+use Rattle.proxy_session.specs.Attempts.{LastAttempt, LastWays, has_retry, is_followed, may_repeat}
+use Rattle.proxy_session.specs.Attempts.{most_of, paid, spent}
 use Rattle.proxy_session.specs.Exchange.{Draws, IsAway, Routes, Standing}
 use Rattle.proxy_session.specs.Requests.{Requests, TriesAgain}
 use Rattle.proxy_session.specs.Seeking.{Seeks, Sought}
 use Rattle.proxy_session.specs.Sending.{AsksSo}
-use Rattle.proxy_session.proofs.Untouched.{and_left, and_right}
+use Rattle.replica_try.proofs.BothHold.{and_left, and_right}
 
 -- ---- the loop
 

@@ -1,5 +1,6 @@
 -- The retries of a session are no more than its budget had.
-use Rattle.std.proofs.Common.{◌≡◌, ℕ, zero, suc, ◌+◌, ◌*◌, ◌/◌, ◌≤◌, ◌||◌, Bool, true, refl, sym, subst, ◌∙◌, inl, inr, Option, Some, None, zero-add, arith}
+use Rattle.std.proofs.Common.{◌≡◌, ℕ, zero, suc, ◌+◌, ◌*◌, ◌/◌, ◌≤◌, ◌||◌, Bool, true, refl, sym}
+use Rattle.std.proofs.Common.{subst, ◌∙◌, inl, inr, Option, Some, None, zero-add, arith}
 use Rattle.http_wire.specs.declared.ended.Ended.{Ended}
 use Rattle.http_wire.specs.declared.head.Head.{Head}
 use Rattle.identifier.specs.declared.rule.Rule.{Rule}
@@ -12,7 +13,7 @@ use Rattle.proxy_session.specs.Exchange.{Standing}
 use Rattle.proxy_session.specs.Requests.{Requests, TriesAgain}
 use Rattle.proxy_session.specs.Seeking.{Sought}
 use Rattle.proxy_session.specs.Session.{Served, Serves, Sessions, having_told, most_retries}
-use Rattle.proxy_session.proofs.Untouched.{and_right}
+use Rattle.replica_try.proofs.BothHold.{and_right}
 
 -- so many requests paid in, and so many retries were taken out
 pub record Pays (b : BudgetValue) (behind : Option BudgetValue) (requests retries : ℕ) : Type 0 where

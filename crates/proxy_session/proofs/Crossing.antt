@@ -1,7 +1,5 @@
 -- A server may go to another thread.
 use denote.RattleType.{RattleType}
-use denote.Hole.{as_row}
-use denote.Struct.Field.{row_field}
 use denote.Param.Send.{IsSend, sendable}
 use denote.Param.SendFields.{as_row_send, declared_send}
 use Rattle.std.proofs.Crossing.{crosses}
@@ -9,12 +7,9 @@ use Rattle.std.specs.declared.sync.ledger.Ledger as ledger
 use Rattle.http_wire.proofs.rest.Rest.TheSendSync as rest
 use Rattle.router.specs.contracts.names.Names as Names
 use Rattle.router.specs.declared.naming.Naming as naming
+use Rattle.replica_try.proofs.Crossing.{own_send, way_send}
 use Rattle.router.proofs.Crossing.{pass_send}
 use Rattle.proxy_session.specs.contracts.server.Server as Server
-use Rattle.proxy_session.specs.contracts.server.Way as Way
-
-own_send : (T : RattleType) → IsSend T → IsSend (as_row (row_field T))
-own_send T s = as_row_send (row_field T) s
 
 names_send : IsSend Names.the_row
 names_send =
@@ -24,24 +19,11 @@ names_send =
     )
 
 module _ (J D C : RattleType) (n : naming.Ghosts J.Denot) (l : ledger.Ghosts J.Denot) where
-  way_send : IsSend D → IsSend (Way.the_row D)
-  way_send d =
-      declared_send (Way.the_type D) (
-        own_send D d,
-        (
-          rest.the_send,
-          (
-            search (as_row_send, sendable, crosses) depth 40,
-            (search (as_row_send, sendable, crosses) depth 40, tt),
-          ),
-        ),
-      )
-
   pub server_send : IsSend J → IsSend D → IsSend C → IsSend (Server.the_row J D C n l)
   server_send j d c = declared_send (Server.the_type J D C n l) (
     pass_send J n l j,
     (
-      way_send d,
+      way_send D d,
       (
         own_send C c,
         (

@@ -1,5 +1,7 @@
 -- How a session ends, and what it leaves as it was.
-use Rattle.std.proofs.Common.{◌≡◌, ◌≢◌, ℕ, zero, suc, ◌+◌, ◌||◌, eqb, Bool, true, false, List, refl, sym, subst, ap, ◌∙◌, inl, inr, Option, Some, None, Result, Ok, Err, arith}
+use Rattle.std.proofs.Common.{◌≡◌, ◌≢◌, ℕ, zero, suc, ◌+◌, ◌||◌, eqb, Bool, true, false, List, refl}
+use Rattle.std.proofs.Common.{sym, subst, ap, ◌∙◌, inl, inr, Option, Some, None, Result, Ok, Err}
+use Rattle.std.proofs.Common.{arith}
 use Rattle.std.proofs.lemmas.Bool.Decides.{nat_tests}
 use Rattle.http_wire.specs.declared.ended.Ended.{Ended}
 use Rattle.http_wire.specs.declared.ended.Ended.TheVariants as ended
@@ -16,23 +18,31 @@ use Rattle.retry_budget.specs.Budget.{BudgetValue}
 use Rattle.line_base.specs.Counts.{raised}
 use Rattle.line_base.specs.Dials.{Upstream}
 use Rattle.line_base.specs.Lines.{Line, Rests}
-use Rattle.proxy_session.specs.Session.{AnswersEnd, EndsWithout, HearsClosing, Reads, Served, Serves, Sessions, SessionsTo, Spends, begun, ended_of_end, having_told, own_of_end}
+use Rattle.proxy_session.specs.Session.{AnswersEnd, EndsWithout, HearsClosing, Reads, Served}
+use Rattle.proxy_session.specs.Session.{Serves, Sessions, SessionsTo, Spends, begun, ended_of_end}
+use Rattle.proxy_session.specs.Session.{having_told, own_of_end}
 use Rattle.proxy_session.proofs.Closings.{Quiet, writes_quiet}
-use Rattle.proxy_session.proofs.Draining.{drained_cause, is_spent, never_drained, serves_quiet, serves_rose, served_quiet}
-use Rattle.proxy_session.proofs.Splitting.{request_cause, request_closed, request_fell, request_number}
-use Rattle.proxy_session.proofs.Resting.{rests_same}
-use Rattle.proxy_session.proofs.Rising.{cause_on, later_below, later_raised, later_same, none_fell_on, rests_fell, rose_before, rose_behind, rose_by, writes_fell}
+use Rattle.proxy_session.proofs.Draining.{drained_cause, is_spent, never_drained, serves_quiet}
+use Rattle.proxy_session.proofs.Draining.{serves_rose, served_quiet}
+use Rattle.proxy_session.proofs.Splitting.{request_cause, request_closed, request_fell}
+use Rattle.proxy_session.proofs.Splitting.{request_keeps, request_number}
+use Rattle.replica_try.proofs.Resting.{rests_same}
+use Rattle.proxy_session.proofs.Rising.{cause_on, later_below, later_raised, later_same}
+use Rattle.proxy_session.proofs.Rising.{none_fell_on, rests_fell, rose_before, rose_behind, rose_by}
+use Rattle.proxy_session.proofs.Rising.{writes_fell}
 
 -- what lasts from one moment of a session to a later one
 pub record Lasts (old new : Standing) : Type 0 where
   pub fell : NoneFell old.line new.line
   pub closed : old.upstream.open_to ≡ None → new.upstream.open_to ≡ None
+  pub keeps : new.upstream.keeps ≡ old.upstream.keeps
   pub number : new.caller.number ≡ old.caller.number
 
 lasts_same : (a : Standing) → Lasts a a
 lasts_same a = record {
   fell = rests_fell a.line a.line (rests_same a.line);
   closed = λ is. is;
+  keeps = refl;
   number = refl;
 }
 
@@ -40,6 +50,7 @@ lasts_on : (a b c : Standing) → Lasts a b → Lasts b c → Lasts a c
 lasts_on a b c p q = record {
   fell = none_fell_on a.line b.line c.line p.fell q.fell;
   closed = λ is. q.closed (p.closed is);
+  keeps = q.keeps ∙ p.keeps;
   number = q.number ∙ p.number;
 }
 
@@ -52,6 +63,7 @@ reads_last old new r x = record {
     closings = later_same old.line.closings new.line.closings x.closings;
   };
   closed = λ is. x.upstream.links.open_to ∙ is;
+  keeps = x.upstream.links.keeps;
   number = ap (λ (c : Caller). c.number) x.caller;
 }
 
@@ -59,6 +71,7 @@ told_last : (closing : Bool) (a : Standing) → Lasts a (having_told closing a)
 told_last false a = record {
   fell = rests_fell a.line a.line (rests_same a.line);
   closed = λ is. is;
+  keeps = refl;
   number = refl;
 }
 told_last true a = record {
@@ -69,6 +82,7 @@ told_last true a = record {
     closings = later_raised a.line.closings (raised a.line.closings) refl;
   };
   closed = λ is. is;
+  keeps = refl;
   number = refl;
 }
 
@@ -79,6 +93,7 @@ module _ (settings : SettingsValue) (rule : Rule) where
   request_lasts head last n before behind old new r x = record {
     fell = request_fell settings rule head last n before behind old new r x;
     closed = request_closed settings rule head last n before behind old new r x;
+    keeps = request_keeps settings rule head last n before behind old new r x;
     number = request_number settings rule head last n before behind old new r x;
   }
 
@@ -229,6 +244,7 @@ without_lasts old new result x =
     lasts_on old x.mid new (reads_last old x.mid (Err x.end) x.reads) (record {
       fell = w.1;
       closed = λ is. x.nothing.away.upstream.links.open_to ∙ is;
+      keeps = x.nothing.away.upstream.links.keeps;
       number = ap (λ (c : Caller). c.number) x.nothing.caller;
     })
 
@@ -240,6 +256,7 @@ pub record Ending
     : Type 0 where
   pub cause : CauseOf result old.line line
   pub closed : old.upstream.open_to ≡ None → upstream.open_to ≡ None
+  pub keeps : upstream.keeps ≡ old.upstream.keeps
   pub number : caller.number ≡ old.caller.number
 
 ending_by : (old mid new : Standing) (result : Ended) → Lasts old mid → Lasts mid new
@@ -250,6 +267,7 @@ ending_by old mid new result first second cause =
     record {
       cause = cause_within result old.line mid.line new.line new.line first.fell here cause;
       closed = all.closed;
+      keeps = all.keeps;
       number = all.number;
     }
 
@@ -288,7 +306,7 @@ pub session_ending : (settings : SettingsValue) (rule : Rule) (before behind : O
 session_ending settings rule before behind old new result x =
     let e = ending_of settings rule x.requests x.retries before behind (begun old) new result
     x.serves in
-    record { cause = e.cause; closed = e.closed; number = e.number }
+    record { cause = e.cause; closed = e.closed; keeps = e.keeps; number = e.number }
 
 all_of : (n : ℕ) → eqb (n + 1) 10000 ≡ true → suc n ≡ 10000
 all_of n is = grind (arith, nat_tests)

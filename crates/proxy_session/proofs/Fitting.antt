@@ -8,8 +8,8 @@ use Rattle.http_wire.specs.declared.head.Head.{Head}
 use Rattle.identifier.specs.declared.rule.Rule.{Rule}
 use Rattle.machine.specs.Values.{SettingsValue}
 use Rattle.own_reply.specs.declared.error.OwnError.{OwnError}
-use Rattle.proxy_session.specs.declared.tried.Tried.{Tried}
-use Rattle.proxy_session.specs.declared.tried.Tried.TheVariants as tried
+use Rattle.replica_try.specs.declared.tried.Tried.{Tried}
+use Rattle.replica_try.specs.declared.tried.Tried.TheVariants as tried
 use Rattle.proxy_session.specs.Answering.{Ends, Refuses, Writes, end_behind, end_of}
 use Rattle.proxy_session.specs.Callers.{Caller}
 use Rattle.proxy_session.specs.Causes.{FitsLast}
@@ -77,9 +77,11 @@ exchange_fits settings rule head last old new r (inl x) =
     refuses_fits x.err head last old.line new.line r x.refuses
 exchange_fits settings rule head last old new r (inr (inl x)) =
     fits_as last (Some ended.OutOfMemory) r x.ends tt
-exchange_fits settings rule head last old new r (inr (inr (sought, seeks, (moment, moments, draws, inl x)))) =
+exchange_fits settings rule head last old new r
+    (inr (inr (sought, seeks, (moment, moments, draws, inl x)))) =
     fits_as last (Some ended.OutOfMemory) r x.ends tt
-exchange_fits settings rule head last old new r (inr (inr (sought, seeks, (moment, moments, draws, inr (inl x))))) =
+exchange_fits settings rule head last old new r
+    (inr (inr (sought, seeks, (moment, moments, draws, inr (inl x))))) =
     refuses_fits _ head last old.line new.line r x.refuses
 exchange_fits settings rule head last old new r (inr (inr
     (sought, seeks, (moment, moments, draws, inr (inr x))))) =

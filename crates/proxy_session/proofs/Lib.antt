@@ -1,9 +1,4 @@
-pub mod Growing
-pub mod Hearing
 pub mod Tests
-pub mod Resting
-pub mod Closed
-pub mod Speaking
 pub mod Writing
 pub mod Hosts
 pub mod Calling

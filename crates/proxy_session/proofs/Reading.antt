@@ -8,7 +8,7 @@ use Rattle.http_wire.specs.Next.{IsDrained, ReadsNext as LineReadsNext, ReadsOff
 use Rattle.line_base.specs.Lines.{Line}
 use Rattle.proxy_session.specs.Exchange.{Standing}
 use Rattle.proxy_session.specs.Session.{Reads, ReadsNext, having_told}
-use Rattle.proxy_session.proofs.Resting.{idle_same}
+use Rattle.replica_try.proofs.Resting.{idle_same}
 
 -- a server behind such a wait: its client's connection stands so, and it keeps these bytes
 abbrev pub having_read : Standing → Line → List ℕ → Standing

@@ -38,9 +38,9 @@ use Rattle.forward.specs.Forwarded.{forwarded}
 use Rattle.forward.specs.Laws.{table_texts, IsPlainWay, IsRequestFraming, ReadsBack}
 use Rattle.forward.proofs.CanonBytes.{path_text}
 use Rattle.forward.proofs.Written.{heads_read_back as written_reads_back}
-use Rattle.proxy_session.specs.declared.final_head.HeadFault.{HeadFault}
-use Rattle.proxy_session.specs.declared.tried.Tried.{Tried}
-use Rattle.proxy_session.specs.Heads.{Hears}
+use Rattle.replica_try.specs.declared.final_head.HeadFault.{HeadFault}
+use Rattle.replica_try.specs.declared.tried.Tried.{Tried}
+use Rattle.replica_try.specs.Heads.{Hears}
 use Rattle.proxy_session.specs.Attempts.{Failed, FailedAttempt}
 use Rattle.proxy_session.specs.Exchange.{Exchanges, Routes, Standing}
 use Rattle.proxy_session.specs.Requests.{TriesAgain}
@@ -51,15 +51,16 @@ use Rattle.proxy_session.specs.Laws.{IsByteRule, IsWholeReply, ReadsAs, WasRead}
 use Rattle.proxy_session.specs.Onward.{IsForwarded, host_for}
 use Rattle.line_base.specs.Dials.{Grows, Upstream}
 use Rattle.line_base.specs.Lines.{Line}
-use Rattle.proxy_session.specs.Trying.{Backs, Converses, GoesOn, Replies, Tries, TriesAnew, Visits}
-use Rattle.proxy_session.specs.Trying.{closes_behind, is_repeatable, is_reusable, knows_chunks}
-use Rattle.proxy_session.specs.Trying.{leaves_reusable, stop_of, tried_of_back, tried_of_body}
-use Rattle.proxy_session.specs.Trying.{tried_of_head}
+use Rattle.replica_try.specs.Trying.{Backs, Converses, GoesOn, Replies, Tries, TriesAnew, Visits}
+use Rattle.replica_try.specs.Trying.{closes_behind, is_repeatable, is_reusable, is_silent}
+use Rattle.replica_try.specs.Trying.{knows_chunks}
+use Rattle.replica_try.specs.Trying.{leaves_reusable, stop_of, tried_of_back, tried_of_body}
+use Rattle.replica_try.specs.Trying.{tried_of_head}
 use Rattle.line_base.specs.declared.dialer.DialEvent.{DialEvent}
 use Rattle.line_base.specs.declared.dialer.DialEvent.TheVariants.{Dialed, Resumed, Hung, Kept}
 use Rattle.proxy_session.specs.Seeking.{by_framing, by_host, by_path, by_table, Seeks, Sought}
 use Rattle.proxy_session.proofs.Attempting.{last_routes}
-use Rattle.proxy_session.proofs.Growing.{grows_nothing}
+use Rattle.replica_try.proofs.Growing.{grows_nothing}
 use Rattle.proxy_session.proofs.Addresses.{addr_field}
 use Rattle.proxy_session.proofs.Asked.{asked_form, asked_host, IsByteTarget}
 use Rattle.proxy_session.proofs.Bodies.{front_of_body}
@@ -68,7 +69,9 @@ use Rattle.proxy_session.proofs.FieldTexts.{IsFieldText}
 use Rattle.proxy_session.proofs.Framed.{request_framing}
 use Rattle.proxy_session.proofs.Named.{named_labels}
 use Rattle.proxy_session.proofs.Received.{received, IsReceived}
-use Rattle.proxy_session.proofs.Untouched.{and_right, nothing_of, zero_of}
+use Rattle.replica_try.proofs.BothHold.{and_left, and_right}
+use Rattle.replica_try.proofs.Silent.{silent_got, silent_hung}
+use Rattle.proxy_session.proofs.Untouched.{nothing_of, zero_of}
 
 -- ---- what a request seeks
 
@@ -421,7 +424,7 @@ module _ (rule : Rule) (head : Head) (sought : Sought) (to : Replica) (onward : 
     (last : Bool) (read : IsReceived head) (well : MayGoOn sought)
     (seeks : Seeks rule head (Ok sought)) (closes : Bool)
     (goes : IsForwarded head sought closes to onward) where
-  visited : (start : DialEvent)
+  abbrev visited : (start : DialEvent)
       → (start ≡ Dialed to.addr.ip to.addr.port)
       ⊎ ((start ≡ Resumed to.addr.ip to.addr.port)
       × (is_repeatable head sought.framing ≡ true))
@@ -462,33 +465,49 @@ module _ (rule : Rule) (head : Head) (sought : Sought) (to : Replica) (onward : 
       inr (visited (Dialed to.addr.ip to.addr.port) (inl refl) old new kept kept_after before now
       how v)
 
+  -- behind a silent visit
+  tried_again : (old new : Line) (kept kept_after : List ℕ) (before now : Upstream) (how : Tried)
+      → TriesAnew head onward sought.framing last to.addr old new kept kept_after before now how
+      → Grows before.log now.log []
+      ⊎ ((second : SendsHead rule head before now)
+      × (second.start ≡ Dialed to.addr.ip to.addr.port) × (second.onward ≡ onward))
+  tried_again old new kept kept_after before now how (inl none) = inl none.log
+  tried_again old new kept kept_after before now how (inr v) =
+      inr (
+        visited (Dialed to.addr.ip to.addr.port) (inl refl) old new kept kept_after before now how
+            v,
+        refl,
+        refl,
+      )
+
   tried : (old new : Line) (kept kept_after : List ℕ) (before now : Upstream) (how : Tried)
       → Tries head onward sought.framing last to.addr old new kept kept_after before now how
       → SendsTry rule head before now
-  tried old new kept kept_after before now how (inl anew) = (
-    before,
-    inl (grows_nothing before.log),
-    tried_anew old new kept kept_after before now how anew,
-  )
-  tried old new kept kept_after before now how (inr (any, again, inl answered)) = (
-    before,
-    inl (grows_nothing before.log),
-    inr
-        (visited (Resumed to.addr.ip to.addr.port) (inr (refl, again)) old new kept kept_after
-        before now how answered.visit),
-  )
-  tried old new kept kept_after before now how (inr (any, again, inr t)) = (
-    t.mid,
-    inr
-        (visited (Resumed to.addr.ip to.addr.port) (inr (refl, again)) old t.line kept t.left before
-        t.mid t.first t.visit),
-    tried_anew t.line new t.left kept_after t.mid now how t.anew,
-  )
+  tried old new kept kept_after before now how (inl anew) =
+      inl (tried_anew old new kept kept_after before now how anew)
+  tried old new kept kept_after before now how (inr (any, again, inl answered)) =
+      inl (inr
+      (visited (Resumed to.addr.ip to.addr.port) (inr (refl, again)) old new kept kept_after
+      before now how answered.visit))
+  tried old new kept kept_after before now how (inr (any, again, inr t)) =
+      let silent = and_left (is_silent t.first) _ t.silent in
+      inr (record {
+        mid = t.mid;
+        first =
+            visited (Resumed to.addr.ip to.addr.port) (inr (refl, again)) old t.line kept t.left
+            before t.mid t.first t.visit;
+        resumed = refl;
+        silent =
+            silent_got head onward sought.framing last old t.line kept t.left before.faults
+            t.mid.faults (concat t.visit.sent) t.visit.got t.first silent t.visit.spoke;
+        hung = silent_hung before.keeps t.first silent;
+        again = tried_again t.line new t.left kept_after t.mid now how t.anew;
+      })
 
 -- nothing was done
 idles : (rule : Rule) (head : Head) (old new : Upstream) → Grows old.log new.log []
     → SendsTry rule head old new
-idles rule head old new nothing = (old, inl (grows_nothing old.log), inl nothing)
+idles rule head old new nothing = inl (inl nothing)
 
 routed : (settings : SettingsValue) (rule : Rule) (head : Head) (last : Bool) (sought : Sought)
     (old new : Standing) (result : Option Ended)

@@ -16,18 +16,18 @@ use Rattle.http_wire.specs.declared.head.ReplyHead.{ReplyHead}
 use Rattle.identifier.specs.declared.rule.Rule.{Rule}
 use Rattle.machine.specs.Values.{SettingsValue}
 use Rattle.own_reply.specs.declared.error.OwnError.{OwnError}
-use Rattle.proxy_session.specs.declared.final_head.HeadFault.{HeadFault}
-use Rattle.proxy_session.specs.declared.tried.Tried.{Tried}
-use Rattle.proxy_session.specs.declared.tried.Tried.TheVariants as tried
+use Rattle.replica_try.specs.declared.final_head.HeadFault.{HeadFault}
+use Rattle.replica_try.specs.declared.tried.Tried.{Tried}
+use Rattle.replica_try.specs.declared.tried.Tried.TheVariants as tried
 use Rattle.proxy_session.specs.Answering.{Ends, Refuses, Writes, end_behind, end_of}
 use Rattle.proxy_session.specs.Callers.{Caller}
 use Rattle.proxy_session.specs.Causes.{HasCauseOf, Later, NoneFell}
 use Rattle.proxy_session.specs.Exchange.{Exchanges, Settles, Standing}
 use Rattle.line_base.specs.Dials.{Upstream}
 use Rattle.line_base.specs.Lines.{Line, Rests}
-use Rattle.proxy_session.specs.Trying.{Backs, Converses, GoesBack, GoesOn, Replies, Tries}
-use Rattle.proxy_session.specs.Trying.{TriesAnew}
-use Rattle.proxy_session.specs.Trying.{tried_of_back, tried_of_body, tried_of_head}
+use Rattle.replica_try.specs.Trying.{Backs, Converses, GoesBack, GoesOn, Replies, Tries}
+use Rattle.replica_try.specs.Trying.{TriesAnew}
+use Rattle.replica_try.specs.Trying.{tried_of_back, tried_of_body, tried_of_head}
 
 pub later_same : (a b : ℕ) → b ≡ a → Later a b
 later_same a b is = omega arith
@@ -384,9 +384,11 @@ exchange_done settings rule head last old new r (inl x) =
     refuses_done x.err head last old.line new.line r x.refuses
 exchange_done settings rule head last old new r (inr (inl x)) =
     rests_done _ old.line new.line r x.line x.ends tt
-exchange_done settings rule head last old new r (inr (inr (sought, seeks, (moment, moments, draws, inl x)))) =
+exchange_done settings rule head last old new r
+    (inr (inr (sought, seeks, (moment, moments, draws, inl x)))) =
     rests_done _ old.line new.line r x.line x.ends tt
-exchange_done settings rule head last old new r (inr (inr (sought, seeks, (moment, moments, draws, inr (inl x))))) =
+exchange_done settings rule head last old new r
+    (inr (inr (sought, seeks, (moment, moments, draws, inr (inl x))))) =
     refuses_done _ head last old.line new.line r x.refuses
 exchange_done settings rule head last old new r (inr (inr
     (sought, seeks, (moment, moments, draws, inr (inr x))))) =

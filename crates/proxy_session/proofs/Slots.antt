@@ -5,7 +5,7 @@ use Rattle.http_wire.specs.declared.ended.Ended.{Ended}
 use Rattle.http_wire.specs.declared.head.Head.{Head}
 use Rattle.machine.specs.Values.{SettingsValue, AskValue, PickValue}
 use Rattle.router.specs.Chosen.{HasWord}
-use Rattle.proxy_session.specs.declared.tried.Tried.{Tried}
+use Rattle.replica_try.specs.declared.tried.Tried.{Tried}
 use Rattle.proxy_session.specs.Answering.{report_of}
 use Rattle.proxy_session.specs.Asking.{Finding, StopsAsking}
 use Rattle.proxy_session.specs.Callers.{Caller}

@@ -14,11 +14,11 @@ use Rattle.proxy_session.specs.Exchange.{Exchanges, Standing}
 use Rattle.proxy_session.specs.Requests.{Requests, TriesAgain}
 use Rattle.proxy_session.specs.Seeking.{Sought}
 use Rattle.proxy_session.proofs.Attempting.{last_routes}
-use Rattle.proxy_session.proofs.Closed.{tries_closed}
+use Rattle.replica_try.proofs.Closed.{tries_closed, tries_keeps}
 use Rattle.proxy_session.proofs.Fitting.{exchange_fits}
-use Rattle.proxy_session.proofs.Lasting.{done_number, exchange_closed, exchange_number}
-use Rattle.proxy_session.proofs.Lasting.{finding_number}
-use Rattle.proxy_session.proofs.Resting.{rests_same}
+use Rattle.proxy_session.proofs.Lasting.{done_number, exchange_closed, exchange_keeps}
+use Rattle.proxy_session.proofs.Lasting.{exchange_number, finding_number}
+use Rattle.replica_try.proofs.Resting.{rests_same}
 use Rattle.proxy_session.proofs.Rising.{cause_on, exchange_done, none_fell_on, rests_fell}
 use Rattle.proxy_session.proofs.Untouched.{rests_on}
 
@@ -27,6 +27,7 @@ pub record StaysPut (old new : Standing) : Type 0 where
   pub line : Rests old.line new.line
   pub kept : new.kept ≡ old.kept
   pub closed : old.upstream.open_to ≡ None → new.upstream.open_to ≡ None
+  pub keeps : new.upstream.keeps ≡ old.upstream.keeps
   pub number : new.caller.number ≡ old.caller.number
 
 put_same : (a : Standing) → StaysPut a a
@@ -34,6 +35,7 @@ put_same a = record {
   line = rests_same a.line;
   kept = refl;
   closed = λ is. is;
+  keeps = refl;
   number = refl;
 }
 
@@ -42,6 +44,7 @@ put_on a b c p q = record {
   line = rests_on a.line b.line c.line p.line q.line;
   kept = q.kept ∙ p.kept;
   closed = λ is. q.closed (p.closed is);
+  keeps = q.keeps ∙ p.keeps;
   number = q.number ∙ p.number;
 }
 
@@ -56,6 +59,9 @@ module _ (settings : SettingsValue) (head : Head) (last : Bool) (sought : Sought
         closed =
             λ is. tries_closed head s.onward sought.framing last x.to.addr new.line new.kept
             new.upstream s.how old.line old.kept old.upstream s.tries;
+        keeps =
+            tries_keeps head s.onward sought.framing last x.to.addr new.line new.kept new.upstream
+            s.how old.line old.kept old.upstream s.tries;
         number =
             done_number settings s.held new.caller (report_of s.how) x.to.addr moments new.moments
             s.reported
@@ -127,6 +133,10 @@ module _ (settings : SettingsValue) (rule : Rule) (head : Head) (last : Bool) (n
   pub request_closed : old.upstream.open_to ≡ None → new.upstream.open_to ≡ None
   request_closed is =
       exchange_closed settings rule head last split.0 new result split.2 (split.1.closed is)
+
+  pub request_keeps : new.upstream.keeps ≡ old.upstream.keeps
+  request_keeps =
+      exchange_keeps settings rule head last split.0 new result split.2 ∙ split.1.keeps
 
   pub request_number : new.caller.number ≡ old.caller.number
   request_number =

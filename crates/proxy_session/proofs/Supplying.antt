@@ -13,8 +13,8 @@ use Rattle.http_wire.specs.declared.head.Head.{Head}
 use Rattle.identifier.specs.declared.rule.Rule.{Rule}
 use Rattle.machine.specs.Values.{SettingsValue}
 use Rattle.own_reply.specs.declared.error.OwnError.{OwnError}
-use Rattle.proxy_session.specs.declared.tried.Tried.{Tried}
-use Rattle.proxy_session.specs.declared.tried.Tried.TheVariants as tried
+use Rattle.replica_try.specs.declared.tried.Tried.{Tried}
+use Rattle.replica_try.specs.declared.tried.Tried.TheVariants as tried
 use Rattle.proxy_session.specs.Answering.{Ends, Refuses, Writes}
 use Rattle.proxy_session.specs.Callers.{Caller}
 use Rattle.proxy_session.specs.Exchange.{Exchanges, Settles, Standing}
@@ -22,7 +22,7 @@ use Rattle.proxy_session.specs.Laws.{GivesBytes, WasRead}
 use Rattle.line_base.specs.Dials.{Upstream}
 use Rattle.line_base.specs.Lines.{Line, Rests}
 use Rattle.proxy_session.specs.Session.{Reads, having_told}
-use Rattle.proxy_session.specs.Trying.{Converses, GoesOn, Replies, Tries, TriesAnew}
+use Rattle.replica_try.specs.Trying.{Converses, GoesOn, Replies, Tries, TriesAnew}
 use Rattle.proxy_session.specs.Requests.{Requests}
 use Rattle.retry_budget.specs.Budget.{BudgetValue}
 use Rattle.proxy_session.proofs.FieldTexts.{back, front}

@@ -1,5 +1,5 @@
 -- A try behind which another attempt follows leaves the client's connection as it was.
-use Rattle.std.proofs.Common.{◌≡◌, ◌≢◌, ℕ, eqb, ◌&&◌, Bool, true, false, List, [], ◌∷◌, ◌++◌}
+use Rattle.std.proofs.Common.{◌≡◌, ◌≢◌, ℕ, eqb, Bool, true, false, List, [], ◌∷◌, ◌++◌}
 use Rattle.std.proofs.Common.{length, refl, sym, subst, ap, ◌∙◌, inl, inr, append-nil, Option, Some}
 use Rattle.std.proofs.Common.{None, Result, Ok, Err, arith}
 use Rattle.std.specs.List.{concat}
@@ -17,23 +17,15 @@ use Rattle.http_wire.specs.declared.frames.Framing.{Framing}
 use Rattle.http_wire.specs.declared.head.Head.{Head}
 use Rattle.line_base.specs.Dials.{Upstream}
 use Rattle.line_base.specs.Lines.{Line, Rests}
-use Rattle.proxy_session.specs.declared.final_head.HeadFault.{HeadFault}
-use Rattle.proxy_session.specs.declared.tried.Tried.{Tried}
-use Rattle.proxy_session.specs.declared.tried.Tried.TheVariants as tried
+use Rattle.replica_try.specs.declared.final_head.HeadFault.{HeadFault}
+use Rattle.replica_try.specs.declared.tried.Tried.{Tried}
+use Rattle.replica_try.specs.declared.tried.Tried.TheVariants as tried
 use Rattle.proxy_session.specs.Attempts.{may_repeat}
-use Rattle.proxy_session.specs.Trying.{Converses, GoesOn, Replies, Tries, TriesAnew}
-use Rattle.proxy_session.specs.Trying.{is_repeatable, is_silent, is_without_body, tried_of_back}
-use Rattle.proxy_session.specs.Trying.{tried_of_body, tried_of_head}
+use Rattle.replica_try.specs.Trying.{Converses, GoesOn, Replies, Tries, TriesAnew}
+use Rattle.replica_try.specs.Trying.{is_repeatable, is_silent, is_without_body, tried_of_back}
+use Rattle.replica_try.specs.Trying.{tried_of_body, tried_of_head}
+use Rattle.replica_try.proofs.BothHold.{and_left}
 use Rattle.proxy_session.proofs.Bodies.{front_of_body}
-
--- the first of two tests that both hold
-pub and_left : (a b : Bool) → (a && b) ≡ true → a ≡ true
-and_left true b is = refl
-and_left false b is = absurd (cc)
-
-pub and_right : (a b : Bool) → (a && b) ≡ true → b ≡ true
-and_right true b is = is
-and_right false b is = absurd (cc)
 
 -- ---- a body that has no byte
 

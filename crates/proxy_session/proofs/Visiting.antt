@@ -1,5 +1,5 @@
 -- What the dialer does in a session.
-use Rattle.std.proofs.Common.{◌≡◌, ℕ, zero, suc, ◌+◌, ◌||◌, eqb, Bool, List, [], ◌∷◌, ◌++◌}
+use Rattle.std.proofs.Common.{◌≡◌, ◌⊎◌, ℕ, zero, suc, ◌+◌, ◌||◌, eqb, Bool, List, [], ◌∷◌, ◌++◌}
 use Rattle.std.proofs.Common.{map, append-nil}
 use Rattle.std.proofs.Common.{subst, sym, inl, inr, Option, Some, None, arith}
 use Rattle.http_wire.specs.declared.ended.Ended.{Ended}
@@ -16,7 +16,7 @@ use Rattle.proxy_session.specs.Laws.{SendsOnce}
 use Rattle.proxy_session.specs.Laws.{SendsTry}
 use Rattle.proxy_session.specs.Laws.{SessionsReadBack, Visits, WasRead}
 use Rattle.proxy_session.specs.Session.{Served, Serves, Sessions, having_told, most_requests}
-use Rattle.proxy_session.proofs.Growing.{grows_nothing, grows_on}
+use Rattle.replica_try.proofs.Growing.{grows_nothing, grows_on}
 use Rattle.proxy_session.proofs.ReadingBack.{requests_read_back}
 use Rattle.proxy_session.proofs.Supplying.{head_supplies, request_supplies, told_supplies}
 
@@ -35,7 +35,7 @@ all_of n retries earlier more is = omega (arith, is)
 
 module _ (settings : SettingsValue) (rule : Rule) (of_bytes : IsByteRule rule) where
   -- a visit, by what a log that begins or ends elsewhere shows of it
-  shown_so : (head : Head) (old new first last : Upstream) (s : SendsHead rule head old new)
+  abbrev shown_so : (head : Head) (old new first last : Upstream) (s : SendsHead rule head old new)
       → Grows first.log last.log
       (s.start ∷ (map Sent s.sent ++ (map Got s.got ++ s.stop ∷ [])))
       → SendsHead rule head first last
@@ -68,12 +68,27 @@ module _ (settings : SettingsValue) (rule : Rule) (of_bytes : IsByteRule rule) w
       inr (shown_so head mid new old new sends
       (grows_on old.log mid.log new.log [] _ quiet sends.log))
 
+  try_behind : (head : Head) (old mid new : Upstream) → Grows old.log mid.log []
+      → SendsTry rule head mid new → SendsTry rule head old new
+  try_behind head old mid new quiet (inl once) = inl (once_behind head old mid new quiet once)
+  try_behind head old mid new quiet (inr t) =
+      inr (record {
+        mid = t.mid;
+        first =
+            shown_so head mid t.mid old t.mid t.first
+            (grows_on old.log mid.log t.mid.log [] _ quiet t.first.log);
+        resumed = t.resumed;
+        silent = t.silent;
+        hung = t.hung;
+        again = t.again;
+      })
+
   visits_behind : (old mid new : Upstream) → Grows old.log mid.log [] → Visits rule mid new
       → Visits rule old new
   visits_behind old mid new quiet (inl nothing) =
       inl (grows_on old.log mid.log new.log [] [] quiet nothing)
-  visits_behind old mid new quiet (inr (head, was, (between, first, second))) =
-      inr (head, was, (between, once_behind head old mid between quiet first, second))
+  visits_behind old mid new quiet (inr (head, was, sends)) =
+      inr (head, was, try_behind head old mid new quiet sends)
 
   with_head : (head : Head) (old new : Upstream) → WasRead head → SendsTry rule head old new
       → Visits rule old new
@@ -99,21 +114,51 @@ module _ (settings : SettingsValue) (rule : Rule) (of_bytes : IsByteRule rule) w
   sends_behind (suc (suc n)) old mid new quiet (between, first, visit) =
       (between, sends_behind (suc n) old mid between quiet first, visit)
 
+  abbrev shown_before : (head : Head) (old mid new : Upstream) → SendsHead rule head old mid
+      → Grows mid.log new.log [] → SendsHead rule head old new
+  shown_before head old mid new sends quiet =
+      shown_so head old mid old new sends
+      (subst (λ (events : List DialEvent). Grows old.log new.log events) (append-nil _)
+      (grows_on old.log mid.log new.log _ [] sends.log quiet))
+
   once_before : (head : Head) (old mid new : Upstream) → SendsOnce rule head old mid
       → Grows mid.log new.log [] → SendsOnce rule head old new
   once_before head old mid new (inl nothing) quiet =
       inl (grows_on old.log mid.log new.log [] [] nothing quiet)
-  once_before head old mid new (inr sends) quiet =
-      inr (shown_so head old mid old new sends
-      (subst (λ (events : List DialEvent). Grows old.log new.log events) (append-nil _)
-      (grows_on old.log mid.log new.log _ [] sends.log quiet)))
+  once_before head old mid new (inr sends) quiet = inr (shown_before head old mid new sends quiet)
+
+  again_before : (head : Head) (old mid new : Upstream) (start : DialEvent) (onward : List ℕ)
+      → Grows old.log mid.log []
+      ⊎ ((second : SendsHead rule head old mid) × (second.start ≡ start)
+      × (second.onward ≡ onward))
+      → Grows mid.log new.log []
+      → Grows old.log new.log []
+      ⊎ ((second : SendsHead rule head old new) × (second.start ≡ start)
+      × (second.onward ≡ onward))
+  again_before head old mid new start onward (inl nothing) quiet =
+      inl (grows_on old.log mid.log new.log [] [] nothing quiet)
+  again_before head old mid new start onward (inr (second, is, same)) quiet =
+      inr (shown_before head old mid new second quiet, is, same)
+
+  try_before : (head : Head) (old mid new : Upstream) → SendsTry rule head old mid
+      → Grows mid.log new.log [] → SendsTry rule head old new
+  try_before head old mid new (inl once) quiet = inl (once_before head old mid new once quiet)
+  try_before head old mid new (inr t) quiet =
+      inr (record {
+        mid = t.mid;
+        first = t.first;
+        resumed = t.resumed;
+        silent = t.silent;
+        hung = t.hung;
+        again = again_before head t.mid mid new _ _ t.again quiet;
+      })
 
   visits_before : (old mid new : Upstream) → Visits rule old mid → Grows mid.log new.log []
       → Visits rule old new
   visits_before old mid new (inl nothing) quiet =
       inl (grows_on old.log mid.log new.log [] [] nothing quiet)
-  visits_before old mid new (inr (head, was, (between, first, second))) quiet =
-      inr (head, was, (between, first, once_before head between mid new second quiet))
+  visits_before old mid new (inr (head, was, sends)) quiet =
+      inr (head, was, try_before head old mid new sends quiet)
 
   sends_before : (n : ℕ) (old mid new : Upstream) → SendsHeads rule n old mid
       → Grows mid.log new.log [] → SendsHeads rule n old new

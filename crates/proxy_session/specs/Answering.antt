@@ -14,10 +14,10 @@ use Rattle.machine.specs.declared.chosen.Why.TheVariants as why
 use Rattle.own_reply.specs.declared.error.OwnError.{OwnError}
 use Rattle.own_reply.specs.declared.error.OwnError.TheVariants as own
 use Rattle.own_reply.specs.Reply.{reply_of}
-use Rattle.proxy_session.specs.declared.tried.Tried.{Tried}
-use Rattle.proxy_session.specs.declared.tried.Tried.TheVariants as tried
+use Rattle.replica_try.specs.declared.tried.Tried.{Tried}
+use Rattle.replica_try.specs.declared.tried.Tried.TheVariants as tried
 use Rattle.line_base.specs.Lines.{Line, Gives, Rests}
-use Rattle.proxy_session.specs.Trying.{asks_to_close}
+use Rattle.replica_try.specs.Trying.{asks_to_close}
 
 -- ---- which replies close
 

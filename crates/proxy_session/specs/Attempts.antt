@@ -10,8 +10,8 @@ use Rattle.http_wire.specs.declared.head.Head.{Head}
 use Rattle.line_base.specs.Lines.{Rests}
 use Rattle.machine.specs.Values.{SettingsValue, AskValue, Replica, replica}
 use Rattle.retry_budget.specs.Budget.{BudgetValue, behind_request, behind_spend, can_spend}
-use Rattle.proxy_session.specs.declared.tried.Tried.{Tried}
-use Rattle.proxy_session.specs.declared.tried.Tried.TheVariants as tried
+use Rattle.replica_try.specs.declared.tried.Tried.{Tried}
+use Rattle.replica_try.specs.declared.tried.Tried.TheVariants as tried
 use Rattle.proxy_session.specs.Answering.{report_of}
 use Rattle.proxy_session.specs.Asking.{Finding, drawn}
 use Rattle.proxy_session.specs.Callers.{Caller, Holds}
@@ -19,7 +19,7 @@ use Rattle.proxy_session.specs.Exchange.{Draws, IsTried, IsUnbound, ReportDone, 
 use Rattle.proxy_session.specs.Exchange.{StopsAsked, having_asked}
 use Rattle.proxy_session.specs.Onward.{IsForwarded}
 use Rattle.proxy_session.specs.Seeking.{Sought}
-use Rattle.proxy_session.specs.Trying.{Tries, is_repeatable}
+use Rattle.replica_try.specs.Trying.{Tries, is_repeatable}
 
 -- ---- which tries are followed by another attempt
 

@@ -11,7 +11,7 @@ use Rattle.identifier.specs.declared.rule.Rule.{Rule}
 use Rattle.machine.specs.declared.chosen.Why.{Why}
 use Rattle.machine.specs.Values.{SettingsValue, AskValue, PickValue, Replica, replica, none}
 use Rattle.own_reply.specs.declared.error.OwnError.{OwnError}
-use Rattle.proxy_session.specs.declared.tried.Tried.{Tried}
+use Rattle.replica_try.specs.declared.tried.Tried.{Tried}
 use Rattle.proxy_session.specs.Answering.{Ends, Refuses, own_of_why, report_of}
 use Rattle.proxy_session.specs.Asking.{Finding, StopsAsking, behind_draw, drawn}
 use Rattle.proxy_session.specs.Callers.{Caller, Holds, Reports, SeesMore}
@@ -19,7 +19,7 @@ use Rattle.proxy_session.specs.Onward.{IsForwarded}
 use Rattle.line_base.specs.Dials.{IsIdle, Upstream}
 use Rattle.line_base.specs.Lines.{Line, Rests}
 use Rattle.proxy_session.specs.Seeking.{Seeks, Sought}
-use Rattle.proxy_session.specs.Trying.{Tries}
+use Rattle.replica_try.specs.Trying.{Tries}
 
 -- all that an exchange moves: the client's connection and the bytes that were read from it and not
 -- used yet, the dialer, the pass, the clock's moments to come, where they are told, and the

@@ -23,13 +23,13 @@ use Rattle.body_wire.specs.Bodies.{IsFrontBody, IsWholeBody}
 use Rattle.body_wire.specs.Passing.{IsFrontOf, form_of, most_passed}
 use Rattle.forward.specs.Laws.{table_texts}
 use Rattle.proxy_session.specs.Exchange.{Exchanges, Standing}
-use Rattle.proxy_session.specs.Heads.{Hears}
+use Rattle.replica_try.specs.Heads.{Hears}
 use Rattle.proxy_session.specs.Onward.{IsForwarded, host_for}
 use Rattle.line_base.specs.Dials.{Grows, Upstream}
 use Rattle.proxy_session.specs.Seeking.{Seeks, Sought}
 use Rattle.proxy_session.specs.Requests.{Requests}
 use Rattle.proxy_session.specs.Session.{Sessions}
-use Rattle.proxy_session.specs.Trying.{is_repeatable, is_reusable}
+use Rattle.replica_try.specs.Trying.{is_repeatable, is_reusable}
 use Rattle.retry_budget.specs.Budget.{BudgetValue}
 
 -- a head that was read off some bytes
@@ -151,10 +151,24 @@ pub record SendsHead (rule : Rule) (head : Head) (old new : Upstream) : Type 0 w
 abbrev pub SendsOnce : Rule → Head → Upstream → Upstream → Type 0
 SendsOnce rule head old new = Grows old.log new.log [] ⊎ SendsHead rule head old new
 
--- a try: where a connection that was kept was silent, once over that, and then once more
+-- A visit over a connection that was kept, over which not a byte of a reply came and which was
+-- ended; and behind it nothing, or one over a new connection to the same address, with the same
+-- head
+pub record SendsTwice (rule : Rule) (head : Head) (old new : Upstream) : Type 0 where
+  pub mid : Upstream
+  pub first : SendsHead rule head old mid
+  pub resumed : first.start ≡ Resumed first.to.addr.ip first.to.addr.port
+  pub silent : concat first.got ≡ []
+  pub hung : first.stop ≡ Hung
+  pub again :
+      Grows mid.log new.log []
+      ⊎ ((second : SendsHead rule head mid new)
+      × (second.start ≡ Dialed first.to.addr.ip first.to.addr.port)
+      × (second.onward ≡ first.onward))
+
+-- a try: one visit at most, unless the first of two was silent over a kept connection
 abbrev pub SendsTry : Rule → Head → Upstream → Upstream → Type 0
-SendsTry rule head old new =
-    (mid : Upstream) × SendsOnce rule head old mid × SendsOnce rule head mid new
+SendsTry rule head old new = SendsOnce rule head old new ⊎ SendsTwice rule head old new
 
 -- in an exchange of a head that was read the dialer did just this
 abbrev pub ExchangesReadBack : Type 0

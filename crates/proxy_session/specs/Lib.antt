@@ -4,8 +4,6 @@ pub mod Found
 pub mod Seeking
 pub mod Sought
 pub mod Onward
-pub mod Heads
-pub mod Trying
 pub mod Answering
 pub mod Exchange
 pub mod Attempts

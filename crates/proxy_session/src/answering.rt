@@ -7,18 +7,18 @@ ghost use Rattle.proxy_session.specs.Exchange.{ReportDone, ReportFails};
 use crate::Mem;
 use crate::closing::end_of;
 use crate::context::Context;
+use crate::held_try::HeldTry;
 use crate::refusing::refuse;
 use crate::reporting::report;
-use crate::tried::Tried;
-use crate::trying::Try;
 use http_wire::Ended;
 use line_base::{Clock, Peer};
 use own_reply::OwnError;
+use replica_try::Tried;
 use router::{Naming, Pass};
 use std::alloc::Global;
 use std::sync::Wait;
 
-impl Try<'_> {
+impl HeldTry<'_> {
     /// Reports on the replica, where a report is due.
     pub(crate) fn report_on<J: Naming, C: Clock, R: Wait>(
         &self,
@@ -27,30 +27,30 @@ impl Try<'_> {
         tried: Tried,
         clock: &mut C,
     ) -> Mem<()>
-        ensures ok { OnOk result (ReportDone J.settings (report_of tried) self.now.addr
+        ensures ok { OnOk result (ReportDone J.settings (report_of tried) self.now.to.addr
             (caller_of pass.old) (caller_of pass.new) (C.to_come clock.old)
             (C.to_come clock.new)) }
         ensures err { OnErr result (ReportFails (report_of tried) (caller_of pass.old)
             (caller_of pass.new) (C.to_come clock.old) (C.to_come clock.new)) }
     {
-        match tried.report() {
+        match report_of(tried) {
             None => Ok(()),
-            Some(good) => report(context, pass, clock, self.addr, good),
+            Some(good) => report(context, pass, clock, self.to.addr, good),
         }
     }
 
     /// Answers the client, where no reply went back, and says how the request ends.
     pub(crate) fn answer<P: Peer>(&self, alloc: Global, tried: Tried, peer: &mut P) -> Option<Ended>
-        ensures { Ends tried self.now.head.now self.now.last (P.line peer.old) (P.line peer.new)
-            result }
+        ensures { Ends tried self.now.to.head.now self.now.to.last (P.line peer.old)
+            (P.line peer.new) result }
     {
         match tried {
-            Tried::NotDialed => refuse(alloc, self.head, self.last, OwnError::Dial, peer),
-            Tried::NotSent => refuse(alloc, self.head, self.last, OwnError::Upstream, peer),
-            Tried::Silent => refuse(alloc, self.head, self.last, OwnError::Upstream, peer),
-            Tried::NoReply => refuse(alloc, self.head, self.last, OwnError::Upstream, peer),
-            Tried::BadBody => refuse(alloc, self.head, self.last, OwnError::Body, peer),
-            Tried::LongBody => refuse(alloc, self.head, self.last, OwnError::TooLong, peer),
+            Tried::NotDialed => refuse(alloc, self.to.head, self.to.last, OwnError::Dial, peer),
+            Tried::NotSent => refuse(alloc, self.to.head, self.to.last, OwnError::Upstream, peer),
+            Tried::Silent => refuse(alloc, self.to.head, self.to.last, OwnError::Upstream, peer),
+            Tried::NoReply => refuse(alloc, self.to.head, self.to.last, OwnError::Upstream, peer),
+            Tried::BadBody => refuse(alloc, self.to.head, self.to.last, OwnError::Body, peer),
+            Tried::LongBody => refuse(alloc, self.to.head, self.to.last, OwnError::TooLong, peer),
             Tried::BodyCut => Some(Ended::Cut),
             Tried::BodyFault => Some(Ended::ReadFault),
             Tried::ReplyCut => Some(Ended::UpstreamCut),
@@ -60,7 +60,29 @@ impl Try<'_> {
                 status: _,
                 closes,
                 reusable: _,
-            } => end_of(closes, self.last),
+            } => end_of(closes, self.to.last),
         }
+    }
+}
+
+/// What is reported of the replica, if something is: whether it answered well.
+fn report_of(tried: Tried) -> Option<bool>
+    ensures { result ≡ report_of tried }
+{
+    match tried {
+        Tried::NotDialed | Tried::NotSent | Tried::Silent | Tried::NoReply | Tried::ReplyCut => {
+            Some(false)
+        }
+        Tried::Whole {
+            status,
+            closes: _,
+            reusable: _,
+        } => Some(status < 500),
+        Tried::BadBody
+        | Tried::LongBody
+        | Tried::BodyCut
+        | Tried::BodyFault
+        | Tried::WrittenShort
+        | Tried::OutOfMemory => None,
     }
 }

@@ -10,15 +10,16 @@ ghost use Rattle.proxy_session.specs.Standing.{standing};
 use crate::asking::{Found, Texts, find};
 use crate::connection::Connection;
 use crate::context::Context;
+use crate::held_try::HeldTry;
 use crate::onward::Onward;
 use crate::refusing::refuse;
 use crate::seeking::Request;
 use crate::server::Server;
-use crate::trying::Try;
 use http_wire::{Ended, Head};
 use line_base::{Clock, Dialer, Peer};
 use machine::Why;
 use own_reply::OwnError;
+use replica_try::Try;
 use router::{Choice, Naming};
 use std::sync::Wait;
 
@@ -132,14 +133,16 @@ impl<J: Naming, D: Dialer, C: Clock> Server<J, D, C> {
         let Ok(()) = written else {
             return Attempt::Last(Some(Ended::OutOfMemory));
         };
-        let to = Try {
-            head: going.head,
-            last: going.last,
-            framing: going.framing,
-            addr: choice.addr,
+        let to = HeldTry {
+            to: Try {
+                head: going.head,
+                last: going.last,
+                framing: going.framing,
+                addr: choice.addr,
+            },
             slot: choice.slot,
         };
-        let tried = to.run_held(
+        let tried = to.run(
             context,
             &mut self.pass,
             &mut connection.peer,

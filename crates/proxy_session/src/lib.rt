@@ -14,31 +14,26 @@
 //! replicas that are left can carry: over a session the attempts behind the first of each request
 //! are at most `reserve + percent * requests / 100`.
 //!
-//! Where the dialer keeps connections ([`Dialer::keeps`](line_base::Dialer::keeps)), a request that
-//! may be repeated (an idempotent method, and no body) goes over one that was kept to its replica,
-//! if there is one. The replica may have ended that in the meantime: where not a byte of a reply
-//! comes, and not because the replica was too slow, the same bytes go once over a new connection to
-//! the same address. No other replica is picked for it and nothing is reported, so a server that
-//! ends idle connections costs no retry and counts as no failure. A connection is kept behind a
-//! reply of HTTP/1.1 that was passed back whole, does not say that its connection closes or run to
-//! its end, and behind which nothing was received. So no reply ever goes to another request. Where
-//! the dialer keeps none, each try has a connection of its own and asks the replica to close it.
+//! A replica is tried by `replica_try`, over a new connection or, where the dialer keeps them
+//! ([`Dialer::keeps`](line_base::Dialer::keeps)), over one that was kept to it. A kept connection
+//! that its replica has ended in the meantime is no failed try: the same request goes over a new
+//! one, no other replica is picked for it and nothing is reported. So a server that ends idle
+//! connections costs no retry and counts as no failure. Where the dialer keeps none, each try has
+//! a connection of its own and asks the replica to close it.
 //!
 //! # What is proved
 //! One exchange is a relation over plain lists (`Exchanges` of `specs/Exchange.antt`): what a
 //! request seeks or why it is refused (`Seeks`), how a replica is asked for (`Finding`), how it is
-//! tried (`Tries`, whose ways have a variant of `Tried` each), and how that is settled (`Settles`).
-//! A try is one visit over a new or a kept connection, before which a silent one over a kept
-//! connection may stand.
-//! A request is one exchange where its connection has no budget (`Requests` of
-//! `specs/Requests.antt`); with one it is a list of attempts, each with words and a moment of its
-//! own (`Attempts` of `specs/Attempts.antt`), of which the client sees the last alone. A session is
-//! a list of requests, each with its head read off the bytes that the one before it left, and then
-//! an end (`SessionsTo` of `specs/Session.antt`), and its retries are bounded by its budget. All
-//! hold over any cutting of the bytes and every failing call; where memory is wanting, or a call of
-//! the client's connection fails, what was moved until then is a front of what would have been.
-//! Behind each no slot is held, and behind each try no connection to the replica is open: it was
-//! ended or kept.
+//! tried (`Tries` of `replica_try`, with a variant of its `Tried` for each outcome), and how that
+//! is settled (`Settles`). A request is one exchange where its connection has no budget (`Requests`
+//! of `specs/Requests.antt`); with one it is a list of attempts, each with words and a moment of
+//! its own (`Attempts` of `specs/Attempts.antt`), of which the client sees the last alone. A
+//! session is a list of requests, each with its head read off the bytes that the one before it
+//! left, and then an end (`SessionsTo` of `specs/Session.antt`), and its retries are bounded by its
+//! budget. All hold over any cutting of the bytes and every failing call; where memory runs out, or
+//! a call of the client's connection fails, what was moved until then is a prefix of what would
+//! have been. Behind each no slot is held, and behind each try no connection to the replica is
+//! open: it was ended or kept.
 //!
 //! [`heads_that_go_on_are_read_back`] is the law that what these send of a head that was read is
 //! itself read as it was meant, and the law for whoever reads a dialer's log: over one connection
@@ -65,7 +60,7 @@ mod closing;
 mod connection;
 mod context;
 mod exchange;
-mod final_head;
+mod held_try;
 mod laws;
 mod onward;
 mod refusing;
@@ -75,8 +70,6 @@ mod room;
 mod seeking;
 mod server;
 mod session;
-mod tried;
-mod trying;
 
 pub use connection::Connection;
 pub use context::Context;

@@ -2,14 +2,12 @@
 ghost use Rattle.std.specs.Prelude.{◌≡◌};
 ghost use Rattle.proxy_session.specs.Attempts.{behind_grant, has_retry, is_followed};
 ghost use Rattle.proxy_session.specs.Attempts.{may_repeat, most_of, paid};
-ghost use Rattle.proxy_session.specs.Trying.{is_repeatable, is_without_body};
 
-use crate::tried::Tried;
-use crate::trying::Try;
-use http_wire::Framing;
+use crate::held_try::HeldTry;
+use replica_try::Tried;
 use retry_budget::Budget;
 
-impl Try<'_> {
+impl HeldTry<'_> {
     /// Whether another attempt follows, where the request has `fewer` retries than it may have. The
     /// budget is charged for it then.
     pub(crate) fn charge_for_another(
@@ -18,8 +16,8 @@ impl Try<'_> {
         fewer: bool,
         budget: &mut Option<Budget>,
     ) -> bool
-        ensures followed { result ≡ is_followed self.now.head.now self.now.framing fewer budget.old
-            tried }
+        ensures followed { result ≡ is_followed self.now.to.head.now self.now.to.framing fewer
+            budget.old tried }
         ensures behind { budget.new ≡ behind_grant result budget.old }
     {
         self.may_repeat(tried) && fewer && spend(budget)
@@ -29,11 +27,11 @@ impl Try<'_> {
     /// reply, and the request is one that may be carried out twice, of which no byte was read
     /// behind its head.
     fn may_repeat(&self, tried: Tried) -> bool
-        ensures { result ≡ may_repeat self.now.head.now self.now.framing tried }
+        ensures { result ≡ may_repeat self.now.to.head.now self.now.to.framing tried }
     {
         match tried {
             Tried::NotDialed => true,
-            Tried::NotSent | Tried::Silent | Tried::NoReply => self.is_repeatable(),
+            Tried::NotSent | Tried::Silent | Tried::NoReply => self.to.is_repeatable(),
             Tried::BadBody
             | Tried::LongBody
             | Tried::BodyCut
@@ -47,25 +45,6 @@ impl Try<'_> {
                 reusable: _,
             } => false,
         }
-    }
-
-    /// Whether a replica may be sent the request again, though one may have carried it out already:
-    /// it has no body, and its method is idempotent.
-    pub(crate) fn is_repeatable(&self) -> bool
-        ensures { result ≡ is_repeatable self.now.head.now self.now.framing }
-    {
-        is_without_body(self.framing) && self.head.method.is_idempotent()
-    }
-}
-
-/// Whether a body that is framed so has no byte.
-fn is_without_body(framing: Framing) -> bool
-    ensures { result ≡ is_without_body framing }
-{
-    match framing {
-        Framing::Nothing => true,
-        Framing::Length(length) => length == 0,
-        Framing::Chunked | Framing::ToEnd => false,
     }
 }
 

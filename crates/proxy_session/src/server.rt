@@ -1,12 +1,11 @@
 //! What a worker has for all its connections.
-ghost use Rattle.std.specs.Prelude.{◌≡◌, true};
+ghost use Rattle.std.specs.Prelude.{◌≡◌};
 
-use crate::Bytes;
 use crate::room::Room;
 use http_wire::Rest;
 use rand_pcg::Pcg64;
+use replica_try::Way;
 use router::{Names, Naming, Pass};
-use std::mem;
 
 /// What a worker has for all its connections, one after another: its pass to the router, a dialer
 /// for the replicas, a clock, a generator of words, and the room for a connection's bytes.
@@ -22,39 +21,6 @@ pub struct Server<J: Naming, D, C> {
     pub(crate) words: Pcg64,
     pub(crate) rest: Rest,
     pub(crate) names: Names,
-}
-
-/// The way to replicas.
-#[derive(Drop)]
-pub(crate) struct Way<D> {
-    /// What opens connections to them.
-    pub(crate) dialer: D,
-    /// Room for the bytes that they give.
-    pub(crate) back: Rest,
-    /// Room for the head that goes on, and then for the one that goes back.
-    pub(crate) out: Bytes,
-    /// Room for a copy of the head that goes on, where it may have to go on again.
-    pub(crate) again: Bytes,
-}
-
-impl<D> Way<D> {
-    /// Copies the head that goes on, and says whether there was memory for that.
-    pub(crate) fn copy_head(&mut self) -> bool
-        ensures copied { result ≡ true → self.new.again.items ≡ self.old.out.items }
-        ensures same { (self.new.out.items ≡ self.old.out.items)
-            × (self.new.dialer ≡ self.old.dialer) × (self.new.back ≡ self.old.back) }
-    {
-        self.again.clear();
-        self.again.extend_from_slice(self.out.as_slice()).is_ok()
-    }
-
-    /// Puts the copy in the place of the head that goes on.
-    pub(crate) fn take_copy(&mut self)
-        ensures taken { self.new.out.items ≡ self.old.again.items }
-        ensures same { (self.new.dialer ≡ self.old.dialer) × (self.new.back ≡ self.old.back) }
-    {
-        mem::swap(&mut self.out, &mut self.again);
-    }
 }
 
 /// What a server was made of, but for its room.
@@ -78,13 +44,7 @@ impl<J: Naming, D, C> Server<J, D, C> {
         ensures clock { result.clock ≡ parts.clock }
         ensures words { result.words ≡ parts.words }
     {
-        let Room {
-            rest,
-            names,
-            back,
-            out,
-            again,
-        } = room;
+        let Room { rest, names, way } = room;
         let Parts {
             pass,
             dialer,
@@ -93,12 +53,7 @@ impl<J: Naming, D, C> Server<J, D, C> {
         } = parts;
         Server {
             pass,
-            way: Way {
-                dialer,
-                back,
-                out,
-                again,
-            },
+            way: Way::of(dialer, way),
             clock,
             words,
             rest,
@@ -121,15 +76,9 @@ impl<J: Naming, D, C> Server<J, D, C> {
             rest: _,
             names: _,
         } = self;
-        let Way {
-            dialer,
-            back: _,
-            out: _,
-            again: _,
-        } = way;
         Parts {
             pass,
-            dialer,
+            dialer: way.into_dialer(),
             clock,
             words,
         }

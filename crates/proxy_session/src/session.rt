@@ -61,6 +61,8 @@ impl<J: Naming, D: Dialer, C: Clock> Server<J, D, C> {
             (at connection.old self.old) (at connection.new self.new) result }
         ensures closed { (D.upstream self.old.way.dialer).open_to ≡ None
             → (D.upstream self.new.way.dialer).open_to ≡ None }
+        ensures keeps { (D.upstream self.new.way.dialer).keeps
+            ≡ (D.upstream self.old.way.dialer).keeps }
         ensures number { number_in self.new.pass ≡ number_in self.old.pass }
     {
         self.rest.clear();

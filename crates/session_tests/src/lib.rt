@@ -1,5 +1,5 @@
 //! Whole sessions over peers, dialers and clocks in memory: worked exchanges with the bytes on both
-//! sides, hostile requests, each failing call, limits, requests that are tried again, and
+//! sides, hostile and large requests, each failing call, limits, requests that are tried again, and
 //! connections that are kept; one request by itself; what a dialer sees of the router; and two
 //! sessions beside one another.
 #![tactic(auto)]
@@ -14,6 +14,8 @@ mod first_request;
 mod hostile;
 #[cfg(test)]
 mod keeping;
+#[cfg(test)]
+mod large;
 #[cfg(test)]
 mod limits;
 #[cfg(test)]

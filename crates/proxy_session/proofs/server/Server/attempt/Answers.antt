@@ -5,7 +5,7 @@ use Rattle.proxy_session.specs.Sought.{sought_of}
 use Rattle.proxy_session.specs.declared.onward.Onward.{Onward}
 use Rattle.proxy_session.specs.Standing.{standing}
 use Rattle.proxy_session.proofs.Exchanging.{asks_sent, word_found}
-use Rattle.proxy_session.proofs.Resting.{idle_same, rests_same}
+use Rattle.replica_try.proofs.Resting.{idle_same, rests_same}
 use Rattle.proxy_session.proofs.Slots.{finding_slot, finding_word, stopping_slot}
 use Rattle.proxy_session.proofs.server.Server.attempt.Goals as goal
 

@@ -3,8 +3,9 @@ use Rattle.proxy_session.specs.Sought.{sought_of}
 use Rattle.proxy_session.specs.Standing.{standing}
 use Rattle.proxy_session.proofs.Attempting.{refused_request, routed_request}
 use Rattle.proxy_session.proofs.Exchanging.{refused_so}
-use Rattle.proxy_session.proofs.Resting.{idle_same}
-use Rattle.proxy_session.proofs.Splitting.{request_cause, request_closed, request_fits, request_number}
+use Rattle.replica_try.proofs.Resting.{idle_same}
+use Rattle.proxy_session.proofs.Splitting.{request_cause, request_closed, request_fits}
+use Rattle.proxy_session.proofs.Splitting.{request_number}
 use Rattle.proxy_session.proofs.server.Server.proxy_once.Goals as goal
 
 pub returns-in-Ok-clause-exchange : goal.returns-in-Ok-clause-exchange

@@ -3,7 +3,7 @@ use Rattle.line_base.specs.Lines.{Line}
 use Rattle.proxy_session.specs.Exchange.{Standing}
 use Rattle.proxy_session.specs.Standing.{standing}
 use Rattle.proxy_session.proofs.Reading.{having_read}
-use Rattle.proxy_session.proofs.Resting.{idle_same}
+use Rattle.replica_try.proofs.Resting.{idle_same}
 use Rattle.proxy_session.proofs.Serving.{head_served}
 use Rattle.proxy_session.proofs.server.Server.serve_next.Goals as goal
 
