@@ -45,14 +45,23 @@ over_at most n text at lt digit over same =
     let read : digits_behind n (get_or text at 0 ∷ drop (suc at) text) ≡ digits_behind (10 * n + (get_or text at 0 - 48)) (drop (suc at) text) = rw digit refl in
     sym (ap (at_most most) (sym same ∙ ap (digits_behind n) next ∙ read) ∙ over_limit most (10 * n + (get_or text at 0 - 48)) (drop (suc at) text) over)
 
--- an address has neither three parts nor five
-three_parts : (a b c : Option ℕ) → ip_of_octets (a ∷ b ∷ c ∷ []) ≡ None
+-- an address has neither fewer than four parts nor five
+pub one_part : (a : Option ℕ) → ip_of_octets (a ∷ []) ≡ None
+one_part None = refl
+one_part (Some a) = refl
+
+pub two_parts : (a b : Option ℕ) → ip_of_octets (a ∷ b ∷ []) ≡ None
+two_parts None b = refl
+two_parts (Some a) None = refl
+two_parts (Some a) (Some b) = refl
+
+pub three_parts : (a b c : Option ℕ) → ip_of_octets (a ∷ b ∷ c ∷ []) ≡ None
 three_parts None b c = refl
 three_parts (Some a) None c = refl
 three_parts (Some a) (Some b) None = refl
 three_parts (Some a) (Some b) (Some c) = refl
 
-more_parts : (a b c d : Option ℕ) (more : List (Option ℕ)) → 0 < length more → ip_of_octets (a ∷ b ∷ c ∷ d ∷ more) ≡ None
+pub more_parts : (a b c d : Option ℕ) (more : List (Option ℕ)) → 0 < length more → ip_of_octets (a ∷ b ∷ c ∷ d ∷ more) ≡ None
 more_parts None b c d more h = refl
 more_parts (Some a) None c d more h = refl
 more_parts (Some a) (Some b) None d more h = refl

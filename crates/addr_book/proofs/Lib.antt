@@ -5,8 +5,12 @@ pub mod Bounds
 pub mod Counts
 pub mod Files
 pub mod Fronts
+pub mod GapWords
+pub mod HostTexts
 pub mod Hosts
+pub mod LineTexts
 pub mod Lines
+pub mod LinesTexts
 pub mod Places
 pub mod Results
 pub mod Seating
@@ -17,3 +21,4 @@ pub mod SlotMaps
 pub mod SlotSteps
 pub mod Sorted
 pub mod Sound
+pub mod Stars

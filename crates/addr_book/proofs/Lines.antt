@@ -20,7 +20,7 @@ feed_begins_not : (xs : List ℕ) → 0 < length xs → (get_or xs 0 0 ≡ 10 �
 feed_begins_not [] some is = absurd (omega arith)
 feed_begins_not (b ∷ bs) some is = let h : b ≢ 10 = is in grind (arith, nat_tests)
 
-plain_step : (b : ℕ) (xs : List ℕ) → (b == 10) ≡ false → begins_feed xs ≡ false → lines_of (b ∷ xs) ≡ joined b (lines_of xs)
+pub plain_step : (b : ℕ) (xs : List ℕ) → (b == 10) ≡ false → begins_feed xs ≡ false → lines_of (b ∷ xs) ≡ joined b (lines_of xs)
 plain_step b xs e f = rw (e, f) (elim (b == 13) as (λ t. (if t && false then lines_of xs else joined b (lines_of xs)) ≡ joined b (lines_of xs)) [ true ↦ refl | false ↦ refl ])
 
 last_step : (b : ℕ) (xs : List ℕ) (more : List (List ℕ)) → (b == 10) ≡ false → begins_feed xs ≡ true → lines_of xs ≡ [] ∷ more → lines_of (b ∷ xs) ≡ stripped (b ∷ []) ∷ more

@@ -1,5 +1,6 @@
 -- The texts of hosts, ports and addresses, and the order of addresses.
-use Rattle.std.specs.Prelude.{ℕ, ◌+◌, ◌-◌, ◌*◌, ◌/◌, ◌%◌, ◌==◌, nat_le, if◌then◌else◌, List, [], ◌∷◌, ◌++◌, map, codes, Option, Some, None}
+use Rattle.std.specs.Prelude.{ℕ, ◌+◌, ◌-◌, ◌*◌, ◌/◌, ◌%◌, ◌==◌, nat_le, if◌then◌else◌, List, []}
+use Rattle.std.specs.Prelude.{◌∷◌, ◌++◌, map, codes, Option, Some, None}
 use Rattle.std.specs.Option.{option_and_then}
 use Rattle.std.specs.Char.{is_ascii_digit}
 use Rattle.std.specs.List.{slice_split}
@@ -34,11 +35,14 @@ ip_of_octets _ = None
 
 -- a host: `localhost`, which is 127.0.0.1, or four numbers with points between them
 abbrev pub host_value : List ℕ → Option ℕ
-host_value text = if bytes_eq text (codes "localhost") then Some 2130706433 else ip_of_octets (map octet_value (slice_split (λ b. b == 46) text))
+host_value text =
+    if bytes_eq text (codes "localhost") then Some 2130706433
+    else ip_of_octets (map octet_value (slice_split (λ b. b == 46) text))
 
 -- a port: 1 to 65535
 abbrev pub port_value : List ℕ → Option ℕ
-port_value text = option_and_then (λ n. if nat_le 1 n then Some n else None) (at_most 65535 (number_value text))
+port_value text =
+    option_and_then (λ n. if nat_le 1 n then Some n else None) (at_most 65535 (number_value text))
 
 -- the address of a host and a port
 abbrev pub addr_of : Option ℕ → Option ℕ → Option Addr
@@ -48,5 +52,6 @@ addr_of _ _ = None
 -- an address as text: four numbers with points between them, `:`, and the port
 abbrev pub addr_text : Addr → List ℕ
 addr_text addr =
-    decimal (addr.ip / 16777216) ++ (46 ∷ []) ++ decimal (addr.ip / 65536 % 256) ++ (46 ∷ []) ++ decimal (addr.ip / 256 % 256) ++ (46 ∷ []) ++ decimal (addr.ip % 256)
+    decimal (addr.ip / 16777216) ++ (46 ∷ []) ++ decimal (addr.ip / 65536 % 256) ++ (46 ∷ [])
+    ++ decimal (addr.ip / 256 % 256) ++ (46 ∷ []) ++ decimal (addr.ip % 256)
     ++ (58 ∷ []) ++ decimal addr.port

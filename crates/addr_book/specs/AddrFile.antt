@@ -10,7 +10,8 @@ use Rattle.addr_book.specs.declared.addr_file.AddrFault.TheVariants.{BadLine, To
 use Rattle.addr_book.specs.AddrList.{first_places}
 use Rattle.addr_book.specs.FileLine.{lines_of, line_value}
 
--- what an address file says: its first bad line, or the addresses of its lines with their weights, in order
+-- what an address file says: its first bad line, or the addresses of its lines with their weights,
+-- in order
 pub data File : Type 0 where
   bad_at : ℕ → File
   addrs : List Weighted → File
@@ -30,7 +31,8 @@ file_from n (l ∷ ls) = with_line n (line_value l) (file_from (n + 1) ls)
 abbrev pub file_value : List ℕ → File
 file_value text = file_from 1 (lines_of text)
 
--- an answer on a file: the addresses without the repeated ones, the first bad line, or the number of too many
+-- an answer on a file: the addresses without the repeated ones, the first bad line, or the number
+-- of too many
 abbrev pub IsFileAnswer : File → Result (List Weighted) AddrFault → Type 0
 IsFileAnswer (addrs list) (Ok kept) = (length list ≤ 1024) × (kept ≡ first_places list)
 IsFileAnswer (addrs list) (Err (TooMany n)) = (1024 < length list) × (n ≡ length list)

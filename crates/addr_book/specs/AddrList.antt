@@ -14,11 +14,15 @@ addr_cmp = then_cmp (on (λ a. a.ip) nat_cmp) (on (λ a. a.port) nat_cmp)
 
 -- an address is stored as its two numbers
 abbrev pub addr_code : Coded Addr
-addr_code = code_by (ℕ × ℕ) (coded× coded_ℕ coded_ℕ) (λ a. (a.ip, a.port)) (λ p. record { ip = p.0; port = p.1 }) (λ _. refl)
+addr_code =
+    code_by (ℕ × ℕ) (coded× coded_ℕ coded_ℕ) (λ a. (a.ip, a.port))
+    (λ p. record { ip = p.0; port = p.1 }) (λ _. refl)
 
 -- an address with a weight is stored as the two
 abbrev pub weighted_code : Coded Weighted
-weighted_code = code_by (Addr × ℕ) (coded× addr_code coded_ℕ) (λ w. (w.addr, w.weight)) (λ p. record { addr = p.0; weight = p.1 }) (λ _. refl)
+weighted_code =
+    code_by (Addr × ℕ) (coded× addr_code coded_ℕ) (λ w. (w.addr, w.weight))
+    (λ p. record { addr = p.0; weight = p.1 }) (λ _. refl)
 
 abbrev pub same_addr : Addr → Addr → Bool
 same_addr = eq_by_cmp addr_cmp

@@ -2,7 +2,8 @@
 use Rattle.std.specs.Prelude.{ℕ, List, [], ◌∷◌}
 use Rattle.addr_book.specs.declared.bound.Bound.{Bound, One, Many}
 use Rattle.addr_book.specs.declared.bound.BoundItem.{BoundItem}
-use Rattle.addr_book.specs.declared.bound.BoundList.{BoundList, BoundList', Row_of-BoundItem, end_of-BoundItem, more_of-BoundItem}
+use Rattle.addr_book.specs.declared.bound.BoundList.{BoundList, BoundList', Row_of-BoundItem}
+use Rattle.addr_book.specs.declared.bound.BoundList.{end_of-BoundItem, more_of-BoundItem}
 use Rattle.addr_book.specs.Found.{Found, one, many, FoundList, no_member, member}
 
 abbrev mutual

@@ -1,5 +1,6 @@
 -- The lines of an address file.
-use Rattle.std.specs.Prelude.{ℕ, Bool, true, false, ◌||◌, ◌&&◌, ◌==◌, if◌then◌else◌, List, [], ◌∷◌, Option, Some, None}
+use Rattle.std.specs.Prelude.{ℕ, Bool, true, false, ◌||◌, ◌&&◌, ◌==◌, if◌then◌else◌, List, [], ◌∷◌}
+use Rattle.std.specs.Prelude.{Option, Some, None}
 use Rattle.std.specs.Option.{option_and_then}
 use Rattle.name_tree.specs.Weight.{weight_of}
 use Rattle.addr_book.specs.declared.addr.Addr.{Addr}
@@ -17,10 +18,13 @@ abbrev pub begins_feed : List ℕ → Bool
 begins_feed [] = false
 begins_feed (b ∷ bs) = b == 10
 
--- the lines of a text, each to its line feed and without it. The last may lack it. A carriage return right before a line feed is dropped
+-- the lines of a text, each to its line feed and without it. The last may lack it. A carriage
+-- return right before a line feed is dropped
 abbrev pub lines_of : List ℕ → List (List ℕ)
 lines_of [] = []
-lines_of (b ∷ bs) = if b == 10 then [] ∷ lines_of bs else (if b == 13 && begins_feed bs then lines_of bs else joined b (lines_of bs))
+lines_of (b ∷ bs) =
+    if b == 10 then [] ∷ lines_of bs
+    else (if b == 13 && begins_feed bs then lines_of bs else joined b (lines_of bs))
 
 -- a space or a tab
 abbrev pub is_gap : ℕ → Bool
@@ -43,7 +47,8 @@ abbrev pub is_empty : List ℕ → Bool
 is_empty [] = true
 is_empty (b ∷ bs) = false
 
--- the one word of a text, between gaps; None where there are more. The text of gaps alone has the empty word
+-- the one word of a text, between gaps; None where there are more. The text of gaps alone has the
+-- empty word
 abbrev pub single_word : List ℕ → Option (List ℕ)
 single_word text =
     let words = drop_gaps text in
@@ -78,7 +83,9 @@ item_line _ _ = Bad
 
 -- what follows the host: a port, and `*` and a weight or nothing
 abbrev pub behind_host : List ℕ → List ℕ → FileLine
-behind_host host text = item_line (addr_of (host_value host) (option_and_then port_value (single_word (before_star text)))) (line_weight (behind_star text))
+behind_host host text =
+    item_line (addr_of (host_value host)
+    (option_and_then port_value (single_word (before_star text)))) (line_weight (behind_star text))
 
 -- a line without its leading gaps: nothing, or a host and what follows it
 abbrev pub words_value : List ℕ → FileLine

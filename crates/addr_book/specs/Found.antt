@@ -35,7 +35,8 @@ abbrev mutual
   AreFilled (member n f ms) = (0 < n) × IsFilled f × AreFilled ms
 
 abbrev mutual
-  -- no union has more members than a union of a table's text, and no weight is larger than one of a table's text
+  -- no union has more members than a union of a table's text, and no weight is larger than one of a
+  -- table's text
   pub IsBounded : Found → Type 0
   IsBounded (one leaf) = Unit {0}
   IsBounded (many ms) = (count_members ms ≤ most_members) × AreBounded ms

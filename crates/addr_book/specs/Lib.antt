@@ -1,11 +1,13 @@
 pub mod Addr
 pub mod AddrFile
+pub mod AddrGrammar
 pub mod AddrList
 pub mod AddrMap
 pub mod AddrShard
 pub mod Book
 pub mod BookFault
 pub mod Bound
+pub mod Exact
 pub mod FileLine
 pub mod Found
 pub mod Laws

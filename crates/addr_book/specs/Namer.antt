@@ -18,14 +18,16 @@ leaf_at client residual cluster = record { cluster = cluster; client = client; r
 abbrev pub named_addr : Labels → Option Leaf
 named_addr (dollar ∷ inet ∷ host ∷ port ∷ residual) =
     if bytes_eq dollar (codes "$") && bytes_eq inet (codes "inet")
-    then option_map (λ addr. leaf_at (dollar ∷ inet ∷ host ∷ port ∷ []) residual (Inet addr)) (addr_of (host_value host) (port_value port))
+    then option_map (λ addr. leaf_at (dollar ∷ inet ∷ host ∷ port ∷ []) residual (Inet addr))
+    (addr_of (host_value host) (port_value port))
     else None
 named_addr _ = None
 
 -- `/#/io.l5d.fs/SERVICE` names the addresses of a service of the book, whether it has any or not
 abbrev pub named_service : Services → Labels → Option Leaf
 named_service services (hash ∷ fs ∷ service ∷ residual) =
-    if (bytes_eq hash (codes "#") && bytes_eq fs (codes "io.l5d.fs")) && contains_key services service
+    if (bytes_eq hash (codes "#") && bytes_eq fs (codes "io.l5d.fs"))
+    && contains_key services service
     then Some (leaf_at (hash ∷ fs ∷ service ∷ []) residual (Fs service))
     else None
 named_service services _ = None

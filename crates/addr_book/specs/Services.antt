@@ -16,9 +16,9 @@ abbrev pub hash_behind : ℕ → List ℕ → ℕ
 hash_behind hash [] = hash
 hash_behind hash (b ∷ bs) = hash_behind (mixed hash b) bs
 
--- the place of a service: its shard among 127
+-- the place of a service: its shard among 61
 unfoldable pub name_place : List ℕ → ℕ
-name_place name = hash_behind 14695981039346656037 name % 127
+name_place name = hash_behind 14695981039346656037 name % 61
 
 -- what a shard has: nothing where it is not there
 abbrev pub service_shard : Option (Arc ServiceShard Global) → Services

@@ -13,17 +13,21 @@ abbrev pub whole : {K V : Type 0} {R : K → K → Ordering} → List (FinMap R 
 whole shards = from_entries (joined shards)
 
 -- from a place on, each shard has only keys whose place is its own
-abbrev pub AreHome : {K V : Type 0} {R : K → K → Ordering} → (K → ℕ) → ℕ → List (FinMap R V) → Type 0
+abbrev pub AreHome : {K V : Type 0} {R : K → K → Ordering} → (K → ℕ) → ℕ → List (FinMap R V)
+    → Type 0
 AreHome home at [] = Unit {0}
-AreHome {K} home at (shard ∷ shards) = ((key : K) → contains_key shard key ≡ true → home key ≡ at) × AreHome home (at + 1) shards
+AreHome {K} home at (shard ∷ shards) =
+    ((key : K) → contains_key shard key ≡ true → home key ≡ at) × AreHome home (at + 1) shards
 
 -- so many shards, each with the keys of its own place
-pub record IsSharded {K V : Type 0} {R : K → K → Ordering} (home : K → ℕ) (count : ℕ) (shards : List (FinMap R V)) : Type 0 where
+pub record IsSharded {K V : Type 0} {R : K → K → Ordering} (home : K → ℕ) (count : ℕ)
+    (shards : List (FinMap R V)) : Type 0 where
   pub long : length shards ≡ count
   pub placed : AreHome home 0 shards
 
 -- the shards are as before, but for the one at a place, which has this
-pub record IsChanged {K V T : Type 0} {R : K → K → Ordering} (shard : Option T → FinMap R V) (before after : List (Option T)) (place : ℕ) (now : FinMap R V) : Type 0 where
+pub record IsChanged {K V T : Type 0} {R : K → K → Ordering} (shard : Option T → FinMap R V)
+    (before after : List (Option T)) (place : ℕ) (now : FinMap R V) : Type 0 where
   pub new : Option T
   pub changed : after ≡ slice_set before place new
   pub has : shard new ≡ now

@@ -10,5 +10,6 @@ use Rattle.addr_book.specs.SlotSet.{has_slot}
 pub record IsSlotMap (slots : Slots) (taken : List ℕ) (count : ℕ) : Type 0 where
   pub counted : count ≡ len slots
   pub below : (addr : Addr) (slot : ℕ) → get slots addr ≡ Some slot → slot < 8192
-  pub apart : (one other : Addr) (slot : ℕ) → get slots one ≡ Some slot → get slots other ≡ Some slot → one ≡ other
+  pub apart : (one other : Addr) (slot : ℕ) → get slots one ≡ Some slot
+      → get slots other ≡ Some slot → one ≡ other
   pub marked : (slot : ℕ) → has_slot taken slot ≡ list_any (λ s. s == slot) (values slots)

@@ -13,12 +13,15 @@ abbrev pub IsInOrder : {A K X : Type 0} → (K → K → Ordering) → (A → K 
 IsInOrder R entry items = IsTrue (is_sorted R (map entry items))
 
 -- the key is at the place
-pub record IsPlace {A K X : Type 0} (R : K → K → Ordering) (entry : A → K × X) (items : List A) (key : K) (at : ℕ) : Type 0 where
+pub record IsPlace {A K X : Type 0} (R : K → K → Ordering) (entry : A → K × X) (items : List A)
+    (key : K) (at : ℕ) : Type 0 where
   pub within : at < length items
   pub here : (d : A) → R (entry (slice_index_or items at d)).0 key ≡ Equal
 
 -- the keys before the place are below this one, and those from it on are above
-pub record IsGap {A K X : Type 0} (R : K → K → Ordering) (entry : A → K × X) (items : List A) (key : K) (at : ℕ) : Type 0 where
+pub record IsGap {A K X : Type 0} (R : K → K → Ordering) (entry : A → K × X) (items : List A)
+    (key : K) (at : ℕ) : Type 0 where
   pub within : at ≤ length items
   pub before : (k : ℕ) (d : A) → k < at → R (entry (slice_index_or items k d)).0 key ≡ Less
-  pub behind : (k : ℕ) (d : A) → at ≤ k → k < length items → R (entry (slice_index_or items k d)).0 key ≡ Greater
+  pub behind : (k : ℕ) (d : A) → at ≤ k → k < length items
+      → R (entry (slice_index_or items k d)).0 key ≡ Greater

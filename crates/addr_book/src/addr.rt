@@ -34,9 +34,11 @@ impl Ord for Addr {
 }
 
 impl PartialOrd for Addr {
-    ghost partial_cmp = { as_partial_cmp (then_cmp (on (λ a. a.ip) nat_cmp) (on (λ a. a.port) nat_cmp)) };
+    ghost partial_cmp = { as_partial_cmp
+        (then_cmp (on (λ a. a.ip) nat_cmp) (on (λ a. a.port) nat_cmp)) };
 
-    ghost laws = { partial_order_from_own_ties (Prim.search (comparing, rules)) (Prim.search (comparing, rules)) };
+    ghost laws = { partial_order_from_own_ties (Prim.search (comparing, rules))
+        (Prim.search (comparing, rules)) };
 
     fn partial_cmp(&self, other: &Addr) -> Option<Ordering> {
         Some(self.cmp(other))
@@ -46,7 +48,8 @@ impl PartialOrd for Addr {
 /// The weight of an address whose line has none: 1, in millionths.
 pub const ONE_WEIGHT: u64 = 1_000_000;
 
-/// An address of a service, and how much of the service's load it is to carry, as against the other addresses of the list.
+/// An address of a service, and how much of the service's load it is to carry, as against the other
+/// addresses of the list.
 #[derive(Clone, Copy, Debug, PartialEq, Eq)]
 pub struct Weighted {
     /// The address.
@@ -55,7 +58,8 @@ pub struct Weighted {
     pub weight: u64,
 }
 
-/// Puts an address behind some bytes, as `a.b.c.d:port`, with no zero before a number. An `Err` changes nothing.
+/// Puts an address behind some bytes, as `a.b.c.d:port`, with no zero before a number. An `Err`
+/// changes nothing.
 pub fn append_addr(addr: Addr, out: &mut Bytes) -> Mem<()>
     ensures ok { OnOk result (out.new.items ≡ out.old.items ++ addr_text addr) }
     ensures err { OnErr result (out.new.items ≡ out.old.items) }

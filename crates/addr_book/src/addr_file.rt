@@ -11,7 +11,8 @@ use std::alloc::{AllocError, AllocFailed, Global};
 /// Why a text is no address file.
 #[derive(Clone, Copy, Debug, PartialEq, Eq)]
 pub enum AddrFault {
-    /// The first line, counted from 1, that is neither blank nor an address; a number above 4,294,967,295 is given as that.
+    /// The first line, counted from 1, that is neither blank nor an address; a number above
+    /// 4,294,967,295 is given as that.
     BadLine(u32),
     /// It has so many lines with an address, which is more than 1,024.
     TooMany(usize),
@@ -39,13 +40,15 @@ impl<T: Drop> From<AllocFailed<T>> for AddrFault {
     }
 }
 
-/// Reads an address file. A line is a host as [`read_ip`](crate::read_ip) has it, one or more spaces or tabs, and a port as
-/// [`read_port`](crate::read_port) has it; then `*` and a weight as [`read_weight`](name_tree::read_weight) has it, which is not 0, or
-/// nothing, which is the weight 1. Spaces and tabs may stand round the `*` and at both ends, and a line of them alone is skipped. Lines
-/// end with LF, which the last may lack, and a CR right before an LF is dropped. An address that is repeated is kept once, at its first
-/// place and with the weight that it has there.
+/// Reads an address file. A line is a host as [`read_ip`](crate::read_ip) has it, one or more
+/// spaces or tabs, and a port as [`read_port`](crate::read_port) has it; then `*` and a weight as
+/// [`read_weight`](name_tree::read_weight) has it, which is not 0, or nothing, which is the weight
+/// 1. Spaces and tabs may stand round the `*` and at both ends, and a line of them alone is
+/// skipped. Lines end with LF, which the last may lack, and a CR right before an LF is dropped. An
+/// address that is repeated is kept once, at its first place and with the weight that it has there.
 ///
-/// It looks at each byte a few times, takes memory for each line with an address, and for `n` of them about `n log n` comparisons.
+/// It looks at each byte a few times, takes memory for each line with an address, and for `n` of
+/// them about `n log n` comparisons.
 pub fn read_addrs(alloc: Global, text: &[u8]) -> Result<AddrList, AddrFault>
     ensures { IsFileAnswer (file_value text.now) result }
 {

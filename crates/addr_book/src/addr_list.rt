@@ -1,6 +1,7 @@
 //! Lists of addresses, no two alike, each with a weight.
 ghost use Rattle.std.specs.Prelude.{◌≡◌, ◌≤◌, ◌↔◌, length, IfOk, IsTrue};
-ghost use Rattle.addr_book.specs.AddrList.{AreDistinct, HaveWeights, IsAddrList, first_places, has_addr};
+ghost use Rattle.addr_book.specs.AddrList.{AreDistinct, HaveWeights, IsAddrList, first_places};
+ghost use Rattle.addr_book.specs.AddrList.{has_addr};
 
 use crate::Mem;
 use crate::addr::Weighted;
@@ -11,7 +12,8 @@ use std::marker::Model;
 /// The most addresses of a list.
 pub const MOST_ADDRS: usize = 1024;
 
-/// At most 1,024 addresses, no two alike, each with a weight of 1 to 999,999,999,999 millionths, in an order that counts. Contracts see the list.
+/// At most 1,024 addresses, no two alike, each with a weight of 1 to 999,999,999,999 millionths, in
+/// an order that counts. Contracts see the list.
 #[derive(Debug, Drop)]
 pub struct AddrList {
     items: Vec<Weighted>,
@@ -40,7 +42,8 @@ impl AddrList {
         AddrList { items }
     }
 
-    /// These addresses in their order, each kept once, at its first place and with the weight that it has there.
+    /// These addresses in their order, each kept once, at its first place and with the weight that
+    /// it has there.
     ///
     /// For `n` addresses it takes about `n log n` comparisons.
     pub fn distinct(alloc: Global, given: &[Weighted]) -> Mem<AddrList>

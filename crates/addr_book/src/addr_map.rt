@@ -1,5 +1,6 @@
 //! Numbers by addresses.
-ghost use Rattle.std.specs.Prelude.{◌≡◌, ◌<◌, length, map as each, OnOk, IfOk, None, slice_index_or, slice_set};
+ghost use Rattle.std.specs.Prelude.{◌≡◌, ◌<◌, length, map as each, OnOk, IfOk, None};
+ghost use Rattle.std.specs.Prelude.{slice_index_or, slice_set};
 ghost use Rattle.std.specs.FinMap as map;
 ghost use Rattle.addr_book.specs.AddrMap.{addr_place, addr_shard};
 ghost use Rattle.addr_book.specs.Shards.{IsChanged};
@@ -11,16 +12,22 @@ use std::alloc::Global;
 use std::marker::Model;
 use std::sync::Arc;
 
-/// How many shards a map has: a prime, so that addresses in a row and ports in a row are spread evenly.
-const SHARDS: usize = 31;
+/// How many shards a map has: a prime, so that hosts in a row and ports in a row are spread evenly.
+const SHARDS: usize = 13;
+
+/// How many hosts in a row, and how many ports in a row, go to one shard. The addresses of a
+/// service mostly lie near each other, so a change of it touches few shards.
+const ROW: u64 = 16;
 
 /// The shards of a map, in order. `None` stands for one that never had an address.
 type Shards = Vec<Option<Arc<AddrShard>>>;
 
 /// A number for each of some addresses. Contracts see a finite map.
 ///
-/// The addresses are spread over 31 shards by a hash. A look-up finds the shard, and in its `n` addresses takes about `log n`
-/// comparisons. A copy shares the shards, and a change copies its shard where another map shares it.
+/// The addresses are spread over 13 shards by a hash that keeps 16 hosts in a row together, and 16
+/// ports in a row. A look-up finds the shard, and in its `n` addresses takes about `log n`
+/// comparisons. A copy shares the shards, and a change copies its shard where another map shares
+/// it.
 #[derive(Debug, Drop)]
 pub(crate) struct AddrMap {
     shards: Shards,
@@ -40,7 +47,7 @@ impl Model for AddrMap {
 
     ghost view = { λ m. whole (each addr_shard m.shards.items) };
 
-    ghost invariant = { λ m. IsSharded addr_place 31 (each addr_shard m.shards.items) };
+    ghost invariant = { λ m. IsSharded addr_place 13 (each addr_shard m.shards.items) };
 }
 
 impl AddrMap {
@@ -97,15 +104,20 @@ impl AddrMap {
 #[tactic(auto, unfolding(crate::specs::AddrMap::addr_place))]
 fn place_of(addr: Addr) -> usize
     ensures place { result ≡ addr_place addr }
-    ensures below { result < 31 }
+    ensures below { result < 13 }
 {
-    ((u64::from(addr.ip) * 0x1_0000 + u64::from(addr.port)) % SHARDS as u64) as usize
+    let host = u64::from(addr.ip) / ROW;
+    let port = u64::from(addr.port) / ROW;
+    ((host * 0x1_0000 + port) % SHARDS as u64) as usize
 }
 
-/// Puts a number at an address, in the shard at a place. The shard is copied first where another map shares it.
+/// Puts a number at an address, in the shard at a place. The shard is copied first where another
+/// map shares it.
 fn insert_at(shards: &mut Shards, place: usize, addr: Addr, number: u32) -> Mem<()>
     requires { place < length shards.old.items }
-    ensures { OnOk result (IsChanged addr_shard shards.old.items shards.new.items place (map.insert (addr_shard (slice_index_or shards.old.items place None)) addr number)) }
+    ensures { OnOk result
+        (IsChanged addr_shard shards.old.items shards.new.items place
+        (map.insert (addr_shard (slice_index_or shards.old.items place None)) addr number)) }
 {
     let alloc = *shards.allocator();
     match &mut shards[place] {
@@ -119,10 +131,13 @@ fn insert_at(shards: &mut Shards, place: usize, addr: Addr, number: u32) -> Mem<
     }
 }
 
-/// Takes an address out of the shard at a place. The shard is copied first where another map shares it.
+/// Takes an address out of the shard at a place. The shard is copied first where another map shares
+/// it.
 fn remove_at(shards: &mut Shards, place: usize, addr: Addr) -> Mem<()>
     requires { place < length shards.old.items }
-    ensures { OnOk result (IsChanged addr_shard shards.old.items shards.new.items place (map.remove (addr_shard (slice_index_or shards.old.items place None)) addr)) }
+    ensures { OnOk result
+        (IsChanged addr_shard shards.old.items shards.new.items place
+        (map.remove (addr_shard (slice_index_or shards.old.items place None)) addr)) }
 {
     if let Some(shard) = &mut shards[place] {
         Arc::make_mut(shard)?.remove(addr);

@@ -20,10 +20,11 @@ struct Numbered {
     number: u32,
 }
 
-/// A number for each of some addresses: one shard of an [`AddrMap`](crate::addr_map::AddrMap). Contracts see a finite map.
+/// A number for each of some addresses: one shard of an [`AddrMap`](crate::addr_map::AddrMap).
+/// Contracts see a finite map.
 ///
-/// They lie in the order of the addresses. A look-up takes about `log n` comparisons; a new address, and one that goes, moves those behind
-/// it; a copy takes one piece of memory.
+/// They lie in the order of the addresses. A look-up takes about `log n` comparisons; a new
+/// address, and one that goes, moves those behind it; a copy takes one piece of memory.
 #[derive(Debug, Drop)]
 pub(crate) struct AddrShard {
     items: Vec<Numbered>,
@@ -108,7 +109,9 @@ fn search(items: &[Numbered], addr: Addr) -> Result<usize, usize>
 fn put(items: &mut Vec<Numbered>, addr: Addr, number: u32) -> Mem<()>
     requires { IsInOrder addr_cmp numbered items.old.items }
     ensures sorted { IsInOrder addr_cmp numbered items.new.items }
-    ensures ok { OnOk result (map_of numbered items.new.items ≡ map.insert (map_of {R = addr_cmp} numbered items.old.items) addr number) }
+    ensures ok { OnOk result
+        (map_of numbered items.new.items
+        ≡ map.insert (map_of {R = addr_cmp} numbered items.old.items) addr number) }
     ensures err { OnErr result (items.new.items ≡ items.old.items) }
 {
     match search(items.as_slice(), addr) {

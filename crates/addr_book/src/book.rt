@@ -1,5 +1,6 @@
 //! The book: which services there are, which addresses each has, and which slot each address has.
-ghost use Rattle.std.specs.Prelude.{◌≡◌, ◌≤◌, ◌<◌, ℕ, IfOk, IfErr, IfSome, OnOk, OnErr, IsSome, MatchOption, option_map, is_some, None, Some, ◌≢◌, true, false};
+ghost use Rattle.std.specs.Prelude.{◌≡◌, ◌≤◌, ◌<◌, ℕ, IfOk, IfErr, IfSome, OnOk, OnErr, IsSome};
+ghost use Rattle.std.specs.Prelude.{MatchOption, option_map, is_some, None, Some, ◌≢◌, true, false};
 ghost use Rattle.std.specs.FinMap as map;
 ghost use Rattle.std.specs.FinMap.{contains_key};
 ghost use Rattle.addr_book.specs.declared.addr.Addr.{Addr};
@@ -19,11 +20,12 @@ use std::alloc::Global;
 use std::marker::Model;
 use std::sync::Arc;
 
-/// The book maps at most 4,096 services to their lists of addresses, and each address in a list to a slot, a number below 8,192 that no
-/// other address has. Contracts see both maps.
+/// The book maps at most 4,096 services to their lists of addresses, and each address in a list to
+/// a slot, a number below 8,192 that no other address has. Contracts see both maps.
 ///
-/// A change is prepared first, which copies what it needs and may be refused, and is then made by [`absorb`](Book::absorb), which copies nothing. An address keeps
-/// its slot for as long as some service has it; a new one takes the lowest slot that is free.
+/// A change is prepared first, which copies what it needs and may be refused, and is then made by
+/// [`absorb`](Book::absorb), which copies nothing. An address keeps its slot for as long as some
+/// service has it; a new one takes the lowest slot that is free.
 #[derive(Debug, Drop)]
 pub struct Book {
     parts: Arc<Parts>,
@@ -80,11 +82,14 @@ impl Book {
         self.parts.services.len()
     }
 
-    /// The addresses of a service with their weights, in its list's order. `None` where the service is not there.
+    /// The addresses of a service with their weights, in its list's order. `None` where the service
+    /// is not there.
     ///
-    /// It takes one look-up by a hash, and a few comparisons of names among those that share a part.
+    /// It takes one look-up by a hash, and a few comparisons of names among those that share a
+    /// part.
     pub fn cluster(&self, service: &Name) -> Option<&[Weighted]>
-        ensures cluster { option_map (λ list. list.now) result ≡ map.get self.now.services service.now }
+        ensures cluster { option_map (λ list. list.now) result
+            ≡ map.get self.now.services service.now }
         ensures rule { IfSome result (λ list. IsAddrList list.now) }
     {
         match self.parts.services.get(service) {
@@ -93,23 +98,26 @@ impl Book {
         }
     }
 
-    /// The service with this name's text. `None` where it is not there, as where the text is no name.
+    /// The service with this name's text. `None` where it is not there, as where the text is no
+    /// name.
     ///
     /// It takes one look-up, and no memory.
     pub(crate) fn service(&self, text: &[u8]) -> Option<&Name>
-        ensures { MatchOption result (contains_key self.now.services text.now ≡ false) (λ name. (name.now ≡ text.now) × (contains_key self.now.services text.now ≡ true)) }
+        ensures { MatchOption result (contains_key self.now.services text.now ≡ false)
+            (λ name. (name.now ≡ text.now) × (contains_key self.now.services text.now ≡ true)) }
     {
         self.parts.services.find(text)
     }
 
     /// The slot of an address. `None` where no service has it.
     ///
-    /// It takes one look-up by a hash, and about `log n` comparisons for the `n` addresses that share a part, 265 at most where the hash
-    /// spreads them evenly.
+    /// It takes one look-up by a hash, and about `log n` comparisons for the `n` addresses that
+    /// share a part, some 630 in a full book where the hash spreads them evenly.
     pub fn slot(&self, addr: Addr) -> Option<u32>
         ensures slot { result ≡ map.get self.now.slots addr }
         ensures below { IfSome result (λ slot. slot < 8192) }
-        ensures alone { (other : Addr) → IsSome result → map.get self.now.slots other ≡ result → other ≡ addr }
+        ensures alone { (other : Addr) → IsSome result → map.get self.now.slots other ≡ result
+            → other ≡ addr }
         ensures used { is_some result ≡ is_used self.now.services addr }
     {
         self.parts.seats.slots.get(addr)
@@ -139,13 +147,16 @@ impl Book {
         })
     }
 
-    /// Prepares the book with these addresses for the service, in the place of those that it has, if it is there. What is prepared does not change this book.
-    /// [`BookFault::TooManyServices`] comes before [`BookFault::BookFull`], and [`BookFault::Missing`] never.
+    /// Prepares the book with these addresses for the service, in the place of those that it has,
+    /// if it is there. What is prepared does not change this book. [`BookFault::TooManyServices`]
+    /// comes before [`BookFault::BookFull`], and [`BookFault::Missing`] never.
     ///
-    /// It does work in the addresses of the old and of the new list, and not in the whole book. The book is kept in 189 parts: it shares
-    /// them, copies those that the service and these addresses stand in, each once and in one piece, and takes about `log n` comparisons in
-    /// a part of `n` for each address. An address of the front that the two lists have in common is only looked up. New slots are found by
-    /// 64 at a time.
+    /// It does work in the addresses of the old and of the new list, and not in the whole book. The
+    /// book is kept in 87 parts: it shares them, copies those that the service and these addresses
+    /// stand in, each once and in one piece, and takes about `log n` comparisons in a part of `n`
+    /// for each address. Addresses that lie near each other stand in one part. An address of the
+    /// front that the two lists have in common is only looked up. New slots are found by 64 at a
+    /// time.
     pub fn prepare_set(
         &self,
         alloc: Global,
@@ -154,7 +165,8 @@ impl Book {
     ) -> Result<ReadyBook, BookFault>
         ensures book { IfOk result (λ ready. ready ≡ after_set self.now service.now list.now) }
         ensures taken { OnOk result (set_refusal self.now service.now list.now ≡ None) }
-        ensures refused { IfErr result (λ fault. fault ≢ BookFault.OutOfMemory → set_refusal self.now service.now list.now ≡ Some fault) }
+        ensures refused { IfErr result (λ fault. fault ≢ BookFault.OutOfMemory
+            → set_refusal self.now service.now list.now ≡ Some fault) }
     {
         let parts = self.parts.with_service(alloc, service, list)?;
         Ok(ReadyBook {
@@ -164,13 +176,15 @@ impl Book {
         })
     }
 
-    /// Prepares the book without the service, where it is there. What is prepared does not change this book.
+    /// Prepares the book without the service, where it is there. What is prepared does not change
+    /// this book.
     ///
     /// It does work in the addresses of the service, as [`prepare_set`](Book::prepare_set) does.
     pub fn prepare_drop(&self, alloc: Global, service: &Name) -> Result<ReadyBook, BookFault>
         ensures book { IfOk result (λ ready. ready ≡ after_drop self.now service.now) }
         ensures taken { OnOk result (drop_refusal self.now service.now ≡ None) }
-        ensures refused { IfErr result (λ fault. fault ≢ BookFault.OutOfMemory → drop_refusal self.now service.now ≡ Some fault) }
+        ensures refused { IfErr result (λ fault. fault ≢ BookFault.OutOfMemory
+            → drop_refusal self.now service.now ≡ Some fault) }
     {
         let parts = self.parts.without_service(service)?;
         Ok(ReadyBook {

@@ -1,9 +1,12 @@
 //! Lines of texts, the words of a line, and what a line of an address file says.
-ghost use Rattle.std.specs.Prelude.{◌≡◌, ◌≤◌, ◌<◌, ◌∷◌, ℕ, length, take, drop, slice_range, slice_index, option_map, IfSome};
+ghost use Rattle.std.specs.Prelude.{◌≡◌, ◌≤◌, ◌<◌, ◌∷◌, ℕ, length, take, drop, slice_range};
+ghost use Rattle.std.specs.Prelude.{slice_index, option_map, IfSome};
 ghost use Rattle.std.specs.Option.{option_and_then};
 ghost use Rattle.addr_book.specs.Addr.{addr_of, host_value, port_value};
 ghost use Rattle.addr_book.specs.AddrList.{IsWeight};
-ghost use Rattle.addr_book.specs.FileLine.{lines_of, line_value, HasWeight, line_weight, is_gap, drop_gaps, word_of, behind_word, single_word, before_star, behind_star};
+ghost use Rattle.addr_book.specs.FileLine.{lines_of, line_value, HasWeight, line_weight, is_gap};
+ghost use Rattle.addr_book.specs.FileLine.{drop_gaps, word_of, behind_word, single_word};
+ghost use Rattle.addr_book.specs.FileLine.{before_star, behind_star};
 
 use crate::addr::{Addr, ONE_WEIGHT, Weighted};
 use crate::host::{read_ip, read_port};
@@ -20,7 +23,8 @@ pub(crate) enum FileLine {
     Bad,
 }
 
-/// Reads a line, without its line feed: a host, spaces or tabs, a port, and then `*` and a weight or nothing; or spaces and tabs alone.
+/// Reads a line, without its line feed: a host, spaces or tabs, a port, and then `*` and a weight
+/// or nothing; or spaces and tabs alone.
 pub(crate) fn read_line(line: &[u8]) -> FileLine
     ensures line { result ≡ line_value line.now }
     ensures weight { HasWeight result }
@@ -39,7 +43,8 @@ pub(crate) fn read_line(line: &[u8]) -> FileLine
 
 /// The address of a host, and of a text with a port between gaps.
 fn read_addr(host: &[u8], text: &[u8]) -> Option<Addr>
-    ensures { result ≡ addr_of (host_value host.now) (option_and_then port_value (single_word text.now)) }
+    ensures { result ≡ addr_of (host_value host.now)
+        (option_and_then port_value (single_word text.now)) }
 {
     match (read_ip(host), read_port(single_word(text)?)) {
         (Some(ip), Some(port)) => Some(Addr { ip, port }),
@@ -47,7 +52,8 @@ fn read_addr(host: &[u8], text: &[u8]) -> Option<Addr>
     }
 }
 
-/// The weight behind a `*`, between spaces and tabs, in millionths and not 0; one where there is no `*`. `None` where the text is none.
+/// The weight behind a `*`, between spaces and tabs, in millionths and not 0; one where there is no
+/// `*`. `None` where the text is none.
 pub fn read_line_weight(text: Option<&[u8]>) -> Option<u64>
     ensures weight { result ≡ line_weight (option_map (λ text. text.now) text.entry) }
     ensures range { IfSome result IsWeight }
@@ -164,7 +170,8 @@ fn feed_place(text: &[u8], at: usize) -> usize
 /// The line of a text that begins at a place. It looks at the bytes of the line alone.
 pub fn cut_line(text: &[u8], at: usize) -> Cut
     requires { at < length text.now }
-    ensures line { lines_of (drop at text.now) ≡ slice_range text.now at result.stop ∷ lines_of (drop result.next text.now) }
+    ensures line { lines_of (drop at text.now)
+        ≡ slice_range text.now at result.stop ∷ lines_of (drop result.next text.now) }
     ensures stop { (at ≤ result.stop) × (result.stop ≤ length text.now) }
     ensures next { (at < result.next) × (result.next ≤ length text.now) }
 {

@@ -9,7 +9,8 @@ use crate::addr::Weighted;
 pub(crate) fn common_front(one: &[Weighted], other: &[Weighted]) -> usize
     ensures one { result ≤ length one.now }
     ensures other { result ≤ length other.now }
-    ensures same { (addr : Addr) → has_addr (take result one.now) addr ≡ has_addr (take result other.now) addr }
+    ensures same { (addr : Addr)
+        → has_addr (take result one.now) addr ≡ has_addr (take result other.now) addr }
 {
     for (at, item) in one.iter().enumerate() {
         if at >= other.len() || other[at].addr != item.addr {

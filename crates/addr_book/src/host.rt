@@ -2,7 +2,8 @@
 ghost use Rattle.std.specs.Prelude.{◌≡◌, ◌≤◌, ◌∷◌, ◌==◌, [], map, IfSome};
 ghost use Rattle.std.specs.List.{slice_split, position};
 ghost use Rattle.std.specs.Option.{option_map_or};
-ghost use Rattle.addr_book.specs.Addr.{at_most, digits_behind, number_value, octet_value, ip_of_octets, host_value, port_value};
+ghost use Rattle.addr_book.specs.Addr.{at_most, digits_behind, number_value, octet_value};
+ghost use Rattle.addr_book.specs.Addr.{ip_of_octets, host_value, port_value};
 
 /// The host that stands for the machine itself.
 const LOCALHOST: &[u8] = b"localhost";
@@ -10,8 +11,9 @@ const LOCALHOST: &[u8] = b"localhost";
 /// 127.0.0.1, the address of [`LOCALHOST`].
 const LOOPBACK: u32 = 0x7f00_0001;
 
-/// The number of a host: `localhost`, which is 127.0.0.1, or four numbers from 0 to 255 without leading zeros, with
-/// points between them. The first number is the highest eight bits. `None` where the text is no host.
+/// The number of a host: `localhost`, which is 127.0.0.1, or four numbers from 0 to 255 without
+/// leading zeros, with points between them. The first number is the highest eight bits. `None`
+/// where the text is no host.
 pub fn read_ip(text: &[u8]) -> Option<u32>
     ensures { result ≡ host_value text.now }
 {
@@ -105,7 +107,8 @@ fn first_point(text: &[u8]) -> Option<usize>
     text.iter().position(|byte| *byte == b'.')
 }
 
-/// The number that some decimal digits write without leading zeros, where it is no more than a limit.
+/// The number that some decimal digits write without leading zeros, where it is no more than a
+/// limit.
 fn read_number(text: &[u8], most: u16) -> Option<u16>
     ensures value { result ≡ at_most most (number_value text.now) }
     ensures within { IfSome result (λ number. number ≤ most) }

@@ -1,8 +1,12 @@
-//! What holds of the slots of all books. The functions do nothing: their contracts are the laws.
+//! What holds of the slots of all books, and of all texts of hosts, ports and lines. The functions
+//! do nothing: their contracts are the laws.
+ghost use Rattle.addr_book.specs.Exact.{ComputesLines, ComputesHosts, ComputesPorts};
+ghost use Rattle.addr_book.specs.Exact.{ComputesBlanks, ComputesAddrs};
 ghost use Rattle.addr_book.specs.Laws.{HasOwnSlots, SlotsStay};
 ghost use Rattle.addr_book.specs.Seated.{IsSeated};
 
 use crate::book::Book;
+use name_tree::computed_weights_are_exact;
 
 /// Two addresses of a book never share a slot.
 pub fn slots_are_apart(book: &Book)
@@ -22,3 +26,16 @@ pub fn addresses_are_seated(book: &Book)
 pub fn slots_stay()
     ensures { SlotsStay }
 {}
+
+/// The hosts and ports that `specs/Addr.antt` computes from texts, and the lines of address files
+/// that `specs/FileLine.antt` does, are those of the grammar in `specs/AddrGrammar.antt`, and no
+/// others.
+pub fn computed_lines_are_exact()
+    ensures lines { ComputesLines }
+    ensures hosts { ComputesHosts }
+    ensures ports { ComputesPorts }
+    ensures blanks { ComputesBlanks }
+    ensures addrs { ComputesAddrs }
+{
+    computed_weights_are_exact();
+}

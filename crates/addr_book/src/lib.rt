@@ -1,20 +1,25 @@
-//! The book of services: the addresses of each, and a slot for each address; and the names, addresses and files that it is made from.
+//! The book of services: the addresses of each, and a slot for each address; and the names,
+//! addresses and files that it is made from.
 //!
-//! An [`Addr`] is an IPv4 address and a port, an [`AddrList`] the addresses of a service, no two alike, and a [`Name`] names a service.
-//! [`read_addrs`] reads an address file, line by line; [`read_ip`] and [`read_port`] read the parts of an address, and
-//! [`append_addr`] writes one. [`cut_line`], [`without_gap`] and [`split_word`] take other texts of lines and words apart in the same way.
-//! A [`Book`] maps names to lists of addresses and addresses to slots. A change is prepared as a [`ReadyBook`], or refused with a
-//! [`BookFault`], and then absorbed.
+//! An [`Addr`] is an IPv4 address and a port, an [`AddrList`] the addresses of a service, no two
+//! alike, and a [`Name`] names a service. [`read_addrs`] reads an address file, line by line;
+//! [`read_ip`] and [`read_port`] read the parts of an address, and [`append_addr`] writes one.
+//! [`cut_line`], [`without_gap`] and [`split_word`] take other texts of lines and words apart in
+//! the same way. A [`Book`] maps names to lists of addresses and addresses to slots. A change is
+//! prepared as a [`ReadyBook`], or refused with a [`BookFault`], and then absorbed.
 //!
 //! # What is proved
-//! A text is a name exactly where it is 1 to 255 bytes of letters, digits and `_ : . -`. An address file gives exactly the addresses of
-//! its lines, each once at its first place, or the number of its first bad line, or how many addresses are too many. Hosts and ports are
-//! read exactly as they are defined.
+//! A text is a name exactly where it is 1 to 255 bytes of letters, digits and `_ : . -`. An address
+//! file gives exactly the addresses of its lines, each once at its first place, or the number of
+//! its first bad line, or how many addresses are too many. Hosts and ports are read exactly as they
+//! are defined.
 //!
-//! Clauses see a book as two finite maps. A prepared book has the service in place, and exactly these slots: an address that stays keeps
-//! its slot, slots of addresses that no service has any more are free again, and new addresses take the lowest free slots in their list's
-//! order. A change is refused exactly where a limit would be passed or the service to be dropped is missing. Slots are below 8,192, no
-//! two addresses share one, and exactly the addresses of the services have one.
+//! Clauses see a book as two finite maps. A prepared book has the service in place, and exactly
+//! these slots: an address that stays keeps its slot, slots of addresses that no service has any
+//! more are free again, and new addresses take the lowest free slots in their list's order. A
+//! change is refused exactly where a limit would be passed or the service to be dropped is missing.
+//! Slots are below 8,192, no two addresses share one, and exactly the addresses of the services
+//! have one.
 //!
 //! Only want of memory is free to come at any call that takes memory.
 //!
@@ -62,7 +67,7 @@ pub use bound::{Bound, BoundItem, BoundList};
 pub use fault::BookFault;
 pub use file_line::{Cut, cut_at_star, cut_line, read_line_weight, split_word, without_gap};
 pub use host::{read_ip, read_port};
-pub use laws::{addresses_are_seated, slots_are_apart, slots_stay};
+pub use laws::{addresses_are_seated, computed_lines_are_exact, slots_are_apart, slots_stay};
 pub use leaf::{Cluster, Leaf};
 pub use name::{MOST_NAME_BYTES, Name, NameFault};
 pub use namer::name_answer;

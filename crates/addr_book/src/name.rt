@@ -1,7 +1,9 @@
 //! Names of services.
-ghost use Rattle.std.specs.Prelude.{◌≡◌, ℕ, List, OnOk, IfOk, IfErr, IsTrue, ◌↔◌, nat_eq, refl, Some};
+ghost use Rattle.std.specs.Prelude.{◌≡◌, ℕ, List, OnOk, IfOk, IfErr, IsTrue, ◌↔◌, nat_eq, refl};
+ghost use Rattle.std.specs.Prelude.{Some};
 ghost use Rattle.std.specs.Cmp.{partial_equiv_from_equiv};
-ghost use Rattle.std.specs.Cmp.Lexicographic.{pointwise, slice_cmp, nat_list_eq_equiv, nat_list_cmp_total, texts_po, texts_ties};
+ghost use Rattle.std.specs.Cmp.Lexicographic.{pointwise, slice_cmp, nat_list_eq_equiv};
+ghost use Rattle.std.specs.Cmp.Lexicographic.{nat_list_cmp_total, texts_po, texts_ties};
 ghost use Rattle.std.specs.Ordering.{nat_cmp};
 ghost use Rattle.std.specs.Arc.{arc_slice_items};
 ghost use Rattle.addr_book.specs.Name.{is_name_byte, IsName};
@@ -15,8 +17,9 @@ use std::sync::ArcSlice;
 /// The most bytes of a name.
 pub const MOST_NAME_BYTES: usize = 255;
 
-/// A name of a service or of a namespace: 1 to 255 bytes, each an ASCII letter, a digit, or one of `_ : . -`. Contracts see the list
-/// of its bytes. Names are equal and ordered by their bytes, upper case apart from lower case. A clone shares the bytes, and takes no memory.
+/// A name of a service or of a namespace: 1 to 255 bytes, each an ASCII letter, a digit, or one of
+/// `_ : . -`. Contracts see the list of its bytes. Names are equal and ordered by their bytes,
+/// upper case apart from lower case. A clone shares the bytes, and takes no memory.
 #[derive(Debug, Drop)]
 pub struct Name {
     bytes: ArcSlice<u8>,

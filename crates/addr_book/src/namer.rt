@@ -1,5 +1,6 @@
 //! What a path names by itself, without a table.
-ghost use Rattle.std.specs.Prelude.{◌≡◌, ◌≤◌, length, take, drop, Option, IfOk, OnErr, OnSome, IsSome, option_map};
+ghost use Rattle.std.specs.Prelude.{◌≡◌, ◌≤◌, length, take, drop, Option, IfOk, OnErr, OnSome};
+ghost use Rattle.std.specs.Prelude.{IsSome, option_map};
 ghost use Rattle.addr_book.specs.declared.leaf.Cluster.TheVariants.{Inet, Fs};
 ghost use Rattle.addr_book.specs.Namer.{leaf_at, named_addr, named_service, named_in};
 
@@ -18,9 +19,11 @@ const INET_LABELS: usize = 4;
 /// How many labels name a service: `#`, `io.l5d.fs` and the service.
 const FS_LABELS: usize = 3;
 
-/// The leaf that a path names by itself (Finagle user guide, "Names and Naming in Finagle"). `/$/inet/HOST/PORT` is an address, where
-/// HOST and PORT are as [`read_ip`] and [`read_port`] have them. `/#/io.l5d.fs/SERVICE` is the service of the book with that name,
-/// whether it has addresses or not. The labels behind these are the residual. Every other path names nothing, which takes no memory.
+/// The leaf that a path names by itself (Finagle user guide, "Names and Naming in Finagle").
+/// `/$/inet/HOST/PORT` is an address, where HOST and PORT are as [`read_ip`] and [`read_port`] have
+/// them. `/#/io.l5d.fs/SERVICE` is the service of the book with that name, whether it has addresses
+/// or not. The labels behind these are the residual. Every other path names nothing, which takes no
+/// memory.
 ///
 /// It copies the labels of the path, and takes one look-up in the book.
 pub fn name_answer(alloc: Global, book: &Book, path: &Path) -> Mem<Option<Leaf>>
@@ -39,7 +42,8 @@ pub fn name_answer(alloc: Global, book: &Book, path: &Path) -> Mem<Option<Leaf>>
 /// The leaf of some replicas, which so many labels of a path named.
 fn leaf_of(alloc: Global, cluster: Cluster, path: &Path, labels: usize) -> Mem<Leaf>
     requires { labels ≤ length path.now }
-    ensures { IfOk result (λ leaf. leaf ≡ leaf_at (take labels path.now) (drop labels path.now) cluster) }
+    ensures { IfOk result
+        (λ leaf. leaf ≡ leaf_at (take labels path.now) (drop labels path.now) cluster) }
 {
     Ok(Leaf {
         cluster,
@@ -51,7 +55,8 @@ fn leaf_of(alloc: Global, cluster: Cluster, path: &Path, labels: usize) -> Mem<L
 /// The address that the first labels of a path name.
 fn path_addr(path: &Path) -> Option<Addr>
     ensures long { OnSome result (4 ≤ length path.now) }
-    ensures addr { named_addr path.now ≡ option_map (λ addr. leaf_at (take 4 path.now) (drop 4 path.now) (Inet addr)) result }
+    ensures addr { named_addr path.now
+        ≡ option_map (λ addr. leaf_at (take 4 path.now) (drop 4 path.now) (Inet addr)) result }
 {
     if path.len() < INET_LABELS
         || path.label(0) != b"$".as_slice()
@@ -68,7 +73,8 @@ fn path_addr(path: &Path) -> Option<Addr>
 /// The service of the book that the first labels of a path name.
 fn path_service<'a>(book: &'a Book, path: &Path) -> Option<&'a Name>
     ensures long { OnSome result (3 ≤ length path.now) }
-    ensures service { named_service book.now.services path.now ≡ option_map (λ name. leaf_at (take 3 path.now) (drop 3 path.now) (Fs name.now)) result }
+    ensures service { named_service book.now.services path.now
+        ≡ option_map (λ name. leaf_at (take 3 path.now) (drop 3 path.now) (Fs name.now)) result }
 {
     if path.len() < FS_LABELS
         || path.label(0) != b"#".as_slice()

@@ -70,9 +70,13 @@ impl Parts {
     ) -> Result<Parts, BookFault>
         requires { ArePartsSound self.now }
         ensures sound { IfOk result (λ parts. ArePartsSound parts) }
-        ensures book { IfOk result (λ parts. contents_of parts ≡ after_set (contents_of self.now) service.now list.now) }
-        ensures taken { OnOk result (set_refusal (contents_of self.now) service.now list.now ≡ None) }
-        ensures refused { IfErr result (λ fault. fault ≢ BookFault.OutOfMemory → set_refusal (contents_of self.now) service.now list.now ≡ Some fault) }
+        ensures book { IfOk result
+            (λ parts. contents_of parts ≡ after_set (contents_of self.now) service.now list.now) }
+        ensures taken { OnOk result
+            (set_refusal (contents_of self.now) service.now list.now ≡ None) }
+        ensures refused { IfErr result
+            (λ fault. fault ≢ BookFault.OutOfMemory
+            → set_refusal (contents_of self.now) service.now list.now ≡ Some fault) }
     {
         if self.has_no_room(service) {
             return Err(BookFault::TooManyServices);
@@ -99,9 +103,12 @@ impl Parts {
     pub(crate) fn without_service(&self, service: &Name) -> Result<Parts, BookFault>
         requires { ArePartsSound self.now }
         ensures sound { IfOk result (λ parts. ArePartsSound parts) }
-        ensures book { IfOk result (λ parts. contents_of parts ≡ after_drop (contents_of self.now) service.now) }
+        ensures book { IfOk result
+            (λ parts. contents_of parts ≡ after_drop (contents_of self.now) service.now) }
         ensures taken { OnOk result (drop_refusal (contents_of self.now) service.now ≡ None) }
-        ensures refused { IfErr result (λ fault. fault ≢ BookFault.OutOfMemory → drop_refusal (contents_of self.now) service.now ≡ Some fault) }
+        ensures refused { IfErr result
+            (λ fault. fault ≢ BookFault.OutOfMemory
+            → drop_refusal (contents_of self.now) service.now ≡ Some fault) }
     {
         let Some(list) = self.services.get(service) else {
             return Err(BookFault::Missing);

@@ -1,5 +1,6 @@
 //! The slots of the book's addresses, and how many services have each.
-ghost use Rattle.std.specs.Prelude.{◌≡◌, ℕ, ◌+◌, ◌-◌, ◌^◌, ◌<◌, ◌≤◌, ◌&&◌, ◌==◌, IfOk, None, true, if◌then◌else◌};
+ghost use Rattle.std.specs.Prelude.{◌≡◌, ℕ, ◌+◌, ◌-◌, ◌^◌, ◌<◌, ◌≤◌, ◌&&◌, ◌==◌, IfOk, None, true};
+ghost use Rattle.std.specs.Prelude.{if◌then◌else◌};
 ghost use Rattle.std.specs.FinMap as map;
 ghost use Rattle.addr_book.specs.declared.addr.Addr.{Addr};
 ghost use Rattle.addr_book.specs.AddrList.{AreDistinct, has_addr};
@@ -32,17 +33,21 @@ impl Seats {
         })
     }
 
-    /// The seats where one service has other addresses than before, without slots for those that are new. Those that no service has any more
-    /// give their slots up. It looks at no address of the front that the two lists have in common.
+    /// The seats where one service has other addresses than before, without slots for those that
+    /// are new. Those that no service has any more give their slots up. It looks at no address of
+    /// the front that the two lists have in common.
     pub(crate) fn moved(&self, before: &[Weighted], after: &[Weighted]) -> Mem<Seats>
         requires before { AreDistinct before.now }
         requires after { AreDistinct after.now }
-        requires used { (addr : Addr) → has_addr before.now addr ≡ true → 1 ≤ count_at self.now.uses addr }
+        requires used { (addr : Addr) → has_addr before.now addr ≡ true
+            → 1 ≤ count_at self.now.uses addr }
         requires few { (addr : Addr) → count_at self.now.uses addr < 2 ^ 16 }
         ensures uses { IfOk result (λ seats. (addr : Addr) → count_at seats.uses addr
-            ≡ count_at self.now.uses addr + (if has_addr after.now addr then 1 else 0) - (if has_addr before.now addr then 1 else 0)) }
+            ≡ count_at self.now.uses addr + (if has_addr after.now addr then 1 else 0)
+            - (if has_addr before.now addr then 1 else 0)) }
         ensures slots { IfOk result (λ seats. (addr : Addr) → map.get seats.slots addr
-            ≡ (if has_addr before.now addr && (count_at seats.uses addr == 0) then None else map.get self.now.slots addr)) }
+            ≡ (if has_addr before.now addr && (count_at seats.uses addr == 0) then None
+            else map.get self.now.slots addr)) }
     {
         let front = common_front(before, after);
         let gone = &before[front..];

@@ -1,5 +1,6 @@
 //! A part of the services, by their names.
-ghost use Rattle.std.specs.Prelude.{◌≡◌, ℕ, OnOk, OnErr, IfOk, IfErr, MatchOption, option_map, map as each, true, false};
+ghost use Rattle.std.specs.Prelude.{◌≡◌, ℕ, OnOk, OnErr, IfOk, IfErr, MatchOption, option_map};
+ghost use Rattle.std.specs.Prelude.{map as each, true, false};
 ghost use Rattle.std.specs.Ordering.{nat_cmp};
 ghost use Rattle.std.specs.FinMap as map;
 ghost use Rattle.std.specs.Cmp.Lexicographic.{slice_cmp};
@@ -23,11 +24,11 @@ struct Service {
     list: Arc<AddrList>,
 }
 
-/// Some services, each with its addresses: one shard of [`Services`](crate::services::Services). Contracts see a finite map. Copies
-/// share the names and the lists.
+/// Some services, each with its addresses: one shard of [`Services`](crate::services::Services).
+/// Contracts see a finite map. Copies share the names and the lists.
 ///
-/// They lie in the order of the names. A look-up takes about `log n` comparisons of names; a new service, and one that goes, moves those
-/// behind it.
+/// They lie in the order of the names. A look-up takes about `log n` comparisons of names; a new
+/// service, and one that goes, moves those behind it.
 #[derive(Debug, Drop)]
 pub(crate) struct ServiceShard {
     items: Vec<Service>,
@@ -71,7 +72,8 @@ impl ServiceShard {
 
     /// The service with this name's text, if it is there.
     pub(crate) fn find(&self, text: &[u8]) -> Option<&Name>
-        ensures { MatchOption result (map.contains_key self.now text.now ≡ false) (λ name. (name.now ≡ text.now) × (map.contains_key self.now text.now ≡ true)) }
+        ensures { MatchOption result (map.contains_key self.now text.now ≡ false)
+            (λ name. (name.now ≡ text.now) × (map.contains_key self.now text.now ≡ true)) }
     {
         match search(self.items.as_slice(), text) {
             Ok(at) => Some(&self.items[at].name),
@@ -79,7 +81,8 @@ impl ServiceShard {
         }
     }
 
-    /// Puts a service with its addresses, in the place of its like, and says whether it was there. An `Err` changes nothing.
+    /// Puts a service with its addresses, in the place of its like, and says whether it was there.
+    /// An `Err` changes nothing.
     pub(crate) fn insert(&mut self, alloc: Global, service: &Name, list: &AddrList) -> Mem<bool>
         ensures ok { OnOk result (self.new ≡ map.insert self.old service.now list.now) }
         ensures there { IfOk result (λ there. there ≡ map.contains_key self.old service.now) }
@@ -127,12 +130,18 @@ fn search(items: &[Service], text: &[u8]) -> Result<usize, usize>
     items.binary_search_by(|item| item.name.text().cmp(text))
 }
 
-/// Puts a service with its addresses, in the place of its like, and says whether it was there. An `Err` changes nothing.
+/// Puts a service with its addresses, in the place of its like, and says whether it was there. An
+/// `Err` changes nothing.
 fn put(items: &mut Vec<Service>, item: Service) -> Mem<bool>
     requires { IsInOrder (slice_cmp nat_cmp) served items.old.items }
     ensures sorted { IsInOrder (slice_cmp nat_cmp) served items.new.items }
-    ensures ok { OnOk result (map_of served items.new.items ≡ map.insert (map_of {R = slice_cmp nat_cmp} served items.old.items) (served item).0 (served item).1) }
-    ensures there { IfOk result (λ there. there ≡ map.contains_key (map_of {R = slice_cmp nat_cmp} served items.old.items) (served item).0) }
+    ensures ok { OnOk result
+        (map_of served items.new.items
+        ≡ map.insert (map_of {R = slice_cmp nat_cmp} served items.old.items) (served item).0
+        (served item).1) }
+    ensures there { IfOk result
+        (λ there. there ≡ map.contains_key (map_of {R = slice_cmp nat_cmp} served items.old.items)
+        (served item).0) }
     ensures err { OnErr result (items.new.items ≡ items.old.items) }
 {
     match search(items.as_slice(), item.name.text()) {

@@ -1,5 +1,7 @@
 //! Services by their names.
-ghost use Rattle.std.specs.Prelude.{◌≡◌, ◌+◌, ◌-◌, ◌<◌, ◌^◌, if◌then◌else◌, length, map as each, OnOk, IfOk, None, MatchOption, option_map, slice_index_or, slice_set, true, false};
+ghost use Rattle.std.specs.Prelude.{◌≡◌, ◌+◌, ◌-◌, ◌<◌, ◌^◌, if◌then◌else◌, length, map as each};
+ghost use Rattle.std.specs.Prelude.{OnOk, IfOk, None, MatchOption, option_map, slice_index_or};
+ghost use Rattle.std.specs.Prelude.{slice_set, true, false};
 ghost use Rattle.std.specs.FinMap as map;
 ghost use Rattle.addr_book.specs.Services.{hash_behind, mixed, name_place, service_shard};
 ghost use Rattle.addr_book.specs.Shards.{IsChanged};
@@ -12,16 +14,17 @@ use std::alloc::Global;
 use std::marker::Model;
 use std::sync::Arc;
 
-/// How many shards there are: so many that few services share one.
-const SHARDS: usize = 127;
+/// How many shards there are: a prime, and in a full book about as many as services in one of them.
+const SHARDS: usize = 61;
 
 /// The shards, in order. `None` stands for one that never had a service.
 type Shards = Vec<Option<Arc<ServiceShard>>>;
 
 /// Services, each with its addresses. Contracts see a finite map. Copies share the lists.
 ///
-/// The services are spread over 127 shards by a hash of the name, so that 4,096 are about 32 a shard. A copy shares the shards, and
-/// a change copies its shard where other services share it.
+/// The services are spread over 61 shards by a hash of the name, so that 4,096 are about 67 a
+/// shard. A copy shares the shards, and a change copies its shard where other services share it:
+/// about as many counts go up for the shards as for the services of one shard.
 #[derive(Debug, Drop)]
 pub(crate) struct Services {
     shards: Shards,
@@ -41,7 +44,8 @@ impl Model for Services {
 
     ghost view = { λ s. whole (each service_shard s.shards.items) };
 
-    ghost invariant = { λ s. IsSharded name_place 127 (each service_shard s.shards.items) × (s.len ≡ map.len (whole (each service_shard s.shards.items))) };
+    ghost invariant = { λ s. IsSharded name_place 61 (each service_shard s.shards.items)
+        × (s.len ≡ map.len (whole (each service_shard s.shards.items))) };
 }
 
 impl Services {
@@ -75,7 +79,8 @@ impl Services {
 
     /// The service with this name's text, if it is there.
     pub(crate) fn find(&self, text: &[u8]) -> Option<&Name>
-        ensures { MatchOption result (map.contains_key self.now text.now ≡ false) (λ name. (name.now ≡ text.now) × (map.contains_key self.now text.now ≡ true)) }
+        ensures { MatchOption result (map.contains_key self.now text.now ≡ false)
+            (λ name. (name.now ≡ text.now) × (map.contains_key self.now text.now ≡ true)) }
     {
         match &self.shards[place_of(text)] {
             Some(shard) => shard.find(text),
@@ -129,7 +134,7 @@ const PRIME: u64 = 1_099_511_628_211;
 #[tactic(auto, unfolding(crate::specs::Services::name_place))]
 fn place_of(text: &[u8]) -> usize
     ensures place { result ≡ name_place text.now }
-    ensures below { result < 127 }
+    ensures below { result < 61 }
 {
     let mut hash = BASIS;
     for byte in text {
@@ -146,12 +151,18 @@ fn mix(hash: u64, byte: u8) -> u64
     (hash ^ u64::from(byte)).wrapping_mul(PRIME)
 }
 
-/// Puts a service with its addresses, in the place of its like, into the shard at a place, and says whether it was there. The shard is
-/// copied first where other services share it.
+/// Puts a service with its addresses, in the place of its like, into the shard at a place, and says
+/// whether it was there. The shard is copied first where other services share it.
 fn insert_at(shards: &mut Shards, place: usize, service: &Name, list: &AddrList) -> Mem<bool>
     requires { place < length shards.old.items }
-    ensures changed { OnOk result (IsChanged service_shard shards.old.items shards.new.items place (map.insert (service_shard (slice_index_or shards.old.items place None)) service.now list.now)) }
-    ensures there { IfOk result (λ there. there ≡ map.contains_key (service_shard (slice_index_or shards.old.items place None)) service.now) }
+    ensures changed { OnOk result
+        (IsChanged service_shard shards.old.items shards.new.items place
+        (map.insert (service_shard (slice_index_or shards.old.items place None)) service.now
+        list.now)) }
+    ensures there { IfOk result
+        (λ there. there
+        ≡ map.contains_key (service_shard (slice_index_or shards.old.items place None))
+        service.now) }
 {
     let alloc = *shards.allocator();
     match &mut shards[place] {
@@ -165,11 +176,17 @@ fn insert_at(shards: &mut Shards, place: usize, service: &Name, list: &AddrList)
     }
 }
 
-/// Takes a service out of the shard at a place, and says whether it was there. The shard is copied first where other services share it.
+/// Takes a service out of the shard at a place, and says whether it was there. The shard is copied
+/// first where other services share it.
 fn remove_at(shards: &mut Shards, place: usize, service: &Name) -> Mem<bool>
     requires { place < length shards.old.items }
-    ensures changed { OnOk result (IsChanged service_shard shards.old.items shards.new.items place (map.remove (service_shard (slice_index_or shards.old.items place None)) service.now)) }
-    ensures there { IfOk result (λ there. there ≡ map.contains_key (service_shard (slice_index_or shards.old.items place None)) service.now) }
+    ensures changed { OnOk result
+        (IsChanged service_shard shards.old.items shards.new.items place
+        (map.remove (service_shard (slice_index_or shards.old.items place None)) service.now)) }
+    ensures there { IfOk result
+        (λ there. there
+        ≡ map.contains_key (service_shard (slice_index_or shards.old.items place None))
+        service.now) }
 {
     match &mut shards[place] {
         Some(shard) => Ok(Arc::make_mut(shard)?.remove(service)),

@@ -1,5 +1,6 @@
 //! Sets of slots.
-ghost use Rattle.std.specs.Prelude.{◌≡◌, ℕ, ◌+◌, ◌*◌, ◌<◌, ◌≤◌, ◌==◌, ◌&&◌, ◌||◌, ◌++◌, Bool, not, false, length, IfOk, OnOk};
+ghost use Rattle.std.specs.Prelude.{◌≡◌, ℕ, ◌+◌, ◌*◌, ◌<◌, ◌≤◌, ◌==◌, ◌&&◌, ◌||◌, ◌++◌, Bool, not};
+ghost use Rattle.std.specs.Prelude.{false, length, IfOk, OnOk};
 ghost use Rattle.std.specs.Int.{bit_at};
 ghost use Rattle.addr_book.specs.SlotSet.{has_slot, open_slots, AreLowest};
 
@@ -51,7 +52,8 @@ impl SlotSet {
     /// Puts a slot into the set.
     pub(crate) fn put(&mut self, slot: u32)
         requires { slot < 8192 }
-        ensures { (other : ℕ) → has_slot self.new other ≡ (slot == other || has_slot self.old other) }
+        ensures { (other : ℕ) → has_slot self.new other
+            ≡ (slot == other || has_slot self.old other) }
     {
         let at = slot as usize / WORD_SLOTS;
         let word = self.words[at];
@@ -61,15 +63,16 @@ impl SlotSet {
     /// Takes a slot out of the set.
     pub(crate) fn take(&mut self, slot: u32)
         requires { slot < 8192 }
-        ensures { (other : ℕ) → has_slot self.new other ≡ (not (slot == other) && has_slot self.old other) }
+        ensures { (other : ℕ) → has_slot self.new other
+            ≡ (not (slot == other) && has_slot self.old other) }
     {
         let at = slot as usize / WORD_SLOTS;
         let word = self.words[at];
         self.words[at] = word & !(1 << (slot % 64));
     }
 
-    /// The lowest slots that are not in the set, in order: at least so many, or all. It passes over full words at once, and takes no memory
-    /// where none is asked for.
+    /// The lowest slots that are not in the set, in order: at least so many, or all. It passes over
+    /// full words at once, and takes no memory where none is asked for.
     pub(crate) fn lowest_open(&self, count: usize) -> Mem<Vec<u32>>
         ensures { IfOk result (λ slots. AreLowest (has_slot self.now) count slots.items) }
     {
@@ -97,10 +100,13 @@ fn lowest_in(alloc: Global, words: &[u64], count: usize) -> Mem<Vec<u32>>
     Ok(slots)
 }
 
-/// Puts the slots that a word says are open behind some others. The word tells of 64 slots from a first one on.
+/// Puts the slots that a word says are open behind some others. The word tells of 64 slots from a
+/// first one on.
 fn push_open(word: u64, first: u32, slots: &mut Vec<u32>) -> Mem<()>
     requires { first + 64 ≤ 8192 }
-    ensures { OnOk result ((taken : ℕ → Bool) → ((bit : ℕ) → bit < 64 → taken (first + bit) ≡ (bit_at word bit == 1)) → slots.new.items ≡ slots.old.items ++ open_slots taken 64 first) }
+    ensures { OnOk result ((taken : ℕ → Bool)
+        → ((bit : ℕ) → bit < 64 → taken (first + bit) ≡ (bit_at word bit == 1))
+        → slots.new.items ≡ slots.old.items ++ open_slots taken 64 first) }
 {
     for bit in 0..64u32 {
         if word >> bit & 1 == 0 {

@@ -1,5 +1,6 @@
 //! How the slots and the counts of the book's addresses change.
-ghost use Rattle.std.specs.Prelude.{◌≡◌, ℕ, ◌+◌, ◌-◌, ◌^◌, ◌<◌, ◌&&◌, ◌==◌, IfOk, None, if◌then◌else◌};
+ghost use Rattle.std.specs.Prelude.{◌≡◌, ℕ, ◌+◌, ◌-◌, ◌^◌, ◌<◌, ◌&&◌, ◌==◌, IfOk, None};
+ghost use Rattle.std.specs.Prelude.{if◌then◌else◌};
 ghost use Rattle.std.specs.FinMap as map;
 ghost use Rattle.addr_book.specs.declared.addr.Addr.{Addr};
 ghost use Rattle.addr_book.specs.AddrList.{AreDistinct, has_addr, same_addr};
@@ -16,7 +17,9 @@ use std::alloc::Global;
 pub(crate) fn count_in(uses: AddrMap, list: &[Weighted]) -> Mem<AddrMap>
     requires distinct { AreDistinct list.now }
     requires few { (addr : Addr) → count_at uses addr < 2 ^ 16 }
-    ensures { IfOk result (λ counts. (addr : Addr) → count_at counts addr ≡ count_at uses addr + (if has_addr list.now addr then 1 else 0)) }
+    ensures { IfOk result
+        (λ counts. (addr : Addr)
+        → count_at counts addr ≡ count_at uses addr + (if has_addr list.now addr then 1 else 0)) }
 {
     let mut counts = uses;
     for item in list {
@@ -29,7 +32,9 @@ pub(crate) fn count_in(uses: AddrMap, list: &[Weighted]) -> Mem<AddrMap>
 /// The counts with a service less for each address of a list.
 pub(crate) fn count_out(uses: AddrMap, list: &[Weighted]) -> Mem<AddrMap>
     requires distinct { AreDistinct list.now }
-    ensures { IfOk result (λ counts. (addr : Addr) → count_at counts addr ≡ count_at uses addr - (if has_addr list.now addr then 1 else 0)) }
+    ensures { IfOk result
+        (λ counts. (addr : Addr)
+        → count_at counts addr ≡ count_at uses addr - (if has_addr list.now addr then 1 else 0)) }
 {
     let mut counts = uses;
     for item in list {
@@ -41,7 +46,9 @@ pub(crate) fn count_out(uses: AddrMap, list: &[Weighted]) -> Mem<AddrMap>
 
 /// The counts with this one for an address, which is not kept where it is 0.
 fn with_count(counts: AddrMap, addr: Addr, count: u32) -> Mem<AddrMap>
-    ensures { IfOk result (λ new. (other : Addr) → count_at new other ≡ (if same_addr other addr then count else count_at counts other)) }
+    ensures { IfOk result
+        (λ new. (other : Addr) → count_at new other
+        ≡ (if same_addr other addr then count else count_at counts other)) }
 {
     if count == 0 {
         return counts.without(addr);
@@ -51,7 +58,10 @@ fn with_count(counts: AddrMap, addr: Addr, count: u32) -> Mem<AddrMap>
 
 /// The slots without those of the addresses of a list that no service has.
 pub(crate) fn release(slots: SlotMap, uses: &AddrMap, list: &[Weighted]) -> Mem<SlotMap>
-    ensures { IfOk result (λ kept. (addr : Addr) → map.get kept addr ≡ (if has_addr list.now addr && (count_at uses.now addr == 0) then None else map.get slots addr)) }
+    ensures { IfOk result
+        (λ kept. (addr : Addr) → map.get kept addr
+        ≡ (if has_addr list.now addr && (count_at uses.now addr == 0) then None
+        else map.get slots addr)) }
 {
     let mut kept = slots;
     for item in list {

@@ -44,6 +44,18 @@ length-filter_le keeps (x ∷ xs) =
     let each : P (keeps x) = elim (keeps x) as P [ true ↦ omega (arith, rest) | false ↦ omega (arith, rest) ] in
     each
 
+pub filter_all : {X : Type 0} (keeps : X → Bool) (xs : List X) → length (filter keeps xs) ≡ length xs → filter keeps xs ≡ xs
+filter_all keeps [] same = refl
+filter_all keeps (x ∷ xs) same =
+    let fewer = length-filter_le keeps xs in
+    let P : Bool → Type 0 = λ b. length (if b then x ∷ filter keeps xs else filter keeps xs) ≡ length (x ∷ xs) → (if b then x ∷ filter keeps xs else filter keeps xs) ≡ x ∷ xs in
+    let each : P (keeps x) =
+    elim (keeps x) as P [
+      | true ↦ (λ e. ap (λ ys. x ∷ ys) (filter_all keeps xs (omega (arith, e))))
+      | false ↦ (λ e. absurd (omega (arith, e, fewer)))
+    ] in
+    each same
+
 -- a ring that is turned: what is kept of its first so many items stands behind the others
 module _ {X : Type 0} (keeps : X → Bool) (o : List X) (cap : ℕ) where
   abbrev pub Turned : ℕ → Buffer X → Type 0

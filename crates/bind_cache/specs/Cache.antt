@@ -1,5 +1,6 @@
 -- The delegations that are kept, as a list, the oldest first.
-use Rattle.std.specs.Prelude.{◌≡◌, ℕ, ◌≤◌, nat_lt, ◌&&◌, Bool, true, not, if◌then◌else◌, List, [], ◌∷◌, ◌++◌, length, drop, filter, All, Option, Some, None, is_none}
+use Rattle.std.specs.Prelude.{◌≡◌, ℕ, ◌≤◌, nat_lt, ◌&&◌, Bool, true, not, if◌then◌else◌, List, []}
+use Rattle.std.specs.Prelude.{◌∷◌, ◌++◌, length, drop, filter, All, Option, Some, None, is_none}
 use Rattle.std.specs.List.{list_any}
 use Rattle.name_tree.specs.Path.{Labels}
 use Rattle.dtab_table.specs.Rules.{Rule}
@@ -50,7 +51,8 @@ pub record IsCache (ks : List Kept) : Type 0 where
   pub apart : keys_differ ks ≡ true
   pub cheap : All (λ k. k.cost ≤ most_cost) ks
 
--- a cache that is right: for the rules of the proxy that stand before a request's own, and with these names
+-- a cache that is right: for the rules of the proxy that stand before a request's own, and with
+-- these names
 pub record AreRight (rules : List Rule) (names : Names) (ks : List Kept) : Type 0 where
   pub cache : IsCache ks
   pub right : All (IsRight rules names) ks

@@ -1,4 +1,5 @@
--- By which number a delegation is filed: a hash of its path, and of the request's own rules as far as prefixes and single paths go.
+-- By which number a delegation is filed: a hash of its path, and of the request's own rules as far
+-- as prefixes and single paths go.
 use Rattle.std.specs.Prelude.{ℕ, ◌*◌, ◌%◌, ◌^◌, List, fold, Some, None}
 use Rattle.std.specs.Int.Bits.{bit_xor}
 use Rattle.name_tree.specs.Path.{Label, Labels}

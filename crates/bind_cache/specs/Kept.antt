@@ -5,8 +5,9 @@ use Rattle.dtab_table.specs.Rules.{Rule}
 use Rattle.bind_core.specs.Delegation.{Ending, Names, outcome_of, cost_of, kept_asked}
 use Rattle.bind_cache.specs.Same.{same_path, same_rules}
 
--- what a path came to with the request's own rules behind those of the proxy, at how many lookups, and which paths were looked up for it, where those are few.
--- Besides, how many bytes its texts have, and how many changes had been accepted when it was worked out
+-- what a path came to with the request's own rules behind those of the proxy, at how many lookups,
+-- and which paths were looked up for it, where those are few. Besides, how many bytes its texts
+-- have, and how many changes had been accepted when it was worked out
 pub record Kept : Type 0 where
   pub path : Labels
   pub local : List Rule

@@ -13,7 +13,8 @@ befores_in links = map (λ l. l.before) links
 abbrev pub chained_in : Inside → Chained
 chained_in c = record { first = c.first; hashes = hashes_in c.links.items }
 
--- a number of the last before a place that is in a bucket, where hashes are numbered from the first on. It is less than the first where there is none
+-- a number of the last before a place that is in a bucket, where hashes are numbered from the first
+-- on. It is less than the first where there is none
 pub record IsLast (first : ℕ) (hashes : List ℕ) (bucket top number : ℕ) : Type 0 where
   pub below : number < first + top
   pub here : first ≤ number → bucket_of (slice_index hashes (number - first)) ≡ bucket
@@ -21,8 +22,11 @@ pub record IsLast (first : ℕ) (hashes : List ℕ) (bucket top number : ℕ) : 
 
 -- each bucket leads to its last hash, and each hash to the last before it in its bucket
 pub record AreLinked (first : ℕ) (newest : List ℕ) (links : List Link) : Type 0 where
-  pub newest_is : (bucket : ℕ) → bucket < buckets → IsLast first (hashes_in links) bucket (length links) (slice_index newest bucket)
-  pub before_is : (k : ℕ) → k < length links → IsLast first (hashes_in links) (bucket_of (slice_index (hashes_in links) k)) k (slice_index (befores_in links) k)
+  pub newest_is : (bucket : ℕ) → bucket < buckets
+      → IsLast first (hashes_in links) bucket (length links) (slice_index newest bucket)
+  pub before_is : (k : ℕ) → k < length links
+      → IsLast first (hashes_in links) (bucket_of (slice_index (hashes_in links) k)) k
+      (slice_index (befores_in links) k)
 
 pub record AreChained (c : Inside) : Type 0 where
   pub room : c.links.capacity ≡ 1024

@@ -6,4 +6,6 @@ use Rattle.dtab_table.specs.TableCanon.{canon_table}
 
 -- the bytes of the canonical texts of a path, a table and some paths
 abbrev pub text_bytes : Labels → List Rule → List Labels → ℕ
-text_bytes path local asked = length (canon_table local) + length (canon_path path) + sum_by (λ p. length (canon_path p)) asked
+text_bytes path local asked =
+    length (canon_table local) + length (canon_path path)
+    + sum_by (λ p. length (canon_path p)) asked

@@ -12,7 +12,15 @@ use Rattle.bind_cache.specs.Kept.{Kept}
 -- what a binding of the code says
 abbrev pub kept_of : Binding → Kept
 kept_of b =
-    record { path = b.path; local = rules_of b.local; ending = ending_of b.outcome; cost = b.cost; asked = b.asked; bytes = b.bytes; place = b.place }
+    record {
+      path = b.path;
+      local = rules_of b.local;
+      ending = ending_of b.outcome;
+      cost = b.cost;
+      asked = b.asked;
+      bytes = b.bytes;
+      place = b.place;
+    }
 
 -- the number by which a shared binding is filed, and the paths that were looked up for it
 abbrev pub hash_in : Arc Binding Global → ℕ

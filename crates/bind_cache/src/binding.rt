@@ -1,5 +1,6 @@
 //! Bindings.
-ghost use Rattle.std.specs.Prelude.{◌≡◌, ◌+◌, ◌↔◌, ◌++◌, ◌^◌, ◌-◌, min, length, sum_by, List, IsTrue, IfOk, OnOk};
+ghost use Rattle.std.specs.Prelude.{◌≡◌, ◌+◌, ◌↔◌, ◌++◌, ◌^◌, ◌-◌, min, length, sum_by, List};
+ghost use Rattle.std.specs.Prelude.{IsTrue, IfOk, OnOk};
 ghost use Rattle.name_tree.specs.Path.{canon_path};
 ghost use Rattle.dtab_table.specs.Dtab.{rules_of};
 ghost use Rattle.dtab_table.specs.Rules.{Rule};
@@ -38,10 +39,11 @@ impl Binding {
     ghost use Rattle.bind_cache.specs.Kept.{IsRight, is_key};
     ghost use Rattle.bind_cache.specs.Stored.{kept_of};
 
-    /// The binding of a path and a request's own table, of what a delegation came to after so many accepted changes. The delegation is
-    /// to be one of which the paths were wanted.
+    /// The binding of a path and a request's own table, of what a delegation came to after so many
+    /// accepted changes. The delegation is to be one of which the paths were wanted.
     ///
-    /// It copies the path and the table, and takes memory for their texts and those of the paths for as long as it counts their bytes.
+    /// It copies the path and the table, and takes memory for their texts and those of the paths
+    /// for as long as it counts their bytes.
     pub fn of(
         alloc: Global,
         path: &Path,
@@ -58,7 +60,9 @@ impl Binding {
           bytes = min (text_bytes path.now (rules_of local.now) found.asked) (2 ^ 64 - 1);
           place = place;
         }) }
-        ensures right { (rules : List Rule) → (names : Names) → IsDelegated (rules ++ rules_of local.now) names path.now Wanted.Asked found → IfOk result (λ b. IsRight rules names (kept_of b)) }
+        ensures right { (rules : List Rule) → (names : Names)
+            → IsDelegated (rules ++ rules_of local.now) names path.now Wanted.Asked found
+            → IfOk result (λ b. IsRight rules names (kept_of b)) }
     {
         let Delegated {
             outcome,
@@ -100,7 +104,8 @@ impl Binding {
         &self.outcome
     }
 
-    /// The paths that were looked up, in the order in which their lookups began. None where there were more than 256.
+    /// The paths that were looked up, in the order in which their lookups began. None where there
+    /// were more than 256.
     pub fn asked(&self) -> &PathList
         ensures { result.now ≡ (kept_of self.now).asked }
     {
@@ -114,7 +119,8 @@ impl Binding {
         self.cost
     }
 
-    /// How many bytes the canonical texts of the path, the request's own table and the paths that were looked up have together.
+    /// How many bytes the canonical texts of the path, the request's own table and the paths that
+    /// were looked up have together.
     pub fn bytes(&self) -> usize
         ensures { result ≡ (kept_of self.now).bytes }
     {
@@ -149,7 +155,8 @@ impl Binding {
 
 /// How many bytes the canonical texts of a path, a table and some paths have together.
 fn count_bytes(alloc: Global, path: &Path, local: &Dtab, asked: &[Path]) -> Mem<usize>
-    ensures { IfOk result (λ bytes. bytes ≡ min (text_bytes path.now (rules_of local.now) asked.now) (2 ^ 64 - 1)) }
+    ensures { IfOk result
+        (λ bytes. bytes ≡ min (text_bytes path.now (rules_of local.now) asked.now) (2 ^ 64 - 1)) }
 {
     let mut text = write_dtab(alloc, local)?;
     append_path(path, &mut text)?;

@@ -1,5 +1,6 @@
 //! Hashes in an order, of which those with one remainder are chained, the newest first.
-ghost use Rattle.std.specs.Prelude.{◌≡◌, ◌+◌, ◌-◌, ◌<◌, ◌^◌, ◌↔◌, ◌++◌, [], ◌∷◌, IsTrue, IfOk, length, drop, slice_index, vec_len, ℕ};
+ghost use Rattle.std.specs.Prelude.{◌≡◌, ◌+◌, ◌-◌, ◌<◌, ◌^◌, ◌↔◌, ◌++◌, [], ◌∷◌, IsTrue, IfOk};
+ghost use Rattle.std.specs.Prelude.{length, drop, slice_index, vec_len, ℕ};
 ghost use Rattle.bind_cache.specs.Chain.{IsLastBefore, bucket_of, place_from};
 
 use crate::Mem;
@@ -12,18 +13,19 @@ use std::marker::Model;
 /// How many chains there are.
 const BUCKETS: u64 = 2_048;
 
-/// A hash, and the number of the one before it in its chain: less than the number of the first where there is none.
+/// A hash, and the number of the one before it in its chain: less than the number of the first
+/// where there is none.
 #[derive(Clone, Copy, Debug)]
 pub(crate) struct Link {
     hash: u64,
     before: u64,
 }
 
-/// Some hashes in the order in which they were put in, at most 1,024. They have numbers that count up from that of the first.
-/// Contracts see the hashes and that number.
+/// Some hashes in the order in which they were put in, at most 1,024. They have numbers that count
+/// up from that of the first. Contracts see the hashes and that number.
 ///
-/// Each number stays as it is while others come and go, and a number below the first says that nothing is left of a chain. So the
-/// first hash goes without a look at the chains.
+/// Each number stays as it is while others come and go, and a number below the first says that
+/// nothing is left of a chain. So the first hash goes without a look at the chains.
 #[derive(Debug, Drop)]
 pub(crate) struct Chains {
     newest: Vec<u64>,
@@ -90,7 +92,10 @@ impl Chains {
     /// Takes the first hash away.
     pub(crate) fn drop_first(&mut self)
         requires { 0 < length self.old.hashes }
-        ensures { self.new ≡ record { first = self.old.first + 1; hashes = drop 1 self.old.hashes } }
+        ensures { self.new ≡ record {
+          first = self.old.first + 1;
+          hashes = drop 1 self.old.hashes;
+        } }
     {
         self.links.pop_front();
         self.first += 1;
@@ -100,7 +105,10 @@ impl Chains {
     pub(crate) fn push(&mut self, hash: u64)
         requires room { length self.old.hashes < 1024 }
         requires number { self.old.first + (length self.old.hashes + 1) < 2 ^ 64 }
-        ensures { self.new ≡ record { first = self.old.first; hashes = self.old.hashes ++ hash ∷ [] } }
+        ensures { self.new ≡ record {
+          first = self.old.first;
+          hashes = self.old.hashes ++ hash ∷ [];
+        } }
     {
         let bucket = (hash % BUCKETS) as usize;
         let number = self.first + self.links.len() as u64;

@@ -4,7 +4,8 @@ ghost use Rattle.name_tree.specs.Tree.{value_of};
 ghost use Rattle.dtab_table.specs.Pattern.{pattern_of};
 ghost use Rattle.dtab_table.specs.Rules.{rule_of};
 ghost use Rattle.dtab_table.specs.Dtab.{rules_of};
-ghost use Rattle.bind_cache.specs.Hash.{mixed, with_label, with_labels, with_pattern, with_patterns, with_tree, with_rule, with_rules, key_hash};
+ghost use Rattle.bind_cache.specs.Hash.{mixed, with_label, with_labels, with_pattern};
+ghost use Rattle.bind_cache.specs.Hash.{with_patterns, with_tree, with_rule, with_rules, key_hash};
 
 use dtab_table::{Dtab, Entry, PrefixLabel};
 use name_tree::{Path, Tree};
@@ -30,13 +31,14 @@ const PREFIX_END: u64 = 259;
 /// What stands behind the path.
 const PATH_END: u64 = 260;
 
-/// The number by which a binding is filed: a hash of its path and of the request's own rules. Of a rule's tree it looks at a single
-/// path alone, so tables that differ only in alternatives or unions have one number.
+/// The number by which a binding is filed: a hash of its path and of the request's own rules. Of a
+/// rule's tree it looks at a single path alone, so tables that differ only in alternatives or
+/// unions have one number.
 #[tactic(auto, unfolding(crate::specs::Hash::key_hash))]
 pub(crate) fn key_hash(path: &Path, local: &Dtab) -> u64
     ensures { result ≡ key_hash path.now (rules_of local.now) }
 {
-    let hash = mix(mix_labels(BASIS, path.labels()), PATH_END);
+    let hash = mix(mix_labels(BASIS, path), PATH_END);
     mix_rules(hash, local.entries())
 }
 
@@ -77,7 +79,7 @@ fn mix_tree(hash: u64, tree: &Tree) -> u64
     ensures { result ≡ with_tree hash (value_of tree.now) }
 {
     match tree {
-        Tree::Leaf(path) => mix_labels(hash, path.labels()),
+        Tree::Leaf(path) => mix_labels(hash, path),
         Tree::Neg => mix(hash, OTHER_TREE),
         Tree::Fail => mix(hash, OTHER_TREE),
         Tree::Empty => mix(hash, OTHER_TREE),
@@ -98,12 +100,12 @@ fn mix_pattern(hash: u64, label: &PrefixLabel) -> u64
 }
 
 /// A hash, and then the labels of a path.
-fn mix_labels(hash: u64, labels: &[Vec<u8>]) -> u64
-    ensures { result ≡ with_labels hash (map (λ l. l.items) labels.now) }
+fn mix_labels(hash: u64, path: &Path) -> u64
+    ensures { result ≡ with_labels hash path.now }
 {
     let mut all = hash;
-    for label in labels {
-        all = mix_label(all, label.as_slice());
+    for at in 0..path.len() {
+        all = mix_label(all, path.label(at));
     }
     all
 }

@@ -1,9 +1,12 @@
 //! What holds of all caches. The functions do nothing: their contracts are the laws.
-ghost use Rattle.bind_cache.specs.Laws.{NothingIsRight, KeepsRight, TableStaysRight, ServiceStaysRight, ChangesOneService, AddressesNameNothing};
+ghost use Rattle.bind_cache.specs.Laws.{NothingIsRight, KeepsRight, TableStaysRight};
+ghost use Rattle.bind_cache.specs.Laws.{ServiceStaysRight, ChangesOneService, AddressesNameNothing};
 
-/// A cache in which each binding is right stays so: when a right one is put in, and when it is told of a change. After a change of the
-/// namespace's table each binding that stays is right with the new table, whatever tables stand behind it. After a service was added
-/// to the book, or removed, each that stays is right with the new book. Other addresses of a service that is there touch no binding.
+/// A cache in which each binding is right stays so: when a right one is put in, and when it is told
+/// of a change. After a change of the namespace's table each binding that stays is right with the
+/// new table, whatever tables stand behind it. After a service was added to the book, or removed,
+/// each that stays is right with the new book. Other addresses of a service that is there touch no
+/// binding.
 pub fn caches_stay_right()
     ensures start { NothingIsRight }
     ensures keep { KeepsRight }

@@ -13,7 +13,8 @@ use name_tree::Path;
 /// How many labels name a service: `#`, `io.l5d.fs` and the service.
 const SERVICE_LABELS: usize = 3;
 
-/// The rules of two tables that are not in both: in each those from `front` to before its end, counted from 0.
+/// The rules of two tables that are not in both: in each those from `front` to before its end,
+/// counted from 0.
 #[derive(Debug, Drop)]
 pub(crate) struct ChangedRules<'a> {
     old: &'a Dtab,
@@ -41,7 +42,8 @@ impl<'a> ChangedRules<'a> {
 
     /// What changed between two tables.
     ///
-    /// It compares the rules that both have at their fronts and at their ends, and one more at each.
+    /// It compares the rules that both have at their fronts and at their ends, and one more at
+    /// each.
     pub(crate) fn between(old: &'a Dtab, new: &'a Dtab) -> ChangedRules<'a>
         ensures old { gone_in result ≡ gone (rules_of old.now) (rules_of new.now) }
         ensures new { added_in result ≡ added (rules_of old.now) (rules_of new.now) }

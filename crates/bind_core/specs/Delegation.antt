@@ -1,7 +1,10 @@
--- Delegation: what a path comes to in a table, and which lookups that takes. A recursion over the table as a list.
-use Rattle.std.specs.Prelude.{ℕ, zero, suc, ◌+◌, ◌-◌, nat_lt, min, ◌==◌, Bool, true, false, ◌||◌, if◌then◌else◌, List, [], ◌∷◌, ◌++◌, map, length, Option, Some, None}
+-- Delegation: what a path comes to in a table, and which lookups that takes. A recursion over the
+-- table as a list.
+use Rattle.std.specs.Prelude.{ℕ, zero, suc, ◌+◌, ◌-◌, nat_lt, min, ◌==◌, Bool, true, false, ◌||◌}
+use Rattle.std.specs.Prelude.{if◌then◌else◌, List, [], ◌∷◌, ◌++◌, map, length, Option, Some, None}
 use Rattle.name_tree.specs.Path.{Labels, canon_path}
-use Rattle.name_tree.specs.Value.{TreeValue, TreeValues, Branches, leaf, neg, fail, empty, alt, union, none, more, no_branch, branch}
+use Rattle.name_tree.specs.Value.{TreeValue, TreeValues, Branches, leaf, neg, fail, empty, alt}
+use Rattle.name_tree.specs.Value.{union, none, more, no_branch, branch}
 use Rattle.dtab_table.specs.Dtab.{rewrites}
 use Rattle.dtab_table.specs.Rules.{Rule}
 use Rattle.addr_book.specs.declared.leaf.Leaf.{Leaf}
@@ -72,15 +75,17 @@ abbrev pub found_in : List Evaluated → List (ℕ × Found)
 found_in [] = []
 found_in (b ∷ bs) = found_at b.weight b.told.0 ++ found_in bs
 
--- a union without a branch that is too deep is bound to what its bound branches find, if there are any; else it is failing if a branch is, else
--- without replica if a branch is, else negative
+-- a union without a branch that is too deep is bound to what its bound branches find, if there are
+-- any; else it is failing if a branch is, else without replica if a branch is, else negative
 abbrev pub kept : List (ℕ × Found) → Bool → Bool → Ending
 kept [] fails lacks = if fails then failing else if lacks then no_replica else negative
 kept (m ∷ ms) fails lacks = bound (many (members (m ∷ ms)))
 
 -- the ending of a union with these branches: too deep if one of them is
 abbrev pub joint : List Evaluated → Ending
-joint bs = if some_end is_too_deep bs then too_deep else kept (found_in bs) (some_end is_failing bs) (some_end is_empty bs)
+joint bs =
+    if some_end is_too_deep bs then too_deep
+    else kept (found_in bs) (some_end is_failing bs) (some_end is_empty bs)
 
 -- the lookups of the branches up to the first that is too deep, and with it
 abbrev pub joint_visits : List Evaluated → List Visit
@@ -109,7 +114,8 @@ module _ (look : Labels → Told) where
     -- the branches of a union, but for those of weight 0, which are not evaluated
     pub walk_each : Branches → List Evaluated
     walk_each no_branch = []
-    walk_each (branch n t bs) = if n == 0 then walk_each bs else record { weight = n; told = walk t } ∷ walk_each bs
+    walk_each (branch n t bs) =
+        if n == 0 then walk_each bs else record { weight = n; told = walk t } ∷ walk_each bs
 
   -- the first of some trees that is not negative
   abbrev pub first_of : List TreeValue → Told
@@ -124,7 +130,8 @@ abbrev pub named_ending : Option Leaf → Ending
 named_ending None = negative
 named_ending (Some found) = bound (one found)
 
--- a lookup before those that were made for it. It comes to what they tell: so where something was too deep, each lookup that had not ended came to that
+-- a lookup before those that were made for it. It comes to what they tell: so where something was
+-- too deep, each lookup that had not ended came to that
 abbrev pub visited : ℕ → Labels → Told → Told
 visited depth path told = (told.0, record { depth = depth; path = path; ending = told.0 } ∷ told.1)
 
@@ -138,13 +145,16 @@ most_wide = 10000
 abbrev pub most_path_bytes : ℕ
 most_path_bytes = 2048
 
--- a path that is reached with so many lookups left in its chain: the trees that the table rewrites it to are tried in order, and then what it
--- names by itself. It is too deep where no lookup is left, and where its text is too long
+-- a path that is reached with so many lookups left in its chain: the trees that the table rewrites
+-- it to are tried in order, and then what it names by itself. It is too deep where no lookup is
+-- left, and where its text is too long
 unfoldable pub lookup : List Rule → Names → ℕ → Labels → Told
 lookup rules names zero path = (too_deep, [])
 lookup rules names (suc left) path =
     if nat_lt most_path_bytes (length (canon_path path)) then (too_deep, [])
-    else visited (most_deep - suc left) path (or_else (first_of (lookup rules names left) (rewrites rules path)) (named_ending (names path), []))
+    else visited (most_deep - suc left) path
+    (or_else (first_of (lookup rules names left) (rewrites rules path))
+    (named_ending (names path), []))
 
 -- a whole delegation, without the limit on its lookups
 abbrev pub told_in : List Rule → Names → Labels → Told
@@ -180,4 +190,5 @@ most_asked = 256
 
 -- the paths that are looked up, where there are few enough of them
 abbrev pub kept_asked : List Rule → Names → Labels → List Labels
-kept_asked rules names path = map (λ v. v.path) (visits_within most_asked (told_in rules names path))
+kept_asked rules names path =
+    map (λ v. v.path) (visits_within most_asked (told_in rules names path))

@@ -1,6 +1,7 @@
 -- How deep the trees of a table are, and how many turns each lookup takes at most.
 use Rattle.std.specs.Prelude.{ℕ, ◌+◌, ◌*◌, max, List, [], ◌∷◌}
-use Rattle.name_tree.specs.Value.{TreeValue, TreeValues, Branches, leaf, neg, fail, empty, alt, union, none, more, no_branch, branch}
+use Rattle.name_tree.specs.Value.{TreeValue, TreeValues, Branches, leaf, neg, fail, empty, alt}
+use Rattle.name_tree.specs.Value.{union, none, more, no_branch, branch}
 use Rattle.dtab_table.specs.Rules.{Rule}
 
 abbrev mutual

@@ -3,7 +3,8 @@ use Rattle.std.specs.Prelude.{ℕ, Bool, true, false, List, [], ◌∷◌, ◌++
 use Rattle.bind_core.specs.declared.gathered.Gathered.{Gathered}
 use Rattle.addr_book.specs.Found.{Found}
 use Rattle.addr_book.specs.Bound.{item_found}
-use Rattle.bind_core.specs.Delegation.{Ending, negative, failing, no_replica, too_deep, too_wide, bound, kept}
+use Rattle.bind_core.specs.Delegation.{Ending, negative, failing, no_replica, too_deep, too_wide}
+use Rattle.bind_core.specs.Delegation.{bound, kept}
 
 -- what the bound ones find, with their weights; whether one fails, and whether one has no replica
 pub record Kept : Type 0 where

@@ -11,7 +11,9 @@ use Rattle.bind_core.specs.declared.trace.Ended.{Ended}
 use Rattle.bind_core.specs.declared.trace.Ended.TheVariants as ended
 use Rattle.bind_core.specs.declared.trace.TraceItem.{TraceItem}
 use Rattle.addr_book.specs.Bound.{found_of}
-use Rattle.bind_core.specs.Delegation.{Ending, negative, failing, no_replica, too_deep, too_wide, bound, Names, Visit, outcome_of, cost_of, most_asked, most_wide, kept_asked, trace_of}
+use Rattle.bind_core.specs.Delegation.{Ending, negative, failing, no_replica, too_deep, too_wide}
+use Rattle.bind_core.specs.Delegation.{bound, Names, Visit, outcome_of, cost_of, most_asked}
+use Rattle.bind_core.specs.Delegation.{most_wide, kept_asked, trace_of}
 
 abbrev pub ending_of : Outcome → Ending
 ending_of outcome.Neg = negative
@@ -60,7 +62,8 @@ trace_told wanted.Trace rules names path = map traced (trace_of rules names path
 trace_told _ rules names path = []
 
 -- this is what the path comes to in the table, at this cost, with the list that is wanted
-pub record IsDelegated (rules : List Rule) (names : Names) (path : Labels) (wanted : Wanted) (d : Delegated) : Type 0 where
+pub record IsDelegated (rules : List Rule) (names : Names) (path : Labels) (wanted : Wanted)
+    (d : Delegated) : Type 0 where
   pub outcome : ending_of d.outcome ≡ outcome_of rules names path
   pub cost : d.cost ≡ cost_of rules names path
   pub asked : d.asked ≡ asked_told wanted rules names path

@@ -1,4 +1,5 @@
--- What the code's paths and trees say, which tables lend and no label of which is joined before a leaf is looked up.
+-- What the code's paths and trees say, which tables lend and no label of which is joined before a
+-- leaf is looked up.
 use Rattle.std.specs.Prelude.{drop}
 use Rattle.std.specs.Rc.{rc_value}
 use Rattle.name_tree.specs.Path.{Labels}

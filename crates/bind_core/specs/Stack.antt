@@ -1,10 +1,14 @@
 -- What a stack of frames makes of an ending, how many turns it takes, and what one step does to it.
-use Rattle.std.specs.Prelude.{◌≡◌, ℕ, zero, suc, ◌+◌, ◌<◌, ◌≤◌, ◌⊎◌, ◌==◌, Bool, true, false, nat_lt, if◌then◌else◌, min, List, [], ◌∷◌, ◌++◌, length, map, drop, Option, Some, None}
+use Rattle.std.specs.Prelude.{◌≡◌, ℕ, zero, suc, ◌+◌, ◌<◌, ◌≤◌, ◌⊎◌, ◌==◌, Bool, true, false}
+use Rattle.std.specs.Prelude.{nat_lt, if◌then◌else◌, min, List, [], ◌∷◌, ◌++◌, length, map, drop}
+use Rattle.std.specs.Prelude.{Option, Some, None}
 use Rattle.std.specs.Borrow.{Bor}
 use Rattle.std.specs.Slice.Iter.{iter_rest}
 use Rattle.std.specs.Vec.Iter.{into_iter_items}
 use Rattle.name_tree.specs.Path.{Labels}
-use Rattle.name_tree.specs.Value.{TreeValue, TreeValues, Branches, leaf, neg, fail, empty, alt, union, none, more, no_branch, branch, append_rest, append_rest_branches}
+use Rattle.name_tree.specs.Value.{TreeValue, TreeValues, Branches, leaf, neg, fail, empty, alt}
+use Rattle.name_tree.specs.Value.{union, none, more, no_branch, branch, append_rest}
+use Rattle.name_tree.specs.Value.{append_rest_branches}
 use Rattle.name_tree.specs.Tree.{value_of, listed}
 use Rattle.name_tree.specs.declared.tree.Tree.{Tree}
 use Rattle.dtab_table.specs.Dtab.{rewrites}
@@ -26,7 +30,9 @@ use Rattle.bind_core.specs.declared.work.Work.{Work}
 use Rattle.bind_core.specs.declared.work.Task.{Task}
 use Rattle.bind_core.specs.declared.work.Task.TheVariants as task
 use Rattle.addr_book.specs.Namer.{named_in}
-use Rattle.bind_core.specs.Delegation.{Ending, negative, too_deep, too_wide, Names, Visit, Told, or_else, Evaluated, walk, walk_each, first_of, named_ending, lookup, within_width, most_wide, visits_within}
+use Rattle.bind_core.specs.Delegation.{Ending, negative, too_deep, too_wide, Names, Visit, Told}
+use Rattle.bind_core.specs.Delegation.{or_else, Evaluated, walk, walk_each, first_of, named_ending}
+use Rattle.bind_core.specs.Delegation.{lookup, within_width, most_wide, visits_within}
 use Rattle.bind_core.specs.Kept.{Kept, kept_of, kept_with, kept_ending}
 use Rattle.bind_core.specs.Outcome.{ending_of, traced}
 use Rattle.bind_core.specs.Rewritten.{labels_of, tree_of}
@@ -247,7 +253,8 @@ module _ (rules : List Rule) (names : Names) where
 
   -- a step to the whole: it puts frames on the stack, and they lead to the whole with the next
   -- task, in fewer turns than so many. The whole goes on from the lookups that were made before
-  pub record IsStep (most : ℕ) (whole : List Visit → Told) (turns : ℕ) (old new : Work) (next : Task)
+  pub record IsStep (most : ℕ) (whole : List Visit → Told) (turns : ℕ) (old new : Work)
+      (next : Task)
       : Type 0 where
     pub more : List Frame
     pub pushed : new.stack.items ≡ old.stack.items ++ more

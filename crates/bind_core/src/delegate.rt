@@ -1,5 +1,6 @@
 //! Delegation, with a stack of what is left to try in place of a recursion.
-ghost use Rattle.std.specs.Prelude.{◌≡◌, ◌+◌, ◌*◌, ◌<◌, ◌≤◌, ◌↔◌, ℕ, List, [], length, min, false, IfOk};
+ghost use Rattle.std.specs.Prelude.{◌≡◌, ◌+◌, ◌*◌, ◌<◌, ◌≤◌, ◌↔◌, ℕ, List, [], length, min, false};
+ghost use Rattle.std.specs.Prelude.{IfOk};
 ghost use Rattle.dtab_table.specs.TableCanon.{AreSoundRules};
 ghost use Rattle.addr_book.specs.Found.{IsFilled, IsBounded};
 ghost use Rattle.dtab_table.specs.Rules.{Rule};
@@ -10,7 +11,10 @@ ghost use Rattle.bind_core.specs.Rewritten.{labels_of, tree_of};
 ghost use Rattle.bind_core.specs.Tables.{rules_in};
 ghost use Rattle.bind_core.specs.Depth.{greatest_depth, turns_per_lookup};
 ghost use Rattle.bind_core.specs.Turns.{IsPaid, IsDue, CanLookUp, IsTurn, IsFirst};
-ghost use Rattle.bind_core.specs.Stack.{IsStep, IsAnswer, Fits, rules_at, names_at, behind, ends_all, frame_on, frame_work, choice_on, choice_work, union_on, union_work, lookup_on, path_work, tree_work, list_work, trees_left};
+ghost use Rattle.bind_core.specs.Stack.{IsStep, IsAnswer, Fits, rules_at, names_at, behind};
+ghost use Rattle.bind_core.specs.Stack.{ends_all, frame_on, frame_work, choice_on, choice_work};
+ghost use Rattle.bind_core.specs.Stack.{union_on, union_work, lookup_on, path_work, tree_work};
+ghost use Rattle.bind_core.specs.Stack.{list_work, trees_left};
 
 use crate::Mem;
 use crate::frame::{Alternatives, Choice, Frame, TreesLeft, Union, next_weighted};

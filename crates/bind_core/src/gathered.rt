@@ -34,7 +34,8 @@ impl Gathered {
 
     /// Adds what a branch with this weight came to, which is neither too deep nor too wide.
     pub(crate) fn add(&mut self, weight: u64, outcome: Outcome) -> Mem<()>
-        ensures { OnOk result (kept_of self.new ≡ kept_with (kept_of self.old) weight (ending_of outcome)) }
+        ensures { OnOk result (kept_of self.new
+            ≡ kept_with (kept_of self.old) weight (ending_of outcome)) }
     {
         match outcome {
             Outcome::Fail => self.failing = true,
@@ -45,8 +46,8 @@ impl Gathered {
         Ok(())
     }
 
-    /// What a union with these branches comes to: bound to the bound ones, if there are any; else failing if one fails,
-    /// else empty if one is, else negative.
+    /// What a union with these branches comes to: bound to the bound ones, if there are any; else
+    /// failing if one fails, else empty if one is, else negative.
     pub(crate) fn into_outcome(self) -> Outcome
         ensures { ending_of result ≡ kept_ending (kept_of self) }
     {

@@ -13,7 +13,8 @@ pub enum Outcome {
     Fail,
     /// `$` was reached: there is no replica.
     Empty,
-    /// A path was reached after 100 lookups in its chain, or its canonical text is longer than 2,048 bytes.
+    /// A path was reached after 100 lookups in its chain, or its canonical text is longer than
+    /// 2,048 bytes.
     TooDeep,
     /// There would be more than 10,000 lookups.
     TooWide,
@@ -39,9 +40,11 @@ pub struct Delegated {
     pub outcome: Outcome,
     /// How many lookups were made, at most 10,000; or 10,001, exactly where there would be more.
     pub cost: u32,
-    /// Where they were wanted and there are at most 256: the paths that were looked up, in the order in which their lookups began.
+    /// Where they were wanted and there are at most 256: the paths that were looked up, in the
+    /// order in which their lookups began.
     pub asked: PathList,
-    /// Where it was wanted and the outcome isn't too wide: each lookup, in the order in which they began.
+    /// Where it was wanted and the outcome isn't too wide: each lookup, in the order in which they
+    /// began.
     pub trace: Trace,
 }
 

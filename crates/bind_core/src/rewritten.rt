@@ -21,8 +21,9 @@ pub(crate) enum HeldPath<'a> {
     Shared(Rc<Path>),
 }
 
-/// What a path is rewritten to: a tree of a table, with the labels of the path from a place on, counted from 0, behind every leaf. The
-/// tree is lent, and no label is copied before a leaf is looked up.
+/// What a path is rewritten to: a tree of a table, with the labels of the path from a place on,
+/// counted from 0, behind every leaf. The tree is lent, and no label is copied before a leaf is
+/// looked up.
 #[derive(Drop)]
 pub(crate) struct Rewritten<'a> {
     /// The tree as the table has it.
@@ -54,9 +55,10 @@ impl<'a> HeldPath<'a> {
         }
     }
 
-    /// The path of a leaf with the labels of this path from a place on, counted from 0, behind its own. Where there are none, the leaf is
-    /// lent. Where there are some and the leaf's text alone is longer than that of a path that is looked up, nothing is copied and there is
-    /// no answer. So what is copied is shorter than the texts of two paths that are looked up.
+    /// The path of a leaf with the labels of this path from a place on, counted from 0, behind its
+    /// own. Where there are none, the leaf is lent. Where there are some and the leaf's text alone
+    /// is longer than that of a path that is looked up, nothing is copied and there is no answer.
+    /// So what is copied is shorter than the texts of two paths that are looked up.
     pub(crate) fn behind(
         &self,
         alloc: Global,

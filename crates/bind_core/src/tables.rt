@@ -56,7 +56,8 @@ fn append_matching<'a, L: Ledger>(
     steps: &mut Steps<L>,
 ) -> Mem<()>
     ensures trees { OnOk result (lent_trees path.now found.new.items
-        ≡ lent_trees path.now found.old.items ++ lean_trees (rewrites (rules_of table.now) path.now)) }
+        ≡ lent_trees path.now found.old.items
+        ++ lean_trees (rewrites (rules_of table.now) path.now)) }
     ensures ticks { steps.old ≤ steps.new }
     ensures few_ticks { steps.new ≤ steps.old + 1 }
 {

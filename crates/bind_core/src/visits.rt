@@ -7,7 +7,8 @@ use crate::trace::{Ended, PathList, Trace, TraceItem};
 use name_tree::Path;
 use std::alloc::Global;
 
-/// The lookups that were made, in the order in which they began, while there are no more than so many; none of them otherwise.
+/// The lookups that were made, in the order in which they began, while there are no more than so
+/// many; none of them otherwise.
 #[derive(Drop)]
 pub(crate) struct Visits {
     items: Vec<TraceItem>,
@@ -38,11 +39,12 @@ impl Visits {
         self.most > 0
     }
 
-    /// A lookup begins behind so many. Where it is kept, the path is copied. Until it ends it counts as too deep, since it never ends where
-    /// something is that.
+    /// A lookup begins behind so many. Where it is kept, the path is copied. Until it ends it
+    /// counts as too deep, since it never ends where something is that.
     pub(crate) fn begin(&mut self, alloc: Global, count: u32, depth: u32, path: &Path) -> Mem<()>
         ensures items { OnOk result (self.new.items.items
-            ≡ with_item self.old.most count (record { depth = depth; path = path.now; ended = TooDeep }) self.old.items.items) }
+            ≡ with_item self.old.most count
+            (record { depth = depth; path = path.now; ended = TooDeep }) self.old.items.items) }
         ensures most { self.new.most ≡ self.old.most }
     {
         if count >= self.most {
@@ -60,7 +62,8 @@ impl Visits {
 
     /// The lookup at a place, counted from 0, ends with an outcome, if it is kept.
     pub(crate) fn end(&mut self, visit: Option<u32>, outcome: &Outcome)
-        ensures items { self.new.items.items ≡ end_items visit (ended_as (ending_of outcome.now)) self.old.items.items }
+        ensures items { self.new.items.items
+            ≡ end_items visit (ended_as (ending_of outcome.now)) self.old.items.items }
         ensures most { self.new.most ≡ self.old.most }
     {
         let Some(at) = visit else {

@@ -1,9 +1,13 @@
--- A body in chunks (RFC 9112 section 7.1): chunks, a last chunk line, and trailers. The grammar of a chunk line is that of the crate httparse.
-use Rattle.std.specs.Prelude.{◌≡◌, ◌≢◌, ◌⊎◌, ℕ, false, ◌+◌, ◌<◌, ◌≤◌, ◌==◌, if◌then◌else◌, List, [], ◌∷◌, ◌++◌, length, take, sum_by, codes, All, Option, Some, None, option_and_then, IsSome}
+-- A body in chunks (RFC 9112 section 7.1): chunks, a last chunk line, and trailers. The grammar of
+-- a chunk line is that of the crate httparse.
+use Rattle.std.specs.Prelude.{◌≡◌, ◌≢◌, ◌⊎◌, ℕ, false, ◌+◌, ◌<◌, ◌≤◌, ◌==◌, if◌then◌else◌, List, []}
+use Rattle.std.specs.Prelude.{◌∷◌, ◌++◌, length, take, sum_by, codes, All, Option, Some, None}
+use Rattle.std.specs.Prelude.{option_and_then, IsSome}
 use Rattle.std.specs.List.{flat_map}
 use Rattle.std.specs.Fmt.{digits}
 use Rattle.httparse.specs.Ascii.{line_feed, carriage_return, crlf_bytes}
-use Rattle.httparse.specs.Grammar.{ChunkLine, IsChunkLine, print_chunk_line, chunk_size, HasNoChunkLine, NeverHasChunkLine, MayBecomeChunkLine}
+use Rattle.httparse.specs.Grammar.{ChunkLine, IsChunkLine, print_chunk_line, chunk_size}
+use Rattle.httparse.specs.Grammar.{HasNoChunkLine, NeverHasChunkLine, MayBecomeChunkLine}
 use Rattle.body_wire.specs.declared.form.Form.{Form}
 use Rattle.body_wire.specs.declared.trailers.LineAt.{LineAt}
 use Rattle.body_wire.specs.declared.trailers.LineAt.TheVariants.{Fresh, Return, Inside}
@@ -36,7 +40,8 @@ pub record IsChunk (chunk : Chunk) : Type 0 where
 abbrev pub print_chunk : Chunk → List ℕ
 print_chunk chunk = print_chunk_line chunk.line ++ (chunk.content ++ crlf_bytes)
 
--- the line that goes on for a chunk of this size: in lower case, with no leading zeros and no extension
+-- the line that goes on for a chunk of this size: in lower case, with no leading zeros and no
+-- extension
 abbrev pub size_line : Form → ℕ → List ℕ
 size_line Form.Chunks size = digits 16 false size ++ crlf_bytes
 size_line Form.Content size = []
@@ -53,7 +58,8 @@ last_chunk Form.Content = []
 
 -- what goes on for a chunk
 abbrev pub passed_chunk : Form → Chunk → List ℕ
-passed_chunk form chunk = size_line form (chunk_size chunk.line) ++ (chunk.content ++ chunk_end form)
+passed_chunk form chunk =
+    size_line form (chunk_size chunk.line) ++ (chunk.content ++ chunk_end form)
 
 -- the bytes are these chunks, and go on so; `count` is the number of content bytes
 pub record AreChunks (form : Form) (taken passed : List ℕ) (count : ℕ) : Type 0 where
@@ -63,7 +69,8 @@ pub record AreChunks (form : Form) (taken passed : List ℕ) (count : ℕ) : Typ
   pub out : passed ≡ flat_map (passed_chunk form) chunks
   pub total : count ≡ sum_by (λ (c : Chunk). length c.content) chunks
 
--- where a line of trailers stands behind one byte more: nowhere, where the byte ends an empty line, LF or CR LF
+-- where a line of trailers stands behind one byte more: nowhere, where the byte ends an empty line,
+-- LF or CR LF
 abbrev pub line_after : LineAt → ℕ → Option LineAt
 line_after Fresh b =
     if b == line_feed then None else (if b == carriage_return then Some Return else Some Inside)
@@ -115,14 +122,16 @@ pub record AtLine (form : Form) (taken passed : List ℕ) (count size : ℕ) : T
   pub bytes : taken ≡ front ++ print_chunk_line line
   pub out : passed ≡ passed_front ++ size_line form size
 
--- chunks, the last chunk line, and these bytes of the trailers. Nothing goes on for the last line yet
-pub record InTrailers (form : Form) (taken passed : List ℕ) (count : ℕ) (trailers : List ℕ) : Type 0 where
-  pub front : List ℕ
-  pub chunks : AreChunks form front passed count
-  pub line : ChunkLine
-  pub good : IsLine line
-  pub last : chunk_size line ≡ 0
-  pub bytes : taken ≡ front ++ (print_chunk_line line ++ trailers)
+-- chunks, the last chunk line, and these bytes of the trailers. Nothing goes on for the last line
+-- yet
+pub record InTrailers (form : Form) (taken passed : List ℕ) (count : ℕ) (trailers : List ℕ) : Type 0
+  where
+    pub front : List ℕ
+    pub chunks : AreChunks form front passed count
+    pub line : ChunkLine
+    pub good : IsLine line
+    pub last : chunk_size line ≡ 0
+    pub bytes : taken ≡ front ++ (print_chunk_line line ++ trailers)
 
 -- a whole body in chunks
 pub record AreAllChunks (form : Form) (taken passed : List ℕ) (count : ℕ) : Type 0 where
@@ -141,7 +150,8 @@ pub record IsOpenLine (bytes : List ℕ) : Type 0 where
 -- no chunk line, whatever follows, or none that is short enough
 abbrev pub IsBadLine : List ℕ → Type 0
 IsBadLine bytes =
-    NeverHasChunkLine (take most_line bytes) ⊎ ((most_line ≤ length bytes) × HasNoChunkLine (take most_line bytes))
+    NeverHasChunkLine (take most_line bytes)
+    ⊎ ((most_line ≤ length bytes) × HasNoChunkLine (take most_line bytes))
 
 -- behind a chunk's content, the front of CR LF
 abbrev pub IsOpenEnd : List ℕ → Type 0

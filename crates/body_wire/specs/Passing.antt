@@ -1,5 +1,6 @@
 -- What a call that passes a body on, or reads it, answers and leaves.
-use Rattle.std.specs.Prelude.{◌≡◌, ◌≢◌, ◌⊎◌, ℕ, ◌-◌, ◌^◌, ◌≤◌, Bool, true, false, List, [], ◌∷◌, ◌++◌, length, map, Option, Some, None, Result, Ok, Err}
+use Rattle.std.specs.Prelude.{◌≡◌, ◌≢◌, ◌⊎◌, ℕ, ◌-◌, ◌^◌, ◌≤◌, Bool, true, false, List, [], ◌∷◌}
+use Rattle.std.specs.Prelude.{◌++◌, length, map, Option, Some, None, Result, Ok, Err}
 use Rattle.std.specs.List.{concat}
 use Rattle.line_base.specs.Counts.{raised}
 use Rattle.line_base.specs.declared.dialer.DialEvent.{DialEvent}
@@ -7,7 +8,9 @@ use Rattle.line_base.specs.declared.dialer.DialEvent.TheVariants.{Sent, Got}
 use Rattle.http_wire.specs.declared.frames.Framing.{Framing}
 use Rattle.http_wire.specs.declared.frames.Framing.TheVariants.{Nothing, Length, Chunked, ToEnd}
 use Rattle.body_wire.specs.declared.end.BodyEnd.{BodyEnd}
-use Rattle.body_wire.specs.declared.end.BodyEnd.TheVariants.{BadChunk, Cut, TooLong, ReadFault, WriteFault, SendFault, RecvFault, OutOfMemory}
+use Rattle.body_wire.specs.declared.end.BodyEnd.TheVariants.{BadChunk, Cut, TooLong, ReadFault}
+use Rattle.body_wire.specs.declared.end.BodyEnd.TheVariants.{WriteFault, SendFault, RecvFault}
+use Rattle.body_wire.specs.declared.end.BodyEnd.TheVariants.{OutOfMemory}
 use Rattle.body_wire.specs.declared.form.Form.{Form}
 use Rattle.std.specs.declared.vec.Vec.{Vec}
 use Rattle.std.specs.declared.alloc.Global.{Global}
@@ -62,8 +65,10 @@ IsSent all sent (Err WriteFault) = IsFrontOf all sent
 IsSent all sent (Err SendFault) = IsFrontOf all sent
 IsSent all sent (Err OutOfMemory) = IsFrontOf all sent
 
--- the last piece that came: before it the body had not ended, and all that goes on for what had come of it was sent
-pub record LastPiece (framing : Framing) (form : Form) (limit : ℕ) (head kept : List ℕ) (pieces : List (List ℕ)) (sent : List ℕ) : Type 0 where
+-- the last piece that came: before it the body had not ended, and all that goes on for what had
+-- come of it was sent
+pub record LastPiece (framing : Framing) (form : Form) (limit : ℕ) (head kept : List ℕ)
+    (pieces : List (List ℕ)) (sent : List ℕ) : Type 0 where
   pub before : List (List ℕ)
   pub last : List ℕ
   pub whole : pieces ≡ before ++ last ∷ []
@@ -79,11 +84,14 @@ pub record LastPiece (framing : Framing) (form : Form) (limit : ℕ) (head kept 
 
 -- pieces came one by one, each once all before it had gone on
 abbrev pub InTurn : Framing → Form → ℕ → List ℕ → List ℕ → List (List ℕ) → List ℕ → Type 0
-InTurn framing form limit head kept pieces sent = (pieces ≡ []) ⊎ LastPiece framing form limit head kept pieces sent
+InTurn framing form limit head kept pieces sent =
+    (pieces ≡ []) ⊎ LastPiece framing form limit head kept pieces sent
 
--- a body goes on behind `head`: `kept` are the bytes that were there, `pieces` those that came, and `kept_after` those that are kept
+-- a body goes on behind `head`: `kept` are the bytes that were there, `pieces` those that came, and
+-- `kept_after` those that are kept
 pub record PassesOn
-    (framing : Framing) (form : Form) (limit : ℕ) (head kept : List ℕ) (pieces : List (List ℕ)) (sent kept_after : List ℕ) (result : Result ℕ BodyEnd)
+    (framing : Framing) (form : Form) (limit : ℕ) (head kept : List ℕ) (pieces : List (List ℕ))
+    (sent kept_after : List ℕ) (result : Result ℕ BodyEnd)
     : Type 0 where
   pub taken : List ℕ
   pub passed : List ℕ
@@ -119,18 +127,21 @@ pub record CountsEnd (framing : Framing) (before now : ℕ) (result : Result ℕ
   pub others : is_at_end framing result ≡ false → now ≡ before
 
 -- a count rose exactly where the call ended so
-pub record RaisedAt (end : Result ℕ BodyEnd) (before now : ℕ) (result : Result ℕ BodyEnd) : Type 0 where
-  pub here : result ≡ end → now ≡ raised before
-  pub others : result ≢ end → now ≡ before
+pub record RaisedAt (end : Result ℕ BodyEnd) (before now : ℕ) (result : Result ℕ BodyEnd) : Type 0
+  where
+    pub here : result ≡ end → now ≡ raised before
+    pub others : result ≢ end → now ≡ before
 
 -- a known log grows by these sends, which sent these bytes
 abbrev pub Sends : Option (List DialEvent) → Option (List DialEvent) → List ℕ → Type 0
 Sends None new bytes = Unit {0}
 Sends (Some old) None bytes = ⊥
-Sends (Some old) (Some new) bytes = (pieces : List (List ℕ)) × (new ≡ old ++ map Sent pieces) × (concat pieces ≡ bytes)
+Sends (Some old) (Some new) bytes =
+    (pieces : List (List ℕ)) × (new ≡ old ++ map Sent pieces) × (concat pieces ≡ bytes)
 
 -- a known log grows by receives of these pieces
-abbrev pub ReceivesPieces : Option (List DialEvent) → Option (List DialEvent) → List (List ℕ) → Type 0
+abbrev pub ReceivesPieces : Option (List DialEvent) → Option (List DialEvent) → List (List ℕ)
+    → Type 0
 ReceivesPieces None new pieces = Unit {0}
 ReceivesPieces (Some old) None pieces = ⊥
 ReceivesPieces (Some old) (Some new) pieces = new ≡ old ++ map Got pieces
@@ -146,14 +157,17 @@ form_of true = Form.Chunks
 form_of false = Form.Content
 
 -- what a call that reads a body gives: its content, where it is whole
-abbrev pub ReadEnds : Framing → List ℕ → List ℕ → ℕ → List ℕ → Result (Vec ℕ Global) BodyEnd → Type 0
+abbrev pub ReadEnds : Framing → List ℕ → List ℕ → ℕ → List ℕ → Result (Vec ℕ Global) BodyEnd
+    → Type 0
 ReadEnds framing taken passed count kept (Ok body) =
     (body.items ≡ passed) × IsWholeBody framing Form.Content taken passed count kept
 ReadEnds framing taken passed count kept (Err e) =
     Ends framing Form.Content most_read taken passed count kept (Err e)
 
--- a body is read: `kept` are the bytes that were there, `came` those that came, and `kept_after` those that are kept
-pub record ReadsBody (framing : Framing) (kept came kept_after : List ℕ) (result : Result (Vec ℕ Global) BodyEnd) : Type 0 where
+-- a body is read: `kept` are the bytes that were there, `came` those that came, and `kept_after`
+-- those that are kept
+pub record ReadsBody (framing : Framing) (kept came kept_after : List ℕ)
+    (result : Result (Vec ℕ Global) BodyEnd) : Type 0 where
   pub taken : List ℕ
   pub passed : List ℕ
   pub count : ℕ

@@ -1,6 +1,7 @@
 -- What the parts of the decoder find in the bytes before them.
 use Rattle.std.specs.Prelude.{◌≡◌, ℕ, ◌<◌, ◌≤◌, List, [], ◌∷◌, ◌++◌, length, take, Some, None}
-use Rattle.httparse.specs.Grammar.{ChunkLine, print_chunk_line, chunk_size, HasNoChunkLine, NeverHasChunkLine, MayBecomeChunkLine}
+use Rattle.httparse.specs.Grammar.{ChunkLine, print_chunk_line, chunk_size, HasNoChunkLine}
+use Rattle.httparse.specs.Grammar.{NeverHasChunkLine, MayBecomeChunkLine}
 use Rattle.body_wire.specs.declared.line.LineSeen.{LineSeen}
 use Rattle.body_wire.specs.declared.line.LineSeen.TheVariants.{Found, Open, Bad}
 use Rattle.body_wire.specs.declared.trailers.LineAt.{LineAt}

@@ -1,5 +1,6 @@
 -- What of a body was taken, by its framing, and what a decoder that stands inside a body has taken.
-use Rattle.std.specs.Prelude.{◌≡◌, ℕ, ◌+◌, ◌*◌, ◌-◌, ◌<◌, ◌≤◌, List, [], ◌++◌, length, take, Some, Result, Ok, Err}
+use Rattle.std.specs.Prelude.{◌≡◌, ℕ, ◌+◌, ◌*◌, ◌-◌, ◌<◌, ◌≤◌, List, [], ◌++◌, length, take, Some}
+use Rattle.std.specs.Prelude.{Result, Ok, Err}
 use Rattle.std.specs.declared.alloc.AllocError.{AllocError}
 use Rattle.http_wire.specs.declared.frames.Framing.{Framing}
 use Rattle.body_wire.specs.declared.form.Form.{Form}
@@ -9,7 +10,8 @@ use Rattle.body_wire.specs.declared.decoder.Step.{Step}
 use Rattle.body_wire.specs.declared.decoder.Step.TheVariants.{Moved, Stopped}
 use Rattle.body_wire.specs.declared.decoder.Stop.{Stop}
 use Rattle.body_wire.specs.declared.trailers.LineAt.TheVariants.{Fresh}
-use Rattle.body_wire.specs.Chunks.{line_behind, most_line, AreChunks, InChunk, AtLine, InTrailers, AreAllChunks}
+use Rattle.body_wire.specs.Chunks.{line_behind, most_line, AreChunks, InChunk, AtLine, InTrailers}
+use Rattle.body_wire.specs.Chunks.{AreAllChunks}
 use Rattle.body_wire.specs.Bodies.{IsPlain, IsWholeBody, IsUnfinished, IsBadBody, IsTooLong}
 
 -- the framing has this length
@@ -48,14 +50,18 @@ pub record LineOver (form : Form) (bytes passed : List ℕ) (count limit : ℕ) 
 
 -- what a decoder at this place has taken of a body of this framing, and what of it goes on
 abbrev pub HoldsAt : Place → Framing → Decoder → List ℕ → List ℕ → Type 0
-HoldsAt Place.Counted framing d taken passed = IsCounted framing (d.count + d.left) × IsPlain taken passed d.count
+HoldsAt Place.Counted framing d taken passed =
+    IsCounted framing (d.count + d.left) × IsPlain taken passed d.count
 HoldsAt Place.ToEnd framing d taken passed =
     (framing ≡ Framing.ToEnd) × IsPlain taken passed d.count × (d.count + d.left ≡ d.limit)
-HoldsAt Place.Line framing d taken passed = (framing ≡ Framing.Chunked) × AreChunks d.form taken passed d.count
+HoldsAt Place.Line framing d taken passed =
+    (framing ≡ Framing.Chunked) × AreChunks d.form taken passed d.count
 HoldsAt Place.Content framing d taken passed =
     (framing ≡ Framing.Chunked) × InContent d.form taken passed d.count d.left
-HoldsAt Place.Trailers framing d taken passed = (framing ≡ Framing.Chunked) × Following d.form taken passed d
-HoldsAt Place.LongLength framing d taken passed = IsLonger framing d.limit × IsPlain taken passed d.count × (taken ≡ [])
+HoldsAt Place.Trailers framing d taken passed =
+    (framing ≡ Framing.Chunked) × Following d.form taken passed d
+HoldsAt Place.LongLength framing d taken passed =
+    IsLonger framing d.limit × IsPlain taken passed d.count × (taken ≡ [])
 HoldsAt Place.LongChunk framing d taken passed =
     (framing ≡ Framing.Chunked) × LineOver d.form taken passed d.count d.limit
 HoldsAt Place.Whole framing d taken passed =
@@ -64,7 +70,8 @@ HoldsAt Place.Whole framing d taken passed =
 abbrev pub Holds : Framing → Decoder → List ℕ → List ℕ → Type 0
 Holds framing d taken passed = HoldsAt d.place framing d taken passed
 
--- the most bytes that a body can have behind this place: `room` content bytes to the limit, `left` of them announced
+-- the most bytes that a body can have behind this place: `room` content bytes to the limit, `left`
+-- of them announced
 abbrev pub most_at : Place → ℕ → ℕ → ℕ → ℕ
 most_at Place.Counted room left seen = left
 most_at Place.ToEnd room left seen = left + 1
@@ -78,27 +85,32 @@ most_at Place.Whole room left seen = 0
 abbrev pub most_left : Decoder → ℕ
 most_left d = most_at d.place (d.limit - d.count) d.left d.seen
 
--- one decoder goes on as the other, of the same body, behind `took` bytes of it, of which `put` goes on
+-- one decoder goes on as the other, of the same body, behind `took` bytes of it, of which `put`
+-- goes on
 pub record GoesOn (old new : Decoder) (took put : List ℕ) : Type 0 where
   pub form : new.form ≡ old.form
   pub limit : new.limit ≡ old.limit
-  pub holds : (framing : Framing) (taken passed : List ℕ) → Holds framing old taken passed → Holds framing new (taken ++ took) (passed ++ put)
+  pub holds : (framing : Framing) (taken passed : List ℕ) → Holds framing old taken passed
+      → Holds framing new (taken ++ took) (passed ++ put)
   pub lean : most_left new + length took ≤ most_left old
 
 -- a decoder has moved the first `n` of these bytes
-pub record Moves (old new : Decoder) (kept : List ℕ) (n : ℕ) (out_old out_new : List ℕ) : Type 0 where
-  pub some : 0 < n
-  pub within : n ≤ length kept
-  pub put : List ℕ
-  pub out : out_new ≡ out_old ++ put
-  pub goes : GoesOn old new (take n kept) put
+pub record Moves (old new : Decoder) (kept : List ℕ) (n : ℕ) (out_old out_new : List ℕ) : Type 0
+  where
+    pub some : 0 < n
+    pub within : n ≤ length kept
+    pub put : List ℕ
+    pub out : out_new ≡ out_old ++ put
+    pub goes : GoesOn old new (take n kept) put
 
 -- what the bytes show behind which a decoder stopped
 abbrev pub Shown : Framing → Decoder → List ℕ → List ℕ → List ℕ → Stop → Type 0
-Shown framing d taken passed kept Stop.More = IsUnfinished framing d.form d.limit taken passed d.count kept
+Shown framing d taken passed kept Stop.More =
+    IsUnfinished framing d.form d.limit taken passed d.count kept
 Shown framing d taken passed kept Stop.Whole = IsWholeBody framing d.form taken passed d.count kept
 Shown framing d taken passed kept Stop.Bad = IsBadBody framing d.form taken passed d.count kept
-Shown framing d taken passed kept Stop.TooLong = IsTooLong framing d.form d.limit taken passed d.count kept
+Shown framing d taken passed kept Stop.TooLong =
+    IsTooLong framing d.form d.limit taken passed d.count kept
 
 -- a body may be whole here, whatever follows
 abbrev pub CanEnd : Place → Type 0
@@ -120,13 +132,15 @@ WaitsFor d kept Stop.TooLong = Unit {0}
 
 -- a decoder stopped before these bytes
 pub record Stops (d : Decoder) (kept : List ℕ) (stop : Stop) : Type 0 where
-  pub shows : (framing : Framing) (taken passed : List ℕ) → Holds framing d taken passed → Shown framing d taken passed kept stop
+  pub shows : (framing : Framing) (taken passed : List ℕ) → Holds framing d taken passed
+      → Shown framing d taken passed kept stop
   pub waits : WaitsFor d kept stop
 
 -- one step of a decoder over the bytes that are kept; want of memory changes nothing
 abbrev pub Steps : Decoder → Decoder → List ℕ → List ℕ → List ℕ → Result Step AllocError → Type 0
 Steps old new kept out_old out_new (Ok (Moved n)) = Moves old new kept n out_old out_new
-Steps old new kept out_old out_new (Ok (Stopped stop)) = (new ≡ old) × (out_new ≡ out_old) × Stops old kept stop
+Steps old new kept out_old out_new (Ok (Stopped stop)) =
+    (new ≡ old) × (out_new ≡ out_old) × Stops old kept stop
 Steps old new kept out_old out_new (Err e) = (new ≡ old) × (out_new ≡ out_old)
 
 -- content stands at this place

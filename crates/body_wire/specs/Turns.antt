@@ -1,4 +1,5 @@
--- What one turn of passing a body on does: all that is kept goes on, as far as the decoder takes it.
+-- What one turn of passing a body on does: all that is kept goes on, as far as the decoder takes
+-- it.
 use Rattle.std.specs.Prelude.{◌≡◌, ◌≢◌, ℕ, List, ◌++◌, Option, Some, None, Result, Ok, Err}
 use Rattle.std.specs.declared.alloc.AllocError.{AllocError}
 use Rattle.std.specs.declared.alloc.Global.{Global}
@@ -15,7 +16,8 @@ use Rattle.body_wire.specs.declared.turn.TurnFault.{TurnFault}
 use Rattle.body_wire.specs.Passing.{IsFrontOf}
 use Rattle.body_wire.specs.Stands.{GoesOn, Stops}
 
--- the decoder has taken bytes off those that were kept, and `put` goes on for them, behind what was there
+-- the decoder has taken bytes off those that were kept, and `put` goes on for them, behind what was
+-- there
 pub record Taken (old new : Decoder) (kept_old kept_new out_old out_new : List ℕ) : Type 0 where
   pub took : List ℕ
   pub put : List ℕ
@@ -24,23 +26,27 @@ pub record Taken (old new : Decoder) (kept_old kept_new out_old out_new : List �
   pub goes : GoesOn old new took put
 
 -- and stopped there, unless there was no memory
-abbrev pub TakesAll : Decoder → Decoder → List ℕ → List ℕ → List ℕ → List ℕ → Result Stop AllocError → Type 0
+abbrev pub TakesAll : Decoder → Decoder → List ℕ → List ℕ → List ℕ → List ℕ → Result Stop AllocError
+    → Type 0
 TakesAll old new kept_old kept_new out_old out_new (Ok stop) =
     Taken old new kept_old kept_new out_old out_new × Stops new kept_new stop
-TakesAll old new kept_old kept_new out_old out_new (Err e) = Taken old new kept_old kept_new out_old out_new
+TakesAll old new kept_old kept_new out_old out_new (Err e) =
+    Taken old new kept_old kept_new out_old out_new
 
 -- all of these bytes were sent, or a front of them where sending failed
 abbrev pub SendsAll : List ℕ → List ℕ → Result (Unit {0}) Failed → Type 0
 SendsAll all sent (Ok x) = sent ≡ all
 SendsAll all sent (Err e) = IsFrontOf all sent
 
--- content that was taken off the bytes that were kept goes on as it is. Where something waits before it, none is
+-- content that was taken off the bytes that were kept goes on as it is. Where something waits
+-- before it, none is
 pub record RunTaken (old new : Decoder) (kept_old kept_new waiting run : List ℕ) : Type 0 where
   pub kept : kept_old ≡ run ++ kept_new
   pub goes : GoesOn old new run run
   pub alone : run ++ waiting ≡ waiting ++ run
 
-pub record RunGoes (old new : Decoder) (kept_old kept_new waiting sent : List ℕ) (result : Result (Unit {0}) Failed) : Type 0 where
+pub record RunGoes (old new : Decoder) (kept_old kept_new waiting sent : List ℕ)
+    (result : Result (Unit {0}) Failed) : Type 0 where
   pub run : List ℕ
   pub taken : RunTaken old new kept_old kept_new waiting run
   pub sends : SendsAll run sent result
@@ -50,7 +56,8 @@ abbrev pub TurnSends : List ℕ → List ℕ → Decoder → List ℕ → Result
 TurnSends all sent new kept_new (Ok stop) = (sent ≡ all) × Stops new kept_new stop
 TurnSends all sent new kept_new (Err fault) = IsFrontOf all sent
 
-pub record Turns (old new : Decoder) (kept_old kept_new waiting sent : List ℕ) (result : Result Stop TurnFault) : Type 0 where
+pub record Turns (old new : Decoder) (kept_old kept_new waiting sent : List ℕ)
+    (result : Result Stop TurnFault) : Type 0 where
   pub took : List ℕ
   pub put : List ℕ
   pub kept : kept_old ≡ took ++ kept_new

@@ -10,8 +10,8 @@ use http_wire::Framing;
 /// The most content bytes of a body that is passed on.
 pub(crate) const MOST_PASSED: u64 = 9223372036854775807;
 
-/// What a turn answers behind so many content bytes; nothing where more bytes are wanted. `fault` is what a failed call
-/// answers.
+/// What a turn answers behind so many content bytes; nothing where more bytes are wanted. `fault`
+/// is what a failed call answers.
 pub(crate) fn answer(
     count: u64,
     fault: BodyEnd,

@@ -56,7 +56,8 @@ pub(crate) enum Step {
     Stopped(Stop),
 }
 
-/// Follows a body through bytes that come in any pieces, and says what of it goes on. It keeps none of its bytes.
+/// Follows a body through bytes that come in any pieces, and says what of it goes on. It keeps none
+/// of its bytes.
 #[derive(Clone, Copy)]
 pub(crate) struct Decoder {
     /// How the content goes on.
@@ -127,7 +128,8 @@ impl Decoder {
         self.left -= run as u64;
     }
 
-    /// Takes one step over the bytes that are kept, and puts what goes on behind `out`. Want of memory changes nothing.
+    /// Takes one step over the bytes that are kept, and puts what goes on behind `out`. Want of
+    /// memory changes nothing.
     pub(crate) fn step(&mut self, kept: &[u8], out: &mut Bytes) -> Mem<Step>
         ensures { Steps self.old self.new kept.now out.old.items out.new.items result }
     {

@@ -3,8 +3,9 @@
 /// Why a body was not passed on, or read, to its end.
 #[derive(Clone, Copy, Debug, PartialEq, Eq)]
 pub enum BodyEnd {
-    /// It is badly chunked behind so many bytes of content: no chunk line, or one of more than 4,096 bytes; other bytes than CR LF
-    /// behind a chunk's content; trailers of more than 65,536 bytes.
+    /// It is badly chunked behind so many bytes of content: no chunk line, or one of more than
+    /// 4,096 bytes; other bytes than CR LF behind a chunk's content; trailers of more than 65,536
+    /// bytes.
     BadChunk(u64),
     /// The connection that it comes from ended inside it.
     Cut,

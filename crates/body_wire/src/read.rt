@@ -17,7 +17,8 @@ use std::alloc::Global;
 /// The most content bytes of a body that is read.
 const MOST_READ: u64 = 1048576;
 
-/// Reads the body of a request, of at most 1,048,576 content bytes, and gives its content. What lies behind the body stays in `rest`.
+/// Reads the body of a request, of at most 1,048,576 content bytes, and gives its content. What
+/// lies behind the body stays in `rest`.
 ///
 /// It takes time and memory for the content.
 ///
@@ -32,8 +33,10 @@ pub fn read_body<P: Peer>(
     ensures body { (came : List ℕ) × Consumes (P.line peer.old).left (P.line peer.new).left came
         × ReadsBody framing rest.old came rest.new result }
     ensures ends { CountsEnd framing (P.line peer.old).ends (P.line peer.new).ends (unread result) }
-    ensures reads { RaisedAt (Err BodyEnd.ReadFault) (P.line peer.old).read_faults (P.line peer.new).read_faults (unread result) }
-    ensures never { (result ≢ Err BodyEnd.WriteFault) × (result ≢ Err BodyEnd.SendFault) × (result ≢ Err BodyEnd.RecvFault) }
+    ensures reads { RaisedAt (Err BodyEnd.ReadFault) (P.line peer.old).read_faults
+        (P.line peer.new).read_faults (unread result) }
+    ensures never { (result ≢ Err BodyEnd.WriteFault) × (result ≢ Err BodyEnd.SendFault)
+        × (result ≢ Err BodyEnd.RecvFault) }
     ensures others { IsUnwritten (P.line peer.old) (P.line peer.new) }
 {
     let mut decoder = Decoder::of(framing, Form::Content, MOST_READ);

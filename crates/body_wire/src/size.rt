@@ -5,13 +5,15 @@ ghost use Rattle.httparse.specs.Ascii.{crlf_bytes};
 
 use crate::{Bytes, Mem};
 
-/// Where the line end stands behind the digits of a size. A `u64` has at most 16; there is room for those of base 2.
+/// Where the line end stands behind the digits of a size. A `u64` has at most 16; there is room for
+/// those of base 2.
 const LINE_END: usize = 64;
 
-/// Puts the line of a chunk of this size behind the bytes: the size in lower-case hexadecimal, with no leading zeros, and CR
-/// LF. An `Err` changes nothing.
+/// Puts the line of a chunk of this size behind the bytes: the size in lower-case hexadecimal, with
+/// no leading zeros, and CR LF. An `Err` changes nothing.
 pub(crate) fn put_size(out: &mut Bytes, size: u64) -> Mem<()>
-    ensures ok { OnOk result (out.new.items ≡ out.old.items ++ (digits 16 false size ++ crlf_bytes)) }
+    ensures ok { OnOk result
+        (out.new.items ≡ out.old.items ++ (digits 16 false size ++ crlf_bytes)) }
     ensures err { OnErr result (out.new.items ≡ out.old.items) }
 {
     let mut line = [b'\r'; 66];

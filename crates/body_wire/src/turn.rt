@@ -18,7 +18,8 @@ pub(crate) enum TurnFault {
 
 /// Takes all of the kept bytes that the decoder takes, and puts what goes on behind `out`.
 pub(crate) fn take_all(decoder: &mut Decoder, rest: &mut Rest, out: &mut Bytes) -> Mem<Stop>
-    ensures { TakesAll decoder.old decoder.new rest.old rest.new out.old.items out.new.items result }
+    ensures { TakesAll decoder.old decoder.new rest.old rest.new out.old.items out.new.items
+        result }
 {
     loop {
         match decoder.step(rest.kept(), out) {

@@ -13,7 +13,8 @@ use line_base::{Failed, Peer};
 
 /// Writes all bytes to a peer, in as many calls as it takes, or a front of them where one fails.
 pub fn write_all<P: Peer>(peer: &mut P, bytes: &[u8]) -> Result<(), Failed>
-    ensures bytes { (sent : List ℕ) × Appends (P.line peer.old).given (P.line peer.new).given sent × SendsAll bytes.now sent result }
+    ensures bytes { (sent : List ℕ) × Appends (P.line peer.old).given (P.line peer.new).given sent
+        × SendsAll bytes.now sent result }
     ensures others { IsUnread (P.line peer.old) (P.line peer.new) }
     ensures cause { HasCause (P.line peer.old).write_faults (P.line peer.new).write_faults result }
 {
@@ -49,7 +50,8 @@ fn write_run<P: Peer>(
     sent
 }
 
-/// Writes what waits in `out` and all that goes on for the kept bytes, in one call where peers take all bytes of a call.
+/// Writes what waits in `out` and all that goes on for the kept bytes, in one call where peers take
+/// all bytes of a call.
 pub(crate) fn write_turn<P: Peer>(
     decoder: &mut Decoder,
     rest: &mut Rest,
@@ -77,7 +79,8 @@ pub(crate) fn write_turn<P: Peer>(
 
 /// Writes what goes on, unless there was no memory for it.
 fn write_taken<P: Peer>(taken: &Mem<Stop>, out: &Bytes, peer: &mut P) -> Result<Stop, TurnFault>
-    ensures bytes { (sent : List ℕ) × Appends (P.line peer.old).given (P.line peer.new).given sent × TakenGoes taken.now out.now.items sent result }
+    ensures bytes { (sent : List ℕ) × Appends (P.line peer.old).given (P.line peer.new).given sent
+        × TakenGoes taken.now out.now.items sent result }
     ensures others { IsUnread (P.line peer.old) (P.line peer.new) }
     ensures cause { TurnCause (P.line peer.old).write_faults (P.line peer.new).write_faults result }
 {

@@ -1,5 +1,6 @@
 -- What pruning leaves of a bound, and which leaf of it a word chooses.
-use Rattle.std.specs.Prelude.{ℕ, ◌+◌, ◌-◌, ◌*◌, ◌/◌, ◌%◌, ◌^◌, nat_lt, Bool, true, false, if◌then◌else◌, List, [], ◌∷◌, Option, Some, None, option_and_then}
+use Rattle.std.specs.Prelude.{ℕ, ◌+◌, ◌-◌, ◌*◌, ◌/◌, ◌%◌, ◌^◌, nat_lt, Bool, true, false}
+use Rattle.std.specs.Prelude.{if◌then◌else◌, List, [], ◌∷◌, Option, Some, None, option_and_then}
 use Rattle.std.specs.FinMap.{get}
 use Rattle.addr_book.specs.declared.addr.Weighted.{Weighted}
 use Rattle.addr_book.specs.declared.leaf.Leaf.{Leaf}
@@ -30,14 +31,16 @@ kept_union no_member = None
 kept_union (member weight found ms) = Some (many (member weight found ms))
 
 abbrev mutual
-  -- without the leaves whose service has no address, and then without branches of which nothing is left
+  -- without the leaves whose service has no address, and then without branches of which nothing is
+  -- left
   pub pruned : Services → Found → Option Found
   pruned services (one leaf) = if is_open services leaf.cluster then Some (one leaf) else None
   pruned services (many ms) = kept_union (pruned_members services ms)
 
   pub pruned_members : Services → FoundList → FoundList
   pruned_members services no_member = no_member
-  pruned_members services (member weight found ms) = kept_member weight (pruned services found) (pruned_members services ms)
+  pruned_members services (member weight found ms) =
+      kept_member weight (pruned services found) (pruned_members services ms)
 
 -- the sum of the weights of a union's members
 abbrev pub total_weight : FoundList → ℕ
@@ -45,15 +48,18 @@ total_weight no_member = 0
 total_weight (member weight found ms) = weight + total_weight ms
 
 abbrev mutual
-  -- the leaf that a word chooses: at a union the word is scaled to the sum of the weights, and what is left of it goes on to the next one below
+  -- the leaf that a word chooses: at a union the word is scaled to the sum of the weights, and what
+  -- is left of it goes on to the next one below
   pub branch_of : Found → ℕ → Option Leaf
   branch_of (one leaf) word = Some leaf
-  branch_of (many ms) word = branch_over ms (word * total_weight ms / 2 ^ 64) (word * total_weight ms % 2 ^ 64)
+  branch_of (many ms) word =
+      branch_over ms (word * total_weight ms / 2 ^ 64) (word * total_weight ms % 2 ^ 64)
 
   -- of the first member whose cumulative weight exceeds a number
   pub branch_over : FoundList → ℕ → ℕ → Option Leaf
   branch_over no_member n word = None
-  branch_over (member weight found ms) n word = if nat_lt n weight then branch_of found word else branch_over ms (n - weight) word
+  branch_over (member weight found ms) n word =
+      if nat_lt n weight then branch_of found word else branch_over ms (n - weight) word
 
 -- the leaf that a word chooses in what pruning leaves, if it leaves something
 abbrev pub chosen : Services → Found → ℕ → Option Leaf

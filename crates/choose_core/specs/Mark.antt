@@ -7,11 +7,16 @@ use Rattle.choose_core.specs.declared.mark.Limits.{Limits}
 abbrev pub no_mark : Mark
 no_mark = record { count = 0; until = 0 }
 
--- one failure more, up to the limit; once it is reached, the address is left out until the moment plus the backoff
+-- one failure more, up to the limit; once it is reached, the address is left out until the moment
+-- plus the backoff
 abbrev pub after_failure : Mark → ℕ → Limits → Mark
 after_failure mark moment limits =
     let count = min (mark.count + 1) limits.failures in
-    record { count = count; until = if count == limits.failures then min (moment + limits.backoff) (2 ^ 64 - 1) else mark.until }
+    record {
+      count = count;
+      until = if count == limits.failures then min (moment + limits.backoff) (2 ^ 64 - 1)
+          else mark.until;
+    }
 
 -- what a report leaves, which is of a success or of a failure
 abbrev pub marked : Mark → Bool → ℕ → Limits → Mark

@@ -42,4 +42,5 @@ pub record IsPlace (items : List Marked) (addr : Addr) (at : ℕ) : Type 0 where
 pub record IsGap (items : List Marked) (addr : Addr) (at : ℕ) : Type 0 where
   pub within : at ≤ length items
   pub before : (k : ℕ) (d : Marked) → k < at → addr_cmp (slice_index_or items k d).addr addr ≡ Less
-  pub behind : (k : ℕ) (d : Marked) → at ≤ k → k < length items → addr_cmp (slice_index_or items k d).addr addr ≡ Greater
+  pub behind : (k : ℕ) (d : Marked) → at ≤ k → k < length items
+      → addr_cmp (slice_index_or items k d).addr addr ≡ Greater

@@ -13,7 +13,9 @@ MarkMap = FinMap addr_cmp Mark
 
 -- a mark is stored as its two numbers
 abbrev pub mark_code : Coded Mark
-mark_code = code_by (ℕ × ℕ) (coded× coded_ℕ coded_ℕ) (λ m. (m.count, m.until)) (λ p. record { count = p.0; until = p.1 }) (λ _. refl)
+mark_code =
+    code_by (ℕ × ℕ) (coded× coded_ℕ coded_ℕ) (λ m. (m.count, m.until))
+    (λ p. record { count = p.0; until = p.1 }) (λ _. refl)
 
 abbrev pub marks_code : Coded MarkMap
 marks_code = code addr_code mark_code

@@ -1,16 +1,19 @@
 -- The two addresses of a live list that are compared.
-use Rattle.std.specs.Prelude.{◌≡◌, ◌≢◌, ◌<◌, ◌≤◌, ℕ, ◌+◌, ◌-◌, ◌*◌, ◌/◌, ◌^◌, nat_lt, nat_le, if◌then◌else◌, List, [], ◌∷◌, length, map, sum, slice_index, remove}
+use Rattle.std.specs.Prelude.{◌≡◌, ◌≢◌, ◌<◌, ◌≤◌, ℕ, ◌+◌, ◌-◌, ◌*◌, ◌/◌, ◌^◌, nat_lt, nat_le}
+use Rattle.std.specs.Prelude.{if◌then◌else◌, List, [], ◌∷◌, length, map, sum, slice_index, remove}
 use Rattle.addr_book.specs.declared.addr.Weighted.{Weighted}
 
 abbrev pub weights_of : List Weighted → List ℕ
 weights_of list = map (λ item. item.weight) list
 
--- the first place whose cumulative weight exceeds a number; the number of weights, where there is none
+-- the first place whose cumulative weight exceeds a number; the number of weights, where there is
+-- none
 abbrev pub place_over : List ℕ → ℕ → ℕ
 place_over [] n = 0
 place_over (w ∷ ws) n = if nat_lt n w then 0 else place_over ws (n - w) + 1
 
--- a number from 0 up to but not including a total, as far along as a word of 64 bits is among all words
+-- a number from 0 up to but not including a total, as far along as a word of 64 bits is among all
+-- words
 abbrev pub scaled : ℕ → ℕ → ℕ
 scaled word total = word * total / 2 ^ 64
 
@@ -24,7 +27,8 @@ first_place ws w1 = place_over ws (scaled w1 (sum ws))
 
 -- the place that the second word draws, by the weights without that of the first place
 abbrev pub second_place : List ℕ → ℕ → ℕ → ℕ
-second_place ws i w2 = place_in_whole i (place_over (remove ws i) (scaled w2 (sum ws - slice_index ws i)))
+second_place ws i w2 =
+    place_in_whole i (place_over (remove ws i) (scaled w2 (sum ws - slice_index ws i)))
 
 -- the places of the pair
 abbrev pub pair_of : List Weighted → ℕ → ℕ → ℕ × ℕ

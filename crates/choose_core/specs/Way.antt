@@ -8,7 +8,8 @@ use Rattle.addr_book.specs.Found.{Found, many, member, AreFilled, AreBounded}
 use Rattle.addr_book.proofs.Bounds.{list_size}
 use Rattle.choose_core.specs.declared.way.Among.{Among}
 use Rattle.choose_core.specs.declared.way.Choice.{Choice}
-use Rattle.choose_core.specs.declared.way.Choice.TheVariants.{Leaf as the_leaf, Among as among_items}
+use Rattle.choose_core.specs.declared.way.Choice.TheVariants.{Leaf as the_leaf}
+use Rattle.choose_core.specs.declared.way.Choice.TheVariants.{Among as among_items}
 use Rattle.choose_core.specs.declared.way.Turn.{Turn}
 use Rattle.choose_core.specs.declared.way.Turn.TheVariants.{Into, Away}
 use Rattle.choose_core.specs.declared.way.Way.{Way, Word, Through'}
@@ -16,7 +17,8 @@ use Rattle.choose_core.specs.Branch.{pruned_members, total_weight, branch_of, br
 
 -- the leaf that a choice among some branches comes to
 abbrev pub leaf_among : Services → Among → Option Leaf
-leaf_among services among = branch_over (pruned_members services (listed_items among.items.now)) among.over among.word
+leaf_among services among =
+    branch_over (pruned_members services (listed_items among.items.now)) among.over among.word
 
 -- the leaf that a choice comes to
 abbrev pub leaf_in : Services → Choice → Option Leaf
@@ -31,9 +33,12 @@ turned services found (Away among) = leaf_among services among
 -- the leaf that a word chooses above a way, at the end of which this is left
 abbrev pub through : Services → Way → Found → Option Leaf
 through services (Word word) found = branch_of found word
-through services (Through' weight later p above) found = through services above (many (member weight found (pruned_members services (listed_items later.now))))
+through services (Through' weight later p above) found =
+    through services above (many
+    (member weight found (pruned_members services (listed_items later.now))))
 
--- a branch and those behind it in its union: no weight is 0 or too large, and there are not too many
+-- a branch and those behind it in its union: no weight is 0 or too large, and there are not too
+-- many
 pub record IsBranch (weight : ℕ) (later : List BoundItem) : Type 0 where
   pub some : 0 < weight
   pub small : weight ≤ 999999999999

@@ -33,7 +33,8 @@ impl Bits {
     /// Puts a place into it.
     pub(crate) fn put(&mut self, place: usize)
         requires { place < 1024 }
-        ensures { (other : ℕ) → has_slot self.new.words other ≡ (place == other || has_slot self.old.words other) }
+        ensures { (other : ℕ) → has_slot self.new.words other
+            ≡ (place == other || has_slot self.old.words other) }
     {
         let at = place / WORD_PLACES;
         let word = self.words[at];

@@ -1,9 +1,11 @@
 //! The pair of addresses whose loads are compared.
-ghost use Rattle.std.specs.Prelude.{◌≡◌, ◌≢◌, ◌<◌, ◌≤◌, length, sum, slice_index, slice_get, Some, remove};
+ghost use Rattle.std.specs.Prelude.{◌≡◌, ◌≢◌, ◌<◌, ◌≤◌, length, sum, slice_index, slice_get, Some};
+ghost use Rattle.std.specs.Prelude.{remove};
 ghost use Rattle.addr_book.specs.AddrList.{HaveWeights};
 ghost use Rattle.choose_core.specs.Live.{live_of};
 ghost use Rattle.choose_core.specs.Sieve.{passing, TellsOf};
-ghost use Rattle.choose_core.specs.Pair.{weights_of, place_over, place_in_whole, pair_of, scaled, IsPair};
+ghost use Rattle.choose_core.specs.Pair.{weights_of, place_over, place_in_whole, pair_of, scaled};
+ghost use Rattle.choose_core.specs.Pair.{IsPair};
 
 use crate::live::passing_at;
 use crate::mark::Limits;
@@ -14,14 +16,16 @@ use addr_book::Weighted;
 /// How many words of 64 bits there are.
 const WORDS: u128 = 1 << 64;
 
-/// The two places in a live list ([`live_at`](crate::live_at)) whose loads are compared, drawn by two words: the first by the weights of
-/// all, the second by the weights of all but the first. Of one address it is that address twice.
+/// The two places in a live list ([`live_at`](crate::live_at)) whose loads are compared, drawn by
+/// two words: the first by the weights of all, the second by the weights of all but the first. Of
+/// one address it is that address twice.
 ///
-/// For words that are drawn evenly, an address is the first with a probability of its weight over the sum of the weights.
+/// For words that are drawn evenly, an address is the first with a probability of its weight over
+/// the sum of the weights.
 ///
-/// It goes over the list four times: for who is alive, for the sum, for the first place, and for the
-/// second. Marks are looked up in the first of these alone, and only where an address may still be
-/// left out.
+/// It goes over the list four times: for who is alive, for the sum, for the first place, and for
+/// the second. Marks are looked up in the first of these alone, and only where an address may still
+/// be left out.
 pub fn pair(
     list: &[Weighted],
     marks: &Marks,
@@ -43,7 +47,8 @@ pub fn pair(
 
 /// The two addresses at the places that [`pair`] draws.
 ///
-/// Besides the passes of [`pair`] it goes over the list as far as each of the two where some of its addresses are dead and others alive.
+/// Besides the passes of [`pair`] it goes over the list as far as each of the two where some of its
+/// addresses are dead and others alive.
 pub fn drawn_pair(
     list: &[Weighted],
     marks: &Marks,
@@ -55,8 +60,10 @@ pub fn drawn_pair(
     requires some { 1 ≤ length list.now }
     requires few { length list.now ≤ 1024 }
     requires weights { HaveWeights list.now }
-    ensures first { slice_get (live_of marks.now moment limits list.now) (pair_of (live_of marks.now moment limits list.now) w1 w2).0 ≡ Some result.0 }
-    ensures second { slice_get (live_of marks.now moment limits list.now) (pair_of (live_of marks.now moment limits list.now) w1 w2).1 ≡ Some result.1 }
+    ensures first { slice_get (live_of marks.now moment limits list.now)
+        (pair_of (live_of marks.now moment limits list.now) w1 w2).0 ≡ Some result.0 }
+    ensures second { slice_get (live_of marks.now moment limits list.now)
+        (pair_of (live_of marks.now moment limits list.now) w1 w2).1 ≡ Some result.1 }
 {
     let sieve = Sieve::of(list, marks, moment, limits);
     let (first, second) = places(list, &sieve, w1, w2);
@@ -110,12 +117,13 @@ fn total_weight(list: &[Weighted], sieve: &Sieve) -> u64
     total
 }
 
-/// The first place of a live list whose cumulative weight exceeds a number, and the weight there; the number of its addresses, and 0,
-/// where there is none.
+/// The first place of a live list whose cumulative weight exceeds a number, and the weight there;
+/// the number of its addresses, and 0, where there is none.
 fn draw(list: &[Weighted], sieve: &Sieve, over: u64) -> Drawn
     requires { TellsOf sieve.now list.now }
     ensures at { result.at ≡ place_over (weights_of (passing sieve.now list.now)) over }
-    ensures weight { result.weight ≡ slice_index (weights_of (passing sieve.now list.now)) result.at }
+    ensures weight { result.weight
+        ≡ slice_index (weights_of (passing sieve.now list.now)) result.at }
 {
     let mut left = over;
     let mut at = 0;
@@ -134,11 +142,13 @@ fn draw(list: &[Weighted], sieve: &Sieve, over: u64) -> Drawn
     Drawn { at, weight: 0 }
 }
 
-/// The first place of a live list whose cumulative weight exceeds a number, where the address at one place does not count.
+/// The first place of a live list whose cumulative weight exceeds a number, where the address at
+/// one place does not count.
 fn draw_other(list: &[Weighted], sieve: &Sieve, out: usize, over: u64) -> usize
     requires tells { TellsOf sieve.now list.now }
     requires out { out < length (passing sieve.now list.now) }
-    ensures { result ≡ place_in_whole out (place_over (remove (weights_of (passing sieve.now list.now)) out) over) }
+    ensures { result ≡ place_in_whole out
+        (place_over (remove (weights_of (passing sieve.now list.now)) out) over) }
 {
     let mut left = over;
     let mut at = 0;

@@ -40,7 +40,8 @@ pub(crate) fn is_left(bound: &Bound, book: &Book) -> bool
 pub(crate) fn left_weight(items: &[BoundItem], book: &Book) -> u64
     requires few { length items.now ≤ 65536 }
     requires bounded { AreBounded (listed_items items.now) }
-    ensures weight { result ≡ total_weight (pruned_members book.now.services (listed_items items.now)) }
+    ensures weight { result
+        ≡ total_weight (pruned_members book.now.services (listed_items items.now)) }
     ensures small { result ≤ 999999999999 * length items.now }
 {
     let mut total = 0;

@@ -1,16 +1,21 @@
-//! The choice of a replica: which branch of a bound, which addresses are alive, which two are compared, and which of these is taken.
+//! The choice of a replica: which branch of a bound, which addresses are alive, which two are
+//! compared, and which of these is taken.
 //!
-//! [`branch`] chooses a leaf of a [`Bound`](addr_book::Bound) by the weights of its branches. Of the leaf's addresses those that are alive
-//! take part, or all where none is ([`live_count`], [`live_at`]); [`pair`] and [`drawn_pair`] draw two of them by their weights, and [`lesser`] says which of
-//! the two is taken by its load. [`Marks`] count the failures of each address: an address with too many in a row is dead for a while, as
-//! in Linkerd's failure accrual by consecutive failures. All randomness is handed in as words of 64 bits, and the time as a moment.
+//! [`branch`] chooses a leaf of a [`Bound`](addr_book::Bound) by the weights of its branches. Of
+//! the leaf's addresses those that are alive take part, or all where none is ([`live_count`],
+//! [`live_at`]); [`pair`] and [`drawn_pair`] draw two of them by their weights, and [`lesser`] says
+//! which of the two is taken by its load. [`Marks`] count the failures of each address: an address
+//! with too many in a row is dead for a while, as in Linkerd's failure accrual by consecutive
+//! failures. All randomness is handed in as words of 64 bits, and the time as a moment.
 //!
 //! # What is proved
-//! Each call gives exactly the value that the definitions in `specs/` have for it: pruning and branches (`Branch.antt`), live lists
-//! (`Live.antt`), pairs (`Pair.antt`), marks (`Mark.antt`, `Marks.antt`). [`branch`] gives a leaf exactly where pruning leaves something, and
-//! both places of a pair stand in the live list. Marks are seen as a finite map of the addresses that have failures, so equal ones stay
-//! equal under equal reports. Where all weights are equal they do not matter ([`equal_weights_do_not_matter`]). No choice takes memory, and
-//! no report and no [`Marks::keep`]: room for all marks is set aside at the start.
+//! Each call gives exactly the value that the definitions in `specs/` have for it: pruning and
+//! branches (`Branch.antt`), live lists (`Live.antt`), pairs (`Pair.antt`), marks (`Mark.antt`,
+//! `Marks.antt`). [`branch`] gives a leaf exactly where pruning leaves something, and both places
+//! of a pair stand in the live list. Marks are seen as a finite map of the addresses that have
+//! failures, so equal ones stay equal under equal reports. Where all weights are equal they do not
+//! matter ([`equal_weights_do_not_matter`]). No choice takes memory, and no report and no
+//! [`Marks::keep`]: room for all marks is set aside at the start.
 //!
 //! # Example
 //! ```

@@ -18,7 +18,8 @@ pub fn live_count(list: &[Weighted], marks: &Marks, moment: u64, limits: Limits)
     passing_count(list, &Sieve::of(list, marks, moment, limits))
 }
 
-/// The address at a place among those that are alive at a moment, or among all where none is alive, in the list's order.
+/// The address at a place among those that are alive at a moment, or among all where none is alive,
+/// in the list's order.
 ///
 /// It takes no time at a moment from which on no address is left out, as where none has failures.
 /// Otherwise it looks each mark of the list up once.

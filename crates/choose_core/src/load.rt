@@ -1,7 +1,8 @@
 //! The comparison of loads.
 ghost use Rattle.std.specs.Prelude.{◌≤◌, ◌*◌, ◌↔◌, IsTrue};
 
-/// Whether the first of a pair is taken: its load is at most that of the second, each as against its weight.
+/// Whether the first of a pair is taken: its load is at most that of the second, each as against
+/// its weight.
 pub fn lesser(first: u64, weight_first: u64, second: u64, weight_second: u64) -> bool
     ensures { IsTrue result ↔ (first * weight_second ≤ second * weight_first) }
 {

@@ -24,8 +24,8 @@ impl Mark {
     /// The mark of an address that did not fail, or not since its last success.
     pub const NONE: Mark = Mark { count: 0, until: 0 };
 
-    /// The mark that a report leaves: none after a success; after a failure one failure more, up to the limit, and once it is reached
-    /// the moment plus the backoff, at most 2^64 - 1.
+    /// The mark that a report leaves: none after a success; after a failure one failure more, up to
+    /// the limit, and once it is reached the moment plus the backoff, at most 2^64 - 1.
     pub fn after(self, good: bool, moment: u64, limits: Limits) -> Mark
         requires { 1 ≤ limits.failures }
         ensures { result ≡ marked self good moment limits }

@@ -1,5 +1,6 @@
 //! Marked addresses in the order of the addresses.
-ghost use Rattle.std.specs.Prelude.{◌≡◌, ◌<◌, ◌≤◌, ℕ, length, slice_index_or, IfOk, IfErr, IfSome, IsTrue};
+ghost use Rattle.std.specs.Prelude.{◌≡◌, ◌<◌, ◌≤◌, ℕ, length, slice_index_or, IfOk, IfErr, IfSome};
+ghost use Rattle.std.specs.Prelude.{IsTrue};
 ghost use Rattle.std.specs.declared.cmp.Ordering.TheVariants.{Less};
 ghost use Rattle.addr_book.specs.AddrList.{addr_cmp};
 ghost use Rattle.std.specs.FinMap as fin;
@@ -67,7 +68,8 @@ fn settled(items: &[Marked], addr: Addr, at: usize) -> Option<Result<usize, usiz
 fn is_behind(items: &[Marked], addr: Addr, at: usize) -> bool
     requires order { IsInOrder items.now }
     requires within { at ≤ length items.now }
-    ensures { IsTrue result → (k : ℕ) (d : Marked) → k < at → addr_cmp (slice_index_or items.now k d).addr addr ≡ Less }
+    ensures { IsTrue result → (k : ℕ) (d : Marked) → k < at
+        → addr_cmp (slice_index_or items.now k d).addr addr ≡ Less }
 {
     if at == 0 {
         return true;
@@ -84,7 +86,8 @@ pub(crate) fn set_there(items: &mut Vec<Marked>, at: usize, addr: Addr, mark: Ma
     requires sound { AreSound items.old.items (vec_capacity items.old) }
     ensures marks { marks_of items.new.items ≡ with_mark (marks_of items.old.items) addr mark }
     ensures sound { AreSound items.new.items (vec_capacity items.new) }
-    ensures over { (until : ℕ) → mark.until ≤ until → AreOver items.old.items until → AreOver items.new.items until }
+    ensures over { (until : ℕ) → mark.until ≤ until → AreOver items.old.items until
+        → AreOver items.new.items until }
 {
     if mark.is_none() {
         items.remove(at);
@@ -93,14 +96,16 @@ pub(crate) fn set_there(items: &mut Vec<Marked>, at: usize, addr: Addr, mark: Ma
     }
 }
 
-/// Gives an address that has no failures so far a mark, at the place where it goes. There is room for it.
+/// Gives an address that has no failures so far a mark, at the place where it goes. There is room
+/// for it.
 pub(crate) fn set_nowhere(items: &mut Vec<Marked>, at: usize, addr: Addr, mark: Mark)
     requires gap { IsGap items.old.items addr at }
     requires sound { AreSound items.old.items (vec_capacity items.old) }
     requires room { fin.len (fin.remove (marks_of items.old.items) addr) < 8192 }
     ensures marks { marks_of items.new.items ≡ with_mark (marks_of items.old.items) addr mark }
     ensures sound { AreSound items.new.items (vec_capacity items.new) }
-    ensures over { (until : ℕ) → mark.until ≤ until → AreOver items.old.items until → AreOver items.new.items until }
+    ensures over { (until : ℕ) → mark.until ≤ until → AreOver items.old.items until
+        → AreOver items.new.items until }
 {
     if !mark.is_none() {
         let inserted = items.insert(at, Marked { addr, mark });

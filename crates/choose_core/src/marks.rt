@@ -1,5 +1,6 @@
 //! The marks of all addresses that have failures.
-ghost use Rattle.std.specs.Prelude.{◌≡◌, ◌<◌, ◌≤◌, true, false, IfOk, IfSome, IsTrue, if◌then◌else◌};
+ghost use Rattle.std.specs.Prelude.{◌≡◌, ◌<◌, ◌≤◌, true, false, IfOk, IfSome, IsTrue};
+ghost use Rattle.std.specs.Prelude.{if◌then◌else◌};
 ghost use Rattle.std.specs.FinMap as fin;
 ghost use Rattle.addr_book.specs.declared.addr.Addr.{Addr};
 ghost use Rattle.addr_book.specs.AddrList.{has_addr};
@@ -18,14 +19,16 @@ use std::marker::Model;
 /// The most addresses with failures.
 pub const MOST_MARKS: usize = 8192;
 
-/// The marks of addresses. Contracts see a finite map of the addresses that have failures; any other address has [`Mark::NONE`].
+/// The marks of addresses. Contracts see a finite map of the addresses that have failures; any
+/// other address has [`Mark::NONE`].
 ///
-/// They lie in the order of their addresses, in room for 8,192 of them that is set aside at the start (192 KiB). A look-up takes about
-/// `log n` comparisons for `n` addresses that have failures, and none where no address has any, which is most of the time. A report that
-/// is the first failure of an address, or the first success after failures, moves the marks behind its own.
+/// They lie in the order of their addresses, in room for 8,192 of them that is set aside at the
+/// start (192 KiB). A look-up takes about `log n` comparisons for `n` addresses that have failures,
+/// and none where no address has any, which is most of the time. A report that is the first failure
+/// of an address, or the first success after failures, moves the marks behind its own.
 ///
-/// A moment is kept beside them from which on none of them leaves its address out, so a choice at that moment or later looks none up. It only
-/// moves on where a failure leaves an address out.
+/// A moment is kept beside them from which on none of them leaves its address out, so a choice at
+/// that moment or later looks none up. It only moves on where a failure leaves an address out.
 #[derive(Debug, Drop)]
 pub struct Marks {
     items: Vec<Marked>,
@@ -115,24 +118,28 @@ impl Marks {
 
     /// Whether it is known, without a look-up, that no address is dead at a moment.
     pub(crate) fn are_over(&self, moment: u64) -> bool
-        ensures { IsTrue result → (addr : Addr) (limits : Limits) → is_dead_mark (mark_at self.now addr) moment limits ≡ false }
+        ensures { IsTrue result → (addr : Addr) (limits : Limits)
+            → is_dead_mark (mark_at self.now addr) moment limits ≡ false }
     {
         self.until <= moment
     }
 
-    /// Takes a report on an address in, good or failing, and gives the mark that it leaves ([`Mark::after`]). It takes no memory.
+    /// Takes a report on an address in, good or failing, and gives the mark that it leaves
+    /// ([`Mark::after`]). It takes no memory.
     pub fn report(&mut self, addr: Addr, good: bool, moment: u64, limits: Limits) -> Mark
         requires failures { 1 ≤ limits.failures }
         requires room { fin.len (fin.remove self.old addr) < 8192 }
         ensures mark { result ≡ marked (mark_at self.old addr) good moment limits }
-        ensures marks { self.new ≡ with_mark self.old addr (marked (mark_at self.old addr) good moment limits) }
+        ensures marks { self.new
+            ≡ with_mark self.old addr (marked (mark_at self.old addr) good moment limits) }
     {
         let mark = self.mark(addr).after(good, moment, limits);
         self.set(addr, mark);
         mark
     }
 
-    /// Drops the marks of addresses that no service of the book has. It takes no memory, and looks each marked address up in the book.
+    /// Drops the marks of addresses that no service of the book has. It takes no memory, and looks
+    /// each marked address up in the book.
     pub fn keep(&mut self, book: &Book)
         ensures { self.new ≡ fin.retain_keys self.old (is_used book.now.services) }
     {
@@ -145,7 +152,8 @@ impl Marks {
     /// It takes no memory. It looks these addresses up among the marks, and those that are marked
     /// in the book, however many others are marked.
     pub fn keep_after(&mut self, left: &[Weighted], book: &Book)
-        requires { (addr : Addr) → fin.contains_key self.old addr ≡ true → has_addr left.now addr ≡ false → is_used book.now.services addr ≡ true }
+        requires { (addr : Addr) → fin.contains_key self.old addr ≡ true
+            → has_addr left.now addr ≡ false → is_used book.now.services addr ≡ true }
         ensures { self.new ≡ fin.retain_keys self.old (is_used book.now.services) }
     {
         for item in left {
@@ -155,7 +163,8 @@ impl Marks {
 
     /// Drops the mark of an address that no service of the book has.
     fn keep_one(&mut self, addr: Addr, book: &Book)
-        ensures { self.new ≡ (if is_used book.now.services addr then self.old else fin.remove self.old addr) }
+        ensures { self.new ≡ (if is_used book.now.services addr then self.old
+            else fin.remove self.old addr) }
     {
         if let Ok(at) = search(self.items.as_slice(), addr) {
             if book.slot(addr).is_none() {

@@ -3,7 +3,8 @@ ghost use Rattle.std.specs.Prelude.{◌≡◌, ◌<◌, ◌≤◌, ◌^◌};
 ghost use Rattle.addr_book.specs.Found.{Found, many, member};
 ghost use Rattle.addr_book.specs.Bound.{listed_items};
 ghost use Rattle.choose_core.specs.Branch.{pruned_members, branch_of};
-ghost use Rattle.choose_core.specs.Way.{through, turned, items_size, turn_size, way_size, IsBranch, IsGoodWay, IsGoodTurn};
+ghost use Rattle.choose_core.specs.Way.{through, turned, items_size, turn_size, way_size, IsBranch};
+ghost use Rattle.choose_core.specs.Way.{IsGoodWay, IsGoodTurn};
 
 use crate::left::left_weight;
 use addr_book::{Book, BoundItem, Leaf};
@@ -27,8 +28,8 @@ pub(crate) enum Way<'a, 'w> {
     },
 }
 
-/// Branches among which a choice goes on: it falls on the first of those of which something is left whose cumulative weight exceeds a
-/// number, and then goes on in that branch by a word.
+/// Branches among which a choice goes on: it falls on the first of those of which something is left
+/// whose cumulative weight exceeds a number, and then goes on in that branch by a word.
 #[derive(Clone, Copy)]
 pub(crate) struct Among<'a> {
     pub(crate) items: &'a [BoundItem],
@@ -54,11 +55,12 @@ pub(crate) enum Choice<'a> {
     Among(Among<'a>),
 }
 
-/// Where a choice goes on at the end of a way. It looks for a leaf that is left in each later branch of the unions on the way, down to the
-/// one at which the choice turns away.
+/// Where a choice goes on at the end of a way. It looks for a leaf that is left in each later
+/// branch of the unions on the way, down to the one at which the choice turns away.
 pub(crate) fn turn_of<'a>(way: &Way<'a, '_>, book: &Book) -> Turn<'a>
     requires { IsGoodWay way.now }
-    ensures turned { (found : Found) → through book.now.services way.now found ≡ turned book.now.services found result }
+    ensures turned { (found : Found)
+        → through book.now.services way.now found ≡ turned book.now.services found result }
     ensures good { IsGoodTurn book.now.services result }
     ensures size { turn_size result ≤ way_size way.now }
 {
@@ -75,12 +77,15 @@ pub(crate) fn turn_of<'a>(way: &Way<'a, '_>, book: &Book) -> Turn<'a>
     }
 }
 
-/// Where a choice goes on in a union by a word: into the first branch of which something is left, whose weight is given, or among those
-/// behind it.
+/// Where a choice goes on in a union by a word: into the first branch of which something is left,
+/// whose weight is given, or among those behind it.
 fn turn_at<'a>(weight: u64, later: &'a [BoundItem], word: u64, book: &Book) -> Turn<'a>
     requires branch { IsBranch weight later.now }
     requires word { word < 2 ^ 64 }
-    ensures turned { (found : Found) → branch_of (many (member weight found (pruned_members book.now.services (listed_items later.now)))) word ≡ turned book.now.services found result }
+    ensures turned { (found : Found)
+        → branch_of (many (member weight found
+        (pruned_members book.now.services (listed_items later.now)))) word
+        ≡ turned book.now.services found result }
     ensures good { IsGoodTurn book.now.services result }
     ensures size { turn_size result ≤ items_size later.now }
 {

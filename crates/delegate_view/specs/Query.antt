@@ -16,7 +16,8 @@ form_text encoded = utf8_lossy (decode encoded)
 -- the text of the first value that a form has for a name
 abbrev pub first_value : List ℕ → List (List ℕ × List ℕ) → Option (List ℕ)
 first_value name [] = None
-first_value name (pair ∷ pairs) = if bytes_eq (form_text pair.0) name then Some (form_text pair.1) else first_value name pairs
+first_value name (pair ∷ pairs) =
+    if bytes_eq (form_text pair.0) name then Some (form_text pair.1) else first_value name pairs
 
 -- the table of a text, and the empty one where there is no text
 abbrev pub table_or_none : Option (List ℕ) → Option (List Rule)
@@ -32,4 +33,5 @@ with_table _ _ = None
 abbrev pub view_asked : List ℕ → Option (Labels × List Rule)
 view_asked query =
     let pairs = raw_pairs query in
-    with_table (option_and_then path_of (first_value (codes "path") pairs)) (table_or_none (first_value (codes "dtab") pairs))
+    with_table (option_and_then path_of (first_value (codes "path") pairs))
+    (table_or_none (first_value (codes "dtab") pairs))

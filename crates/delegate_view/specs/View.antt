@@ -3,7 +3,8 @@ use Rattle.std.specs.Prelude.{ℕ, ◌==◌, if◌then◌else◌, List, [], ◌�
 use Rattle.std.specs.List.{flat_map}
 use Rattle.std.specs.Fmt.{decimal}
 use Rattle.name_tree.specs.Path.{Labels, canon_path}
-use Rattle.bind_core.specs.Delegation.{Ending, negative, failing, no_replica, too_deep, too_wide, bound}
+use Rattle.bind_core.specs.Delegation.{Ending, negative, failing, no_replica, too_deep, too_wide}
+use Rattle.bind_core.specs.Delegation.{bound}
 use Rattle.bind_core.specs.declared.trace.Ended.{Ended}
 use Rattle.bind_core.specs.declared.trace.Ended.TheVariants as ended
 use Rattle.bind_core.specs.declared.trace.TraceItem.{TraceItem}
@@ -25,7 +26,8 @@ ended_word ended.Empty = codes "empty"
 ended_word ended.TooDeep = codes "too-deep"
 ended_word ended.Bound = codes "bound"
 
--- a byte of a path's canonical text in a JSON string. Of the bytes that stand in such a text, JSON escapes the backslash alone, by another
+-- a byte of a path's canonical text in a JSON string. Of the bytes that stand in such a text, JSON
+-- escapes the backslash alone, by another
 abbrev pub json_byte : ℕ → List ℕ
 json_byte b = if b == 92 then 92 ∷ 92 ∷ [] else b ∷ []
 
@@ -36,7 +38,8 @@ path_string path = codes "\"" ++ flat_map json_byte (canon_path path) ++ codes "
 -- a lookup as a JSON object
 abbrev pub lookup_text : TraceItem → List ℕ
 lookup_text item =
-    codes "{\"depth\":" ++ decimal item.depth ++ codes ",\"outcome\":\"" ++ ended_word item.ended ++ codes "\",\"path\":" ++ path_string item.path ++ codes "}"
+    codes "{\"depth\":" ++ decimal item.depth ++ codes ",\"outcome\":\"" ++ ended_word item.ended
+    ++ codes "\",\"path\":" ++ path_string item.path ++ codes "}"
 
 -- each lookup behind a comma
 abbrev pub more_lookups : List TraceItem → List ℕ
@@ -48,4 +51,6 @@ lookups_text (item ∷ items) = lookup_text item ++ more_lookups items
 
 -- the lookups in the order in which they began, and what the delegation came to
 abbrev pub view_of : Ending → List TraceItem → List ℕ
-view_of ending items = codes "{\"lookups\":[" ++ lookups_text items ++ codes "],\"outcome\":\"" ++ outcome_word ending ++ codes "\"}"
+view_of ending items =
+    codes "{\"lookups\":[" ++ lookups_text items ++ codes "],\"outcome\":\"" ++ outcome_word ending
+    ++ codes "\"}"

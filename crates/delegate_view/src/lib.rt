@@ -1,11 +1,14 @@
-//! The delegator's view: how a path is delegated, lookup by lookup, as JSON; and the query that asks for it.
+//! The delegator's view: how a path is delegated, lookup by lookup, as JSON; and the query that
+//! asks for it.
 //!
-//! [`view_text`] writes what a delegation came to and the lookups that it made, a [`Trace`](bind_core::Trace), as a compact JSON object.
-//! [`view_ask`] reads the query of a request for a view: the path, and the request's own table.
+//! [`view_text`] writes what a delegation came to and the lookups that it made, a
+//! [`Trace`](bind_core::Trace), as a compact JSON object. [`view_ask`] reads the query of a request
+//! for a view: the path, and the request's own table.
 //!
 //! # What is proved
-//! The text is exactly the one that `specs/View.antt` defines. A query is read exactly as `specs/Query.antt` has it: the first `path` and the
-//! first `dtab` of the form count, decoded as forms are, and [`ViewFault::BadView`] comes exactly where there is no path, or the path or the
+//! The text is exactly the one that `specs/View.antt` defines. A query is read exactly as
+//! `specs/Query.antt` has it: the first `path` and the first `dtab` of the form count, decoded as
+//! forms are, and [`ViewFault::BadView`] comes exactly where there is no path, or the path or the
 //! table is none.
 //!
 //! # Example

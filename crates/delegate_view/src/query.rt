@@ -37,10 +37,12 @@ impl From<AllocError> for ViewFault {
     }
 }
 
-/// The path and the request's own table that a query asks for, `path=P&dtab=T` in the encoding of web forms. The first `path` and the first
-/// `dtab` count; without a `dtab` the table is the empty one. Other names are passed over.
+/// The path and the request's own table that a query asks for, `path=P&dtab=T` in the encoding of
+/// web forms. The first `path` and the first `dtab` count; without a `dtab` the table is the empty
+/// one. Other names are passed over.
 pub fn view_ask(alloc: Global, query: &[u8]) -> Result<(Path, Dtab), ViewFault>
-    ensures asked { MatchResult result (λ asked. view_asked query.now ≡ Some (asked.0, rules_of asked.1))
+    ensures asked { MatchResult result
+        (λ asked. view_asked query.now ≡ Some (asked.0, rules_of asked.1))
         (λ fault. (fault ≡ ViewFault.OutOfMemory) ⊎ (view_asked query.now ≡ None)) }
     ensures labels { IfOk result (λ asked. AreByteLabels asked.0) }
     ensures sound { IfOk result (λ asked. AreSoundRules (rules_of asked.1)) }
@@ -53,8 +55,11 @@ pub fn view_ask(alloc: Global, query: &[u8]) -> Result<(Path, Dtab), ViewFault>
 /// The path that a query asks for.
 fn read_asked_path(alloc: Global, query: &[u8]) -> Result<Path, ViewFault>
     ensures labels { IfOk result (λ path. AreByteLabels path) }
-    ensures path { MatchResult result (λ path. option_and_then path_of (first_value (codes "path") (raw_pairs query.now)) ≡ Some path)
-        (λ fault. (fault ≡ ViewFault.OutOfMemory) ⊎ (option_and_then path_of (first_value (codes "path") (raw_pairs query.now)) ≡ None)) }
+    ensures path { MatchResult result
+        (λ path. option_and_then path_of (first_value (codes "path") (raw_pairs query.now))
+        ≡ Some path)
+        (λ fault. (fault ≡ ViewFault.OutOfMemory)
+        ⊎ (option_and_then path_of (first_value (codes "path") (raw_pairs query.now)) ≡ None)) }
 {
     match first_value(alloc, query, b"path")? {
         None => Err(ViewFault::BadView),
@@ -65,7 +70,8 @@ fn read_asked_path(alloc: Global, query: &[u8]) -> Result<Path, ViewFault>
 /// The path of a text.
 fn path_of_text(alloc: Global, text: &[u8]) -> Result<Path, ViewFault>
     ensures labels { IfOk result (λ path. AreByteLabels path) }
-    ensures path { MatchResult result (λ path. path_of text.now ≡ Some path) (λ fault. (fault ≡ ViewFault.OutOfMemory) ⊎ (path_of text.now ≡ None)) }
+    ensures path { MatchResult result (λ path. path_of text.now ≡ Some path)
+        (λ fault. (fault ≡ ViewFault.OutOfMemory) ⊎ (path_of text.now ≡ None)) }
 {
     match read_path(alloc, text) {
         Ok(path) => Ok(path),
@@ -77,8 +83,11 @@ fn path_of_text(alloc: Global, text: &[u8]) -> Result<Path, ViewFault>
 /// The table that a query brings, the empty one where it has no `dtab`.
 fn read_local(alloc: Global, query: &[u8]) -> Result<Dtab, ViewFault>
     ensures sound { IfOk result (λ dtab. AreSoundRules (rules_of dtab)) }
-    ensures table { MatchResult result (λ dtab. table_or_none (first_value (codes "dtab") (raw_pairs query.now)) ≡ Some (rules_of dtab))
-        (λ fault. (fault ≡ ViewFault.OutOfMemory) ⊎ (table_or_none (first_value (codes "dtab") (raw_pairs query.now)) ≡ None)) }
+    ensures table { MatchResult result
+        (λ dtab. table_or_none (first_value (codes "dtab") (raw_pairs query.now))
+        ≡ Some (rules_of dtab))
+        (λ fault. (fault ≡ ViewFault.OutOfMemory)
+        ⊎ (table_or_none (first_value (codes "dtab") (raw_pairs query.now)) ≡ None)) }
 {
     match first_value(alloc, query, b"dtab")? {
         None => Ok(Dtab::empty(alloc)),
@@ -89,7 +98,8 @@ fn read_local(alloc: Global, query: &[u8]) -> Result<Dtab, ViewFault>
 /// The table of a text.
 fn table_of_text(alloc: Global, text: &[u8]) -> Result<Dtab, ViewFault>
     ensures sound { IfOk result (λ dtab. AreSoundRules (rules_of dtab)) }
-    ensures table { MatchResult result (λ dtab. table_of text.now ≡ Some (rules_of dtab)) (λ fault. (fault ≡ ViewFault.OutOfMemory) ⊎ (table_of text.now ≡ None)) }
+    ensures table { MatchResult result (λ dtab. table_of text.now ≡ Some (rules_of dtab))
+        (λ fault. (fault ≡ ViewFault.OutOfMemory) ⊎ (table_of text.now ≡ None)) }
 {
     match read_dtab(alloc, text) {
         Ok(dtab) => Ok(dtab),
@@ -100,7 +110,8 @@ fn table_of_text(alloc: Global, text: &[u8]) -> Result<Dtab, ViewFault>
 
 /// The text of the first value that a query has for a name.
 fn first_value<'a>(alloc: Global, query: &'a [u8], name: &[u8]) -> Mem<Option<CowStr<'a>>>
-    ensures { IfOk result (λ found. option_map cow_str_bytes found ≡ first_value name.now (raw_pairs query.now)) }
+    ensures { IfOk result
+        (λ found. option_map cow_str_bytes found ≡ first_value name.now (raw_pairs query.now)) }
 {
     for (encoded, value) in raw_pairs(query) {
         if has_text(alloc, encoded, name)? {

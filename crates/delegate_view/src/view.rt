@@ -3,15 +3,17 @@ ghost use Rattle.std.specs.Prelude.{◌≡◌, ◌++◌, IfOk, OnOk};
 ghost use Rattle.std.specs.Fmt.{decimal};
 ghost use Rattle.std.specs.List.{flat_map};
 ghost use Rattle.bind_core.specs.Outcome.{ending_of};
-ghost use Rattle.delegate_view.specs.View.{json_byte, lookup_text, lookups_text, more_lookups, path_string, outcome_word, ended_word, view_of};
+ghost use Rattle.delegate_view.specs.View.{json_byte, lookup_text, lookups_text, more_lookups};
+ghost use Rattle.delegate_view.specs.View.{path_string, outcome_word, ended_word, view_of};
 
 use crate::{Bytes, Mem};
 use bind_core::{Ended, Outcome, Trace, TraceItem};
 use name_tree::{Path, write_path};
 use std::alloc::Global;
 
-/// What a delegation came to and its lookups, as a compact JSON object: `lookups`, an array with `depth`, `outcome` and `path` of each lookup
-/// in the order in which they began, and `outcome`. A path is its canonical text; the backslash of an escape in it is doubled.
+/// What a delegation came to and its lookups, as a compact JSON object: `lookups`, an array with
+/// `depth`, `outcome` and `path` of each lookup in the order in which they began, and `outcome`. A
+/// path is its canonical text; the backslash of an escape in it is doubled.
 ///
 /// It takes time and memory linear in the text.
 pub fn view_text(alloc: Global, outcome: &Outcome, trace: &Trace) -> Mem<Bytes>

@@ -14,7 +14,8 @@ use Rattle.dtab_index.specs.Part.{placed_of, placed_in, position_of, positions_a
 use Rattle.dtab_index.specs.declared.column.Column.{Column}
 use Rattle.dtab_index.specs.declared.part.Entry.{Entry}
 use Rattle.dtab_index.proofs.Known.{at_push, passes_matches}
-use Rattle.dtab_index.proofs.Listed.{listed-empty}
+use Rattle.dtab_index.proofs.Listed.{listed-empty, listed-none}
+use Rattle.dtab_index.proofs.WordBits.{no_place}
 
 -- ---- a prefix that is put behind the others
 pub placed-none : (es : List (Option Entry)) → placed_in (es ++ None ∷ []) ≡ placed_in es
@@ -149,6 +150,13 @@ kept_found es cs first words path kept lowest left =
     let within = slice_get_within es k (Some e) is in
     left (1023 - k) (omega (arith, within, lowest)) (omega arith) ∙ passes_matches (1023 - k) cs (patterns_of e.prefix.value.items) path (kept.said k e is))
     kept.few
+
+-- none matches where none is left
+pub kept_none_found : (es : List (Option Entry)) (cs : List Column) (first : ℕ) (path : List Label) → IsKept es cs → first + length es ≤ 1024
+    → ((place : ℕ) → first ≤ place → place < 1024 → passes cs path place ≡ false) → matching (placed_in es) path ≡ []
+kept_none_found es cs first path kept lowest none =
+    sym (kept_found es cs first [] path kept lowest (λ place past few. no_place [] place refl ∙ sym (none place past few)))
+    ∙ listed-none (has []) (positions_at es) 1024 0 (λ k lt. no_place [] (0 + k) refl)
 
 -- no prefix has a place before theirs
 pub none_before : (es : List (Option Entry)) (test : ℕ → Bool) (n : ℕ) → n + length es ≤ 1024 → listed test (positions_at es) n 0 ≡ []

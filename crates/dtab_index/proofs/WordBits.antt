@@ -7,6 +7,7 @@ use lib.Bits.{bit_and}
 use Rattle.std.proofs.lemmas.Bool.{cases_eq, cases_lt}
 use Rattle.std.proofs.lemmas.Bool.Decides.{nat_tests}
 use Rattle.std.proofs.lemmas.List.{get_or-replicate}
+use Rattle.std.proofs.lemmas.Nat.{le_or_l, le_or_r}
 use Rattle.std.proofs.lemmas.Nat.Bits.{bit_at_set_same, bit_at_set_other, bit_at-lt, bit_at-zero, bit_at_and, bit_at_or, bit_at_xor, bit_at_ones, bit_at_above, bit_at-trailing_zeros, ones_shl, bit_at_mask_inside, bit_at_mask_below}
 use Rattle.dtab_index.specs.Bits.{has}
 
@@ -15,6 +16,9 @@ differ a b ne = grind (arith, nat_tests)
 
 alike : (a b : ℕ) → a ≡ b → (a == b) ≡ true
 alike a b e = grind (arith, nat_tests)
+
+zero_from : (n : ℕ) → (n == 0) ≡ true → n ≡ 0
+zero_from n h = grind (arith, nat_tests)
 
 -- ---- a place that is put in
 module _ (words : List ℕ) (place : ℕ) (within : place / 64 < length words) where
@@ -91,6 +95,38 @@ made_more f old now first at word within made is = record {
       (cases_eq k at);
   rest = λ k le. get_or-set_other now at k word 0 (λ e. omega (arith, e, le)) ∙ made.rest k (omega arith);
 }
+
+-- words that are made, of which none has a bit that another has not
+pub record AreMadeOf (f : ℕ → ℕ) (old now : List ℕ) (first at all : ℕ) : Type 0 where
+  pub words : AreMade f old now first at
+  pub most : (k : ℕ) → first ≤ k → k < at → get_or now k 0 ≤ all
+
+pub none_made_of : (f : ℕ → ℕ) (old : List ℕ) (first : ℕ) → AreMadeOf f old old first first 0
+none_made_of f old first = record { words = none_made f old first; most = λ k past lt. absurd (omega (arith, past, lt)) }
+
+pub made_of_more : (f : ℕ → ℕ) (old now : List ℕ) (first at all word next : ℕ) → at < length now → AreMadeOf f old now first at all → word ≡ f at → next ≡ bit_or all word
+    → AreMadeOf f old (set now at word) first (at + 1) next
+made_of_more f old now first at all word next within made is joined = record {
+  words = made_more f old now first at word within made.words is;
+  most = λ k past lt.
+      ⊎_elim
+      (λ (e : k ≡ at).
+      let here : get_or (set now at word) k 0 ≡ word = ap (λ n. get_or (set now at word) n 0) e ∙ get_or-set_same now at word 0 within in
+      omega (arith, here, joined, le_or_r all word))
+      (λ (ne : k ≡ at → ⊥).
+      let here : get_or (set now at word) k 0 ≡ get_or now k 0 = get_or-set_other now at k word 0 ne in
+      let before : get_or now k 0 ≤ all = made.most k past (omega (arith, ne, lt)) in
+      omega (arith, here, joined, le_or_l all word, before))
+      (cases_eq k at);
+}
+
+-- none is left where all of them together have no bit
+pub none_made_left : (f : ℕ → ℕ) (old now : List ℕ) (first at all : ℕ) → 16 ≤ at → AreMadeOf f old now (first / 64) at all → (all == 0) ≡ true
+    → (place : ℕ) → first ≤ place → place < 1024 → has now place ≡ false
+none_made_left f old now first at all ended made none place past few =
+    let zero_is : all ≡ 0 = zero_from all none in
+    let most : get_or now (place / 64) 0 ≤ all = made.most (place / 64) (omega (arith, past)) (omega (arith, few, ended)) in
+    no_place now place (omega (arith, zero_is, most))
 
 -- ---- bit by bit
 removed : (x y : ℕ) → x < 2 → y < 2 → ((x + min x y) % 2 == 1) ≡ ((x == 1) && not (y == 1))

@@ -1,5 +1,7 @@
--- What an index knows of prefixes, position by position of their labels. Prefixes go by their places.
-use Rattle.std.specs.Prelude.{◌≡◌, ℕ, ◌≤◌, Bool, true, false, not, ◌&&◌, ◌||◌, List, [], ◌∷◌, length, Option, Some, None, Vec}
+-- What an index knows of prefixes, position by position of their labels. Prefixes go by their
+-- places.
+use Rattle.std.specs.Prelude.{◌≡◌, ℕ, ◌≤◌, Bool, true, false, not, ◌&&◌, ◌||◌, List, [], ◌∷◌}
+use Rattle.std.specs.Prelude.{length, Option, Some, None, Vec}
 use Rattle.std.specs.HashMap.{HashMap, get_by}
 use Rattle.std.specs.List.{slice_get}
 use Rattle.std.specs.Str.{bytes_eq}
@@ -21,7 +23,8 @@ in_row (Some row) place = has row.words place
 abbrev pub has_label : Column → Label → ℕ → Bool
 has_label column l place = in_row (row_of column.rows l) place
 
--- whether a prefix may match a path that has this label at a position: it has the same there, `*`, or none
+-- whether a prefix may match a path that has this label at a position: it has the same there, `*`,
+-- or none
 abbrev pub allows : Column → Label → ℕ → Bool
 allows column l place = has_label column l place || not (has column.named.words place)
 
@@ -39,20 +42,23 @@ pub record IsBlank (column : Column) (place : ℕ) : Type 0 where
 
 -- what a prefix has at a position is known
 abbrev pub Says : Column → Pattern → ℕ → Type 0
-Says column None place = (has column.reached.words place ≡ true) × (has column.named.words place ≡ false)
+Says column None place =
+    (has column.reached.words place ≡ true) × (has column.named.words place ≡ false)
 Says column (Some m) place =
     (has column.reached.words place ≡ true) × (has column.named.words place ≡ true)
     × ((l : Label) → has_label column l place ≡ bytes_eq m l)
 
 -- and that it has no label there, where it ends before
 abbrev pub SaysAt : Column → Option Pattern → ℕ → Type 0
-SaysAt column None place = (has column.reached.words place ≡ false) × (has column.named.words place ≡ false)
+SaysAt column None place =
+    (has column.reached.words place ≡ false) × (has column.named.words place ≡ false)
 SaysAt column (Some p) place = Says column p place
 
 -- what a prefix has is known at each position
 pub record AreSaid (columns : List Column) (prefix : List Pattern) (place : ℕ) : Type 0 where
   pub long : length prefix ≤ length columns
-  pub each : (k : ℕ) (c : Column) → slice_get columns k ≡ Some c → SaysAt c (slice_get prefix k) place
+  pub each : (k : ℕ) (c : Column) → slice_get columns k ≡ Some c
+      → SaysAt c (slice_get prefix k) place
 
 -- nothing is known of a prefix at any position
 abbrev pub AreBlank : List Column → ℕ → Type 0

@@ -1,5 +1,6 @@
 -- What was put into an index, and which of it match a path.
-use Rattle.std.specs.Prelude.{ℕ, ◌<◌, Bool, true, false, ◌&&◌, ◌||◌, nat_le, nat_lt, if◌then◌else◌, List, [], ◌∷◌, ◌++◌, Option, Some, None}
+use Rattle.std.specs.Prelude.{ℕ, ◌<◌, Bool, true, false, ◌&&◌, ◌||◌, nat_le, nat_lt, if◌then◌else◌}
+use Rattle.std.specs.Prelude.{List, [], ◌∷◌, ◌++◌, Option, Some, None}
 use Rattle.std.specs.Str.{bytes_eq}
 
 -- a label of a path is a list of bytes
@@ -19,7 +20,8 @@ abbrev pub fits : Pattern → Label → Bool
 fits None l = true
 fits (Some m) l = bytes_eq m l
 
--- whether a path begins with a prefix: it has a label for each of the prefix, the same unless that is `*`
+-- whether a path begins with a prefix: it has a label for each of the prefix, the same unless that
+-- is `*`
 abbrev pub matches : List Pattern → List Label → Bool
 matches [] path = true
 matches (p ∷ ps) [] = false
@@ -35,11 +37,13 @@ abbrev pub AreBelow : ℕ → List Placed → Type 0
 AreBelow most [] = Unit {0}
 AreBelow most (p ∷ ps) = (p.1 < most) × AreBelow most ps
 
--- whether a prefix is at one of some positions, from the first of them to before the last, and matches a path
+-- whether a prefix is at one of some positions, from the first of them to before the last, and
+-- matches a path
 abbrev pub matches_there : ℕ → ℕ → List Label → Placed → Bool
 matches_there from to path p = (nat_le from p.1 && nat_lt p.1 to) && matches p.0 path
 
 -- whether one of the prefixes at these positions matches a path
 abbrev pub some_matches_there : ℕ → ℕ → List Placed → List Label → Bool
 some_matches_there from to [] path = false
-some_matches_there from to (p ∷ ps) path = matches_there from to path p || some_matches_there from to ps path
+some_matches_there from to (p ∷ ps) path =
+    matches_there from to path p || some_matches_there from to ps path

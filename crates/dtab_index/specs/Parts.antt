@@ -11,7 +11,9 @@ placed_by [] = []
 placed_by (p ∷ ps) = placed_in p.entries.items ++ placed_by ps
 
 abbrev pub AreKept : List Part → Type 0
-AreKept parts = (k : ℕ) (part : Part) → slice_get parts k ≡ Some part → IsKept part.entries.items part.columns.items
+AreKept parts =
+    (k : ℕ) (part : Part) → slice_get parts k ≡ Some part
+    → IsKept part.entries.items part.columns.items
 
 -- a place is that of the last part, and there is room for a prefix in it
 pub record HasRoom (parts : List Part) (place : ℕ) : Type 0 where

@@ -47,28 +47,22 @@ impl Bits {
         self.words[at] = word | 1 << (place % WORD_PLACES);
     }
 
-    /// Whether there is no place from a first one on.
-    pub(crate) fn is_empty_from(&self, first: usize) -> bool
-        ensures { OnTrue result
-            ((place : ℕ) → first ≤ place → place < 1024 → has self.now.words place ≡ false) }
-    {
-        for at in first / WORD_PLACES..WORDS {
-            if self.words[at] != 0 {
-                return false;
-            }
-        }
-        true
-    }
-
-    /// From a first place on, takes the places of another set out.
-    pub(crate) fn remove(&mut self, first: usize, others: &Bits)
-        ensures { (place : ℕ) → first ≤ place → place < 1024 → has self.new.words place
+    /// From a first place on, takes the places of another set out. Where it gives `true`, none is
+    /// left.
+    pub(crate) fn remove(&mut self, first: usize, others: &Bits) -> bool
+        ensures none { OnTrue result
+            ((place : ℕ) → first ≤ place → place < 1024 → has self.new.words place ≡ false) }
+        ensures left { (place : ℕ) → first ≤ place → place < 1024 → has self.new.words place
             ≡ (has self.old.words place && not (has others.now.words place)) }
     {
+        let mut all = 0;
         for at in first / WORD_PLACES..WORDS {
             let word = self.words[at];
-            self.words[at] = word ^ (word & others.words[at]);
+            let left = word ^ (word & others.words[at]);
+            self.words[at] = left;
+            all |= left;
         }
+        all == 0
     }
 
     /// From a first place on, takes the places of another set out, but for those of a third.

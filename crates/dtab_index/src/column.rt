@@ -53,23 +53,21 @@ impl Column {
         Ok(())
     }
 
-    /// Of some prefixes, from a first place on, leaves those that match a path with this label here,
-    /// as far as it is for this position to say. Where it gives `true`, none is left.
+    /// Of some prefixes, from a first place on, leaves those that match a path with this label
+    /// here, as far as it is for this position to say. Where it gives `true`, none is left.
     pub(crate) fn narrow(&self, first: usize, label: &[u8], left: &mut Bits) -> bool
         ensures none { OnTrue result
             ((place : ℕ) → first ≤ place → place < 1024 → has left.new.words place ≡ false) }
         ensures left { (place : ℕ) → first ≤ place → place < 1024 →
-            has left.new.words place ≡ (has left.old.words place && allows self.now label.now place) }
+            has left.new.words place
+            ≡ (has left.old.words place && allows self.now label.now place) }
     {
         match self.rows.get(label) {
             Some(row) => {
                 left.remove_but(first, &self.named, row);
                 false
             }
-            None => {
-                left.remove(first, &self.named);
-                left.is_empty_from(first)
-            }
+            None => left.remove(first, &self.named),
         }
     }
 }

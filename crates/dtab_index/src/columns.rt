@@ -1,5 +1,5 @@
 //! The positions of labels that some prefixes have.
-ghost use Rattle.std.specs.Prelude.{◌≡◌, ◌≢◌, ℕ, ◌<◌, ◌≤◌, ◌&&◌, length, OnOk};
+ghost use Rattle.std.specs.Prelude.{◌≡◌, ◌≢◌, ℕ, ◌<◌, ◌≤◌, ◌&&◌, false, length, OnOk, MatchOption};
 ghost use Rattle.dtab_index.specs.Bits.{has};
 ghost use Rattle.dtab_index.specs.Columns.{passes, AreBlank, AreSaid, KeepSaid};
 ghost use Rattle.dtab_index.specs.Prefix.{patterns_of};
@@ -20,7 +20,8 @@ pub(crate) fn put_prefix(
     requires few { place < 1024 }
     requires blank { AreBlank columns.old.items place }
     ensures said { OnOk result (AreSaid columns.new.items (patterns_of prefix.items) place) }
-    ensures kept { (other : ℕ) → other ≢ place → KeepSaid columns.old.items columns.new.items other }
+    ensures kept { (other : ℕ) → other ≢ place
+        → KeepSaid columns.old.items columns.new.items other }
 {
     make_columns(alloc, columns, prefix.len())?;
     put_labels(columns, prefix, place)
@@ -43,7 +44,8 @@ fn put_labels(columns: &mut Vec<Column>, mut prefix: Vec<Option<Vec<u8>>>, place
     requires long { length prefix.items ≤ length columns.old.items }
     requires blank { AreBlank columns.old.items place }
     ensures said { OnOk result (AreSaid columns.new.items (patterns_of prefix.items) place) }
-    ensures kept { (other : ℕ) → other ≢ place → KeepSaid columns.old.items columns.new.items other }
+    ensures kept { (other : ℕ) → other ≢ place
+        → KeepSaid columns.old.items columns.new.items other }
 {
     while let Some(pattern) = prefix.pop() {
         let column = &mut columns[prefix.len()];
@@ -53,20 +55,23 @@ fn put_labels(columns: &mut Vec<Column>, mut prefix: Vec<Option<Vec<u8>>>, place
 }
 
 /// The prefixes that match a path, by their places, of those at the places from a first one on.
-pub(crate) fn left_by(columns: &[Column], first: usize, path: &Path) -> Bits
+/// `None` only where none of them does.
+pub(crate) fn left_by(columns: &[Column], first: usize, path: &Path) -> Option<Bits>
     requires { first < 1024 }
-    ensures { (place : ℕ) → first ≤ place → place < 1024
-        → has result.words place ≡ passes columns.now path.now place }
+    ensures { MatchOption result
+        ((place : ℕ) → first ≤ place → place < 1024 → passes columns.now path.now place ≡ false)
+        (λ left. (place : ℕ) → first ≤ place → place < 1024
+        → has left.words place ≡ passes columns.now path.now place) }
 {
     let mut left = Bits::from(first);
     for (at, column) in columns.iter().enumerate() {
         if at >= path.len() {
             left.remove(first, &column.reached);
-            return left;
+            return Some(left);
         }
         if column.narrow(first, path.label(at), &mut left) {
-            return left;
+            return None;
         }
     }
-    left
+    Some(left)
 }

@@ -7,7 +7,8 @@ use name_tree::Path;
 use std::alloc::Global;
 use std::marker::Model;
 
-/// Some prefixes of paths, each with its position, which contracts see as the list of what was added.
+/// Some prefixes of paths, each with its position, which contracts see as the list of what was
+/// added.
 #[derive(Debug, Drop)]
 pub struct Index {
     parts: Vec<Part>,
@@ -58,8 +59,8 @@ impl Index {
     /// The positions of the prefixes that match a path, the greatest first.
     ///
     /// The cost is, for every 1,024 prefixes, a look-up of each label of the path, as far as one of
-    /// them reaches, and a step for each prefix that matches; and the memory of the answer, none
-    /// where nothing matches.
+    /// them reaches, with a step for each 64 prefixes, and a step for each prefix that matches; and
+    /// the memory of the answer, none where nothing matches.
     pub fn matching(&self, alloc: Global, path: &Path) -> Mem<Vec<u32>>
         ensures { IfOk result (λ found. found.items ≡ matching self.now path.now) }
     {

@@ -1,5 +1,6 @@
 //! A part of an index: as many prefixes as a set of places tells of.
-ghost use Rattle.std.specs.Prelude.{◌≡◌, ℕ, ◌+◌, ◌≤◌, ◌<◌, ◌==◌, [], ◌∷◌, ◌++◌, length, OnOk, OnErr};
+ghost use Rattle.std.specs.Prelude.{◌≡◌, ℕ, ◌+◌, ◌≤◌, ◌<◌, ◌==◌, [], ◌∷◌, ◌++◌, length};
+ghost use Rattle.std.specs.Prelude.{OnOk, OnErr};
 ghost use Rattle.std.specs.List.{list_any};
 ghost use Rattle.std.specs.Option.{option_to_list};
 ghost use Rattle.dtab_index.specs.Bits.{has};
@@ -18,8 +19,8 @@ use std::fmt;
 use std::fmt::{Debug, Formatter};
 use std::snapshot::Snapshot;
 
-/// A prefix and its position. The labels of the prefix stand in the columns alone, and contracts see
-/// them here.
+/// A prefix and its position. The labels of the prefix stand in the columns alone, and contracts
+/// see them here.
 #[derive(Drop)]
 pub(crate) struct Entry {
     pub(crate) prefix: Snapshot<Vec<Option<Vec<u8>>>>,
@@ -61,7 +62,8 @@ impl Part {
         ensures kept { IsKept self.new.entries.items self.new.columns.items }
         ensures ok { OnOk result (placed_in self.new.entries.items
             ≡ placed_in self.old.entries.items ++ (patterns_of prefix.items, at) ∷ []) }
-        ensures err { OnErr result (placed_in self.new.entries.items ≡ placed_in self.old.entries.items) }
+        ensures err { OnErr result
+            (placed_in self.new.entries.items ≡ placed_in self.old.entries.items) }
     {
         let alloc = *self.entries.allocator();
         let index = self.entries.len();
@@ -93,7 +95,9 @@ impl Part {
             ≡ found.old.items ++ matching (placed_in self.now.entries.items) path.now) }
     {
         let first = self.first_place();
-        let left = left_by(self.columns.as_slice(), first, path);
+        let Some(left) = left_by(self.columns.as_slice(), first, path) else {
+            return Ok(());
+        };
         put_words(self.entries.as_slice(), first, &left.words, found)?;
         Ok(())
     }
@@ -104,7 +108,9 @@ impl Part {
         ensures { result ≡ some_matches_there from to (placed_in self.now.entries.items) path.now }
     {
         let first = self.first_place();
-        let left = left_by(self.columns.as_slice(), first, path);
+        let Some(left) = left_by(self.columns.as_slice(), first, path) else {
+            return false;
+        };
         some_in_words(self.entries.as_slice(), first, &left.words, from, to)
     }
 }
@@ -128,8 +134,8 @@ fn put_words(
     Ok(())
 }
 
-/// Whether one of the prefixes whose places a set has is at a position from one to before another. No
-/// prefix has a place before a first one.
+/// Whether one of the prefixes whose places a set has is at a position from one to before another.
+/// No prefix has a place before a first one.
 fn some_in_words(entries: &[Option<Entry>], first: usize, words: &[u64], from: u32, to: u32) -> bool
     requires size { length words.now ≡ 16 }
     requires lowest { first + length entries.now ≤ 1024 }

@@ -10,8 +10,8 @@ use crate::bits::MOST_PLACES;
 use crate::part::Part;
 use name_tree::Path;
 
-/// The last part, counted from 0, once there is room for a prefix in it: if there is none, a new part
-/// is put behind the others.
+/// The last part, counted from 0, once there is room for a prefix in it: if there is none, a new
+/// part is put behind the others.
 pub(crate) fn part_with_room(parts: &mut Vec<Part>) -> Mem<usize>
     requires { AreKept parts.old.items }
     ensures kept { AreKept parts.new.items }
@@ -40,8 +40,8 @@ fn has_room(parts: &[Part]) -> bool
     true
 }
 
-/// Puts a prefix and its position behind the others of a part, the last one. An `Err` changes nothing
-/// of what the parts say.
+/// Puts a prefix and its position behind the others of a part, the last one. An `Err` changes
+/// nothing of what the parts say.
 pub(crate) fn add_to(
     parts: &mut Vec<Part>,
     place: usize,
@@ -64,7 +64,8 @@ pub(crate) fn add_to(
 /// first.
 pub(crate) fn put_matching(parts: &[Part], path: &Path, found: &mut Vec<u32>) -> Mem<()>
     requires { AreKept parts.now }
-    ensures { OnOk result (found.new.items ≡ found.old.items ++ matching (placed_by parts.now) path.now) }
+    ensures { OnOk result (found.new.items
+        ≡ found.old.items ++ matching (placed_by parts.now) path.now) }
 {
     let mut behind = parts.len();
     while behind > 0 {

@@ -2,9 +2,11 @@
 use Rattle.std.specs.Prelude.{◌≡◌, ℕ, ◌<◌, ◌≤◌, List, length}
 use Rattle.name_tree.specs.Faults.{IsTooLong, IsTooNested, IsSyntax, IsValue}
 use Rattle.dtab_table.specs.declared.read.PrefixFault.{PrefixFault}
-use Rattle.dtab_table.specs.declared.read.PrefixFault.TheVariants.{NotPrefix, OutOfMemory as NoMemory}
+use Rattle.dtab_table.specs.declared.read.PrefixFault.TheVariants.{NotPrefix}
+use Rattle.dtab_table.specs.declared.read.PrefixFault.TheVariants.{OutOfMemory as NoMemory}
 use Rattle.dtab_table.specs.declared.read.DtabFault.{DtabFault}
-use Rattle.dtab_table.specs.declared.read.DtabFault.TheVariants.{TooLong, TooNested, Syntax, TooMany, OutOfMemory}
+use Rattle.dtab_table.specs.declared.read.DtabFault.TheVariants.{TooLong, TooNested, Syntax}
+use Rattle.dtab_table.specs.declared.read.DtabFault.TheVariants.{TooMany, OutOfMemory}
 use Rattle.dtab_table.specs.Pattern.{Pattern}
 use Rattle.dtab_table.specs.Rules.{Rule}
 use Rattle.dtab_table.specs.TableGrammar.{PrefixText, DtabText}

@@ -1,5 +1,6 @@
 -- Delegation tables as values, and what they rewrite a path to.
-use Rattle.std.specs.Prelude.{Bool, false, ◌||◌, if◌then◌else◌, List, [], ◌∷◌, ◌++◌, length, map, drop, Option, Some, None, option_map}
+use Rattle.std.specs.Prelude.{Bool, false, ◌||◌, if◌then◌else◌, List, [], ◌∷◌, ◌++◌, length, map}
+use Rattle.std.specs.Prelude.{drop, Option, Some, None, option_map}
 use Rattle.std.specs.Arc.{arc_value}
 use Rattle.std.specs.Borrow.{Bor}
 use Rattle.std.specs.declared.alloc.Global.{Global}
@@ -25,7 +26,8 @@ entries_in (Some parts) = arc_value parts
 abbrev pub rules_of : Dtab → List Rule
 rules_of dtab = map rule_of (entries_in dtab.parts)
 
--- what follows a prefix in a path that it matches: the path has a label for each of the prefix, the same unless that is `*`
+-- what follows a prefix in a path that it matches: the path has a label for each of the prefix, the
+-- same unless that is `*`
 abbrev pub rest_behind : List Pattern → Labels → Option Labels
 rest_behind [] path = Some path
 rest_behind (p ∷ ps) [] = None
@@ -41,7 +43,8 @@ abbrev pub rewrites : List Rule → Labels → List TreeValue
 rewrites [] path = []
 rewrites (r ∷ rs) path = rewrites rs path ++ option_to_list (rewrite r path)
 
--- what an entry whose prefix matches a path rewrites it to: its tree, with the labels of the path behind as many as the prefix has behind every leaf
+-- what an entry whose prefix matches a path rewrites it to: its tree, with the labels of the path
+-- behind as many as the prefix has behind every leaf
 abbrev pub rewritten_by : Labels → Entry → TreeValue
 rewritten_by path entry = append_rest (value_of entry.tree) (drop (length entry.prefix) path)
 

@@ -28,7 +28,8 @@ AreLean (e ∷ es) (l ∷ ls) = (lean_value e l ≡ lean (value_of e.tree)) × A
 abbrev pub IsIndexed : List Entry → List Placed → Type 0
 IsIndexed entries index = few_entries < length entries → index ≡ placed_from 0 entries
 
-pub record IsKept (entries : List Entry) (leaner : List (Option Tree)) (index : List Placed) : Type 0 where
+pub record IsKept (entries : List Entry) (leaner : List (Option Tree)) (index : List Placed) : Type
+    0 where
   pub few : length entries < 2 ^ 32
   pub lean : AreLean entries leaner
   pub indexed : IsIndexed entries index

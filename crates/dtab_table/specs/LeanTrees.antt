@@ -20,7 +20,8 @@ abbrev pub lean_trees : List TreeValue → List TreeValue
 lean_trees [] = []
 lean_trees (t ∷ ts) = unless_neg (lean t) (lean_trees ts)
 
--- a tree that a table lends, with the labels of a path behind those that its prefix took behind every leaf
+-- a tree that a table lends, with the labels of a path behind those that its prefix took behind
+-- every leaf
 abbrev pub lent_tree : Labels → LeanTree → TreeValue
 lent_tree path lent = append_rest (value_of lent.tree.now) (drop lent.taken path)
 

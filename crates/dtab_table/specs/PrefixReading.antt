@@ -1,5 +1,6 @@
 -- A prefix read byte by byte.
-use Rattle.std.specs.Prelude.{ℕ, Bool, ◌||◌, ◌==◌, if◌then◌else◌, List, [], ◌∷◌, ◌++◌, Option, Some, None, option_map}
+use Rattle.std.specs.Prelude.{ℕ, Bool, ◌||◌, ◌==◌, if◌then◌else◌, List, [], ◌∷◌, ◌++◌, Option, Some}
+use Rattle.std.specs.Prelude.{None, option_map}
 use Rattle.name_tree.specs.Grammar.{is_blank}
 use Rattle.name_tree.specs.LabelReading.{Spelling, bytes, next_spelling, end_spelling, is_path_byte}
 use Rattle.dtab_table.specs.Pattern.{Pattern}
@@ -39,7 +40,8 @@ end_part star = Some None
 abbrev pub next_walk : Walk → ℕ → Option Walk
 next_walk at b =
     if b == 47 then option_map (λ p. next_pattern at p) (end_part at.part) else
-    option_map (λ to. record at { part = to }) (if b == 42 then star_behind at.part else next_part at.part b)
+    option_map (λ to. record at { part = to })
+    (if b == 42 then star_behind at.part else next_part at.part b)
 
 -- the empty prefix, where only its `/` was read
 abbrev pub root_patterns : List Pattern → PartialPattern → Option (List Pattern)
@@ -67,7 +69,8 @@ pub data PrefixAt : Type 0 where
   behind : List Pattern → PrefixAt
 
 abbrev pub next_prefix : PrefixAt → ℕ → Option PrefixAt
-next_prefix before b = if is_blank b then Some before else (if b == 47 then Some (inside walk_start) else None)
+next_prefix before b =
+    if is_blank b then Some before else (if b == 47 then Some (inside walk_start) else None)
 next_prefix (inside at) b =
     if is_prefix_byte b then option_map (λ to. inside to) (next_walk at b) else
     (if is_blank b then option_map (λ ps. behind ps) (end_walk at) else None)

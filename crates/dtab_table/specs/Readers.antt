@@ -9,7 +9,11 @@ use Rattle.dtab_table.specs.declared.prefix_text.PrefixTextReader.{PrefixTextRea
 use Rattle.dtab_table.specs.PrefixReading.{label, star, Walk, PrefixAt, before, inside, behind}
 
 abbrev pub walk_of : PrefixReader → Walk
-walk_of reader = record { before = reader.prefix; part = if reader.is_star then star else label (spelling_of reader.label) }
+walk_of reader =
+    record {
+      before = reader.prefix;
+      part = if reader.is_star then star else label (spelling_of reader.label);
+    }
 
 abbrev pub prefix_at : PrefixPlace → Walk → List Pattern → PrefixAt
 prefix_at Before at ps = before

@@ -13,8 +13,10 @@ pub data SpellsPattern : List ℕ → Pattern → Type 0 where
 
 -- one or more times `/` and a label or `*`
 pub data SpellsPatterns : List ℕ → List Pattern → Type 0 where
-  pattern : {s : List ℕ} {p : Pattern} → SpellsPattern s p → SpellsPatterns (codes "/" ++ s) (p ∷ [])
-  patterns : {s t : List ℕ} {p : Pattern} {ps : List Pattern} → SpellsPattern s p → SpellsPatterns t ps → SpellsPatterns (codes "/" ++ s ++ t) (p ∷ ps)
+  pattern : {s : List ℕ} {p : Pattern} → SpellsPattern s p
+      → SpellsPatterns (codes "/" ++ s) (p ∷ [])
+  patterns : {s t : List ℕ} {p : Pattern} {ps : List Pattern} → SpellsPattern s p
+      → SpellsPatterns t ps → SpellsPatterns (codes "/" ++ s ++ t) (p ∷ ps)
 
 -- a prefix: `/`, or one or more times `/` and a label or `*`
 pub data SpellsPrefix : List ℕ → List Pattern → Type 0 where
@@ -23,11 +25,13 @@ pub data SpellsPrefix : List ℕ → List Pattern → Type 0 where
 
 -- the text of a prefix: blanks, a prefix, blanks
 pub data PrefixText : List ℕ → List Pattern → Type 0 where
-  prefix : {a s b : List ℕ} {ps : List Pattern} → AreBlanks a → SpellsPrefix s ps → AreBlanks b → PrefixText (a ++ s ++ b) ps
+  prefix : {a s b : List ℕ} {ps : List Pattern} → AreBlanks a → SpellsPrefix s ps → AreBlanks b
+      → PrefixText (a ++ s ++ b) ps
 
 -- an entry: a prefix, `=>` and a tree
 pub data SpellsEntry : List ℕ → Rule → Type 0 where
-  entry : {p a b t : List ℕ} {ps : List Pattern} {vs : List TreeValue} → SpellsPrefix p ps → AreBlanks a → AreBlanks b → SpellsTree t vs
+  entry : {p a b t : List ℕ} {ps : List Pattern} {vs : List TreeValue} → SpellsPrefix p ps
+      → AreBlanks a → AreBlanks b → SpellsTree t vs
       → SpellsEntry (p ++ a ++ codes "=>" ++ b ++ t) (record { prefix = ps; tree = one_or_alt vs })
 
 -- a place of a table: an entry or nothing
@@ -35,12 +39,15 @@ pub data SpellsPlace : List ℕ → List Rule → Type 0 where
   nothing : SpellsPlace [] []
   filled : {s : List ℕ} {r : Rule} → SpellsEntry s r → SpellsPlace s (r ∷ [])
 
--- one or more places with `;` between them. A table with no place has the text of one with nothing in its place
+-- one or more places with `;` between them. A table with no place has the text of one with nothing
+-- in its place
 pub data SpellsTable : List ℕ → List Rule → Type 0 where
   place : {s : List ℕ} {rs : List Rule} → SpellsPlace s rs → SpellsTable s rs
-  places : {s a b t : List ℕ} {rs qs : List Rule} → SpellsPlace s rs → AreBlanks a → AreBlanks b → SpellsTable t qs
+  places : {s a b t : List ℕ} {rs qs : List Rule} → SpellsPlace s rs → AreBlanks a → AreBlanks b
+      → SpellsTable t qs
       → SpellsTable (s ++ a ++ codes ";" ++ b ++ t) (rs ++ qs)
 
 -- the text of a table: blanks, a table, blanks
 pub data DtabText : List ℕ → List Rule → Type 0 where
-  table : {a s b : List ℕ} {rs : List Rule} → AreBlanks a → SpellsTable s rs → AreBlanks b → DtabText (a ++ s ++ b) rs
+  table : {a s b : List ℕ} {rs : List Rule} → AreBlanks a → SpellsTable s rs → AreBlanks b
+      → DtabText (a ++ s ++ b) rs

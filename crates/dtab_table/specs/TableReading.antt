@@ -1,8 +1,11 @@
 -- A table read byte by byte.
-use Rattle.std.specs.Prelude.{ℕ, ◌==◌, if◌then◌else◌, List, [], ◌∷◌, ◌++◌, length, Option, Some, None, option_map}
+use Rattle.std.specs.Prelude.{ℕ, ◌==◌, if◌then◌else◌, List, [], ◌∷◌, ◌++◌, length, Option, Some}
+use Rattle.std.specs.Prelude.{None, option_map}
 use Rattle.name_tree.specs.Value.{TreeValue}
 use Rattle.name_tree.specs.Grammar.{is_blank}
-use Rattle.name_tree.specs.TreeReading.{State as TreeState, before as before_tree, start as start_branch, next_state as next_tree, ended_state as ended_tree}
+use Rattle.name_tree.specs.TreeReading.{State as TreeState, before as before_tree}
+use Rattle.name_tree.specs.TreeReading.{start as start_branch, next_state as next_tree}
+use Rattle.name_tree.specs.TreeReading.{ended_state as ended_tree}
 use Rattle.dtab_table.specs.Pattern.{Pattern}
 use Rattle.dtab_table.specs.Rules.{Rule}
 use Rattle.dtab_table.specs.PrefixReading.{Walk, walk_start, next_walk, end_walk, is_prefix_byte}
@@ -25,7 +28,8 @@ abbrev pub State : Type 0
 State = List Rule × Mode
 
 abbrev pub behind_prefix : List Rule → List Pattern → ℕ → Option State
-behind_prefix rs ps b = if is_blank b then Some (rs, behind ps) else (if b == 61 then Some (rs, arrow ps) else None)
+behind_prefix rs ps b =
+    if is_blank b then Some (rs, behind ps) else (if b == 61 then Some (rs, arrow ps) else None)
 
 abbrev pub behind_walk : List Rule → ℕ → Option (List Pattern) → Option State
 behind_walk rs b None = None
@@ -46,11 +50,13 @@ next rs start b =
     (if b == 59 then Some (rs, start) else
     (if b == 47 then Some (rs, walk walk_start) else None))
 next rs (walk at) b =
-    if is_prefix_byte b then option_map (λ to. (rs, walk to)) (next_walk at b) else behind_walk rs b (end_walk at)
+    if is_prefix_byte b then option_map (λ to. (rs, walk to)) (next_walk at b)
+    else behind_walk rs b (end_walk at)
 next rs (behind ps) b = behind_prefix rs ps b
 next rs (arrow ps) b = if b == 62 then Some (rs, tree ps (before_tree [], start_branch)) else None
 next rs (tree ps q) b =
-    if b == 59 then option_map (λ v. (with_rule rs ps v, start)) (ended_tree q) else option_map (λ to. (rs, tree ps to)) (next_tree q b)
+    if b == 59 then option_map (λ v. (with_rule rs ps v, start)) (ended_tree q)
+    else option_map (λ to. (rs, tree ps to)) (next_tree q b)
 
 abbrev pub next_state : State → ℕ → Option State
 next_state q b = next q.0 q.1 b

@@ -1,5 +1,6 @@
 //! Delegation tables.
-ghost use Rattle.std.specs.Prelude.{◌≡◌, ◌+◌, ◌-◌, ◌<◌, ◌≤◌, ◌^◌, [], length, map, take, drop, slice_get, Some, IfOk, All};
+ghost use Rattle.std.specs.Prelude.{◌≡◌, ◌+◌, ◌-◌, ◌<◌, ◌≤◌, ◌^◌, [], length, map, take, drop};
+ghost use Rattle.std.specs.Prelude.{slice_get, Some, IfOk, All};
 ghost use Rattle.name_tree.specs.Tree.{value_of};
 ghost use Rattle.dtab_table.specs.LeanTrees.{lean_trees, lent_trees};
 ghost use Rattle.dtab_table.specs.Rules.{rule_of};
@@ -17,9 +18,9 @@ use step_count::Steps;
 
 /// A delegation table: a list of entries. Of two that match a path, the later one is tried first.
 ///
-/// Contracts see what it says as `rules_of dtab`, the list of its prefixes and trees. Its entries never
-/// change, and it shares them with its copies. Beside the entries it keeps what there is to try of
-/// their trees, and where there are more than a few, an index of their prefixes.
+/// Contracts see what it says as `rules_of dtab`, the list of its prefixes and trees. Its entries
+/// never change, and it shares them with its copies. Beside the entries it keeps what there is to
+/// try of their trees, and where there are more than a few, an index of their prefixes.
 #[derive(Debug, Drop)]
 pub struct Dtab {
     /// `None` stands for no entry.
@@ -37,8 +38,8 @@ impl Dtab {
         Dtab { parts: None }
     }
 
-    /// The table of these entries, in their order. It makes what there is to try of their trees, and
-    /// where they are more than a few, copies their prefixes into an index.
+    /// The table of these entries, in their order. It makes what there is to try of their trees,
+    /// and where they are more than a few, copies their prefixes into an index.
     pub fn of(alloc: Global, entries: EntryList) -> Mem<Dtab>
         requires { length entries < 2 ^ 32 }
         ensures { IfOk result (λ dtab. rules_of dtab ≡ map rule_of entries) }
@@ -86,15 +87,17 @@ impl Dtab {
         }
     }
 
-    /// Whether the prefix of some entry, from one place to before another, counted from 0, matches a
-    /// path. It takes no memory.
+    /// Whether the prefix of some entry, from one place to before another, counted from 0, matches
+    /// a path. It takes no memory.
     ///
-    /// A few entries are compared with the path one by one. Of more, up to 1,024, those that match are
-    /// found by one look-up in the table's index for each label of the path, however many they are.
+    /// A few entries are compared with the path one by one. Of more, up to 1,024, those that match
+    /// are found by one look-up in the table's index for each label of the path, however many they
+    /// are.
     pub fn matches_any(&self, from: usize, to: usize, path: &Path) -> bool
         requires order { from ≤ to }
         requires within { to ≤ length (rules_of self.now) }
-        ensures { result ≡ some_matches (take (to - from) (drop from (rules_of self.now))) path.now }
+        ensures { result ≡ some_matches (take (to - from) (drop from (rules_of self.now)))
+            path.now }
     {
         match &self.parts {
             Some(parts) => parts.matches_any(from, to, path),
@@ -102,20 +105,24 @@ impl Dtab {
         }
     }
 
-    /// The entries whose prefix matches a path, the last entry first. The prefix of each takes the first labels of the path, as many as it has
-    /// itself, and the labels behind those are the rest. One call is one step.
+    /// The entries whose prefix matches a path, the last entry first. The prefix of each takes the
+    /// first labels of the path, as many as it has itself, and the labels behind those are the
+    /// rest. One call is one step.
     ///
     /// The cost is, for every 1,024 entries, one look-up in the table's index for each label of the
-    /// path, or a comparison with each of a few entries, and the memory of the answer, a reference for
-    /// each entry that matches. No tree is looked at, and none is copied.
+    /// path, or a comparison with each of a few entries, and the memory of the answer, a reference
+    /// for each entry that matches. No tree is looked at, and none is copied.
     pub fn matching<'a, L: Ledger>(
         &'a self,
         alloc: Global,
         path: &Path,
         steps: &mut Steps<L>,
     ) -> Mem<Vec<&'a Entry>>
-        ensures trees { IfOk result (λ found. rewritten_by_each path.now found.items ≡ rewrites (rules_of self.now) path.now) }
-        ensures long { IfOk result (λ found. All (λ entry. length entry.now.prefix ≤ length path.now) found.items) }
+        ensures trees { IfOk result
+            (λ found. rewritten_by_each path.now found.items
+            ≡ rewrites (rules_of self.now) path.now) }
+        ensures long { IfOk result
+            (λ found. All (λ entry. length entry.now.prefix ≤ length path.now) found.items) }
         ensures ticks { steps.new ≡ steps.old + 1 }
     {
         steps.tick();
@@ -125,10 +132,10 @@ impl Dtab {
         }
     }
 
-    /// What there is to try of the trees that the table rewrites a path to: of the entries that match,
-    /// the last entry first, each tree without what makes no lookup, unless nothing is left of it.
-    /// Whatever stands behind the leaves, these come to the same as all the trees, after the same
-    /// lookups. One call is one step.
+    /// What there is to try of the trees that the table rewrites a path to: of the entries that
+    /// match, the last entry first, each tree without what makes no lookup, unless nothing is left
+    /// of it. Whatever stands behind the leaves, these come to the same as all the trees, after the
+    /// same lookups. One call is one step.
     ///
     /// The cost is that of [`Dtab::matching`]. The trees are lent.
     pub fn lean_matching<'a, L: Ledger>(
@@ -137,7 +144,9 @@ impl Dtab {
         path: &Path,
         steps: &mut Steps<L>,
     ) -> Mem<Vec<LeanTree<'a>>>
-        ensures trees { IfOk result (λ found. lent_trees path.now found.items ≡ lean_trees (rewrites (rules_of self.now) path.now)) }
+        ensures trees { IfOk result
+            (λ found. lent_trees path.now found.items
+            ≡ lean_trees (rewrites (rules_of self.now) path.now)) }
         ensures ticks { steps.new ≡ steps.old + 1 }
     {
         steps.tick();
@@ -147,18 +156,21 @@ impl Dtab {
         }
     }
 
-    /// What the table rewrites a path to: the trees of all entries whose prefix matches, the last entry first, each with the
-    /// rest of the path behind every leaf, as the Finagle user guide has it. One lookup is at least one step.
+    /// What the table rewrites a path to: the trees of all entries whose prefix matches, the last
+    /// entry first, each with the rest of the path behind every leaf, as the Finagle user guide has
+    /// it. One lookup is at least one step.
     ///
-    /// The cost is that of [`Dtab::matching`], and a copy of the tree of each entry that matches, with the rest of the path behind each of
-    /// its leaves. Where only some of the trees will be tried, [`Dtab::matching`] lends them instead.
+    /// The cost is that of [`Dtab::matching`], and a copy of the tree of each entry that matches,
+    /// with the rest of the path behind each of its leaves. Where only some of the trees will be
+    /// tried, [`Dtab::matching`] lends them instead.
     pub fn lookup<L: Ledger>(
         &self,
         alloc: Global,
         path: &Path,
         steps: &mut Steps<L>,
     ) -> Mem<TreeList>
-        ensures trees { IfOk result (λ trees. map value_of trees ≡ rewrites (rules_of self.now) path.now) }
+        ensures trees { IfOk result
+            (λ trees. map value_of trees ≡ rewrites (rules_of self.now) path.now) }
         ensures ticks { steps.new ≡ steps.old + 1 }
     {
         let found = self.matching(alloc, path, steps)?;

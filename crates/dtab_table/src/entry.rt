@@ -7,7 +7,8 @@ use name_tree::Tree;
 use std::alloc::Global;
 use std::marker::Model;
 
-/// An entry of a table: a path that begins with the prefix is rewritten to the tree, with its rest behind every leaf.
+/// An entry of a table: a path that begins with the prefix is rewritten to the tree, with its rest
+/// behind every leaf.
 #[derive(Debug, Drop)]
 pub struct Entry {
     /// What a path must begin with.
@@ -36,7 +37,8 @@ impl Entry {
     }
 }
 
-/// Some entries, in order, which contracts see as their list. It is made from a `Vec` and gives it back without taking memory.
+/// Some entries, in order, which contracts see as their list. It is made from a `Vec` and gives it
+/// back without taking memory.
 #[derive(Debug, Drop)]
 pub struct EntryList {
     items: Vec<Entry>,

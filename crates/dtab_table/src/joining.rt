@@ -8,8 +8,8 @@ use crate::dtab::Dtab;
 use crate::entry::{Entry, EntryList};
 use std::alloc::Global;
 
-/// The table of the entries of two tables, first those of the first. It copies them, but for a table
-/// beside one with no entry, which is shared.
+/// The table of the entries of two tables, first those of the first. It copies them, but for a
+/// table beside one with no entry, which is shared.
 ///
 /// What it rewrites a path to are the trees of the second table, and then those of the first.
 pub fn joined(alloc: Global, first: &Dtab, second: &Dtab) -> Mem<Dtab>
@@ -30,7 +30,8 @@ pub fn joined(alloc: Global, first: &Dtab, second: &Dtab) -> Mem<Dtab>
 
 /// Puts copies of some entries behind others. An `Err` leaves some of them there.
 pub(crate) fn put_copies(alloc: Global, entries: &[Entry], out: &mut Vec<Entry>) -> Mem<()>
-    ensures { OnOk result (map rule_of out.new.items ≡ map rule_of out.old.items ++ map rule_of entries.now) }
+    ensures { OnOk result (map rule_of out.new.items
+        ≡ map rule_of out.old.items ++ map rule_of entries.now) }
 {
     for entry in entries {
         out.push(entry.copied(alloc)?)?;

@@ -55,8 +55,10 @@ pub(crate) fn lean_tree<'a>(entry: &'a Entry, leaner: &'a Option<Tree>) -> &'a T
 
 /// Puts a lean tree behind others, unless it is negative.
 pub(crate) fn put_tree<'a>(found: &mut Vec<LeanTree<'a>>, tree: &'a Tree, taken: usize) -> Mem<()>
-    ensures { OnOk result ((path : Labels) → (ts : List TreeValue) → lent_trees path found.new.items ++ ts
-        ≡ lent_trees path found.old.items ++ unless_neg (append_rest (value_of tree.now) (drop taken path)) ts) }
+    ensures { OnOk result ((path : Labels) → (ts : List TreeValue)
+        → lent_trees path found.new.items ++ ts
+        ≡ lent_trees path found.old.items
+        ++ unless_neg (append_rest (value_of tree.now) (drop taken path)) ts) }
 {
     match tree {
         Tree::Neg => {}

@@ -22,8 +22,11 @@ pub(crate) fn lend_entries<'a>(
 ) -> Mem<Vec<&'a Entry>>
     requires few { length entries.now < 2 ^ 32 }
     requires indexed { IsIndexed entries.now index.now }
-    ensures trees { IfOk result (λ found. rewritten_by_each path.now found.items ≡ rewrites (map rule_of entries.now) path.now) }
-    ensures long { IfOk result (λ found. All (λ entry. length entry.now.prefix ≤ length path.now) found.items) }
+    ensures trees { IfOk result
+        (λ found. rewritten_by_each path.now found.items
+        ≡ rewrites (map rule_of entries.now) path.now) }
+    ensures long { IfOk result
+        (λ found. All (λ entry. length entry.now.prefix ≤ length path.now) found.items) }
 {
     let places = places(alloc, entries, index, path)?;
     let mut found = Vec::with_capacity(alloc, places.len())?;
@@ -46,7 +49,9 @@ pub(crate) fn lend_trees<'a>(
     requires few { length entries.now < 2 ^ 32 }
     requires lean { AreLean entries.now leaner.now }
     requires indexed { IsIndexed entries.now index.now }
-    ensures { IfOk result (λ found. lent_trees path.now found.items ≡ lean_trees (rewrites (map rule_of entries.now) path.now)) }
+    ensures { IfOk result
+        (λ found. lent_trees path.now found.items
+        ≡ lean_trees (rewrites (map rule_of entries.now) path.now)) }
 {
     let places = places(alloc, entries, index, path)?;
     let mut found = Vec::with_capacity(alloc, places.len())?;

@@ -21,7 +21,8 @@ pub(crate) fn any_between(
     requires indexed { IsIndexed entries.now index.now }
     requires order { from ≤ to }
     requires within { to ≤ length entries.now }
-    ensures { result ≡ some_matches (take (to - from) (drop from (map rule_of entries.now))) path.now }
+    ensures { result ≡ some_matches (take (to - from) (drop from (map rule_of entries.now)))
+        path.now }
 {
     if to - from <= FEW_ENTRIES {
         return some_entry_matches(&entries[from..to], path);

@@ -42,8 +42,8 @@ impl Model for Parts {
 }
 
 impl Parts {
-    /// These entries, in their order. What there is to try of their trees is made, and where they are
-    /// more than a few, their prefixes are copied into an index.
+    /// These entries, in their order. What there is to try of their trees is made, and where they
+    /// are more than a few, their prefixes are copied into an index.
     pub(crate) fn of(alloc: Global, entries: Vec<Entry>) -> Mem<Parts>
         requires { length entries.items < 2 ^ 32 }
         ensures { IfOk result (λ parts. parts ≡ entries.items) }
@@ -68,22 +68,28 @@ impl Parts {
     pub(crate) fn matches_any(&self, from: usize, to: usize, path: &Path) -> bool
         requires order { from ≤ to }
         requires within { to ≤ length self.now }
-        ensures { result ≡ some_matches (take (to - from) (drop from (map rule_of self.now))) path.now }
+        ensures { result ≡ some_matches (take (to - from) (drop from (map rule_of self.now)))
+            path.now }
     {
         any_between(self.entries.as_slice(), &self.index, from, to, path)
     }
 
     /// The entries whose prefix matches a path, the last first.
     pub(crate) fn matching<'a>(&'a self, alloc: Global, path: &Path) -> Mem<Vec<&'a Entry>>
-        ensures trees { IfOk result (λ found. rewritten_by_each path.now found.items ≡ rewrites (map rule_of self.now) path.now) }
-        ensures long { IfOk result (λ found. All (λ entry. length entry.now.prefix ≤ length path.now) found.items) }
+        ensures trees { IfOk result
+            (λ found. rewritten_by_each path.now found.items
+            ≡ rewrites (map rule_of self.now) path.now) }
+        ensures long { IfOk result
+            (λ found. All (λ entry. length entry.now.prefix ≤ length path.now) found.items) }
     {
         lend_entries(alloc, self.entries.as_slice(), &self.index, path)
     }
 
     /// The lean trees of those entries, but for the negative ones.
     pub(crate) fn lean_matching<'a>(&'a self, alloc: Global, path: &Path) -> Mem<Vec<LeanTree<'a>>>
-        ensures { IfOk result (λ found. lent_trees path.now found.items ≡ lean_trees (rewrites (map rule_of self.now) path.now)) }
+        ensures { IfOk result
+            (λ found. lent_trees path.now found.items
+            ≡ lean_trees (rewrites (map rule_of self.now) path.now)) }
     {
         let entries = self.entries.as_slice();
         lend_trees(alloc, entries, self.leaner.as_slice(), &self.index, path)

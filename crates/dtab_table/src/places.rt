@@ -13,8 +13,8 @@ use std::alloc::Global;
 /// Of how many entries each is compared with a path, in place of a look-up.
 pub(crate) const FEW_ENTRIES: usize = 8;
 
-/// The index of the prefixes of some entries, whose positions are their places, counted from 0. Of a
-/// few entries none is made, which takes no memory.
+/// The index of the prefixes of some entries, whose positions are their places, counted from 0. Of
+/// a few entries none is made, which takes no memory.
 pub(crate) fn index_of(alloc: Global, entries: &[Entry]) -> Mem<Index>
     requires { length entries.now < 2 ^ 32 }
     ensures { IfOk result (λ index. IsIndexed entries.now index) }

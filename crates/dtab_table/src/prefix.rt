@@ -17,9 +17,11 @@ pub enum PrefixLabel {
     Label(Vec<u8>),
 }
 
-/// What a path must begin with for an entry to apply to it: labels, of which each is matched by a label of the path. None of them is empty.
+/// What a path must begin with for an entry to apply to it: labels, of which each is matched by a
+/// label of the path. None of them is empty.
 ///
-/// Contracts see the list of its labels, where `None` is `*`. It is made from a `Vec` and lends its labels without taking memory.
+/// Contracts see the list of its labels, where `None` is `*`. It is made from a `Vec` and lends its
+/// labels without taking memory.
 #[derive(Debug, Drop)]
 pub struct Prefix {
     labels: Vec<PrefixLabel>,
@@ -154,7 +156,8 @@ impl Prefix {
         Ok(Prefix { labels })
     }
 
-    /// Whether it matches a path: the path has a label for each of its labels, the same unless that is `*`. It takes no memory.
+    /// Whether it matches a path: the path has a label for each of its labels, the same unless that
+    /// is `*`. It takes no memory.
     pub fn matches(&self, path: &Path) -> bool
         ensures { result ≡ matches self.now path.now }
     {

@@ -33,9 +33,11 @@ pub enum PrefixFault {
 pub enum DtabFault {
     /// The text is longer than so many bytes.
     TooLong(usize),
-    /// The first `(` that stands inside 64 open parentheses stands here, and the text up to it and with it begins some table's text.
+    /// The first `(` that stands inside 64 open parentheses stands here, and the text up to it and
+    /// with it begins some table's text.
     TooNested(usize),
-    /// The text is no table, and its first so many bytes are the longest front of it that begins some table's text.
+    /// The text is no table, and its first so many bytes are the longest front of it that begins
+    /// some table's text.
     Syntax(usize),
     /// The table has so many entries, more than 1,024.
     TooMany(usize),
@@ -43,12 +45,16 @@ pub enum DtabFault {
     OutOfMemory,
 }
 
-/// Reads the text of a prefix: a path in which a whole label may be `*`, with blanks (space, tab, CR, LF) at both ends.
+/// Reads the text of a prefix: a path in which a whole label may be `*`, with blanks (space, tab,
+/// CR, LF) at both ends.
 ///
 /// It takes time linear in the text, of which any length is read.
 pub fn read_prefix(alloc: Global, text: &[u8]) -> Result<Prefix, PrefixFault>
-    ensures exact { MatchResult result (λ prefix. PrefixText text.now prefix) (PrefixFaultFits text.now) }
-    ensures only { (labels : List Pattern) → PrefixText text.now labels → MatchResult result (λ prefix. prefix ≡ labels) (λ fault. fault ≡ PrefixFault.OutOfMemory) }
+    ensures exact { MatchResult result (λ prefix. PrefixText text.now prefix)
+        (PrefixFaultFits text.now) }
+    ensures only { (labels : List Pattern) → PrefixText text.now labels
+        → MatchResult result (λ prefix. prefix ≡ labels)
+        (λ fault. fault ≡ PrefixFault.OutOfMemory) }
     ensures labels { IfOk result (λ prefix. ArePatterns prefix) }
 {
     prefix_in(alloc, text)
@@ -73,26 +79,34 @@ fn prefix_in(alloc: Global, text: &[u8]) -> Result<Prefix, PrefixFault>
     }
 }
 
-/// Reads the text of a table: any number of places separated by `;`, each an entry or nothing, with blanks (space, tab, CR, LF) at both
-/// ends and between any two tokens, as the Finagle user guide writes dtabs. An entry is a prefix, `=>` and a tree. A prefix is written as a
-/// path, in which a whole label may be `*`.
+/// Reads the text of a table: any number of places separated by `;`, each an entry or nothing, with
+/// blanks (space, tab, CR, LF) at both ends and between any two tokens, as the Finagle user guide
+/// writes dtabs. An entry is a prefix, `=>` and a tree. A prefix is written as a path, in which a
+/// whole label may be `*`.
 ///
 /// It takes time linear in the text.
 pub fn read_dtab(alloc: Global, text: &[u8]) -> Result<Dtab, DtabFault>
-    ensures exact { MatchResult result (λ dtab. IsTable text.now (rules_of dtab)) (DtabFaultFits text.now) }
-    ensures only { (rules : List Rule) → IsTable text.now rules → MatchResult result (λ dtab. rules_of dtab ≡ rules) (λ fault. fault ≡ DtabFault.OutOfMemory) }
-    ensures computed { MatchResult result (λ dtab. table_of text.now ≡ Some (rules_of dtab)) (λ fault. (fault ≡ DtabFault.OutOfMemory) ⊎ (table_of text.now ≡ None)) }
+    ensures exact { MatchResult result (λ dtab. IsTable text.now (rules_of dtab))
+        (DtabFaultFits text.now) }
+    ensures only { (rules : List Rule) → IsTable text.now rules
+        → MatchResult result (λ dtab. rules_of dtab ≡ rules)
+        (λ fault. fault ≡ DtabFault.OutOfMemory) }
+    ensures computed { MatchResult result (λ dtab. table_of text.now ≡ Some (rules_of dtab))
+        (λ fault. (fault ≡ DtabFault.OutOfMemory) ⊎ (table_of text.now ≡ None)) }
     ensures sound { IfOk result (λ dtab. AreSoundRules (rules_of dtab)) }
 {
     dtab_in(alloc, text)
 }
 
-/// Reads the text of a table, as [`read_dtab`] does, and gives its entries in place of a table of them.
+/// Reads the text of a table, as [`read_dtab`] does, and gives its entries in place of a table of
+/// them.
 ///
 /// It takes time linear in the text.
 pub fn read_entries(alloc: Global, text: &[u8]) -> Result<EntryList, DtabFault>
-    ensures exact { MatchResult result (λ list. IsTable text.now (map rule_of list)) (DtabFaultFits text.now) }
-    ensures computed { MatchResult result (λ list. table_of text.now ≡ Some (map rule_of list)) (λ fault. (fault ≡ DtabFault.OutOfMemory) ⊎ (table_of text.now ≡ None)) }
+    ensures exact { MatchResult result (λ list. IsTable text.now (map rule_of list))
+        (DtabFaultFits text.now) }
+    ensures computed { MatchResult result (λ list. table_of text.now ≡ Some (map rule_of list))
+        (λ fault. (fault ≡ DtabFault.OutOfMemory) ⊎ (table_of text.now ≡ None)) }
     ensures sound { IfOk result (λ list. AreSoundRules (map rule_of list)) }
 {
     entries_in(alloc, text)
@@ -100,7 +114,8 @@ pub fn read_entries(alloc: Global, text: &[u8]) -> Result<EntryList, DtabFault>
 
 /// The table that a text stands for.
 fn dtab_in(alloc: Global, text: &[u8]) -> Result<Dtab, DtabFault>
-    ensures { MatchResult result (λ dtab. IsTable text.now (rules_of dtab)) (DtabFaultFits text.now) }
+    ensures { MatchResult result (λ dtab. IsTable text.now (rules_of dtab))
+        (DtabFaultFits text.now) }
 {
     let entries = match entries_in(alloc, text) {
         Ok(entries) => entries,
@@ -114,7 +129,8 @@ fn dtab_in(alloc: Global, text: &[u8]) -> Result<Dtab, DtabFault>
 
 /// The entries of the table that a text stands for.
 fn entries_in(alloc: Global, text: &[u8]) -> Result<EntryList, DtabFault>
-    ensures { MatchResult result (λ list. IsTable text.now (map rule_of list)) (DtabFaultFits text.now) }
+    ensures { MatchResult result (λ list. IsTable text.now (map rule_of list))
+        (DtabFaultFits text.now) }
 {
     if text.len() > MOST_BYTES {
         return Err(DtabFault::TooLong(MOST_BYTES));

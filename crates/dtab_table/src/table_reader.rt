@@ -3,8 +3,10 @@ ghost use Rattle.std.specs.Prelude.{◌≡◌, OnOk, map};
 ghost use Rattle.name_tree.specs.TreeReading.{ended_state as ended_tree};
 ghost use Rattle.dtab_table.specs.PrefixReading.{end_walk};
 ghost use Rattle.dtab_table.specs.Rules.{rule_of};
-ghost use Rattle.dtab_table.specs.TableReading.{table_start, tree_behind, behind_prefix, next_state, ended_state};
-ghost use Rattle.dtab_table.specs.TableReaders.{rules_in, walk_in, tree_in, prefix_in, state_of, depth_of};
+ghost use Rattle.dtab_table.specs.TableReading.{table_start, tree_behind, behind_prefix};
+ghost use Rattle.dtab_table.specs.TableReading.{next_state, ended_state};
+ghost use Rattle.dtab_table.specs.TableReaders.{rules_in, walk_in, tree_in, prefix_in, state_of};
+ghost use Rattle.dtab_table.specs.TableReaders.{depth_of};
 ghost use Rattle.name_tree.specs.Taken.{Takes, Ends};
 
 use crate::entry::Entry;
@@ -86,7 +88,8 @@ impl TableReader {
     /// Takes in a byte behind a prefix.
     fn take_behind(&mut self, byte: u8) -> Result<(), Refused>
         requires { self.old.mode ≡ Mode.Behind }
-        ensures { Takes (behind_prefix (rules_in self.old) (prefix_in self.old) byte) (state_of self.new) result }
+        ensures { Takes (behind_prefix (rules_in self.old) (prefix_in self.old) byte)
+            (state_of self.new) result }
     {
         if is_blank_byte(byte) {
             return Ok(());
@@ -123,7 +126,8 @@ impl TableReader {
 
     /// Ends an entry.
     fn end_entry(&mut self, alloc: Global) -> Result<(), Refused>
-        ensures { Takes (tree_behind (rules_in self.old) (prefix_in self.old) (ended_tree (tree_in self.old))) (state_of self.new) result }
+        ensures { Takes (tree_behind (rules_in self.old) (prefix_in self.old)
+            (ended_tree (tree_in self.old))) (state_of self.new) result }
     {
         let tree = replace(&mut self.tree, TreeReader::new(alloc)).end(alloc)?;
         let prefix = replace(&mut self.prefix, Prefix::root(alloc));

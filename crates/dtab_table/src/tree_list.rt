@@ -4,7 +4,8 @@ ghost use Rattle.std.specs.Prelude.{◌≡◌};
 use name_tree::Tree;
 use std::marker::Model;
 
-/// Some trees, in order, which contracts see as their list. It is made from a `Vec` and gives it back without taking memory.
+/// Some trees, in order, which contracts see as their list. It is made from a `Vec` and gives it
+/// back without taking memory.
 #[derive(Debug, Drop)]
 pub struct TreeList {
     items: Vec<Tree>,

@@ -3,7 +3,8 @@ ghost use Rattle.std.specs.Prelude.{◌≡◌, ◌<◌, ◌++◌, IfOk, OnOk, ma
 ghost use Rattle.dtab_table.specs.Pattern.{pattern_of};
 ghost use Rattle.dtab_table.specs.Rules.{rule_of};
 ghost use Rattle.dtab_table.specs.Dtab.{rules_of};
-ghost use Rattle.dtab_table.specs.TableCanon.{canon_pattern, canon_prefix, canon_rule, canon_more, canon_table};
+ghost use Rattle.dtab_table.specs.TableCanon.{canon_pattern, canon_prefix, canon_rule, canon_more};
+ghost use Rattle.dtab_table.specs.TableCanon.{canon_table};
 
 use crate::dtab::Dtab;
 use crate::entry::Entry;

@@ -1,5 +1,7 @@
 -- What is held of the feeds that came, and what the leader has to do with it.
-use Rattle.std.specs.Prelude.{◌≡◌, ℕ, ◌≤◌, ◌==◌, ◌&&◌, ◌||◌, nat_lt, Bool, true, false, if◌then◌else◌, List, [], length, Contains, Option, Some, None, option_map}
+use Rattle.std.specs.Prelude.{◌≡◌, ℕ, ◌≤◌, ◌==◌, ◌&&◌, ◌||◌, nat_lt, Bool, true, false}
+use Rattle.std.specs.Prelude.{if◌then◌else◌, List, [], length, Contains, Option, Some, None}
+use Rattle.std.specs.Prelude.{option_map}
 use Rattle.follow_feed.specs.declared.follower.Follower.{Follower}
 use Rattle.follow_feed.specs.declared.follower.Taken.{Taken}
 use Rattle.follow_feed.specs.declared.follower.Taken.TheVariants.{Newer, Older}

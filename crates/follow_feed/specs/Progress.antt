@@ -1,12 +1,14 @@
 -- What polls come to, one after another.
-use Rattle.std.specs.Prelude.{◌≡◌, ℕ, ◌+◌, ◌≤◌, if◌then◌else◌, List, [], ◌∷◌, ◌++◌, length, fold, Option, Some, None, Result, Ok, Err}
+use Rattle.std.specs.Prelude.{◌≡◌, ℕ, ◌+◌, ◌≤◌, if◌then◌else◌, List, [], ◌∷◌, ◌++◌, length, fold}
+use Rattle.std.specs.Prelude.{Option, Some, None, Result, Ok, Err}
 use Rattle.std.specs.Io.KnownBytes.{Appends}
 use Rattle.addr_book.specs.declared.addr.Addr.{Addr}
 use Rattle.body_wire.specs.Passing.{IsFrontOf}
 use Rattle.line_base.specs.Counts.{raised}
 use Rattle.line_base.specs.Dials.{Upstream}
 use Rattle.follow_feed.specs.declared.following.FollowEnd.{FollowEnd}
-use Rattle.follow_feed.specs.declared.following.FollowEnd.TheVariants.{Done, WriteFault, OutOfMemory}
+use Rattle.follow_feed.specs.declared.following.FollowEnd.TheVariants.{Done, WriteFault}
+use Rattle.follow_feed.specs.declared.following.FollowEnd.TheVariants.{OutOfMemory}
 use Rattle.follow_feed.specs.declared.following.Following.{Following}
 use Rattle.follow_feed.specs.declared.polling.PollEnd.{PollEnd}
 use Rattle.follow_feed.specs.Feeds.{FeedValue}

@@ -1,5 +1,6 @@
 -- The text of a feed as JSON (RFC 8259), and the response that tells it.
-use Rattle.std.specs.Prelude.{ℕ, ◌++◌, nat_lt, if◌then◌else◌, List, length, codes, Option, Some, None}
+use Rattle.std.specs.Prelude.{ℕ, ◌++◌, nat_lt, if◌then◌else◌, List, length, codes, Option, Some}
+use Rattle.std.specs.Prelude.{None}
 use Rattle.std.specs.Fmt.{decimal}
 use Rattle.name_tree.specs.Faults.{most_bytes}
 use Rattle.dtab_table.specs.TableCanon.{canon_table}

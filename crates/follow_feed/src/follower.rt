@@ -1,7 +1,8 @@
 //! What is held of the feeds that came.
 ghost use Rattle.std.specs.Prelude.{◌≡◌, ◌++◌, ◌∷◌, [], List, ℕ, None, option_map};
 ghost use Rattle.follow_feed.specs.Feeds.{FeedValue, Run, feed_value};
-ghost use Rattle.follow_feed.specs.Following.{Agrees, Followed, HasOwnNumbers, Sent, held_in, is_later, is_news, taken, taken_as};
+ghost use Rattle.follow_feed.specs.Following.{Agrees, Followed, HasOwnNumbers, Sent, held_in};
+ghost use Rattle.follow_feed.specs.Following.{is_later, is_news, taken, taken_as};
 
 use crate::feed::Feed;
 

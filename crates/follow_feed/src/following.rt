@@ -1,11 +1,13 @@
 //! Following a leader: polls, one after another, and a line for each that tells something newer.
-ghost use Rattle.std.specs.Prelude.{◌≡◌, ◌≢◌, ◌≤◌, ◌<◌, ◌+◌, ◌-◌, ◌^◌, [], ℕ, List, Err, IfOk, Ok, Result, Some};
+ghost use Rattle.std.specs.Prelude.{◌≡◌, ◌≢◌, ◌≤◌, ◌<◌, ◌+◌, ◌-◌, ◌^◌, [], ℕ, List, Err, IfOk, Ok};
+ghost use Rattle.std.specs.Prelude.{Result, Some};
 ghost use Rattle.std.specs.Io.KnownBytes.{Appends};
 ghost use Rattle.follow_feed.specs.declared.polling.PollEnd.{PollEnd as EndOfPoll};
 ghost use Rattle.follow_feed.specs.Feeds.{FeedValue, feed_value};
 ghost use Rattle.follow_feed.specs.Following.{held_in};
 ghost use Rattle.follow_feed.specs.Lines.{feed_line};
-ghost use Rattle.follow_feed.specs.Progress.{IsTurn, IsWritten, Polled, Takes, Tells, begun, faults_behind, progress_in, turn_faults};
+ghost use Rattle.follow_feed.specs.Progress.{IsTurn, IsWritten, Polled, Takes, Tells, begun};
+ghost use Rattle.follow_feed.specs.Progress.{faults_behind, progress_in, turn_faults};
 
 use crate::feed::Feed;
 use crate::follower::{Follower, Taken};

@@ -3,7 +3,8 @@ ghost use Rattle.std.specs.Prelude.{◌≡◌, option_map};
 ghost use Rattle.serde_json.specs.View.{view};
 ghost use Rattle.dtab_table.specs.Computed.{table_of};
 ghost use Rattle.ns_api.specs.JsonTable.{text_at};
-ghost use Rattle.follow_feed.specs.Reading.{Reads, ReadsTable, bare_feed, feed_in, feed_of_data, full_feed, members_in, number_at, rules_at};
+ghost use Rattle.follow_feed.specs.Reading.{Reads, ReadsTable, bare_feed, feed_in, feed_of_data};
+ghost use Rattle.follow_feed.specs.Reading.{full_feed, members_in, number_at, rules_at};
 
 use crate::feed::{Feed, Versioned};
 use crate::polling::PollEnd;

@@ -2,7 +2,8 @@
 ghost use Rattle.std.specs.Prelude.{◌≡◌, ◌++◌, IfOk, OnOk, Some};
 ghost use Rattle.ns_api.specs.Response.{response_value};
 ghost use Rattle.follow_feed.specs.Feeds.{feed_value, space_of};
-ghost use Rattle.follow_feed.specs.Texts.{bare_text, feed_response, full_text, numbers_text, space_response, table_response};
+ghost use Rattle.follow_feed.specs.Texts.{bare_text, feed_response, full_text, numbers_text};
+ghost use Rattle.follow_feed.specs.Texts.{space_response, table_response};
 
 use crate::feed::{Feed, Versioned};
 use crate::{Bytes, Mem};

@@ -5,8 +5,8 @@ use Rattle.http_wire.specs.declared.head.Field.{Field}
 use Rattle.http_wire.specs.Fields.{is_named, values_of}
 use Rattle.http_wire.specs.Framing.{pieces_of}
 
--- the fields that never go on: those that are written anew, those of one connection (RFC 9110 section 7.6.1), Expect, since no
--- interim reply comes back, and the router's own
+-- the fields that never go on: those that are written anew, those of one connection (RFC 9110
+-- section 7.6.1), Expect, since no interim reply comes back, and the router's own
 abbrev pub never_kept : List (List ℕ)
 never_kept =
     codes "Host"
@@ -26,8 +26,8 @@ never_kept =
     ∷ codes "l5d-dst-residual"
     ∷ []
 
--- the names that the values of the Connection fields list (RFC 9110 section 7.6.1): the pieces between commas, without the blanks
--- around each
+-- the names that the values of the Connection fields list (RFC 9110 section 7.6.1): the pieces
+-- between commas, without the blanks around each
 abbrev pub named_in_connection : List Field → List (List ℕ)
 named_in_connection fields = pieces_of (values_of (codes "Connection") fields)
 
@@ -35,7 +35,8 @@ named_in_connection fields = pieces_of (values_of (codes "Connection") fields)
 abbrev pub has_name_of : List (List ℕ) → Field → Bool
 has_name_of names field = list_any (λ name. is_named name field) names
 
--- the fields of a reply that never go back: those that are written anew, and those of one connection
+-- the fields of a reply that never go back: those that are written anew, and those of one
+-- connection
 abbrev pub never_back : List (List ℕ)
 never_back =
     codes "Content-Length"
@@ -48,7 +49,8 @@ never_back =
     ∷ codes "Upgrade"
     ∷ []
 
--- the field has none of the names that never go on, and none of those that the Connection fields list
+-- the field has none of the names that never go on, and none of those that the Connection fields
+-- list
 abbrev pub goes_on : List (List ℕ) → List (List ℕ) → Field → Bool
 goes_on never listed field = not (has_name_of never field) && not (has_name_of listed field)
 

@@ -7,7 +7,8 @@ use Rattle.forward.specs.Listed.{is_among_lowered}
 
 -- the field has none of these names, and none of those that are listed
 abbrev pub is_left : List (List ℕ) → Listed → Field → Bool
-is_left never listed field = not (has_name_of never field) && not (is_among_lowered listed.names.items field.name)
+is_left never listed field =
+    not (has_name_of never field) && not (is_among_lowered listed.names.items field.name)
 
 -- the fields of which this holds
 unfoldable pub left_by : List (List ℕ) → Listed → List Field → List Field

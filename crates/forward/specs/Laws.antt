@@ -21,8 +21,9 @@ IsRequestFraming (Framing.Length n) = n < 2 ^ 63
 IsRequestFraming Framing.Chunked = Unit {0}
 IsRequestFraming Framing.ToEnd = ⊥
 
--- a way as requests go: each of its texts has the bytes that may stand in its place, so that none ends a line of the head or begins another one;
--- its host has no blank at an end, its paths are of bytes, and its table is one that was read or made
+-- a way as requests go: each of its texts has the bytes that may stand in its place, so that none
+-- ends a line of the head or begins another one; its host has no blank at an end, its paths are of
+-- bytes, and its table is one that was read or made
 pub record IsPlainWay (to : Going) : Type 0 where
   pub host_bytes : AllPass is_value_byte to.host.now
   pub host : trim_ows to.host.now ≡ to.host.now
@@ -38,8 +39,9 @@ abbrev pub table_texts : List Rule → List (List ℕ)
 table_texts [] = []
 table_texts (rule ∷ rules) = canon_table (rule ∷ rules) ∷ []
 
--- the bytes are one head and nothing behind it, which has the method, the target, the framing and the one host that were meant, no table of a client, and of
--- the routers' tables none but the one that was meant
+-- the bytes are one head and nothing behind it, which has the method, the target, the framing and
+-- the one host that were meant, no table of a client, and of the routers' tables none but the one
+-- that was meant
 pub record ReadsBack (head : Head) (to : Going) (read : Head) : Type 0 where
   pub whole : BeginsWith (forwarded head to) read (length (forwarded head to))
   pub method : read.method ≡ head.method
@@ -48,9 +50,11 @@ pub record ReadsBack (head : Head) (to : Going) (read : Head) : Type 0 where
   pub framing : framing_of read.version read.fields ≡ Ok to.framing
   pub host : values_of (codes "host") read.fields ≡ to.host.now ∷ []
   pub no_table : values_of (codes "l5d-dtab") read.fields ≡ []
-  pub table : values_of (codes "l5d-ctx-dtab") read.fields ≡ map trim_ows (table_texts (rules_of to.local.now))
+  pub table : values_of (codes "l5d-ctx-dtab") read.fields
+      ≡ map trim_ows (table_texts (rules_of to.local.now))
 
 -- what is written of a head that was read is read so, where it is no longer than a head may be
 abbrev pub HeadsReadBack : Type 0
 HeadsReadBack =
-    (head : Head) (to : Going) → IsSoundHead head → IsPlainWay to → length (forwarded head to) ≤ most → (read : Head) × ReadsBack head to read
+    (head : Head) (to : Going) → IsSoundHead head → IsPlainWay to
+    → length (forwarded head to) ≤ most → (read : Head) × ReadsBack head to read

@@ -20,6 +20,8 @@ lowered names = map lower names
 abbrev pub is_among_lowered : List (Vec ℕ Global) → List ℕ → Bool
 is_among_lowered names name = list_any (λ (n : Vec ℕ Global). bytes_eq n.items (lower name)) names
 
--- the lowered names stand for these: a name is among the ones where it is among the others, in any case
+-- the lowered names stand for these: a name is among the ones where it is among the others, in any
+-- case
 abbrev pub StandFor : List (Vec ℕ Global) → List (List ℕ) → Type 0
-StandFor names pieces = (name : List ℕ) → is_among_lowered names name ≡ list_any (same_ignoring_case name) pieces
+StandFor names pieces =
+    (name : List ℕ) → is_among_lowered names name ≡ list_any (same_ignoring_case name) pieces

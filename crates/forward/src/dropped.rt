@@ -9,8 +9,8 @@ use crate::{Bytes, Mem};
 use http_wire::{Field, push_field};
 use std::alloc::Global;
 
-/// The names of the fields that never go on: those that are written anew, those of one connection (RFC 9110 section 7.6.1), Expect,
-/// since no interim reply comes back, and the router's own.
+/// The names of the fields that never go on: those that are written anew, those of one connection
+/// (RFC 9110 section 7.6.1), Expect, since no interim reply comes back, and the router's own.
 pub(crate) const NEVER_KEPT: [&str; 15] = [
     "Host",
     "Content-Length",
@@ -29,7 +29,8 @@ pub(crate) const NEVER_KEPT: [&str; 15] = [
     "l5d-dst-residual",
 ];
 
-/// The names of the fields of a reply that never go back: those that are written anew, and those of one connection.
+/// The names of the fields of a reply that never go back: those that are written anew, and those of
+/// one connection.
 pub(crate) const NEVER_BACK: [&str; 8] = [
     "Content-Length",
     "Transfer-Encoding",
@@ -41,7 +42,8 @@ pub(crate) const NEVER_BACK: [&str; 8] = [
     "Upgrade",
 ];
 
-/// Adds the lines of the fields that go on: all but those of the names that never do, and those that the Connection fields list.
+/// Adds the lines of the fields that go on: all but those of the names that never do, and those
+/// that the Connection fields list.
 pub(crate) fn push_kept(
     alloc: Global,
     head: &mut Bytes,
@@ -68,7 +70,8 @@ fn push_where_left(
     room: &mut Bytes,
 ) -> Mem<()>
     ensures { OnOk result (head.new.items ≡ head.old.items
-        ++ ended (map field_line (left_by (map (λ n. n.now) never.now) listed.now (field.now ∷ [])))) }
+        ++ ended (map field_line
+        (left_by (map (λ n. n.now) never.now) listed.now (field.now ∷ [])))) }
 {
     let on = goes_on(field, never, listed, room)?;
     if !on {

@@ -11,8 +11,8 @@ use crate::{Bytes, Mem};
 use http_wire::Field;
 use std::alloc::Global;
 
-/// The names that the Connection fields of a head list, in lower case and in order. So each field's name is looked up in the steps of a
-/// binary search, however many names a client lists.
+/// The names that the Connection fields of a head list, in lower case and in order. So each field's
+/// name is looked up in the steps of a binary search, however many names a client lists.
 #[derive(Debug, Drop)]
 pub(crate) struct Listed {
     names: Vec<Bytes>,
@@ -22,7 +22,8 @@ pub(crate) struct Listed {
 impl Listed {
     /// The names that the Connection fields among these list.
     pub(crate) fn of(alloc: Global, fields: &[Field]) -> Mem<Listed>
-        ensures { IfOk result (λ listed. StandFor listed.names.items (named_in_connection fields.now)) }
+        ensures { IfOk result
+            (λ listed. StandFor listed.names.items (named_in_connection fields.now)) }
     {
         let mut names = lowered_names(alloc, fields)?;
         names.sort()?;

@@ -8,9 +8,11 @@ use crate::{Bytes, Mem};
 use http_wire::{Field, trimmed};
 use std::alloc::Global;
 
-/// The names that the values of the Connection fields list, in order and in lower case (RFC 9110 section 7.6.1).
+/// The names that the values of the Connection fields list, in order and in lower case (RFC 9110
+/// section 7.6.1).
 pub(crate) fn lowered_names(alloc: Global, fields: &[Field]) -> Mem<Vec<Bytes>>
-    ensures { IfOk result (λ names. map (λ n. n.items) names.items ≡ lowered (named_in_connection fields.now)) }
+    ensures { IfOk result
+        (λ names. map (λ n. n.items) names.items ≡ lowered (named_in_connection fields.now)) }
 {
     let mut names = Vec::new(alloc);
     for field in fields {

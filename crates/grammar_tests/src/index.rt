@@ -80,8 +80,8 @@ fn thousands(alloc: Global) -> Mem<Index> {
     Ok(index)
 }
 
-/// The positions of the prefixes that match the path `/svc/s` with a number and one more label behind
-/// it.
+/// The positions of the prefixes that match the path `/svc/s` with a number and one more label
+/// behind it.
 fn found_behind(alloc: Global, index: &Index, number: u32) -> Mem<Vec<u32>> {
     let mut text = numbered(alloc, number)?;
     text.extend_from_slice(b"/x")?;

@@ -1,4 +1,5 @@
-//! Tests of the outside in memory, of the index of prefixes, and of the texts of paths, trees and tables.
+//! Tests of the outside in memory, of the index of prefixes, and of the texts of paths, trees and
+//! tables.
 #![tactic(auto)]
 
 #[cfg(test)]

@@ -253,7 +253,8 @@ fn writes_paths(rt: HostRuntime) -> Result<(), Fail> {
     Ok(())
 }
 
-/// The labels of a path from one place to before another, and those of a second path behind them from a third place on.
+/// The labels of a path from one place to before another, and those of a second path behind them
+/// from a third place on.
 fn put_together(
     alloc: Global,
     path: &Path,
@@ -333,7 +334,8 @@ fn compares_labels(rt: HostRuntime) -> Result<(), Fail> {
     Ok(())
 }
 
-/// Whether the path `/a/a` and so on, and the tree of it and so many `~`, are written as they are read.
+/// Whether the path `/a/a` and so on, and the tree of it and so many `~`, are written as they are
+/// read.
 fn are_written_as_read(alloc: Global, count: usize) -> Result<bool, Fail> {
     let mut text = repeated(alloc, "", "/a", count, "")?;
     let path = path_of(alloc, text.as_slice())?;

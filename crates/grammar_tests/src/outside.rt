@@ -44,7 +44,8 @@ fn read_up_to(
     (gives, source.faults(), source.ends())
 }
 
-/// Three pieces of 1, at least 1 and 3 bytes; calls 1 and 5 fail; the end is given as often as it is asked for.
+/// Three pieces of 1, at least 1 and 3 bytes; calls 1 and 5 fail; the end is given as often as it
+/// is asked for.
 #[test]
 fn source_in_pieces(rt: HostRuntime) -> Result<(), Fail> {
     let mut source = source_of(rt.alloc(), b"abcdefg", &[1, 9, 0, 3], &[1, 5])?;
@@ -176,8 +177,8 @@ fn dialer_of(alloc: Global, sizes: &[usize], failing: &[u64]) -> Mem<MemDialer> 
     Ok(MemDialer::of(alloc, replies, sizes, Vec::from_slice(alloc, failing)?))
 }
 
-/// Two bytes are sent at call 1 and two received at call 2; the send 5 and the dial 8 fail; a send of nothing is no call and stands in
-/// no log, and the end is got as no bytes.
+/// Two bytes are sent at call 1 and two received at call 2; the send 5 and the dial 8 fail; a send
+/// of nothing is no call and stands in no log, and the end is got as no bytes.
 #[test]
 fn dialer_keeps_a_log(rt: HostRuntime) -> Result<(), Fail> {
     let mut dialer = dialer_of(rt.alloc(), &[9, 2, 2], &[5, 8])?;
@@ -197,8 +198,8 @@ fn dialer_keeps_a_log(rt: HostRuntime) -> Result<(), Fail> {
     Ok(())
 }
 
-/// One visit: a connection is resumed, or else dialed; so many bytes are received at most; and it is
-/// put aside, or ended.
+/// One visit: a connection is resumed, or else dialed; so many bytes are received at most; and it
+/// is put aside, or ended.
 fn visit<D: Dialer>(dialer: &mut D, port: u16, room: usize, keeps: bool) -> Result<usize, Failed>
     requires { room ≤ 4 }
 {
@@ -319,7 +320,8 @@ fn names_of<F: Folder>(alloc: Global, folder: &mut F, name: &str) -> Result<Stri
     Ok(text)
 }
 
-/// Names come in the order of their bytes; a file of `most` bytes is found, and one of a byte more is longer; call 6 fails.
+/// Names come in the order of their bytes; a file of `most` bytes is found, and one of a byte more
+/// is longer; call 6 fails.
 #[test]
 fn folder_of_files(rt: HostRuntime) -> Result<(), Fail> {
     let mut folder = folders_of(rt.alloc())?;
@@ -341,7 +343,8 @@ fn folder_of_files(rt: HostRuntime) -> Result<(), Fail> {
     Ok(())
 }
 
-/// Five answers of a listener: `p` for a peer, which goes back at once, `!` for a fault, and `-` where it is closed.
+/// Five answers of a listener: `p` for a peer, which goes back at once, `!` for a fault, and `-`
+/// where it is closed.
 fn answers<L: Listener>(listener: &mut L) -> [u8; 5] {
     let mut answers = [b'.'; 5];
     for answer in answers.iter_mut() {
@@ -368,7 +371,8 @@ fn answer_and_end<N: Net>(net: &mut N, listener: N::L) -> Result<[u8; 5], NetFau
     }
 }
 
-/// Listens on port 80 of an address, at two places, and gives each listener back behind its five answers, all in one text.
+/// Listens on port 80 of an address, at two places, and gives each listener back behind its five
+/// answers, all in one text.
 fn listen_twice<N: Net>(net: &mut N, alloc: Global, ip: u32) -> Result<Vec<u8>, NetFault> {
     let listeners = match net.listen(ip, 80, 2, 0) {
         Ok(listeners) => listeners.into_items(),
@@ -394,7 +398,8 @@ fn visits(alloc: Global, count: u32, failing: &[u64]) -> Mem<MemVisits<MemPeer>>
     Ok(MemVisits { peers, failing })
 }
 
-/// A net whose call 1 fails. To port 80 of the address 7 two peers come at the first place, where accept 1 fails, and one at the second.
+/// A net whose call 1 fails. To port 80 of the address 7 two peers come at the first place, where
+/// accept 1 fails, and one at the second.
 fn net_of_visits(alloc: Global) -> Mem<MemNet<MemPeer>> {
     let mut places = Vec::new(alloc);
     places.push(visits(alloc, 2, &[1])?)?;
@@ -423,7 +428,8 @@ fn heard(net: &mut MemNet<MemPeer>, alloc: Global, ip: u32) -> Mem<Vec<u8>> {
     }
 }
 
-/// How many peers came back with each listener, with `d` where a dialer did too, and how often its stop was called.
+/// How many peers came back with each listener, with `d` where a dialer did too, and how often its
+/// stop was called.
 fn ended_text(alloc: Global, net: &MemNet<MemPeer>) -> Mem<String> {
     let mut text = String::new(alloc);
     for ended in net.ended() {
@@ -435,8 +441,8 @@ fn ended_text(alloc: Global, net: &MemNet<MemPeer>) -> Mem<String> {
     Ok(text)
 }
 
-/// Two peers come to the first place of an address and one to the second; the accept 1 of the first fails. A later call goes on behind
-/// them, the call 1 fails, and to another address nobody comes.
+/// Two peers come to the first place of an address and one to the second; the accept 1 of the first
+/// fails. A later call goes on behind them, the call 1 fails, and to another address nobody comes.
 #[test]
 fn net_of_listeners(rt: HostRuntime) -> Result<(), Fail> {
     let mut net = net_of_visits(rt.alloc())?;

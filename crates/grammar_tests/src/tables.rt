@@ -1,4 +1,5 @@
-//! Texts of prefixes and tables with their values and their places of refusal, what tables rewrite paths to, and the limits.
+//! Texts of prefixes and tables with their values and their places of refusal, what tables rewrite
+//! paths to, and the limits.
 ghost use Rattle.std.specs.Prelude.{◌≡◌, ◌<◌};
 
 use dtab_table::{
@@ -167,7 +168,8 @@ fn count_of(
     }
 }
 
-/// So many entries and no more, so long and no longer, so deep and no deeper, and which of these is told first.
+/// So many entries and no more, so long and no longer, so deep and no deeper, and which of these is
+/// told first.
 #[test]
 fn keeps_the_limits(rt: HostRuntime) -> Result<(), Fail> {
     let rows = [
@@ -206,7 +208,8 @@ fn is_written_as_read(alloc: Global, count: usize) -> Result<bool, Fail> {
     Ok(len == count.saturating_add(1) && written == text)
 }
 
-/// Tables of so many entries and of texts of so many bytes between the limits are read, and written as they were.
+/// Tables of so many entries and of texts of so many bytes between the limits are read, and written
+/// as they were.
 #[test]
 fn reads_middle_sizes(rt: HostRuntime) -> Result<(), Fail> {
     for count in [99usize, 112, 299, 699] {

@@ -1,5 +1,6 @@
 -- What a folder answers, where it tells its files.
-use Rattle.std.specs.Prelude.{◌≡◌, ℕ, ◌<◌, ◌≤◌, if◌then◌else◌, List, [], ◌∷◌, ◌++◌, length, Contains, Option, Some, None, Result, Err}
+use Rattle.std.specs.Prelude.{◌≡◌, ℕ, ◌<◌, ◌≤◌, if◌then◌else◌, List, [], ◌∷◌, ◌++◌, length}
+use Rattle.std.specs.Prelude.{Contains, Option, Some, None, Result, Err}
 use Rattle.std.specs.Cmp.Lexicographic.{slice_cmp}
 use Rattle.std.specs.Ordering.{nat_cmp}
 use Rattle.std.specs.List.Sorted.{IsStrictlySortedBy}
@@ -16,8 +17,8 @@ pub record File : Type 0 where
   pub name : List ℕ
   pub bytes : List ℕ
 
--- folders: the files, where they are told, and how often a call failed. The count never falls, and stands still at the last value
--- of a `u64`
+-- folders: the files, where they are told, and how often a call failed. The count never falls, and
+-- stands still at the last value of a `u64`
 pub record Filed : Type 0 where
   pub files : Option (List File)
   pub faults : ℕ
@@ -34,7 +35,8 @@ file_at (f ∷ fs) path = if bytes_eq (path_of f) path then Some f.bytes else fi
 -- the names of a folder's files, in the order of the files
 abbrev pub names_in : List File → List ℕ → List (List ℕ)
 names_in [] folder = []
-names_in (f ∷ fs) folder = if bytes_eq f.folder folder then f.name ∷ names_in fs folder else names_in fs folder
+names_in (f ∷ fs) folder =
+    if bytes_eq f.folder folder then f.name ∷ names_in fs folder else names_in fs folder
 
 -- these are a folder's names, each once, in the order of their bytes
 pub record AreNames (files : List File) (folder : List ℕ) (names : List (List ℕ)) : Type 0 where
@@ -63,8 +65,10 @@ abbrev pub IsWithin : Found → ℕ → Type 0
 IsWithin (Bytes found) most = length found.items ≤ most
 IsWithin other most = Unit {0}
 
--- a folder's count of faults never falls: a call that fails raises it by one, and any other, want of memory too, leaves it as it was
-pub record HasFolderCause {T : Type 0} (before now : ℕ) (result : Result T FolderFault) : Type 0 where
-  pub later : before ≤ now
-  pub failed : result ≡ Err Failed → now ≡ raised before
-  pub kept : (result ≡ Err Failed → ⊥) → now ≡ before
+-- a folder's count of faults never falls: a call that fails raises it by one, and any other, want
+-- of memory too, leaves it as it was
+pub record HasFolderCause {T : Type 0} (before now : ℕ) (result : Result T FolderFault) : Type 0
+  where
+    pub later : before ≤ now
+    pub failed : result ≡ Err Failed → now ≡ raised before
+    pub kept : (result ≡ Err Failed → ⊥) → now ≡ before

@@ -1,5 +1,7 @@
 -- What nets tell, and what their calls leave.
-use Rattle.std.specs.Prelude.{◌≡◌, ℕ, ◌+◌, ◌-◌, ◌<◌, ◌≤◌, ◌==◌, ◌&&◌, nat_lt, Bool, if◌then◌else◌, List, [], ◌∷◌, ◌++◌, length, slice_index_or, Option, Some, None, IsSome, OnSome, IfSome, Result, Ok, Err, option_map}
+use Rattle.std.specs.Prelude.{◌≡◌, ℕ, ◌+◌, ◌-◌, ◌<◌, ◌≤◌, ◌==◌, ◌&&◌, nat_lt, Bool, if◌then◌else◌}
+use Rattle.std.specs.Prelude.{List, [], ◌∷◌, ◌++◌, length, slice_index_or, Option, Some, None}
+use Rattle.std.specs.Prelude.{IsSome, OnSome, IfSome, Result, Ok, Err, option_map}
 use Rattle.line_base.specs.Accepts.{Listening, no_visits}
 use Rattle.line_base.specs.Counts.{raised}
 use Rattle.line_base.specs.Dials.{Upstream}
@@ -8,7 +10,8 @@ use Rattle.line_base.specs.declared.listener.Endpoint.{Endpoint}
 use Rattle.line_base.specs.declared.net.NetFault.{NetFault}
 use Rattle.line_base.specs.declared.net.NetFault.TheVariants.{Failed}
 
--- what came back together: the listener, the log of the dialer that came with it, where there was one that tells it, and the number of calls of the stop
+-- what came back together: the listener, the log of the dialer that came with it, where there was
+-- one that tells it, and the number of calls of the stop
 pub record Ended (P : Type 0) : Type 0 where
   pub listener : Listening P
   pub log : Option (List DialEvent)
@@ -19,15 +22,17 @@ pub record Returns (P : Type 0) : Type 0 where
   pub ended : List (Ended P)
   pub room : ℕ
 
--- a net: what came back, where it tells it, and three numbers: the listeners that came back clean, the stops that it handed out, and those that came back.
--- A number stands still at the last value of a `u64`
+-- a net: what came back, where it tells it, and three numbers: the listeners that came back clean,
+-- the stops that it handed out, and those that came back. A number stands still at the last value
+-- of a `u64`
 pub record Networking (P : Type 0) : Type 0 where
   pub told : Option (Returns P)
   pub clean : ℕ
   pub stops_given : ℕ
   pub stops_returned : ℕ
 
--- a listener that came back clean: it answered that it is closed, and as many peers came back as it handed out
+-- a listener that came back clean: it answered that it is closed, and as many peers came back as it
+-- handed out
 abbrev pub is_clean : {P : Type 0} → Listening P → Bool
 is_clean l = nat_lt 0 l.closes && (l.finished == l.accepted)
 
@@ -41,12 +46,24 @@ with_ended e r = if r.room == 0 then r else record { ended = r.ended ++ e ∷ []
 
 -- a net behind a call that was to make so many listeners
 abbrev pub after_listen : {P T E : Type 0} → Networking P → ℕ → Result T E → Networking P
-after_listen n copies (Ok made) = record { told = option_map (with_room copies) n.told; clean = n.clean; stops_given = n.stops_given; stops_returned = n.stops_returned }
+after_listen n copies (Ok made) =
+    record {
+      told = option_map (with_room copies) n.told;
+      clean = n.clean;
+      stops_given = n.stops_given;
+      stops_returned = n.stops_returned;
+    }
 after_listen n copies (Err e) = n
 
 -- a net that handed a stop out
 abbrev pub after_stopper : {P : Type 0} → Networking P → Networking P
-after_stopper n = record { told = n.told; clean = n.clean; stops_given = raised n.stops_given; stops_returned = n.stops_returned }
+after_stopper n =
+    record {
+      told = n.told;
+      clean = n.clean;
+      stops_given = raised n.stops_given;
+      stops_returned = n.stops_returned;
+    }
 
 -- a net that took these back
 abbrev pub after_end : {P : Type 0} → Networking P → Ended P → Networking P
@@ -57,8 +74,10 @@ after_end n e = record {
   stops_returned = raised n.stops_returned;
 }
 
--- a new listener for this endpoint: its numbers are 0, it has no visits, and it tells both where its net tells what comes back
-pub record IsNew {P : Type 0} (told : Option (Returns P)) (endpoint : Endpoint) (l : Listening P) : Type 0 where
+-- a new listener for this endpoint: its numbers are 0, it has no visits, and it tells both where
+-- its net tells what comes back
+pub record IsNew {P : Type 0} (told : Option (Returns P)) (endpoint : Endpoint)
+    (l : Listening P) : Type 0 where
   pub none_yet : IfSome l.visits (λ v. v ≡ no_visits)
   pub closes : l.closes ≡ 0
   pub accepted : l.accepted ≡ 0
@@ -68,11 +87,15 @@ pub record IsNew {P : Type 0} (told : Option (Returns P)) (endpoint : Endpoint) 
   pub tells : OnSome told (IsSome l.visits)
 
 -- these are new listeners for an address, each for its place
-abbrev pub AreNew : {P L : Type 0} → (L → Listening P) → Option (Returns P) → ℕ → ℕ → List L → Type 0
-AreNew state told ip port ls = (at : ℕ) (d : _) → at < length ls → IsNew told (record { ip = ip; port = port; place = at }) (state (slice_index_or ls at d))
+abbrev pub AreNew : {P L : Type 0} → (L → Listening P) → Option (Returns P) → ℕ → ℕ → List L
+    → Type 0
+AreNew state told ip port ls =
+    (at : ℕ) (d : _) → at < length ls
+    → IsNew told (record { ip = ip; port = port; place = at }) (state (slice_index_or ls at d))
 
 -- the log of a new dialer: nothing, and told where its net tells what comes back
-pub record IsNewLog {P : Type 0} (told : Option (Returns P)) (log : Option (List DialEvent)) : Type 0 where
+pub record IsNewLog {P : Type 0} (told : Option (Returns P)) (log : Option (List DialEvent)) : Type
+    0 where
   pub nothing : IfSome log (λ events. events ≡ [])
   pub tells : OnSome told (IsSome log)
 
@@ -81,7 +104,8 @@ abbrev pub log_of : {D : Type 0} → (D → Upstream) → Option D → Option (L
 log_of upstream None = None
 log_of upstream (Some d) = (upstream d).log
 
--- a net's count of faults never falls: a call that fails raises it by one, and any other, want of memory too, leaves it as it was
+-- a net's count of faults never falls: a call that fails raises it by one, and any other, want of
+-- memory too, leaves it as it was
 pub record HasNetCause {T : Type 0} (before now : ℕ) (result : Result T NetFault) : Type 0 where
   pub later : before ≤ now
   pub failed : result ≡ Err Failed → now ≡ raised before

@@ -15,7 +15,9 @@ pub trait Clock {
         ensures tells { Tells (to_come self.old) (to_come self.new) result }
         ensures fork { of_fork self.new ≡ of_fork self.old };
 
-    /// Another clock over the same time. It takes no memory. Where it tells its moments, it begins with the first.
+    /// Another clock over the same time. It takes no memory. Where it tells its moments, it begins
+    /// with the first.
     fn fork(&self) -> Self
-        ensures { Begins (of_fork self.now) (to_come result) × Begins (of_fork self.now) (of_fork result) };
+        ensures { Begins (of_fork self.now) (to_come result)
+            × Begins (of_fork self.now) (of_fork result) };
 }

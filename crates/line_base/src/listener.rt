@@ -61,11 +61,13 @@ pub trait Listener {
     /// The peers that it hands out.
     type P: Peer;
 
-    /// What it was made for, the peers that it handed out and those that came back, each where it tells them; and, always, how often it answered that it is
-    /// closed, how many peers it handed out, how many came back, and how many accepts failed since the last that did not.
+    /// What it was made for, the peers that it handed out and those that came back, each where it
+    /// tells them; and, always, how often it answered that it is closed, how many peers it handed
+    /// out, how many came back, and how many accepts failed since the last that did not.
     ghost state: { Self → Listening Self.P };
 
-    /// How often an accept failed. The count never falls, and stands still at the last value of a `u64`.
+    /// How often an accept failed. The count never falls, and stands still at the last value of a
+    /// `u64`.
     ghost faults: { Self → ℕ };
 
     /// The next peer; none once the listener is closed, and from then on always.

@@ -1,5 +1,6 @@
 -- Words that count the seats which hold a slot, and what one step does to what its seat knows.
-use Rattle.std.specs.Prelude.{◌≡◌, ℕ, ◌+◌, ◌-◌, ◌<◌, ◌≤◌, ◌==◌, List, [], ◌∷◌, ◌++◌, length, slice_index, if◌then◌else◌, Option, Some, None}
+use Rattle.std.specs.Prelude.{◌≡◌, ℕ, ◌+◌, ◌-◌, ◌<◌, ◌≤◌, ◌==◌, List, [], ◌∷◌, ◌++◌, length}
+use Rattle.std.specs.Prelude.{slice_index, if◌then◌else◌, Option, Some, None}
 use mathlib.Core.Option.{some}
 use lib.ListN.{get_elem?}
 use Rattle.atomic_table.specs.Table.{State}
@@ -25,8 +26,8 @@ abbrev pub HasPart : Option ℕ → ℕ → Type 0
 HasPart None parts = Unit {0}
 HasPart (Some held) parts = 0 < parts
 
--- Each of the 8,192 words is the number of seats that hold its slot.
--- Seats that hold a slot have a part each, and there are no more parts than seats were made: so no word is greater, nor wraps
+-- Each of the 8,192 words is the number of seats that hold its slot. Seats that hold a slot have a
+-- part each, and there are no more parts than seats were made: so no word is greater, nor wraps
 pub record WordsCountHolders (seats : ℕ) (s : State (Unit {0}) Tally) : Type 0 where
   pub words : length s.words ≡ 8192
   pub each : (slot : ℕ) → slot < 8192 → slice_index s.words slot ≡ holders slot s.views
@@ -59,7 +60,9 @@ spent = fresh 0 0
 
 -- load: the number found is at most that of the seats, and at least 1 where the seat holds the slot
 abbrev pub Loaded : ℕ → ℕ → Tally → Tally → Type 0
-Loaded slot found old new = (new ≡ record old { reads = old.reads ++ (slot, found) ∷ [] }) × (found ≤ old.seats) × (old.slot ≡ Some slot → 1 ≤ found)
+Loaded slot found old new =
+    (new ≡ record old { reads = old.reads ++ (slot, found) ∷ [] }) × (found ≤ old.seats)
+    × (old.slot ≡ Some slot → 1 ≤ found)
 
 -- add
 abbrev pub Added : ℕ → Tally → Tally → Type 0

@@ -5,7 +5,8 @@ use Rattle.load_words.specs.declared.rule.Tally.{Tally}
 use Rattle.load_words.specs.declared.words.LoadSeat.{LoadSeat}
 use Rattle.load_words.specs.declared.words.Loads.{Loads}
 
--- which words they are, and how many seats were made with them. A contract that ties a seat to the words compares two of these
+-- which words they are, and how many seats were made with them. A contract that ties a seat to the
+-- words compares two of these
 pub record Words : Type 0 where
   pub table : TableId
   pub seats : ℕ

@@ -1,18 +1,22 @@
 //! Words that threads share without a lock: each is the number of seats that hold its slot.
 //!
-//! A proxy that may send a request to either of two replicas reads the words of both, picks the one with the lesser load, and holds its
-//! slot while the request runs. [`start`] makes 8,192 words of 0, the [`Loads`], and up to 1,024 [`LoadSeat`]s, one for each thread.
-//! With its seat a thread reads words ([`Loads::read`]), takes a slot ([`Loads::take`]) and gives it back ([`Loads::give`]). A seat holds
-//! at most one slot at a time, and [`LoadSeat::holds`] says which. After `start` each call is one atomic operation at most: it takes no
-//! memory and waits for no thread.
+//! A proxy that may send a request to either of two replicas reads the words of both, picks the one
+//! with the lesser load, and holds its slot while the request runs. [`start`] makes 8,192 words of
+//! 0, the [`Loads`], and up to 1,024 [`LoadSeat`]s, one for each thread. With its seat a thread
+//! reads words ([`Loads::read`]), takes a slot ([`Loads::take`]) and gives it back
+//! ([`Loads::give`]). A seat holds at most one slot at a time, and [`LoadSeat::holds`] says which.
+//! After `start` each call is one atomic operation at most: it takes no memory and waits for no
+//! thread.
 //!
 //! # What is proved
-//! Between any two operations, of whatever threads, each word is the number of seats that hold its slot: `WordsCountHolders` of
-//! `specs/Counting.antt`, which each operation is shown to keep. So no word is greater than the number of seats, and none wraps.
+//! Between any two operations, of whatever threads, each word is the number of seats that hold its
+//! slot: `WordsCountHolders` of `specs/Counting.antt`, which each operation is shown to keep. So no
+//! word is greater than the number of seats, and none wraps.
 //!
-//! Each call says what it does to its seat: which slot the seat holds, and two lists that contracts know, of all that the seat read with
-//! the numbers found, and of the slots that it took. No other call changes them, and they take no memory when the program runs. A number
-//! read is at most the number of seats, and at least 1 where the reading seat holds that slot.
+//! Each call says what it does to its seat: which slot the seat holds, and two lists that contracts
+//! know, of all that the seat read with the numbers found, and of the slots that it took. No other
+//! call changes them, and they take no memory when the program runs. A number read is at most the
+//! number of seats, and at least 1 where the reading seat holds that slot.
 //!
 //! # Example
 //! ```text

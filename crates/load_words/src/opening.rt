@@ -12,9 +12,11 @@ use std::alloc::Global;
 /// How many slots there are.
 const SLOTS: usize = 8192;
 
-/// Makes 8,192 words of 0 and so many seats, of which none holds a slot and none has read or taken one.
+/// Makes 8,192 words of 0 and so many seats, of which none holds a slot and none has read or taken
+/// one.
 ///
-/// The only error is want of memory. It takes 64 KiB for the words, 8 bytes for each seat, and 64 KiB more until it returns.
+/// The only error is want of memory. It takes 64 KiB for the words, 8 bytes for each seat, and 64
+/// KiB more until it returns.
 pub fn start(alloc: Global, seats: u32) -> Mem<(Loads, Vec<LoadSeat>)>
     requires { (1 ≤ seats) × (seats ≤ 1024) }
     ensures count { IfOk result (λ made. length made.1.items ≡ seats) }
@@ -30,7 +32,8 @@ pub fn start(alloc: Global, seats: u32) -> Mem<(Loads, Vec<LoadSeat>)>
 }
 
 impl Loads {
-    /// So many seats, each with one part of the first seat's, which had a part for each. The last one is joined by the first, which is spent.
+    /// So many seats, each with one part of the first seat's, which had a part for each. The last
+    /// one is joined by the first, which is spent.
     fn make_seats(
         &self,
         alloc: Global,
@@ -38,7 +41,8 @@ impl Loads {
         seats: u32,
     ) -> Mem<Vec<LoadSeat>>
         requires some { 1 ≤ seats }
-        requires first { (first.table_id ≡ self.now.table.shared.table_id) × (first.me ≡ (opened seats, [])) }
+        requires first { (first.table_id ≡ self.now.table.shared.table_id)
+            × (first.me ≡ (opened seats, [])) }
         requires bound { seats_of self.now ≡ seats }
         ensures count { IfOk result (λ made. length made.items ≡ seats) }
         ensures seats { IfOk result (λ made. All (IsOf self.now) made.items) }
@@ -62,7 +66,8 @@ impl Loads {
         requires part { 1 ≤ other.old.me.0.parts }
         requires free { other.old.me.0.slot ≡ None }
         requires bound { other.old.me.0.seats ≡ seats_of self.now }
-        ensures other { (other.new.table_id ≡ other.old.table_id) × (other.new.me ≡ (less_one_part other.old.me.0, other.old.me.1)) }
+        ensures other { (other.new.table_id ≡ other.old.table_id)
+            × (other.new.me ≡ (less_one_part other.old.me.0, other.old.me.1)) }
         ensures seat { IsOf self.now result × (result.seat.me.1 ≡ []) }
         ensures unused { IsUnused result }
     {

@@ -3,12 +3,15 @@
 //! - split: a new seat, which holds nothing, gets a part of another; no word changes;
 //! - join: a seat that holds nothing is spent, and another has its parts; no word changes;
 //! - load: the seat's list of reads gets the slot and the number found; no word changes;
-//! - add: a seat that holds nothing holds the slot, its word rises by one, and the seat's list of slots taken gets it;
+//! - add: a seat that holds nothing holds the slot, its word rises by one, and the seat's list of
+//!   slots taken gets it;
 //! - subtract: a seat that holds a slot holds nothing, and the slot's word falls by one.
 //!
 //! No other step exists. That each keeps the rule is a lemma of `proofs/Keeping.antt`.
 ghost use Rattle.std.specs.Prelude.{◌≡◌};
-ghost use Rattle.load_words.specs.Counting.{WordsCountHolders, opened, less_one_part, with_one_part, joined, spent, Loaded, Added, Subtracted};
+ghost use Rattle.load_words.specs.Counting.{WordsCountHolders, opened, less_one_part};
+ghost use Rattle.load_words.specs.Counting.{with_one_part, joined, spent, Loaded, Added};
+ghost use Rattle.load_words.specs.Counting.{Subtracted};
 
 use atomic_table::{Join, Play, Split, TableRule};
 use std::collections::LinkedList;
@@ -17,7 +20,8 @@ use std::collections::LinkedList;
 pub(crate) struct Tally {
     /// How many seats were made with the words, where the seat has a part.
     pub(crate) seats: u32,
-    /// How many of the parts are the seat's own. There are as many parts as seats, and a seat that holds a slot has one.
+    /// How many of the parts are the seat's own. There are as many parts as seats, and a seat that
+    /// holds a slot has one.
     pub(crate) parts: u32,
     /// The slot that the seat holds.
     pub(crate) slot: Option<u32>,

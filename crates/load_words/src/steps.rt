@@ -16,7 +16,8 @@ impl LoadSeat {
 }
 
 impl Loads {
-    /// The number of seats that hold a slot, as it stands at this one atomic load. It may be another right after.
+    /// The number of seats that hold a slot, as it stands at this one atomic load. It may be
+    /// another right after.
     pub fn read(&self, seat: &mut LoadSeat, slot: u32) -> u64
         requires seat { IsOf self.now seat.old }
         requires slot { slot < 8192 }
@@ -49,7 +50,8 @@ impl Loads {
         seat.slot = Some(slot);
     }
 
-    /// The seat holds nothing from now on, and the word of the slot that it held is one less: one atomic subtraction.
+    /// The seat holds nothing from now on, and the word of the slot that it held is one less: one
+    /// atomic subtraction.
     pub fn give(&self, seat: &mut LoadSeat)
         requires seat { IsOf self.now seat.old }
         requires held { IsSome (slot_of seat.old) }

@@ -6,7 +6,8 @@ use crate::rule::{Counted, Tally};
 use atomic_table::{Seat, Table};
 use std::alloc::Global;
 
-/// The 8,192 words, one for each slot. Threads share them by reference. They take 65,536 bytes, set aside by [`start`](crate::start).
+/// The 8,192 words, one for each slot. Threads share them by reference. They take 65,536 bytes, set
+/// aside by [`start`](crate::start).
 #[derive(Drop)]
 pub struct Loads {
     pub(crate) table: Table<(), Tally, u32, Counted, Global>,
@@ -14,10 +15,12 @@ pub struct Loads {
     ghost few: { table.shared.key ≤ 1024 },
 }
 
-/// The right to read the words and to hold one slot at a time. It may go to another thread, and can't be copied.
+/// The right to read the words and to hold one slot at a time. It may go to another thread, and
+/// can't be copied.
 ///
-/// It is 8 bytes: the slot that it holds. What contracts know of its reads and of the slots that it took is not kept. A seat that is
-/// dropped while it holds a slot never gives it back: the slot's word keeps counting it.
+/// It is 8 bytes: the slot that it holds. What contracts know of its reads and of the slots that it
+/// took is not kept. A seat that is dropped while it holds a slot never gives it back: the slot's
+/// word keeps counting it.
 #[derive(Drop)]
 pub struct LoadSeat {
     pub(crate) seat: Seat<(), Tally>,

@@ -23,8 +23,13 @@ abbrev pub AreBelow : ℕ × ℕ → Type 0
 AreBelow slots = (slots.0 < 8192) × (slots.1 < 8192)
 
 -- the words of an ask draw these two addresses of a service, both of which some service has
-pub record IsDrawn (state : StateValue) (limits : Limits) (ask : AskValue) (service : List ℕ) (first second : Weighted) : Type 0 where
-  pub first_is : item_at (live_in state limits ask.moment (Fs service)) (pair_of (live_in state limits ask.moment (Fs service)) ask.first_draw ask.second_draw).0 ≡ first
-  pub second_is : item_at (live_in state limits ask.moment (Fs service)) (pair_of (live_in state limits ask.moment (Fs service)) ask.first_draw ask.second_draw).1 ≡ second
+pub record IsDrawn (state : StateValue) (limits : Limits) (ask : AskValue) (service : List ℕ)
+    (first second : Weighted) : Type 0 where
+  pub first_is : item_at (live_in state limits ask.moment (Fs service))
+      (pair_of (live_in state limits ask.moment (Fs service)) ask.first_draw ask.second_draw).0
+      ≡ first
+  pub second_is : item_at (live_in state limits ask.moment (Fs service))
+      (pair_of (live_in state limits ask.moment (Fs service)) ask.first_draw ask.second_draw).1
+      ≡ second
   pub first_used : is_used state.book.services first.addr ≡ true
   pub second_used : is_used state.book.services second.addr ≡ true

@@ -17,7 +17,13 @@ use Rattle.machine.specs.declared.chosen.Chosen.{Chosen}
 use Rattle.machine.specs.declared.chosen.Chosen.TheVariants as chosen
 use Rattle.machine.specs.Ready.{ReadyValue}
 use Rattle.machine.specs.Part.{part_value}
-use Rattle.machine.specs.Values.{SettingsValue, StateValue, ChangeValue, create, put, delete, set_addrs, drop_service, report, LookValue, get_table, list_names, get_addrs, count_all, view, AskValue, ReplyValue, version, exists_at, too_many_names, versions_spent, missing, stale_at, deleted, set_to, book_full, too_many_services, dropped, marked_as, not_kept, history_spent, table, namespaces, addrs, counts, viewed, ChosenValue, picked, not_picked}
+use Rattle.machine.specs.Values.{SettingsValue, StateValue, ChangeValue, create, put, delete}
+use Rattle.machine.specs.Values.{set_addrs, drop_service, report, LookValue, get_table, list_names}
+use Rattle.machine.specs.Values.{get_addrs, count_all, view, AskValue, ReplyValue, version}
+use Rattle.machine.specs.Values.{exists_at, too_many_names, versions_spent, missing, stale_at}
+use Rattle.machine.specs.Values.{deleted, set_to, book_full, too_many_services, dropped, marked_as}
+use Rattle.machine.specs.Values.{not_kept, history_spent, table, namespaces, addrs, counts, viewed}
+use Rattle.machine.specs.Values.{ChosenValue, picked, not_picked}
 
 abbrev pub settings_of : Settings → SettingsValue
 settings_of s = record { space = s.space; base = rules_of s.base; limits = s.limits }
@@ -39,7 +45,14 @@ look_value (look.View path local) = view path (rules_of local)
 
 abbrev pub ask_of : Ask → AskValue
 ask_of ask =
-    record { path = ask.path; own = rules_of ask.local; moment = ask.moment; branch_word = slice_index ask.words 0; first_draw = slice_index ask.words 1; second_draw = slice_index ask.words 2 }
+    record {
+      path = ask.path;
+      own = rules_of ask.local;
+      moment = ask.moment;
+      branch_word = slice_index ask.words 0;
+      first_draw = slice_index ask.words 1;
+      second_draw = slice_index ask.words 2;
+    }
 
 abbrev pub reply_value : Reply → ReplyValue
 reply_value (reply.Version n) = version n

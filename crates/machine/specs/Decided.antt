@@ -11,7 +11,8 @@ use Rattle.machine.specs.Ready.{part_of}
 use Rattle.machine.specs.Part.{part_value, IsSoundPart}
 
 -- the change is not refused, and these are its answer and what is prepared of it
-pub record IsTaken (settings : SettingsValue) (state : StateValue) (change : ChangeValue) (said : Reply) (ready : Part) : Type 0 where
+pub record IsTaken (settings : SettingsValue) (state : StateValue) (change : ChangeValue)
+    (said : Reply) (ready : Part) : Type 0 where
   pub taken : refusal state change ≡ None
   pub reply : reply_value said ≡ acceptance settings state change
   pub part : part_value ready ≡ part_of settings state change
@@ -23,4 +24,5 @@ IsDecided settings state change (Accepted reply part) = IsTaken settings state c
 
 -- whatever the router is set up with
 abbrev pub IsDecidedAnyhow : StateValue → ChangeValue → Decided → Type 0
-IsDecidedAnyhow state change decided = (settings : SettingsValue) → IsDecided settings state change decided
+IsDecidedAnyhow state change decided =
+    (settings : SettingsValue) → IsDecided settings state change decided

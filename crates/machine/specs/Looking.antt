@@ -8,7 +8,9 @@ use Rattle.addr_book.specs.Namer.{named_in}
 use Rattle.ns_store.specs.Contents.{Space}
 use Rattle.bind_core.specs.Delegation.{outcome_of, trace_of}
 use Rattle.bind_core.specs.Outcome.{traced}
-use Rattle.machine.specs.Values.{SettingsValue, StateValue, LookValue, get_table, list_names, get_addrs, count_all, view, ReplyValue, missing, table, namespaces, addrs, counts, viewed}
+use Rattle.machine.specs.Values.{SettingsValue, StateValue, LookValue, get_table, list_names}
+use Rattle.machine.specs.Values.{get_addrs, count_all, view, ReplyValue, missing, table, namespaces}
+use Rattle.machine.specs.Values.{addrs, counts, viewed}
 
 -- the rules of a namespace, none where it is not there
 abbrev pub space_rules : Option Space → List Rule
@@ -17,7 +19,8 @@ space_rules (Some space) = space.rules
 
 -- the table of a request: that of the namespace, then the configured one, then the request's own
 abbrev pub effective : SettingsValue → StateValue → List Rule → List Rule
-effective settings state own = space_rules (get state.store.spaces settings.space) ++ settings.base ++ own
+effective settings state own =
+    space_rules (get state.store.spaces settings.space) ++ settings.base ++ own
 
 abbrev pub table_reply : Option Space → ReplyValue
 table_reply None = missing
@@ -28,11 +31,14 @@ addrs_reply None = missing
 addrs_reply (Some list) = addrs list
 
 abbrev pub counts_reply : StateValue → ReplyValue
-counts_reply state = counts state.place (len state.marks) (len state.store.spaces) (len state.book.services)
+counts_reply state =
+    counts state.place (len state.marks) (len state.store.spaces) (len state.book.services)
 
 -- how a path is delegated in a table
 abbrev pub view_reply : StateValue → List Rule → Labels → ReplyValue
-view_reply state rules path = viewed (outcome_of rules (named_in state.book) path) (map traced (trace_of rules (named_in state.book) path))
+view_reply state rules path =
+    viewed (outcome_of rules (named_in state.book) path)
+    (map traced (trace_of rules (named_in state.book) path))
 
 -- the answer to a look
 abbrev pub look_of : SettingsValue → StateValue → LookValue → ReplyValue

@@ -3,9 +3,11 @@ use Rattle.std.specs.Prelude.{◌≡◌, ℕ, List, [], ◌∷◌, Some, None}
 use Rattle.std.specs.Coded.{×_prop, Unit-prop}
 use Rattle.std.specs.FinMap.{get}
 use Rattle.std.proofs.Props.{props}
-use Rattle.name_tree.specs.Value.{TreeValue, leaf, neg, fail, empty, alt, union, TreeValues, none, more, Branches, no_branch, branch}
+use Rattle.name_tree.specs.Value.{TreeValue, leaf, neg, fail, empty, alt, union, TreeValues, none}
+use Rattle.name_tree.specs.Value.{more, Branches, no_branch, branch}
 use Rattle.name_tree.specs.Path.{Label, Labels}
-use Rattle.name_tree.specs.Canon.{IsSound, AreSound, AreSoundBranches, IsByteLabel, AreByteLabels, HasLabels, HaveLabels, BranchesHaveLabels}
+use Rattle.name_tree.specs.Canon.{IsSound, AreSound, AreSoundBranches, IsByteLabel, AreByteLabels}
+use Rattle.name_tree.specs.Canon.{HasLabels, HaveLabels, BranchesHaveLabels}
 use Rattle.dtab_table.specs.Pattern.{Pattern}
 use Rattle.dtab_table.specs.Rules.{Rule}
 use Rattle.dtab_table.specs.TableCanon.{IsPattern, ArePatterns, IsSoundRule, AreSoundRules}
@@ -13,7 +15,8 @@ use Rattle.ns_store.specs.Contents.{Space, Spaces}
 
 -- the table of each namespace is sound
 abbrev pub AreSoundSpaces : Spaces → Type 0
-AreSoundSpaces spaces = (name : List ℕ) (space : Space) → get spaces name ≡ Some space → AreSoundRules space.rules
+AreSoundSpaces spaces =
+    (name : List ℕ) (space : Space) → get spaces name ≡ Some space → AreSoundRules space.rules
 
 -- ---- each of these has one proof at most
 IsByteLabel-prop : (l : Label) → IsProp (IsByteLabel l)

@@ -1,5 +1,6 @@
 -- How changes move a state, and what it answers.
-use Rattle.std.specs.Prelude.{ℕ, ◌+◌, ◌-◌, ◌^◌, ◌==◌, ◌&&◌, Bool, not, if◌then◌else◌, length, Option, Some, None, option_map, is_none}
+use Rattle.std.specs.Prelude.{ℕ, ◌+◌, ◌-◌, ◌^◌, ◌==◌, ◌&&◌, Bool, not, if◌then◌else◌, length}
+use Rattle.std.specs.Prelude.{Option, Some, None, option_map, is_none}
 use Rattle.std.specs.FinMap.{retain_keys}
 use Rattle.dtab_table.specs.TableCanon.{AreSoundRules}
 use Rattle.addr_book.specs.declared.addr.Addr.{Addr}
@@ -17,7 +18,11 @@ use Rattle.choose_core.specs.declared.mark.Limits.{Limits}
 use Rattle.choose_core.specs.declared.mark.Mark.{Mark}
 use Rattle.choose_core.specs.Mark.{no_mark, marked}
 use Rattle.choose_core.specs.Marks.{MarkMap, no_marks, mark_at, with_mark}
-use Rattle.machine.specs.Values.{SettingsValue, StateValue, ChangeValue, create, put, delete, set_addrs, drop_service, report, ReplyValue, version, exists_at, too_many_names, versions_spent, missing, stale_at, deleted, set_to, book_full, too_many_services, dropped, marked_as, not_kept, history_spent}
+use Rattle.machine.specs.Values.{SettingsValue, StateValue, ChangeValue, create, put, delete}
+use Rattle.machine.specs.Values.{set_addrs, drop_service, report, ReplyValue, version, exists_at}
+use Rattle.machine.specs.Values.{too_many_names, versions_spent, missing, stale_at, deleted, set_to}
+use Rattle.machine.specs.Values.{book_full, too_many_services, dropped, marked_as, not_kept}
+use Rattle.machine.specs.Values.{history_spent}
 
 -- the tables that a change brings in are sound
 abbrev pub IsSoundChange : ChangeValue → Type 0
@@ -52,13 +57,16 @@ good_refusal mark good = if good && (mark.count == 0) then Some (marked_as no_ma
 -- why a report is not taken in, if it is not: no service has the address, or it changes nothing
 abbrev pub report_refusal : StateValue → Addr → Bool → Option ReplyValue
 report_refusal state addr good =
-    if is_used state.book.services addr then good_refusal (mark_at state.marks addr) good else Some not_kept
+    if is_used state.book.services addr then good_refusal (mark_at state.marks addr) good
+    else Some not_kept
 
 -- how a change is refused, if it is, the length of the history apart
 abbrev pub refusal : StateValue → ChangeValue → Option ReplyValue
 refusal state (create name rules) = option_map store_reply (create_refusal state.store name)
-refusal state (put name expected rules) = option_map store_reply (put_refusal state.store name expected)
-refusal state (delete name expected) = option_map store_reply (delete_refusal state.store name expected)
+refusal state (put name expected rules) =
+    option_map store_reply (put_refusal state.store name expected)
+refusal state (delete name expected) =
+    option_map store_reply (delete_refusal state.store name expected)
 refusal state (set_addrs service list) = option_map book_reply (set_refusal state.book service list)
 refusal state (drop_service service) = option_map book_reply (drop_refusal state.book service)
 refusal state (report addr good moment) = report_refusal state addr good
@@ -74,7 +82,8 @@ acceptance settings state (put name expected rules) = version state.store.next
 acceptance settings state (delete name expected) = deleted
 acceptance settings state (set_addrs service list) = set_to (length list)
 acceptance settings state (drop_service service) = dropped
-acceptance settings state (report addr good moment) = marked_as (mark_after settings.limits state.marks addr good moment)
+acceptance settings state (report addr good moment) =
+    marked_as (mark_after settings.limits state.marks addr good moment)
 
 -- the marks of the addresses that a book has
 abbrev pub kept_marks : MarkMap → Book → MarkMap
@@ -82,38 +91,52 @@ kept_marks marks book = retain_keys marks (is_used book.services)
 
 -- a state one place on, with other namespaces
 abbrev pub with_store : StateValue → Store → StateValue
-with_store state store = record { store = store; book = state.book; marks = state.marks; place = state.place + 1 }
+with_store state store =
+    record { store = store; book = state.book; marks = state.marks; place = state.place + 1 }
 
 -- a state one place on, with another book: the marks of addresses that left it are gone
 abbrev pub with_book : StateValue → Book → StateValue
-with_book state book = record { store = state.store; book = book; marks = kept_marks state.marks book; place = state.place + 1 }
+with_book state book =
+    record {
+      store = state.store;
+      book = book;
+      marks = kept_marks state.marks book;
+      place = state.place + 1;
+    }
 
 -- a state one place on, with other marks
 abbrev pub with_marks : StateValue → MarkMap → StateValue
-with_marks state marks = record { store = state.store; book = state.book; marks = marks; place = state.place + 1 }
+with_marks state marks =
+    record { store = state.store; book = state.book; marks = marks; place = state.place + 1 }
 
 -- what an accepted change leaves
 abbrev pub changed : SettingsValue → StateValue → ChangeValue → StateValue
-changed settings state (create name rules) = with_store state (spaces_after_set state.store name rules)
-changed settings state (put name expected rules) = with_store state (spaces_after_set state.store name rules)
+changed settings state (create name rules) =
+    with_store state (spaces_after_set state.store name rules)
+changed settings state (put name expected rules) =
+    with_store state (spaces_after_set state.store name rules)
 changed settings state (delete name expected) = with_store state (after_delete state.store name)
-changed settings state (set_addrs service list) = with_book state (services_after_set state.book service list)
+changed settings state (set_addrs service list) =
+    with_book state (services_after_set state.book service list)
 changed settings state (drop_service service) = with_book state (after_drop state.book service)
 changed settings state (report addr good moment) =
-    with_marks state (with_mark state.marks addr (mark_after settings.limits state.marks addr good moment))
+    with_marks state (with_mark state.marks addr
+    (mark_after settings.limits state.marks addr good moment))
 
 -- the last place of a history
 abbrev pub last_place : ℕ
 last_place = 2 ^ 64 - 1
 
--- a change that is refused is answered so, and any other as it is accepted; but none is accepted at the last place
+-- a change that is refused is answered so, and any other as it is accepted; but none is accepted at
+-- the last place
 abbrev pub decided : StateValue → Option ReplyValue → ReplyValue → ReplyValue
 decided state (Some refused) accepted = refused
 decided state None accepted = if state.place == last_place then history_spent else accepted
 
 -- the answer to a change
 abbrev pub reply_of : SettingsValue → StateValue → ChangeValue → ReplyValue
-reply_of settings state change = decided state (refusal state change) (acceptance settings state change)
+reply_of settings state change =
+    decided state (refusal state change) (acceptance settings state change)
 
 -- whether a change is accepted
 abbrev pub is_accepted : StateValue → ChangeValue → Bool
@@ -121,4 +144,5 @@ is_accepted state change = is_none (refusal state change) && not (state.place ==
 
 -- what a change leaves: the state itself where it is refused
 abbrev pub after : SettingsValue → StateValue → ChangeValue → StateValue
-after settings state change = if is_accepted state change then changed settings state change else state
+after settings state change =
+    if is_accepted state change then changed settings state change else state

@@ -13,13 +13,15 @@ use Rattle.bind_core.specs.Delegation.{Ending}
 use Rattle.bind_core.specs.declared.trace.TraceItem.{TraceItem}
 use Rattle.machine.specs.declared.chosen.Why.{Why}
 
--- what a router is set up with: the namespace whose table comes first, the configured table, and when a replica is left out
+-- what a router is set up with: the namespace whose table comes first, the configured table, and
+-- when a replica is left out
 pub record SettingsValue : Type 0 where
   pub space : List ℕ
   pub base : List Rule
   pub limits : Limits
 
--- what a state has: its namespaces, its services, the marks of their addresses, and how many changes it has accepted
+-- what a state has: its namespaces, its services, the marks of their addresses, and how many
+-- changes it has accepted
 pub record StateValue : Type 0 where
   pub store : Store
   pub book : Book
@@ -49,7 +51,8 @@ pub data LookValue : Type 0 where
   count_all : LookValue
   view : Labels → List Rule → LookValue
 
--- a path to pick a replica for, with the request's own table, at this moment, with three words of 64 bits
+-- a path to pick a replica for, with the request's own table, at this moment, with three words of
+-- 64 bits
 pub record AskValue : Type 0 where
   pub path : Labels
   pub own : List Rule
@@ -77,11 +80,13 @@ pub data ReplyValue : Type 0 where
   table : ℕ → List Rule → ReplyValue
   namespaces : List (List ℕ) → ReplyValue
   addrs : List Weighted → ReplyValue
-  -- how many changes were accepted, how many addresses have a mark, how many namespaces and services there are
+  -- how many changes were accepted, how many addresses have a mark, how many namespaces and
+  -- services there are
   counts : ℕ → ℕ → ℕ → ℕ → ReplyValue
   viewed : Ending → List TraceItem → ReplyValue
 
--- a replica that is picked: its address, its slot where it is one of a service, the labels that named its cluster and those behind
+-- a replica that is picked: its address, its slot where it is one of a service, the labels that
+-- named its cluster and those behind
 pub record Replica : Type 0 where
   pub addr : Addr
   pub slot : Option ℕ

@@ -21,8 +21,9 @@ use std::sync::ledger::Ledger;
 use step_count::Steps;
 
 impl State {
-    /// Delegates a path in this state: by the namespace's table, the configured one and a request's own, as if they were one, and by the
-    /// services of the book. No table is copied. Each lookup ticks `steps` at least once.
+    /// Delegates a path in this state: by the namespace's table, the configured one and a request's
+    /// own, as if they were one, and by the services of the book. No table is copied. Each lookup
+    /// ticks `steps` at least once.
     pub fn delegate<L: Ledger>(
         &self,
         alloc: Global,
@@ -32,7 +33,9 @@ impl State {
         wanted: Wanted,
         steps: &mut Steps<L>,
     ) -> Mem<Delegated>
-        ensures delegated { IfOk result (IsDelegated (effective (settings_of settings.now) (state_of self.now) (rules_of local.now)) (named_in (state_of self.now).book) path.now wanted) }
+        ensures delegated { IfOk result
+            (IsDelegated (effective (settings_of settings.now) (state_of self.now)
+            (rules_of local.now)) (named_in (state_of self.now).book) path.now wanted) }
         ensures counted { IfOk result (λ d. steps.old + min d.cost 10000 ≤ steps.new) }
     {
         match self.store.get(&settings.space) {
@@ -56,7 +59,8 @@ impl State {
         }
     }
 
-    /// Answers a look. A `Get` or an `Addrs` copies what it gives, and a `View` is a delegation with its trace.
+    /// Answers a look. A `Get` or an `Addrs` copies what it gives, and a `View` is a delegation
+    /// with its trace.
     pub fn answer<L: Ledger>(
         &self,
         alloc: Global,
@@ -64,7 +68,9 @@ impl State {
         look: &Look,
         steps: &mut Steps<L>,
     ) -> Mem<Reply>
-        ensures { IfOk result (λ reply. reply_value reply ≡ look_of (settings_of settings.now) (state_of self.now) (look_value look.now)) }
+        ensures { IfOk result
+            (λ reply. reply_value reply
+            ≡ look_of (settings_of settings.now) (state_of self.now) (look_value look.now)) }
     {
         match look {
             Look::Get { name } => self.table(alloc, name),
@@ -83,7 +89,9 @@ impl State {
 
     /// The version and the table of a namespace.
     fn table(&self, alloc: Global, name: &Name) -> Mem<Reply>
-        ensures { IfOk result (λ reply. reply_value reply ≡ table_reply (fin.get (state_of self.now).store.spaces name.now)) }
+        ensures { IfOk result
+            (λ reply. reply_value reply
+            ≡ table_reply (fin.get (state_of self.now).store.spaces name.now)) }
     {
         match self.store.get(name) {
             None => Ok(Reply::Missing),
@@ -96,7 +104,9 @@ impl State {
 
     /// The addresses of a service.
     fn addrs(&self, alloc: Global, service: &Name) -> Mem<Reply>
-        ensures { IfOk result (λ reply. reply_value reply ≡ addrs_reply (fin.get (state_of self.now).book.services service.now)) }
+        ensures { IfOk result
+            (λ reply. reply_value reply
+            ≡ addrs_reply (fin.get (state_of self.now).book.services service.now)) }
     {
         match self.book.cluster(service) {
             None => Ok(Reply::Missing),

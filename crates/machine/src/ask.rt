@@ -17,8 +17,8 @@ pub struct Ask {
     pub local: Dtab,
     /// The moment of the pick, in milliseconds.
     pub moment: u64,
-    /// Random words: the first chooses the branch of a union, the second and the third the two replicas of which the less loaded one is
-    /// taken.
+    /// Random words: the first chooses the branch of a union, the second and the third the two
+    /// replicas of which the less loaded one is taken.
     pub words: [u64; 3],
     ghost sound: { AreSoundRules (rules_of local) } by { AreSoundRules-prop (rules_of local) },
 }

@@ -4,8 +4,8 @@ ghost use Rattle.std.specs.Prelude.{◌≡◌};
 use addr_book::{Addr, Leaf, Weighted};
 use choose_core::lesser;
 
-/// The two replicas of a leaf of which the less loaded one is taken. They are one and the same where the leaf has one address that may be
-/// chosen.
+/// The two replicas of a leaf of which the less loaded one is taken. They are one and the same
+/// where the leaf has one address that may be chosen.
 #[derive(Clone, Copy)]
 pub struct Candidates<'a> {
     /// The leaf.
@@ -33,8 +33,12 @@ impl Candidates<'_> {
 
     /// The replica that is taken where the first and the second have these loads.
     pub fn taken(&self, first: u64, second: u64) -> Taken
-        ensures addr { result.addr ≡ (taken_of (pair_value self.now) (is_first_taken first second (pair_value self.now))).addr }
-        ensures slot { result.slot ≡ (taken_of (pair_value self.now) (is_first_taken first second (pair_value self.now))).slot }
+        ensures addr { result.addr
+            ≡ (taken_of (pair_value self.now)
+            (is_first_taken first second (pair_value self.now))).addr }
+        ensures slot { result.slot
+            ≡ (taken_of (pair_value self.now)
+            (is_first_taken first second (pair_value self.now))).slot }
     {
         let is_first = lesser(first, self.first.weight, second, self.second.weight);
         self.one_of(is_first)

@@ -7,7 +7,8 @@ use addr_book::{Addr, AddrList, Name};
 use dtab_table::Dtab;
 use std::alloc::Global;
 
-/// A change that is asked of a state, which accepts it or refuses it with a [`Reply`](crate::Reply).
+/// A change that is asked of a state, which accepts it or refuses it with a
+/// [`Reply`](crate::Reply).
 #[derive(Debug, Drop)]
 pub enum Change {
     /// A new namespace with this table.

@@ -23,10 +23,12 @@ use ns_store::StoreFault;
 use std::alloc::{AllocError, Global};
 
 impl State {
-    /// What is decided of a change, the length of the history apart. Only a change of namespaces or services takes memory.
+    /// What is decided of a change, the length of the history apart. Only a change of namespaces or
+    /// services takes memory.
     pub(crate) fn decide(&self, alloc: Global, settings: &Settings, change: &Change) -> Mem<Decided>
         requires { IsSoundChange (change_of change.now) }
-        ensures { IfOk result (IsDecided (settings_of settings.now) (state_of self.now) (change_of change.now)) }
+        ensures { IfOk result (IsDecided (settings_of settings.now) (state_of self.now)
+            (change_of change.now)) }
     {
         match change {
             Change::Create { name, dtab } => self.decide_create(alloc, name, dtab),
@@ -47,7 +49,8 @@ impl State {
     /// Of a new namespace.
     fn decide_create(&self, alloc: Global, name: &Name, dtab: &Dtab) -> Mem<Decided>
         requires { AreSoundRules (rules_of dtab.now) }
-        ensures { IfOk result (IsDecidedAnyhow (state_of self.now) (create name.now (rules_of dtab.now))) }
+        ensures { IfOk result (IsDecidedAnyhow (state_of self.now)
+            (create name.now (rules_of dtab.now))) }
     {
         let version = self.store.next_version();
         match self.store.prepare_create(alloc, name, dtab) {
@@ -65,7 +68,8 @@ impl State {
         dtab: &Dtab,
     ) -> Mem<Decided>
         requires { AreSoundRules (rules_of dtab.now) }
-        ensures { IfOk result (IsDecidedAnyhow (state_of self.now) (put name.now expected (rules_of dtab.now))) }
+        ensures { IfOk result (IsDecidedAnyhow (state_of self.now)
+            (put name.now expected (rules_of dtab.now))) }
     {
         let version = self.store.next_version();
         match self.store.prepare_put(alloc, name, expected, dtab) {
@@ -86,7 +90,8 @@ impl State {
 
     /// Of the addresses of a service.
     fn decide_set(&self, alloc: Global, service: &Name, list: &AddrList) -> Mem<Decided>
-        ensures { IfOk result (IsDecidedAnyhow (state_of self.now) (set_addrs service.now list.now)) }
+        ensures { IfOk result (IsDecidedAnyhow (state_of self.now)
+            (set_addrs service.now list.now)) }
     {
         let count = list.items().len() as u32;
         match self.book.prepare_set(alloc, service, list) {
@@ -107,7 +112,8 @@ impl State {
 
     /// Of a report.
     fn decide_report(&self, settings: &Settings, addr: Addr, good: bool, moment: u64) -> Decided
-        ensures { IsDecided (settings_of settings.now) (state_of self.now) (report addr good moment) result }
+        ensures { IsDecided (settings_of settings.now) (state_of self.now) (report addr good moment)
+            result }
     {
         if self.book.slot(addr).is_none() {
             return Decided::Refused(Reply::NotKept);

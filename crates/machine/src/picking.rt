@@ -1,5 +1,6 @@
 //! How replicas are picked.
-ghost use Rattle.std.specs.Prelude.{◌≡◌, ◌≤◌, ◌<◌, ◌+◌, min, true, List, Some, is_some, option_map, IfOk, IfErr, IfSome, OnOk, slice_get};
+ghost use Rattle.std.specs.Prelude.{◌≡◌, ◌≤◌, ◌<◌, ◌+◌, min, true, List, Some, is_some, option_map};
+ghost use Rattle.std.specs.Prelude.{IfOk, IfErr, IfSome, OnOk, slice_get};
 ghost use Rattle.std.specs.FinMap as fin;
 ghost use Rattle.addr_book.specs.declared.addr.Addr.{Addr};
 ghost use Rattle.addr_book.specs.declared.addr.Weighted.{Weighted};
@@ -13,7 +14,8 @@ ghost use Rattle.bind_core.specs.Delegation.{cost_of, bound as bound_to};
 ghost use Rattle.bind_core.specs.Outcome.{ending_of};
 ghost use Rattle.machine.specs.Code.{settings_of, state_of, ask_of, chosen_value};
 ghost use Rattle.machine.specs.Looking.{effective};
-ghost use Rattle.machine.specs.Choosing.{either, neither, between_of, candidates_in, ending_in, offer_of, pick_of, pick_at, chosen_of, both};
+ghost use Rattle.machine.specs.Choosing.{either, neither, between_of, candidates_in, ending_in};
+ghost use Rattle.machine.specs.Choosing.{offer_of, pick_of, pick_at, chosen_of, both};
 ghost use Rattle.machine.specs.Candidates.{pair_value, is_service, AreBelow, IsDrawn};
 
 use crate::Mem;
@@ -30,10 +32,11 @@ use std::sync::ledger::Ledger;
 use step_count::Steps;
 
 impl State {
-    /// The two replicas between which an ask decides, in a bound that its path came to. `None` where no address is left in the bound. It
-    /// takes no memory.
+    /// The two replicas between which an ask decides, in a bound that its path came to. `None`
+    /// where no address is left in the bound. It takes no memory.
     ///
-    /// It goes over the branches of each union on the way to the leaf, and over the addresses of that leaf alone.
+    /// It goes over the branches of each union on the way to the leaf, and over the addresses of
+    /// that leaf alone.
     pub fn candidates<'a>(
         &self,
         bound: &'a Bound,
@@ -41,7 +44,8 @@ impl State {
         limits: Limits,
     ) -> Option<Candidates<'a>>
         requires { IsGood bound.now }
-        ensures candidates { option_map pair_value result ≡ candidates_in (state_of self.now) limits (ask_of ask.now) (found_of bound.now) }
+        ensures candidates { option_map pair_value result
+            ≡ candidates_in (state_of self.now) limits (ask_of ask.now) (found_of bound.now) }
         ensures seated { IfSome result (λ c. is_some c.slots ≡ is_service c.leaf.now.cluster) }
         ensures below { IfSome result (λ c. IfSome c.slots AreBelow) }
     {
@@ -51,17 +55,22 @@ impl State {
         }
     }
 
-    /// The two replicas between which an ask decides, where its path came to an outcome in this state. An `Err` says why there are none. It
-    /// takes no memory.
+    /// The two replicas between which an ask decides, where its path came to an outcome in this
+    /// state. An `Err` says why there are none. It takes no memory.
     pub fn candidates_of<'a>(
         &self,
         settings: &Settings,
         outcome: &'a Outcome,
         ask: &Ask,
     ) -> Result<Candidates<'a>, Why>
-        requires { ending_of outcome.now ≡ ending_in (settings_of settings.now) (state_of self.now) (ask_of ask.now) }
-        ensures some { IfOk result (λ c. offer_of (settings_of settings.now) (state_of self.now) (ask_of ask.now) ≡ either (pair_value c)) }
-        ensures none { IfErr result (λ why. offer_of (settings_of settings.now) (state_of self.now) (ask_of ask.now) ≡ neither why) }
+        requires { ending_of outcome.now
+            ≡ ending_in (settings_of settings.now) (state_of self.now) (ask_of ask.now) }
+        ensures some { IfOk result
+            (λ c. offer_of (settings_of settings.now) (state_of self.now) (ask_of ask.now)
+            ≡ either (pair_value c)) }
+        ensures none { IfErr result
+            (λ why. offer_of (settings_of settings.now) (state_of self.now) (ask_of ask.now)
+            ≡ neither why) }
         ensures seated { IfOk result (λ c. is_some c.slots ≡ is_service c.leaf.now.cluster) }
         ensures below { IfOk result (λ c. IfSome c.slots AreBelow) }
     {
@@ -80,8 +89,8 @@ impl State {
 
     /// Picks a replica where no address has any load.
     ///
-    /// No table and no list of addresses is copied; it takes the memory of a delegation, and of the two paths that it gives where the path came
-    /// to a union.
+    /// No table and no list of addresses is copied; it takes the memory of a delegation, and of the
+    /// two paths that it gives where the path came to a union.
     pub fn choose<L: Ledger>(
         &self,
         alloc: Global,
@@ -89,8 +98,14 @@ impl State {
         ask: &Ask,
         steps: &mut Steps<L>,
     ) -> Mem<Chosen>
-        ensures chosen { IfOk result (λ said. chosen_value said ≡ chosen_of (pick_of (settings_of settings.now) (state_of self.now) (ask_of ask.now) 0 0)) }
-        ensures counted { OnOk result (steps.old + min (cost_of (effective (settings_of settings.now) (state_of self.now) (ask_of ask.now).own) (named_in (state_of self.now).book) ask.now.path) 10000 ≤ steps.new) }
+        ensures chosen { IfOk result
+            (λ said. chosen_value said
+            ≡ chosen_of (pick_of (settings_of settings.now) (state_of self.now) (ask_of ask.now) 0
+            0)) }
+        ensures counted { OnOk result
+            (steps.old + min (cost_of
+            (effective (settings_of settings.now) (state_of self.now) (ask_of ask.now).own)
+            (named_in (state_of self.now).book) ask.now.path) 10000 ≤ steps.new) }
     {
         let delegated = self.delegate(
             alloc,
@@ -103,7 +118,8 @@ impl State {
         self.choose_from(alloc, settings, delegated.outcome, ask)
     }
 
-    /// Picks a replica as [`choose_in`](State::choose_in) does. The paths of an outcome that is one leaf are given as they are.
+    /// Picks a replica as [`choose_in`](State::choose_in) does. The paths of an outcome that is one
+    /// leaf are given as they are.
     fn choose_from(
         &self,
         alloc: Global,
@@ -111,8 +127,12 @@ impl State {
         outcome: Outcome,
         ask: &Ask,
     ) -> Mem<Chosen>
-        requires { ending_of outcome ≡ ending_in (settings_of settings.now) (state_of self.now) (ask_of ask.now) }
-        ensures { IfOk result (λ said. chosen_value said ≡ chosen_of (pick_of (settings_of settings.now) (state_of self.now) (ask_of ask.now) 0 0)) }
+        requires { ending_of outcome
+            ≡ ending_in (settings_of settings.now) (state_of self.now) (ask_of ask.now) }
+        ensures { IfOk result
+            (λ said. chosen_value said
+            ≡ chosen_of (pick_of (settings_of settings.now) (state_of self.now) (ask_of ask.now) 0
+            0)) }
     {
         match outcome {
             Outcome::Bound(Bound::One(leaf)) => Ok(self.choose_of(settings, leaf, ask)),
@@ -120,11 +140,15 @@ impl State {
         }
     }
 
-    /// Picks a replica of the one leaf that an ask's path came to, whose paths are given as they are.
+    /// Picks a replica of the one leaf that an ask's path came to, whose paths are given as they
+    /// are.
     #[tactic(auto, using(crate::proofs::Choosing::shut_leaf, crate::proofs::Choosing::open_leaf))]
     fn choose_of(&self, settings: &Settings, leaf: Leaf, ask: &Ask) -> Chosen
-        requires { bound_to (one_leaf leaf) ≡ ending_in (settings_of settings.now) (state_of self.now) (ask_of ask.now) }
-        ensures { chosen_value result ≡ chosen_of (pick_of (settings_of settings.now) (state_of self.now) (ask_of ask.now) 0 0) }
+        requires { bound_to (one_leaf leaf)
+            ≡ ending_in (settings_of settings.now) (state_of self.now) (ask_of ask.now) }
+        ensures { chosen_value result
+            ≡ chosen_of (pick_of (settings_of settings.now) (state_of self.now) (ask_of ask.now) 0
+            0) }
     {
         if !is_open(&leaf, &self.book) {
             return Chosen::None(Why::Empty);
@@ -137,8 +161,8 @@ impl State {
         }
     }
 
-    /// Picks a replica where no address has any load, and the ask's path came to an outcome in this state. It takes the memory of the two
-    /// paths that it gives.
+    /// Picks a replica where no address has any load, and the ask's path came to an outcome in this
+    /// state. It takes the memory of the two paths that it gives.
     pub fn choose_in(
         &self,
         alloc: Global,
@@ -146,8 +170,12 @@ impl State {
         outcome: &Outcome,
         ask: &Ask,
     ) -> Mem<Chosen>
-        requires { ending_of outcome.now ≡ ending_in (settings_of settings.now) (state_of self.now) (ask_of ask.now) }
-        ensures { IfOk result (λ said. chosen_value said ≡ chosen_of (pick_of (settings_of settings.now) (state_of self.now) (ask_of ask.now) 0 0)) }
+        requires { ending_of outcome.now
+            ≡ ending_in (settings_of settings.now) (state_of self.now) (ask_of ask.now) }
+        ensures { IfOk result
+            (λ said. chosen_value said
+            ≡ chosen_of (pick_of (settings_of settings.now) (state_of self.now) (ask_of ask.now) 0
+            0)) }
     {
         match self.candidates_of(settings, outcome, ask) {
             Ok(candidates) => picked(alloc, &candidates),
@@ -158,7 +186,8 @@ impl State {
     /// The two replicas of a leaf between which an ask decides.
     fn between<'a>(&self, leaf: &'a Leaf, ask: &Ask, limits: Limits) -> Candidates<'a>
         requires { is_open (state_of self.now).book.services leaf.now.cluster ≡ true }
-        ensures pair { pair_value result ≡ between_of (state_of self.now) limits (ask_of ask.now) leaf.now }
+        ensures pair { pair_value result
+            ≡ between_of (state_of self.now) limits (ask_of ask.now) leaf.now }
         ensures seated { is_some result.slots ≡ is_service result.leaf.now.cluster }
         ensures below { IfSome result.slots AreBelow }
     {
@@ -191,7 +220,8 @@ impl State {
     /// The two addresses of a service that an ask's second and third word draw.
     fn drawn(&self, service: &Name, ask: &Ask, limits: Limits) -> (Weighted, Weighted)
         requires { has_some (fin.get (state_of self.now).book.services service.now) ≡ true }
-        ensures { IsDrawn (state_of self.now) limits (ask_of ask.now) service.now result.0 result.1 }
+        ensures { IsDrawn (state_of self.now) limits (ask_of ask.now) service.now result.0
+            result.1 }
     {
         match self.book.cluster(service) {
             None => unreachable!(),
@@ -206,7 +236,8 @@ impl State {
     fn slots(&self, one: Addr, other: Addr) -> (u32, u32)
         requires one { is_used (state_of self.now).book.services one ≡ true }
         requires other { is_used (state_of self.now).book.services other ≡ true }
-        ensures slots { both (fin.get (state_of self.now).book.slots one) (fin.get (state_of self.now).book.slots other) ≡ Some result }
+        ensures slots { both (fin.get (state_of self.now).book.slots one)
+            (fin.get (state_of self.now).book.slots other) ≡ Some result }
         ensures below { AreBelow result }
     {
         match (self.book.slot(one), self.book.slot(other)) {
@@ -218,7 +249,8 @@ impl State {
 
 /// The first of two replicas, which is taken where no address has any load.
 fn picked(alloc: Global, candidates: &Candidates<'_>) -> Mem<Chosen>
-    ensures { IfOk result (λ said. chosen_value said ≡ chosen_of (pick_at 0 0 (either (pair_value candidates.now)))) }
+    ensures { IfOk result
+        (λ said. chosen_value said ≡ chosen_of (pick_at 0 0 (either (pair_value candidates.now)))) }
 {
     let leaf = candidates.leaf;
     let taken = candidates.taken(0, 0);

@@ -3,7 +3,8 @@ ghost use Rattle.machine.specs.Part.{part_value, IsSoundPart, IsSoundPart-prop};
 
 use crate::part::Part;
 
-/// A change that a state accepted, prepared for [`State::absorb`](crate::State::absorb). Contracts see it as `ready_of ready`.
+/// A change that a state accepted, prepared for [`State::absorb`](crate::State::absorb). Contracts
+/// see it as `ready_of ready`.
 ///
 /// It shares what was prepared with each state that absorbs it.
 #[derive(Debug, Drop)]

@@ -10,12 +10,14 @@ use dtab_table::Dtab;
 
 /// What a router is set up with. It does not change while the router runs.
 ///
-/// Its table is sound, as every table that is read from text, and its limits count at least one failure.
+/// Its table is sound, as every table that is read from text, and its limits count at least one
+/// failure.
 #[derive(Debug, Drop)]
 pub struct Settings {
     /// The namespace whose table comes first in each request's table.
     pub space: Name,
-    /// The configured table. It comes behind the namespace's, so its entries are tried before those.
+    /// The configured table. It comes behind the namespace's, so its entries are tried before
+    /// those.
     pub base: Dtab,
     /// When a replica is left out for its failures.
     pub limits: Limits,

@@ -12,8 +12,8 @@ use choose_core::Marks;
 use ns_store::Store;
 use std::alloc::Global;
 
-/// What a router knows at one place of its history: its namespaces, its services, the marks of their addresses, and how many changes it has
-/// accepted. Contracts see it as `state_of state`.
+/// What a router knows at one place of its history: its namespaces, its services, the marks of
+/// their addresses, and how many changes it has accepted. Contracts see it as `state_of state`.
 ///
 /// The table of each namespace is sound, and each marked address is one of a service.
 #[derive(Debug, Drop)]
@@ -23,7 +23,8 @@ pub struct State {
     pub(crate) marks: Marks,
     pub(crate) place: u64,
     ghost sound: { AreSoundSpaces (contents_of store).spaces } by { AreSoundSpaces-prop (contents_of store).spaces },
-    ghost known: { (addr : Addr) → fin.contains_key marks addr ≡ true → is_used book.services addr ≡ true },
+    ghost known: { (addr : Addr) → fin.contains_key marks addr ≡ true
+        → is_used book.services addr ≡ true },
 }
 
 impl State {
@@ -31,7 +32,8 @@ impl State {
     ghost use Rattle.machine.specs.Code.{state_of};
     ghost use Rattle.machine.specs.State.{opening};
 
-    /// The state in which nothing is there and nothing was changed. It sets room aside for the marks of all addresses that a book can have.
+    /// The state in which nothing is there and nothing was changed. It sets room aside for the
+    /// marks of all addresses that a book can have.
     pub fn start(alloc: Global) -> Mem<State>
         ensures { IfOk result (λ state. state_of state ≡ opening) }
     {

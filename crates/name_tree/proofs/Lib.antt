@@ -7,6 +7,7 @@ pub mod Canons
 pub mod Computing
 pub mod DecimalSteps
 pub mod Depth
+pub mod FlatPaths
 pub mod Frames
 pub mod Fronts
 pub mod LabelLists

@@ -1,7 +1,8 @@
 -- When each fault is answered.
 use Rattle.std.specs.Prelude.{ℕ, List}
 use Rattle.name_tree.specs.declared.read.TextFault.{TextFault}
-use Rattle.name_tree.specs.declared.read.TextFault.TheVariants.{TooLong, TooNested, Syntax, OutOfMemory}
+use Rattle.name_tree.specs.declared.read.TextFault.TheVariants.{TooLong, TooNested, Syntax}
+use Rattle.name_tree.specs.declared.read.TextFault.TheVariants.{OutOfMemory}
 use Rattle.name_tree.specs.Faults.{IsTooLong, IsTooNested, IsSyntax}
 
 abbrev pub FaultFits : {V : Type 0} → (List ℕ → V → Type 0) → List ℕ → TextFault → Type 0

@@ -1,13 +1,16 @@
 -- The canonical text of a tree, and which trees have one.
-use Rattle.std.specs.Prelude.{ℕ, zero, suc, ◌+◌, ◌/◌, ◌%◌, ◌^◌, ◌<◌, ◌≤◌, ◌==◌, Bool, true, false, ◌||◌, if◌then◌else◌, List, [], ◌∷◌, ◌++◌, length, codes, All}
+use Rattle.std.specs.Prelude.{ℕ, zero, suc, ◌+◌, ◌/◌, ◌%◌, ◌^◌, ◌<◌, ◌≤◌, ◌==◌, Bool, true, false}
+use Rattle.std.specs.Prelude.{◌||◌, if◌then◌else◌, List, [], ◌∷◌, ◌++◌, length, codes, All}
 use Rattle.std.specs.Fmt.{decimal}
 use Rattle.name_tree.specs.Path.{Label, Labels, canon_path}
-use Rattle.name_tree.specs.Value.{TreeValue, leaf, neg, fail, empty, alt, union, TreeValues, none, more, Branches, no_branch, branch, one_whole}
+use Rattle.name_tree.specs.Value.{TreeValue, leaf, neg, fail, empty, alt, union, TreeValues, none}
+use Rattle.name_tree.specs.Value.{more, Branches, no_branch, branch, one_whole}
 
 -- the last so many decimals, which are worth so much, without the zeros at their end
 abbrev pub decimals_text : ℕ → ℕ → List ℕ
 decimals_text zero rest = []
-decimals_text (suc k) rest = if rest == 0 then [] else (48 + rest / 10 ^ k) ∷ decimals_text k (rest % 10 ^ k)
+decimals_text (suc k) rest =
+    if rest == 0 then [] else (48 + rest / 10 ^ k) ∷ decimals_text k (rest % 10 ^ k)
 
 -- a point and six decimals without the zeros at their end, or nothing
 abbrev pub point_text : ℕ → List ℕ
@@ -49,15 +52,19 @@ abbrev mutual
   canon_more_alts none = []
   canon_more_alts (more t ts) = codes " | " ++ grouped (is_alt t) (canon t) ++ canon_more_alts ts
 
-  -- branches with ` & ` between them, each its weight, ` * ` and its tree: a choice or a union stands in parentheses
+  -- branches with ` & ` between them, each its weight, ` * ` and its tree: a choice or a union
+  -- stands in parentheses
   pub canon_branches : Branches → List ℕ
   canon_branches no_branch = []
-  canon_branches (branch n t bs) = canon_weight n ++ codes " * " ++ grouped (is_alt t || is_union t) (canon t) ++ canon_more_branches bs
+  canon_branches (branch n t bs) =
+      canon_weight n ++ codes " * " ++ grouped (is_alt t || is_union t) (canon t)
+      ++ canon_more_branches bs
 
   pub canon_more_branches : Branches → List ℕ
   canon_more_branches no_branch = []
   canon_more_branches (branch n t bs) =
-      codes " & " ++ canon_weight n ++ codes " * " ++ grouped (is_alt t || is_union t) (canon t) ++ canon_more_branches bs
+      codes " & " ++ canon_weight n ++ codes " * " ++ grouped (is_alt t || is_union t) (canon t)
+      ++ canon_more_branches bs
 
 -- a branch in a union's text
 abbrev pub branch_text : ℕ → TreeValue → List ℕ
@@ -80,14 +87,16 @@ abbrev pub weight_bound : ℕ
 weight_bound = 10 ^ 12
 
 abbrev mutual
-  -- a tree has two alternatives or more in each choice, a branch or more in each union, not too many of either, and no weight that is too large
+  -- a tree has two alternatives or more in each choice, a branch or more in each union, not too
+  -- many of either, and no weight that is too large
   pub IsSound : TreeValue → Type 0
   IsSound (leaf ls) = Unit {0}
   IsSound neg = Unit {0}
   IsSound fail = Unit {0}
   IsSound empty = Unit {0}
   IsSound (alt ts) = (2 ≤ count_names ts) × (count_names ts ≤ most_members) × AreSound ts
-  IsSound (union bs) = (1 ≤ count_branches bs) × (count_branches bs ≤ most_members) × AreSoundBranches bs
+  IsSound (union bs) =
+      (1 ≤ count_branches bs) × (count_branches bs ≤ most_members) × AreSoundBranches bs
 
   pub AreSound : TreeValues → Type 0
   AreSound none = Unit {0}

@@ -1,5 +1,6 @@
 -- A label read byte by byte.
-use Rattle.std.specs.Prelude.{ℕ, ◌+◌, ◌*◌, Bool, ◌||◌, ◌==◌, if◌then◌else◌, [], ◌∷◌, ◌++◌, Option, Some, None, option_map}
+use Rattle.std.specs.Prelude.{ℕ, ◌+◌, ◌*◌, Bool, ◌||◌, ◌==◌, if◌then◌else◌, [], ◌∷◌, ◌++◌, Option}
+use Rattle.std.specs.Prelude.{Some, None, option_map}
 use Rattle.name_tree.specs.Path.{Label, is_plain}
 use Rattle.name_tree.specs.Grammar.{hex_value}
 
@@ -16,7 +17,8 @@ pub data Spelling : Type 0 where
 
 -- what is read behind the next byte, if some label goes on with it
 abbrev pub next_spelling : Spelling → ℕ → Option Spelling
-next_spelling (bytes l) b = if is_plain b then Some (bytes (l ++ b ∷ [])) else (if b == 92 then Some (escape l) else None)
+next_spelling (bytes l) b =
+    if is_plain b then Some (bytes (l ++ b ∷ [])) else (if b == 92 then Some (escape l) else None)
 next_spelling (escape l) b = if b == 120 then Some (hex l) else None
 next_spelling (hex l) b = option_map (λ m. digit l m) (hex_value b)
 next_spelling (digit l m) b = option_map (λ n. bytes (l ++ (16 * m + n) ∷ [])) (hex_value b)

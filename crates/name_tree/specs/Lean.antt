@@ -1,8 +1,10 @@
 -- A tree without what makes no lookup: what there is to try of it.
 use Rattle.std.specs.Prelude.{ℕ, Bool, true, false, ◌==◌, ◌||◌, if◌then◌else◌, List, [], ◌∷◌}
-use Rattle.name_tree.specs.Value.{TreeValue, TreeValues, Branches, leaf, neg, fail, empty, alt, union, none, more, no_branch, branch}
+use Rattle.name_tree.specs.Value.{TreeValue, TreeValues, Branches, leaf, neg, fail, empty, alt}
+use Rattle.name_tree.specs.Value.{union, none, more, no_branch, branch}
 
--- an alternative before others: a negative one is left out, and so is all that stands behind `!` and `$`
+-- an alternative before others: a negative one is left out, and so is all that stands behind `!`
+-- and `$`
 abbrev pub tried_before : TreeValue → TreeValues → TreeValues
 tried_before (leaf path) ts = more (leaf path) ts
 tried_before neg ts = ts
@@ -55,7 +57,8 @@ mark_if false t bs = bs
 abbrev pub marks : Bool → Bool → Branches
 marks fails lacks = mark_if fails fail (mark_if lacks empty no_branch)
 
--- each mark stands once, behind the branches that make lookups; without such a branch the union is a mark
+-- each mark stands once, behind the branches that make lookups; without such a branch the union is
+-- a mark
 abbrev pub union_left : Bool → Bool → Branches → TreeValue
 union_left true lacks no_branch = fail
 union_left false true no_branch = empty
@@ -84,7 +87,12 @@ abbrev mutual
 
 -- the parts of a union that were found before others
 abbrev pub joined_parts : Parts → Parts → Parts
-joined_parts p q = record { branches = branches_then p.branches q.branches; fails = p.fails || q.fails; lacks = p.lacks || q.lacks }
+joined_parts p q =
+    record {
+      branches = branches_then p.branches q.branches;
+      fails = p.fails || q.fails;
+      lacks = p.lacks || q.lacks;
+    }
 
 -- alternatives that were found before others
 abbrev pub values_then : List TreeValue → TreeValues → TreeValues

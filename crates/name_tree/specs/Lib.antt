@@ -2,6 +2,7 @@ pub mod Answers
 pub mod Canon
 pub mod Computed
 pub mod Faults
+pub mod FlatPath
 pub mod Grammar
 pub mod Growth
 pub mod LabelReading

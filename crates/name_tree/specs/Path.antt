@@ -1,5 +1,6 @@
 -- Paths as values, and their canonical texts.
-use Rattle.std.specs.Prelude.{ℕ, ◌+◌, ◌<◌, ◌/◌, ◌%◌, Bool, ◌||◌, ◌==◌, nat_lt, if◌then◌else◌, List, [], ◌∷◌, length}
+use Rattle.std.specs.Prelude.{ℕ, ◌+◌, ◌<◌, ◌/◌, ◌%◌, Bool, ◌||◌, ◌==◌, nat_lt, if◌then◌else◌, List}
+use Rattle.std.specs.Prelude.{[], ◌∷◌, length}
 use Rattle.std.specs.List.{flat_map}
 use Rattle.std.specs.Char.{is_ascii_alphanumeric}
 
@@ -21,7 +22,9 @@ slash = 47
 
 -- a byte that stands for itself in a text: a letter, a digit, or one of `_ : . # $ % -`
 unfoldable pub is_plain : ℕ → Bool
-is_plain b = is_ascii_alphanumeric b || b == 95 || b == 58 || b == 46 || b == 35 || b == 36 || b == 37 || b == 45
+is_plain b =
+    is_ascii_alphanumeric b || b == 95 || b == 58 || b == 46 || b == 35 || b == 36 || b == 37
+    || b == 45
 
 -- a hexadecimal digit in lower case
 abbrev pub hex_digit : ℕ → ℕ
@@ -29,7 +32,8 @@ hex_digit n = if nat_lt n 10 then 48 + n else 87 + n
 
 -- a byte in a canonical text: itself where it is plain, else `\x` and two digits
 abbrev pub canon_byte : ℕ → List ℕ
-canon_byte b = if is_plain b then b ∷ [] else 92 ∷ 120 ∷ hex_digit (b / 16) ∷ hex_digit (b % 16) ∷ []
+canon_byte b =
+    if is_plain b then b ∷ [] else 92 ∷ 120 ∷ hex_digit (b / 16) ∷ hex_digit (b % 16) ∷ []
 
 -- a label in a canonical text
 abbrev pub canon_label : Label → List ℕ

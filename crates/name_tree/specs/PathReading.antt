@@ -44,7 +44,8 @@ pub data PathAt : Type 0 where
   behind : Labels → PathAt
 
 abbrev pub next_path : PathAt → ℕ → Option PathAt
-next_path before b = if is_blank b then Some before else (if b == 47 then Some (inside walk_start) else None)
+next_path before b =
+    if is_blank b then Some before else (if b == 47 then Some (inside walk_start) else None)
 next_path (inside at) b =
     if is_path_byte b then option_map (λ to. inside to) (next_walk at b) else
     (if is_blank b then option_map (λ ls. behind ls) (end_walk at) else None)

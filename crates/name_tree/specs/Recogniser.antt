@@ -1,4 +1,5 @@
--- A recogniser of texts, byte by byte: which state is behind the next byte, if some text goes on so, and what a text that ends in a state stands for.
+-- A recogniser of texts, byte by byte: which state is behind the next byte, if some text goes on
+-- so, and what a text that ends in a state stands for.
 use Rattle.std.specs.Prelude.{ℕ, List, [], ◌∷◌, Option, Some}
 use Rattle.std.specs.Option.{option_and_then}
 

@@ -1,10 +1,13 @@
 -- What the code's trees say.
 use Rattle.std.specs.Prelude.{ℕ, List, [], ◌∷◌}
-use Rattle.name_tree.specs.declared.tree.Tree.{Tree, Leaf, Neg, Fail, Empty, Alt', Union, Row_of-Tree, end_of-Tree, more_of-Tree}
+use Rattle.name_tree.specs.declared.tree.Tree.{Tree, Leaf, Neg, Fail, Empty, Alt', Union}
+use Rattle.name_tree.specs.declared.tree.Tree.{Row_of-Tree, end_of-Tree, more_of-Tree}
 use Rattle.name_tree.specs.declared.tree.Trees.{Trees}
 use Rattle.name_tree.specs.declared.tree.Branch.{Branch}
-use Rattle.name_tree.specs.declared.tree.Branches.{Branches as BranchList, Branches', Row_of-Branch, end_of-Branch, more_of-Branch}
-use Rattle.name_tree.specs.Value.{TreeValue, leaf, neg, fail, empty, alt, union, TreeValues, none, more, Branches, no_branch, branch}
+use Rattle.name_tree.specs.declared.tree.Branches.{Branches as BranchList, Branches', Row_of-Branch}
+use Rattle.name_tree.specs.declared.tree.Branches.{end_of-Branch, more_of-Branch}
+use Rattle.name_tree.specs.Value.{TreeValue, leaf, neg, fail, empty, alt, union, TreeValues, none}
+use Rattle.name_tree.specs.Value.{more, Branches, no_branch, branch}
 
 abbrev mutual
   -- what a tree of the code says

@@ -11,7 +11,12 @@ use Rattle.name_tree.specs.TreeReading.{Frame, Place, Mode, State}
 use Rattle.name_tree.specs.Readers.{walk_of}
 
 abbrev pub frame_of : OpenFrame → Frame
-frame_of f = record { alts = map value_of f.alts.items; parts = map part_of f.parts.items; weight = f.weight }
+frame_of f =
+    record {
+      alts = map value_of f.alts.items;
+      parts = map part_of f.parts.items;
+      weight = f.weight;
+    }
 
 -- the last parenthesis is the innermost
 abbrev pub frames_of : List OpenFrame → List Frame
@@ -19,7 +24,12 @@ frames_of [] = []
 frames_of (f ∷ fs) = frames_of fs ++ frame_of f ∷ []
 
 abbrev pub place_of : TreeReader → Place
-place_of r = record { outer = frames_of r.outer.items; alts = map value_of r.alts.items; parts = map part_of r.parts.items }
+place_of r =
+    record {
+      outer = frames_of r.outer.items;
+      alts = map value_of r.alts.items;
+      parts = map part_of r.parts.items;
+    }
 
 abbrev pub mode_of : ReaderMode → Walk → Mode
 mode_of reader.Start at = Mode.start

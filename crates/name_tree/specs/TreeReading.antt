@@ -1,20 +1,23 @@
 -- A tree read byte by byte, with the parentheses that are open on a stack.
-use Rattle.std.specs.Prelude.{ℕ, ◌+◌, ◌-◌, ◌*◌, ◌/◌, ◌==◌, nat_lt, if◌then◌else◌, List, [], ◌∷◌, ◌++◌, Option, Some, None, option_map}
+use Rattle.std.specs.Prelude.{ℕ, ◌+◌, ◌-◌, ◌*◌, ◌/◌, ◌==◌, nat_lt, if◌then◌else◌, List, [], ◌∷◌}
+use Rattle.std.specs.Prelude.{◌++◌, Option, Some, None, option_map}
 use Rattle.name_tree.specs.Path.{Labels}
-use Rattle.name_tree.specs.Value.{TreeValue, leaf, neg, fail, empty, BranchValue, one_whole, one_or_alt, union_of}
+use Rattle.name_tree.specs.Value.{TreeValue, leaf, neg, fail, empty, BranchValue, one_whole}
+use Rattle.name_tree.specs.Value.{one_or_alt, union_of}
 use Rattle.name_tree.specs.Grammar.{is_blank, is_digit}
 use Rattle.name_tree.specs.Recogniser.{value_from}
 use Rattle.name_tree.specs.LabelReading.{is_path_byte}
 use Rattle.name_tree.specs.PathReading.{Walk, walk_start, next_walk, end_walk}
 
--- an open parenthesis: the alternatives before it, the branches before it in its union, and the weight before it
+-- an open parenthesis: the alternatives before it, the branches before it in its union, and the
+-- weight before it
 pub record Frame : Type 0 where
   pub alts : List TreeValue
   pub parts : List BranchValue
   pub weight : Option ℕ
 
--- where in a tree the reading is: in which open parentheses, the innermost first, behind which alternatives,
--- and behind which branches of the union
+-- where in a tree the reading is: in which open parentheses, the innermost first, behind which
+-- alternatives, and behind which branches of the union
 pub record Place : Type 0 where
   pub outer : List Frame
   pub alts : List TreeValue
@@ -52,7 +55,12 @@ with_alt p = record { outer = p.outer; alts = p.alts ++ union_of p.parts ∷ [];
 
 -- inside one parenthesis more
 abbrev pub opened : Place → Option ℕ → Place
-opened p w = record { outer = record { alts = p.alts; parts = p.parts; weight = w } ∷ p.outer; alts = []; parts = [] }
+opened p w =
+    record {
+      outer = record { alts = p.alts; parts = p.parts; weight = w } ∷ p.outer;
+      alts = [];
+      parts = [];
+    }
 
 -- the tree that was read inside the parentheses
 abbrev pub inner : Place → TreeValue
@@ -61,7 +69,8 @@ inner p = one_or_alt (p.alts ++ union_of p.parts ∷ [])
 -- behind the innermost parenthesis, which held the tree
 abbrev pub closed : List Frame → TreeValue → Option State
 closed [] v = None
-closed (f ∷ fs) v = Some (record { outer = fs; alts = f.alts; parts = f.parts ++ (f.weight, v) ∷ [] }, behind)
+closed (f ∷ fs) v =
+    Some (record { outer = fs; alts = f.alts; parts = f.parts ++ (f.weight, v) ∷ [] }, behind)
 
 abbrev pub begin_simple : Place → Option ℕ → ℕ → Option State
 begin_simple p w b =
@@ -98,7 +107,8 @@ next p start b =
     (if is_digit b then Some (p, whole (b - 48) 1) else
     (if b == 46 then Some (p, point 0) else begin_simple p None b))
 next p (whole n k) b =
-    if is_digit b then (if nat_lt k 6 then Some (p, whole (10 * n + (b - 48)) (k + 1)) else None) else
+    if is_digit b then (if nat_lt k 6 then Some (p, whole (10 * n + (b - 48)) (k + 1)) else None)
+    else
     (if b == 46 then Some (p, point (n * one_whole)) else behind_weight p (n * one_whole) b)
 next p (point n) b = if is_digit b then Some (p, decimals (n + (b - 48) * 100000) 10000) else None
 next p (decimals n unit) b =
@@ -106,7 +116,8 @@ next p (decimals n unit) b =
 next p (weight n) b = behind_weight p n b
 next p (star n) b = if is_blank b then Some (p, star n) else begin_simple p (Some n) b
 next p (walk w at) b =
-    if is_path_byte b then option_map (λ to. (p, walk w to)) (next_walk at b) else behind_path p w b (end_walk at)
+    if is_path_byte b then option_map (λ to. (p, walk w to)) (next_walk at b)
+    else behind_path p w b (end_walk at)
 next p behind b = behind_branch p b
 
 -- the tree that ends here

@@ -3,7 +3,8 @@ use Rattle.std.specs.Prelude.{ℕ, List, [], ◌∷◌, ◌++◌, Option, Some, 
 use Rattle.name_tree.specs.Path.{Labels}
 
 mutual
-  -- a tree of paths: what a leaf, a mark, a choice or a union says, and nothing of how it lies in memory
+  -- a tree of paths: what a leaf, a mark, a choice or a union says, and nothing of how it lies in
+  -- memory
   pub data TreeValue : Type 0 where
     leaf : Labels → TreeValue
     neg : TreeValue
@@ -70,4 +71,5 @@ abbrev mutual
 
   pub append_rest_branches : Branches → Labels → Branches
   append_rest_branches no_branch rest = no_branch
-  append_rest_branches (branch n t bs) rest = branch n (append_rest t rest) (append_rest_branches bs rest)
+  append_rest_branches (branch n t bs) rest =
+      branch n (append_rest t rest) (append_rest_branches bs rest)

@@ -1,5 +1,6 @@
 //! The reader of a label.
-ghost use Rattle.std.specs.Prelude.{◌≡◌, ◌<◌, length, [], None, Some, option_map, IfSome, IsTrue, ◌↔◌};
+ghost use Rattle.std.specs.Prelude.{◌≡◌, ◌<◌, length, [], None, Some, option_map, IfSome, IsTrue};
+ghost use Rattle.std.specs.Prelude.{◌↔◌};
 ghost use Rattle.name_tree.specs.Path.{is_plain};
 ghost use Rattle.name_tree.specs.Grammar.{is_blank, hex_value};
 ghost use Rattle.name_tree.specs.Taken.{Takes};

@@ -1,7 +1,9 @@
 //! Trees without what makes no lookup.
 ghost use Rattle.std.specs.Prelude.{◌≡◌, map, if◌then◌else◌, IfOk, OnOk};
-ghost use Rattle.name_tree.specs.Value.{TreeValues, Branches as BranchValues, none, no_branch, tree_values};
-ghost use Rattle.name_tree.specs.Lean.{tried_before, ends_choice, choice, values_then, lean_all, union_left, mark_if, branches_then};
+ghost use Rattle.name_tree.specs.Value.{TreeValues, Branches as BranchValues, none, no_branch};
+ghost use Rattle.name_tree.specs.Value.{tree_values};
+ghost use Rattle.name_tree.specs.Lean.{tried_before, ends_choice, choice, values_then, lean_all};
+ghost use Rattle.name_tree.specs.Lean.{union_left, mark_if, branches_then};
 ghost use Rattle.name_tree.specs.Tree.{value_of, trees_in, listed};
 
 use crate::Mem;
@@ -23,10 +25,10 @@ impl Tree {
     ghost use Rattle.name_tree.specs.Lean.{lean};
     ghost use Rattle.name_tree.specs.Tree.{value_of};
 
-    /// This tree without what makes no lookup, which stands for the same: an alternation without its
-    /// negative alternatives, and without those behind the first `!` or `$`; a union of its branches
-    /// of weight other than 0 that make lookups, with one `!` and one `$` behind them where a branch
-    /// was one. An alternation or a union of which nothing else is left is a mark.
+    /// This tree without what makes no lookup, which stands for the same: an alternation without
+    /// its negative alternatives, and without those behind the first `!` or `$`; a union of its
+    /// branches of weight other than 0 that make lookups, with one `!` and one `$` behind them
+    /// where a branch was one. An alternation or a union of which nothing else is left is a mark.
     ///
     /// It copies the leaves that are left.
     #[cycle(lean)]
@@ -69,7 +71,8 @@ impl Branches {
     /// What is left of a union of these branches.
     #[cycle(lean)]
     fn lean(&self, alloc: Global) -> Mem<Tree>
-        ensures { IfOk result (λ tree. value_of tree ≡ union_of_parts (lean_each (branches_of self.now))) }
+        ensures { IfOk result
+            (λ tree. value_of tree ≡ union_of_parts (lean_each (branches_of self.now))) }
     {
         let mut left = LeanUnion::new(alloc);
         for branch in &self.items {
@@ -81,8 +84,8 @@ impl Branches {
     }
 }
 
-/// Puts an alternative behind others, unless it is negative, and says whether those behind it may be
-/// tried.
+/// Puts an alternative behind others, unless it is negative, and says whether those behind it may
+/// be tried.
 fn put_alternative(left: &mut Vec<Tree>, tree: Tree) -> Mem<bool>
     ensures { IfOk result (λ goes_on. (ts : TreeValues) →
         values_then (map value_of left.new.items) (if goes_on then ts else none)
@@ -117,7 +120,8 @@ fn lean_choice(trees: Vec<Tree>) -> Tree
 }
 
 impl LeanUnion {
-    ghost use Rattle.name_tree.specs.Lean.{Parts, no_parts, part_before, joined_parts, union_of_parts};
+    ghost use Rattle.name_tree.specs.Lean.{Parts, no_parts, part_before, joined_parts};
+    ghost use Rattle.name_tree.specs.Lean.{union_of_parts};
     ghost use Rattle.name_tree.specs.LeanUnion.{parts_in};
 
     /// Nothing was found. It takes no memory.

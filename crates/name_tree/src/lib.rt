@@ -1,21 +1,28 @@
-//! Paths and trees of paths: the names of a service proxy that routes by logical name, in the manner of Finagle, and their texts.
+//! Paths and trees of paths: the names of a service proxy that routes by logical name, in the
+//! manner of Finagle, and their texts.
 //!
-//! A [`Path`] such as `/svc/web` is a list of labels. A [`Tree`] says what a name stands for, as the Finagle user guide has it: a path
-//! that is looked up in turn, a mark (`~` negative, `!` fail, `$` empty), alternatives that are tried in order, or a union whose
-//! branches share the requests by their weights, which count in millionths. [`read_path`] and [`read_tree`] read texts, [`write_path`]
-//! and [`write_tree`] write the canonical text. [`Tree::with_rest`] puts labels behind every leaf.
+//! A [`Path`] such as `/svc/web` is a list of labels. A [`Tree`] says what a name stands for, as
+//! the Finagle user guide has it: a path that is looked up in turn, a mark (`~` negative, `!` fail,
+//! `$` empty), alternatives that are tried in order, or a union whose branches share the requests
+//! by their weights, which count in millionths. [`read_path`] and [`read_tree`] read texts,
+//! [`write_path`] and [`write_tree`] write the canonical text. [`Tree::with_rest`] puts labels
+//! behind every leaf.
 //!
 //! # What is proved
-//! `specs/Grammar.antt` is the grammar as a table: which texts spell a label, a path, a weight, a tree, and with what value. A text is
-//! read exactly where it is of the grammar, no longer than [`MOST_BYTES`] and nested no deeper than [`MOST_OPEN`], and gives the value
-//! that it spells there. Any other text is refused at the exact place: [`TextFault::Syntax`] holds the length of the longest front of
-//! the text that begins some text of the grammar. A text stands for at most one value, and the canonical text of a value is read as that
-//! value ([`texts_have_one_value`], [`canonical_texts_read_back`]). `path_of` and `tree_of` of `specs/Computed.antt` compute the same values
-//! byte by byte, for definitions that go by cases on what a text stands for ([`computed_values_are_exact`]).
+//! `specs/Grammar.antt` is the grammar as a table: which texts spell a label, a path, a weight, a
+//! tree, and with what value. A text is read exactly where it is of the grammar, no longer than
+//! [`MOST_BYTES`] and nested no deeper than [`MOST_OPEN`], and gives the value that it spells
+//! there. Any other text is refused at the exact place: [`TextFault::Syntax`] holds the length of
+//! the longest front of the text that begins some text of the grammar. A text stands for at most
+//! one value, and the canonical text of a value is read as that value ([`texts_have_one_value`],
+//! [`canonical_texts_read_back`]). `path_of` and `tree_of` of `specs/Computed.antt` compute the
+//! same values byte by byte, for definitions that go by cases on what a text stands for
+//! ([`computed_values_are_exact`]).
 //!
-//! A reader takes byte by byte ([`TreeReader`]), with a stack of its own for what is open, so that a text can't exhaust the call stack,
-//! and each byte is looked at once. Each call that takes memory takes an allocator and answers an error where there is none; what it
-//! then leaves is said at the call.
+//! A reader takes byte by byte ([`TreeReader`]), with a stack of its own for what is open, so that
+//! a text can't exhaust the call stack, and each byte is looked at once. Each call that takes
+//! memory takes an allocator and answers an error where there is none; what it then leaves is said
+//! at the call.
 //!
 //! # Example
 //! ```

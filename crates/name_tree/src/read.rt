@@ -27,23 +27,28 @@ pub const MOST_OPEN: usize = 64;
 pub enum TextFault {
     /// The text is longer than so many bytes.
     TooLong(usize),
-    /// The first `(` that stands inside 64 open parentheses stands here, and the text up to it and with it begins some text of the grammar.
+    /// The first `(` that stands inside 64 open parentheses stands here, and the text up to it and
+    /// with it begins some text of the grammar.
     TooNested(usize),
-    /// The text is not in the grammar, and its first so many bytes are the longest front of it that begins some text of the grammar.
+    /// The text is not in the grammar, and its first so many bytes are the longest front of it that
+    /// begins some text of the grammar.
     Syntax(usize),
     /// There was no memory for the value.
     OutOfMemory,
 }
 
-/// Reads the text of a path: `/`, or `/` and a label one or more times, with blanks (space, tab, CR, LF) at both ends, as the Finagle
-/// user guide writes paths. A label is one or more of an ASCII letter, a digit and `_ : . # $ % -`, which stand for themselves, and
-/// `\x` with two hexadecimal digits of either case, which stands for any byte.
+/// Reads the text of a path: `/`, or `/` and a label one or more times, with blanks (space, tab,
+/// CR, LF) at both ends, as the Finagle user guide writes paths. A label is one or more of an ASCII
+/// letter, a digit and `_ : . # $ % -`, which stand for themselves, and `\x` with two hexadecimal
+/// digits of either case, which stands for any byte.
 ///
 /// It takes time linear in the text.
 pub fn read_path(alloc: Global, text: &[u8]) -> Result<Path, TextFault>
     ensures exact { MatchResult result (IsValue PathText text.now) (FaultFits PathText text.now) }
-    ensures only { (path : Labels) → IsValue PathText text.now path → MatchResult result (λ read. read ≡ path) (λ fault. fault ≡ TextFault.OutOfMemory) }
-    ensures computed { MatchResult result (λ path. path_of text.now ≡ Some path) (λ fault. (fault ≡ TextFault.OutOfMemory) ⊎ (path_of text.now ≡ None)) }
+    ensures only { (path : Labels) → IsValue PathText text.now path
+        → MatchResult result (λ read. read ≡ path) (λ fault. fault ≡ TextFault.OutOfMemory) }
+    ensures computed { MatchResult result (λ path. path_of text.now ≡ Some path)
+        (λ fault. (fault ≡ TextFault.OutOfMemory) ⊎ (path_of text.now ≡ None)) }
     ensures labels { IfOk result (λ path. AreByteLabels path) }
 {
     path_in(alloc, text)
@@ -71,16 +76,22 @@ fn path_in(alloc: Global, text: &[u8]) -> Result<Path, TextFault>
     }
 }
 
-/// Reads the text of a tree, with blanks at both ends and between any two tokens, as the Finagle user guide writes trees: a path, `!`
-/// (fail), `~` (negative), `$` (empty), a tree in parentheses, alternatives with `|` between them, and unions with `&` between their
-/// branches, which bind tighter. A branch may begin with a weight and `*`: one to six digits, or none to six digits, `.` and one or more
-/// digits, of which six count. A branch of several without a weight has the weight 1.
+/// Reads the text of a tree, with blanks at both ends and between any two tokens, as the Finagle
+/// user guide writes trees: a path, `!` (fail), `~` (negative), `$` (empty), a tree in parentheses,
+/// alternatives with `|` between them, and unions with `&` between their branches, which bind
+/// tighter. A branch may begin with a weight and `*`: one to six digits, or none to six digits, `.`
+/// and one or more digits, of which six count. A branch of several without a weight has the weight
+/// 1.
 ///
 /// It takes time linear in the text.
 pub fn read_tree(alloc: Global, text: &[u8]) -> Result<Tree, TextFault>
-    ensures exact { MatchResult result (λ tree. IsValue TreeText text.now (value_of tree)) (FaultFits TreeText text.now) }
-    ensures only { (name : TreeValue) → IsValue TreeText text.now name → MatchResult result (λ tree. value_of tree ≡ name) (λ fault. fault ≡ TextFault.OutOfMemory) }
-    ensures computed { MatchResult result (λ tree. tree_of text.now ≡ Some (value_of tree)) (λ fault. (fault ≡ TextFault.OutOfMemory) ⊎ (tree_of text.now ≡ None)) }
+    ensures exact { MatchResult result (λ tree. IsValue TreeText text.now (value_of tree))
+        (FaultFits TreeText text.now) }
+    ensures only { (name : TreeValue) → IsValue TreeText text.now name
+        → MatchResult result (λ tree. value_of tree ≡ name)
+        (λ fault. fault ≡ TextFault.OutOfMemory) }
+    ensures computed { MatchResult result (λ tree. tree_of text.now ≡ Some (value_of tree))
+        (λ fault. (fault ≡ TextFault.OutOfMemory) ⊎ (tree_of text.now ≡ None)) }
     ensures sound { IfOk result (λ tree. IsSound (value_of tree) × HasLabels (value_of tree)) }
 {
     tree_in(alloc, text)
@@ -88,7 +99,8 @@ pub fn read_tree(alloc: Global, text: &[u8]) -> Result<Tree, TextFault>
 
 /// The tree that a text stands for.
 fn tree_in(alloc: Global, text: &[u8]) -> Result<Tree, TextFault>
-    ensures { MatchResult result (λ tree. IsValue TreeText text.now (value_of tree)) (FaultFits TreeText text.now) }
+    ensures { MatchResult result (λ tree. IsValue TreeText text.now (value_of tree))
+        (FaultFits TreeText text.now) }
 {
     if text.len() > MOST_BYTES {
         return Err(TextFault::TooLong(MOST_BYTES));

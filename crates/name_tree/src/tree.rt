@@ -5,7 +5,8 @@ use crate::Mem;
 use crate::path::Path;
 use std::alloc::Global;
 
-/// What a name stands for: a path, a mark, alternatives or a union, as in the name trees of the Finagle user guide.
+/// What a name stands for: a path, a mark, alternatives or a union, as in the name trees of the
+/// Finagle user guide.
 #[cycle(tree)]
 #[derive(Debug, Drop)]
 pub enum Tree {
@@ -52,14 +53,15 @@ impl Tree {
     ghost use Rattle.name_tree.specs.Value.{leaf, neg, fail, empty, append_rest};
     ghost use Rattle.name_tree.specs.Tree.{value_of};
 
-    /// This tree with the labels of a path from a place on, counted from 0, behind every leaf of every alternative and branch. Marks and
-    /// weights stay as they are.
+    /// This tree with the labels of a path from a place on, counted from 0, behind every leaf of
+    /// every alternative and branch. Marks and weights stay as they are.
     ///
     /// It copies the tree and, for each leaf, those labels.
     #[cycle(with_rest)]
     pub fn with_rest(&self, alloc: Global, path: &Path, from: usize) -> Mem<Tree>
         requires { from ≤ length path.now }
-        ensures { IfOk result (λ tree. value_of tree ≡ append_rest (value_of self.now) (drop from path.now)) }
+        ensures { IfOk result
+            (λ tree. value_of tree ≡ append_rest (value_of self.now) (drop from path.now)) }
     {
         match self {
             Tree::Leaf(front) => Ok(Tree::Leaf(front.joined_from(alloc, path, from)?)),
@@ -79,7 +81,8 @@ impl Tree {
         self.with_rest(alloc, &Path::new(alloc), 0)
     }
 
-    /// Whether the other tree is the same: the same marks, weights and labels, in the same order. It takes no memory.
+    /// Whether the other tree is the same: the same marks, weights and labels, in the same order.
+    /// It takes no memory.
     #[cycle(same)]
     pub fn same(&self, other: &Tree) -> bool
         ensures { IsTrue result ↔ (value_of self.now ≡ value_of other.now) }
@@ -201,7 +204,9 @@ impl Trees {
     #[cycle(with_rest)]
     fn with_rest(&self, alloc: Global, path: &Path, from: usize) -> Mem<Trees>
         requires { from ≤ length path.now }
-        ensures { IfOk result (λ trees. map value_of (trees_in trees) ≡ map (λ tree. append_rest (value_of tree) (drop from path.now)) (trees_in self.now)) }
+        ensures { IfOk result
+            (λ trees. map value_of (trees_in trees)
+            ≡ map (λ tree. append_rest (value_of tree) (drop from path.now)) (trees_in self.now)) }
     {
         let mut items = Vec::with_capacity(alloc, self.items.len())?;
         for tree in &self.items {
@@ -213,7 +218,8 @@ impl Trees {
     /// Whether the other trees are the same, in their order.
     #[cycle(same)]
     fn same(&self, other: &Trees) -> bool
-        ensures { IsTrue result ↔ (map value_of (trees_in self.now) ≡ map value_of (trees_in other.now)) }
+        ensures { IsTrue result
+            ↔ (map value_of (trees_in self.now) ≡ map value_of (trees_in other.now)) }
     {
         if self.items.len() != other.items.len() {
             return false;
@@ -257,7 +263,9 @@ impl Branch {
     fn with_rest(&self, alloc: Global, path: &Path, from: usize) -> Mem<Branch>
         requires { from ≤ length path.now }
         ensures weight { IfOk result (λ branch. branch.weight ≡ self.now.weight) }
-        ensures tree { IfOk result (λ branch. value_of branch.tree ≡ append_rest (value_of self.now.tree) (drop from path.now)) }
+        ensures tree { IfOk result
+            (λ branch. value_of branch.tree
+            ≡ append_rest (value_of self.now.tree) (drop from path.now)) }
     {
         let tree = self.tree.with_rest(alloc, path, from)?;
         Ok(Branch {
@@ -283,7 +291,9 @@ impl Branches {
     #[cycle(with_rest)]
     fn with_rest(&self, alloc: Global, path: &Path, from: usize) -> Mem<Branches>
         requires { from ≤ length path.now }
-        ensures { IfOk result (λ branches. branches_of branches ≡ append_rest_branches (branches_of self.now) (drop from path.now)) }
+        ensures { IfOk result
+            (λ branches. branches_of branches
+            ≡ append_rest_branches (branches_of self.now) (drop from path.now)) }
     {
         let mut items = Vec::with_capacity(alloc, self.items.len())?;
         for branch in &self.items {

@@ -3,7 +3,12 @@ ghost use Rattle.std.specs.Prelude.{◌≡◌, ◌*◌, [], length, None, Some, 
 ghost use Rattle.name_tree.specs.Value.{union_of};
 ghost use Rattle.name_tree.specs.Tree.{value_of};
 ghost use Rattle.name_tree.specs.PathReading.{end_walk};
-ghost use Rattle.name_tree.specs.TreeReading.{start, whole as at_whole, point as at_point, decimals as at_decimals, star as at_star, walk as at_walk, behind, before, with_part, opened, inner, closed, begin_simple, behind_weight, behind_branch, path_behind, next, next_state, end_tree, ended_state};
+ghost use Rattle.name_tree.specs.TreeReading.{start, whole as at_whole, point as at_point};
+ghost use Rattle.name_tree.specs.TreeReading.{decimals as at_decimals, star as at_star};
+ghost use Rattle.name_tree.specs.TreeReading.{walk as at_walk, behind, before, with_part, opened};
+ghost use Rattle.name_tree.specs.TreeReading.{inner, closed, begin_simple, behind_weight};
+ghost use Rattle.name_tree.specs.TreeReading.{behind_branch, path_behind, next, next_state};
+ghost use Rattle.name_tree.specs.TreeReading.{end_tree, ended_state};
 ghost use Rattle.name_tree.specs.Taken.{Takes, Ends};
 ghost use Rattle.name_tree.specs.TreeReaders.{place_of, state_of, walk_in};
 
@@ -17,7 +22,8 @@ use crate::weight::{Decimals, Whole};
 use std::alloc::Global;
 use std::mem::replace;
 
-/// An open parenthesis: the alternatives before it, the branches before it in its union, and the weight before it.
+/// An open parenthesis: the alternatives before it, the branches before it in its union, and the
+/// weight before it.
 #[derive(Debug, Drop)]
 pub(crate) struct Frame {
     alts: Vec<Tree>,
@@ -80,7 +86,8 @@ impl TreeReader {
 
     /// Ends a branch with its tree.
     fn end_branch(&mut self, weight: Option<u64>, tree: Tree) -> Mem<()>
-        ensures { OnOk result (state_of self.new ≡ (with_part (place_of self.old) weight (value_of tree), behind)) }
+        ensures { OnOk result (state_of self.new
+            ≡ (with_part (place_of self.old) weight (value_of tree), behind)) }
     {
         self.parts.push(WrittenBranch { weight, tree })?;
         self.mode = Mode::Behind;
@@ -162,7 +169,8 @@ impl TreeReader {
 
     /// Takes in a byte behind digits of a weight.
     fn take_in_whole(&mut self, whole: Whole, byte: u8) -> Result<(), Refused>
-        ensures { Takes (next (place_of self.old) (at_whole whole.value whole.digits) byte) (state_of self.new) result }
+        ensures { Takes (next (place_of self.old) (at_whole whole.value whole.digits) byte)
+            (state_of self.new) result }
     {
         if byte.is_ascii_digit() {
             let Some(more) = whole.with(byte - b'0') else {
@@ -180,7 +188,8 @@ impl TreeReader {
 
     /// Takes in a byte behind a weight's point.
     fn take_behind_point(&mut self, whole: Whole, byte: u8) -> Result<(), Refused>
-        ensures { Takes (next (place_of self.old) (at_point (whole.value * 1000000)) byte) (state_of self.new) result }
+        ensures { Takes (next (place_of self.old) (at_point (whole.value * 1000000)) byte)
+            (state_of self.new) result }
     {
         if !byte.is_ascii_digit() {
             return Err(Refused::Byte);
@@ -191,7 +200,8 @@ impl TreeReader {
 
     /// Takes in a byte behind decimals of a weight.
     fn take_in_decimals(&mut self, decimals: Decimals, byte: u8) -> Result<(), Refused>
-        ensures { Takes (next (place_of self.old) (at_decimals decimals.millionths decimals.unit) byte) (state_of self.new) result }
+        ensures { Takes (next (place_of self.old) (at_decimals decimals.millionths decimals.unit)
+            byte) (state_of self.new) result }
     {
         if byte.is_ascii_digit() {
             self.mode = Mode::Decimals(decimals.with(byte - b'0'));
@@ -203,7 +213,8 @@ impl TreeReader {
     /// Takes in a byte behind a weight's `*`.
     fn take_behind_star(&mut self, alloc: Global, weight: u64, byte: u8) -> Result<(), Refused>
         requires { self.old.mode ≡ Mode.Star weight }
-        ensures { Takes (next (place_of self.old) (at_star weight) byte) (state_of self.new) result }
+        ensures { Takes (next (place_of self.old) (at_star weight) byte) (state_of self.new)
+            result }
     {
         if is_blank_byte(byte) {
             return Ok(());
@@ -223,7 +234,8 @@ impl TreeReader {
     /// The tree inside the parentheses, whose alternatives are gone then.
     fn end_tree(&mut self, alloc: Global) -> Mem<Tree>
         ensures tree { IfOk result (λ tree. value_of tree ≡ inner (place_of self.old)) }
-        ensures rest { OnOk result (self.new ≡ record self.old { alts = self.new.alts; parts = self.new.parts }) }
+        ensures rest { OnOk result
+            (self.new ≡ record self.old { alts = self.new.alts; parts = self.new.parts }) }
     {
         let last = self.end_union(alloc)?;
         let mut alts = replace(&mut self.alts, Vec::new(alloc));
@@ -234,7 +246,8 @@ impl TreeReader {
     /// Closes the innermost parenthesis.
     #[tactic(auto, using(crate::proofs::Frames::frames_pushed))]
     fn close(&mut self, alloc: Global) -> Result<(), Refused>
-        ensures { Takes (closed (place_of self.old).outer (inner (place_of self.old))) (state_of self.new) result }
+        ensures { Takes (closed (place_of self.old).outer (inner (place_of self.old)))
+            (state_of self.new) result }
     {
         let Some(frame) = self.outer.pop() else {
             return Err(Refused::Byte);
@@ -272,7 +285,8 @@ impl TreeReader {
 
     /// Ends a path, and its branch.
     fn end_path(&mut self, alloc: Global, weight: Option<u64>) -> Result<(), Refused>
-        ensures { Takes (path_behind (place_of self.old) weight (end_walk (walk_in self.old))) (state_of self.new) result }
+        ensures { Takes (path_behind (place_of self.old) weight (end_walk (walk_in self.old)))
+            (state_of self.new) result }
     {
         let path = replace(&mut self.path, PathReader::new(alloc)).end()?;
         self.end_branch(weight, Tree::Leaf(path))?;
@@ -282,7 +296,8 @@ impl TreeReader {
     /// Takes in a byte in a path.
     fn take_in_path(&mut self, alloc: Global, weight: Option<u64>, byte: u8) -> Result<(), Refused>
         requires { self.old.mode ≡ Mode.Walk weight }
-        ensures { Takes (next (place_of self.old) (at_walk weight (walk_in self.old)) byte) (state_of self.new) result }
+        ensures { Takes (next (place_of self.old) (at_walk weight (walk_in self.old)) byte)
+            (state_of self.new) result }
     {
         if is_in_paths(byte) {
             return self.path.take(alloc, byte);
@@ -309,7 +324,9 @@ impl TreeReader {
 
     /// Ends the last branch, if it may end here.
     fn end_last(&mut self, alloc: Global) -> Result<(), Refused>
-        ensures { MatchResult result (λ _. ended_state (state_of self.old) ≡ end_tree (place_of self.new)) (λ refused. refused ≡ Refused.Byte → ended_state (state_of self.old) ≡ None) }
+        ensures { MatchResult result
+            (λ _. ended_state (state_of self.old) ≡ end_tree (place_of self.new))
+            (λ refused. refused ≡ Refused.Byte → ended_state (state_of self.old) ≡ None) }
     {
         match self.mode {
             Mode::Walk(weight) => self.end_path(alloc, weight),

@@ -32,12 +32,14 @@ fn branches_in(alloc: Global, parts: Vec<WrittenBranch>) -> Mem<Vec<Branch>>
 
 /// Whether this is one branch without a weight.
 fn is_bare(parts: &[WrittenBranch]) -> bool
-    ensures { IsTrue result ↔ ((length parts.now ≡ 1) × All (λ part. IsNone part.weight) parts.now) }
+    ensures { IsTrue result
+        ↔ ((length parts.now ≡ 1) × All (λ part. IsNone part.weight) parts.now) }
 {
     matches!(parts, [WrittenBranch { weight: None, .. }])
 }
 
-/// The tree that some branches with `&` between them stand for: one without a weight is itself, and any others are a union.
+/// The tree that some branches with `&` between them stand for: one without a weight is itself, and
+/// any others are a union.
 pub(crate) fn union_of_parts(alloc: Global, mut parts: Vec<WrittenBranch>) -> Mem<Tree>
     ensures { IfOk result (λ tree. value_of tree ≡ union_of (map part_of parts.items)) }
 {

@@ -43,7 +43,9 @@ impl Whole {
     /// One digit more, unless there are too many.
     pub(crate) fn with(self, digit: u8) -> Option<Whole>
         requires { digit ≤ 9 }
-        ensures { MatchOption result (6 ≤ self.digits) (λ more. (self.digits < 6) × (more.value ≡ 10 * self.value + digit) × (more.digits ≡ self.digits + 1)) }
+        ensures { MatchOption result (6 ≤ self.digits)
+            (λ more. (self.digits < 6) × (more.value ≡ 10 * self.value + digit)
+            × (more.digits ≡ self.digits + 1)) }
     {
         if self.digits >= MOST_DIGITS {
             return None;

@@ -4,8 +4,9 @@ ghost use Rattle.name_tree.specs.Weight.{weight_of, point_from, ComputesWeights}
 
 use crate::weight::{Decimals, Whole};
 
-/// Reads a weight as a tree has it: one to six digits, or none to six digits, a point and one or more digits, of which those behind the
-/// sixth are dropped. The weight is in millionths, and less than a million wholes. `None` where the text is no weight. It takes no memory.
+/// Reads a weight as a tree has it: one to six digits, or none to six digits, a point and one or
+/// more digits, of which those behind the sixth are dropped. The weight is in millionths, and less
+/// than a million wholes. `None` where the text is no weight. It takes no memory.
 pub fn read_weight(text: &[u8]) -> Option<u64>
     ensures weight { result ≡ weight_of text.now }
     ensures below { IfSome result (λ weight. weight < 10 ^ 12) }
@@ -47,7 +48,8 @@ fn read_decimals(whole: Whole, text: &[u8]) -> Option<u64>
     Some(decimals.millionths)
 }
 
-/// The weights that `specs/Weight.antt` computes from texts are those of the grammar, and no others.
+/// The weights that `specs/Weight.antt` computes from texts are those of the grammar, and no
+/// others.
 pub fn computed_weights_are_exact()
     ensures { ComputesWeights }
 {}

@@ -4,7 +4,8 @@ ghost use Rattle.std.specs.Fmt.{decimal};
 ghost use Rattle.name_tree.specs.Path.{hex_digit, canon_byte, canon_label, canon_path};
 ghost use Rattle.name_tree.specs.Growth.{Grows};
 ghost use Rattle.name_tree.specs.Value.{tree_values};
-ghost use Rattle.name_tree.specs.Canon.{decimals_text, canon_weight, grouped, is_alt, canon, canon_alts, branch_text, canon_branches};
+ghost use Rattle.name_tree.specs.Canon.{decimals_text, canon_weight, grouped, is_alt, canon};
+ghost use Rattle.name_tree.specs.Canon.{canon_alts, branch_text, canon_branches};
 ghost use Rattle.name_tree.specs.Separated.{separated};
 ghost use Rattle.name_tree.specs.Tree.{value_of, trees_in, branches_of};
 
@@ -20,8 +21,9 @@ const UNITS: [u64; 6] = [100_000, 10_000, 1_000, 100, 10, 1];
 
 /// Puts the canonical text of a path behind some bytes. An `Err` changes nothing.
 ///
-/// It is `/` for the path with no label, else `/` and each label: a letter, a digit or one of `_ : . # $ % -` is itself, and any other
-/// byte is `\x` and two hexadecimal digits in lower case. The label `a/b` is `a\x2fb`.
+/// It is `/` for the path with no label, else `/` and each label: a letter, a digit or one of `_ :
+/// . # $ % -` is itself, and any other byte is `\x` and two hexadecimal digits in lower case. The
+/// label `a/b` is `a\x2fb`.
 pub fn append_path(path: &Path, out: &mut Bytes) -> Mem<()>
     ensures ok { OnOk result (out.new.items ≡ out.old.items ++ canon_path path.now) }
     ensures err { OnErr result (out.new.items ≡ out.old.items) }
@@ -34,7 +36,8 @@ pub fn append_path(path: &Path, out: &mut Bytes) -> Mem<()>
     done
 }
 
-/// Puts `/` and the canonical text of a label behind some bytes, as [`append_path`] writes each label of a path. An `Err` changes nothing.
+/// Puts `/` and the canonical text of a label behind some bytes, as [`append_path`] writes each
+/// label of a path. An `Err` changes nothing.
 pub fn append_label(label: &[u8], out: &mut Bytes) -> Mem<()>
     ensures ok { OnOk result (out.new.items ≡ out.old.items ++ canon_label label.now) }
     ensures err { OnErr result (out.new.items ≡ out.old.items) }
@@ -159,10 +162,12 @@ fn put_separator(at: usize, separator: &[u8], out: &mut Bytes) -> Mem<()>
     Ok(())
 }
 
-/// Puts the canonical text of a tree behind some bytes, in parentheses or not. An `Err` may leave a part of it there.
+/// Puts the canonical text of a tree behind some bytes, in parentheses or not. An `Err` may leave a
+/// part of it there.
 #[cycle(put)]
 fn put_grouped(is_group: bool, tree: &Tree, out: &mut Bytes) -> Mem<()>
-    ensures ok { OnOk result (out.new.items ≡ out.old.items ++ grouped is_group (canon (value_of tree.now))) }
+    ensures ok { OnOk result
+        (out.new.items ≡ out.old.items ++ grouped is_group (canon (value_of tree.now))) }
     ensures grows { Grows out.old.items out.new.items }
 {
     if !is_group {
@@ -194,7 +199,9 @@ fn put_tree(tree: &Tree, out: &mut Bytes) -> Mem<()>
 /// Puts the alternatives of a choice behind some bytes. An `Err` may leave a part of them there.
 #[cycle(put)]
 fn put_alts(trees: &Trees, out: &mut Bytes) -> Mem<()>
-    ensures ok { OnOk result (out.new.items ≡ out.old.items ++ canon_alts (tree_values (map value_of (trees_in trees.now)))) }
+    ensures ok { OnOk result
+        (out.new.items ≡ out.old.items
+        ++ canon_alts (tree_values (map value_of (trees_in trees.now)))) }
     ensures grows { Grows out.old.items out.new.items }
 {
     for (at, tree) in trees.items.iter().enumerate() {
@@ -207,7 +214,9 @@ fn put_alts(trees: &Trees, out: &mut Bytes) -> Mem<()>
 /// Puts a branch behind some bytes. An `Err` may leave a part of it there.
 #[cycle(put)]
 fn put_branch(branch: &Branch, out: &mut Bytes) -> Mem<()>
-    ensures ok { OnOk result (out.new.items ≡ out.old.items ++ branch_text branch.now.weight (value_of branch.now.tree)) }
+    ensures ok { OnOk result
+        (out.new.items ≡ out.old.items
+        ++ branch_text branch.now.weight (value_of branch.now.tree)) }
     ensures grows { Grows out.old.items out.new.items }
 {
     put_weight(branch.weight, out)?;
@@ -218,7 +227,8 @@ fn put_branch(branch: &Branch, out: &mut Bytes) -> Mem<()>
 /// Puts the branches of a union behind some bytes. An `Err` may leave a part of them there.
 #[cycle(put)]
 fn put_branches(branches: &Branches, out: &mut Bytes) -> Mem<()>
-    ensures ok { OnOk result (out.new.items ≡ out.old.items ++ canon_branches (branches_of branches.now)) }
+    ensures ok { OnOk result
+        (out.new.items ≡ out.old.items ++ canon_branches (branches_of branches.now)) }
     ensures grows { Grows out.old.items out.new.items }
 {
     for (at, branch) in branches.items.iter().enumerate() {
@@ -230,8 +240,8 @@ fn put_branches(branches: &Branches, out: &mut Bytes) -> Mem<()>
 
 /// Puts the canonical text of a tree behind some bytes. An `Err` leaves them as they were.
 ///
-/// It is the text with the fewest parentheses, with ` | `, ` & ` and ` * ` between its parts; each branch has its weight, with no more
-/// decimals than it needs.
+/// It is the text with the fewest parentheses, with ` | `, ` & ` and ` * ` between its parts; each
+/// branch has its weight, with no more decimals than it needs.
 pub fn append_tree(tree: &Tree, out: &mut Bytes) -> Mem<()>
     ensures ok { OnOk result (out.new.items ≡ out.old.items ++ canon (value_of tree.now)) }
     ensures err { OnErr result (out.new.items ≡ out.old.items) }

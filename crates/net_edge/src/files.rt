@@ -24,8 +24,8 @@ impl<'a, R> FileSystem<'a, R> {
         FileSystem { rt, faults: 0 }
     }
 
-    /// What a call answers that ended with an error of this kind: out of memory, or a fault, which is
-    /// counted.
+    /// What a call answers that ended with an error of this kind: out of memory, or a fault, which
+    /// is counted.
     fn fail<T>(&mut self, kind: ErrorKind) -> Result<T, FolderFault>
         ensures err { IsErr result }
         ensures cause { HasFolderCause self.old.faults self.new.faults result }

@@ -28,7 +28,10 @@ no_contents = record { spaces = empty; next = 1 }
 -- the namespace has this table with the next version, in the place of its like
 abbrev pub after_set : Contents → List ℕ → List Rule → Contents
 after_set store name rules =
-    record { spaces = insert store.spaces name (record { version = store.next; rules = rules }); next = store.next + 1 }
+    record {
+      spaces = insert store.spaces name (record { version = store.next; rules = rules });
+      next = store.next + 1;
+    }
 
 -- the namespace is gone, and the next version stays
 abbrev pub after_delete : Contents → List ℕ → Contents

@@ -2,7 +2,8 @@
 use Rattle.std.specs.Prelude.{ℕ, ◌-◌, ◌^◌, ◌==◌, nat_le, if◌then◌else◌, List, Option, Some, None}
 use Rattle.std.specs.FinMap.{get, len}
 use Rattle.ns_store.specs.declared.fault.StoreFault.{StoreFault}
-use Rattle.ns_store.specs.declared.fault.StoreFault.TheVariants.{Exists, TooManyNames, VersionsSpent, Missing, Stale}
+use Rattle.ns_store.specs.declared.fault.StoreFault.TheVariants.{Exists, TooManyNames}
+use Rattle.ns_store.specs.declared.fault.StoreFault.TheVariants.{VersionsSpent, Missing, Stale}
 use Rattle.ns_store.specs.Contents.{Contents, Space}
 
 -- the first refusal, or else the other
@@ -35,11 +36,14 @@ expected_refusal (Some space) expected = stale_refusal space.version expected
 
 -- why the namespace may not be created, if it may not
 abbrev pub create_refusal : Contents → List ℕ → Option StoreFault
-create_refusal store name = or_else (exists_refusal (get store.spaces name)) (or_else (room_refusal store) (spent_refusal store))
+create_refusal store name =
+    or_else (exists_refusal (get store.spaces name))
+    (or_else (room_refusal store) (spent_refusal store))
 
 -- why its table may not be replaced, if it may not
 abbrev pub put_refusal : Contents → List ℕ → Option ℕ → Option StoreFault
-put_refusal store name expected = or_else (expected_refusal (get store.spaces name) expected) (spent_refusal store)
+put_refusal store name expected =
+    or_else (expected_refusal (get store.spaces name) expected) (spent_refusal store)
 
 -- why it may not be deleted, if it may not
 abbrev pub delete_refusal : Contents → List ℕ → Option ℕ → Option StoreFault

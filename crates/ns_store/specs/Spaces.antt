@@ -15,10 +15,13 @@ spaces_of spaces = from_sorted (map entry_of spaces.items.items)
 -- the namespace at the place has the name
 pub record IsPlace (spaces : Spaces) (name : List ℕ) (at : ℕ) : Type 0 where
   pub within : at < length spaces.items.items
-  pub here : (d : Namespace) → slice_cmp nat_cmp (slice_index_or spaces.items.items at d).name name ≡ Equal
+  pub here : (d : Namespace)
+      → slice_cmp nat_cmp (slice_index_or spaces.items.items at d).name name ≡ Equal
 
 -- the names before the place are below the name, and those from it on are above
 pub record IsGap (spaces : Spaces) (name : List ℕ) (at : ℕ) : Type 0 where
   pub within : at ≤ length spaces.items.items
-  pub before : (k : ℕ) (d : Namespace) → k < at → slice_cmp nat_cmp (slice_index_or spaces.items.items k d).name name ≡ Less
-  pub behind : (k : ℕ) (d : Namespace) → at ≤ k → k < length spaces.items.items → slice_cmp nat_cmp (slice_index_or spaces.items.items k d).name name ≡ Greater
+  pub before : (k : ℕ) (d : Namespace) → k < at
+      → slice_cmp nat_cmp (slice_index_or spaces.items.items k d).name name ≡ Less
+  pub behind : (k : ℕ) (d : Namespace) → at ≤ k → k < length spaces.items.items
+      → slice_cmp nat_cmp (slice_index_or spaces.items.items k d).name name ≡ Greater

@@ -6,7 +6,8 @@ use Rattle.ns_store.specs.declared.fault.StoreFault.{StoreFault}
 use Rattle.ns_store.specs.Contents.{Contents, no_contents, after_set, after_delete}
 use Rattle.ns_store.specs.Refusal.{create_refusal, put_refusal, delete_refusal}
 
--- a change of a namespace of some name: a new one with these rules, other rules, or none any more; the last two may expect a version
+-- a change of a namespace of some name: a new one with these rules, other rules, or none any more;
+-- the last two may expect a version
 pub data Change : Type 0 where
   create : List ℕ → List Rule → Change
   put : List ℕ → Option ℕ → List Rule → Change
@@ -41,8 +42,10 @@ versions_in store (delete name expected) = []
 -- the versions that some changes give, in their order, from a store on; a refused change gives none
 abbrev pub versions_from : Contents → List Change → List ℕ
 versions_from store [] = []
-versions_from store (c ∷ cs) = if_taken (refusal store c) (versions_in store c) [] ++ versions_from (after store c) cs
+versions_from store (c ∷ cs) =
+    if_taken (refusal store c) (versions_in store c) [] ++ versions_from (after store c) cs
 
--- no version is given twice: over every list of changes, each that is given is above those before it
+-- no version is given twice: over every list of changes, each that is given is above those before
+-- it
 abbrev pub VersionsRise : Type 0
 VersionsRise = (changes : List Change) → IsStrictlyIncreasing (versions_from no_contents changes)

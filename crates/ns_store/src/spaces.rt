@@ -12,7 +12,8 @@ use dtab_table::Dtab;
 use std::alloc::Global;
 use std::sync::Arc;
 
-/// Some namespaces, no two with one name, in the byte order of their names. Contracts see them as the finite map `spaces_of`.
+/// Some namespaces, no two with one name, in the byte order of their names. Contracts see them as
+/// the finite map `spaces_of`.
 #[derive(Debug, Drop)]
 pub(crate) struct Spaces {
     items: Vec<Namespace>,
@@ -20,7 +21,8 @@ pub(crate) struct Spaces {
 }
 
 impl Spaces {
-    ghost use Rattle.std.specs.Prelude.{◌<◌, ◌+◌, length, slice_get, option_map, Some, OnOk, OnErr, IfErr};
+    ghost use Rattle.std.specs.Prelude.{◌<◌, ◌+◌, length, slice_get, option_map, Some, OnOk, OnErr};
+    ghost use Rattle.std.specs.Prelude.{IfErr};
     ghost use Rattle.std.specs.FinMap as fin;
     ghost use Rattle.std.specs.Arc.{arc_value};
     ghost use Rattle.dtab_table.specs.Dtab.{rules_of};
@@ -53,7 +55,8 @@ impl Spaces {
 
     /// The namespace with a name, if it is there.
     pub(crate) fn get(&self, name: &Name) -> Option<&Namespace>
-        ensures { option_map (λ space. space_of space.now) result ≡ fin.get (spaces_of self.now) name.now }
+        ensures { option_map (λ space. space_of space.now) result
+            ≡ fin.get (spaces_of self.now) name.now }
     {
         match self.search(name) {
             Ok(at) => Some(&self.items[at]),
@@ -63,7 +66,9 @@ impl Spaces {
 
     /// Puts a namespace in its place, in the place of its like. An `Err` changes nothing.
     pub(crate) fn set(&mut self, name: &Name, version: u64, dtab: Arc<Dtab>) -> Mem<()>
-        ensures ok { OnOk result (spaces_of self.new ≡ fin.insert (spaces_of self.old) name.now (record { version = version; rules = rules_of (arc_value dtab) })) }
+        ensures ok { OnOk result
+            (spaces_of self.new ≡ fin.insert (spaces_of self.old) name.now
+            (record { version = version; rules = rules_of (arc_value dtab) })) }
         ensures err { OnErr result (spaces_of self.new ≡ spaces_of self.old) }
     {
         let name = name.clone()?;

@@ -1,12 +1,14 @@
 -- What a caller's calls published, and where that stands in the list of all that was published.
-use Rattle.std.specs.Prelude.{ℕ, ◌+◌, ◌<◌, ◌≤◌, Bool, if◌then◌else◌, List, [], ◌∷◌, ◌++◌, take, All, ⊤, Option, Some, None}
+use Rattle.std.specs.Prelude.{ℕ, ◌+◌, ◌<◌, ◌≤◌, Bool, if◌then◌else◌, List, [], ◌∷◌, ◌++◌, take, All}
+use Rattle.std.specs.Prelude.{⊤, Option, Some, None}
 
 -- what stands at a point, if something does
 abbrev pub entry_at : {O : Type 0} → Option O → ℕ → List (O × ℕ)
 entry_at None at = []
 entry_at (Some op) at = (op, at) ∷ []
 
--- what comes behind a call that published nothing may stand at the same point; behind one that did, it stands at a greater one
+-- what comes behind a call that published nothing may stand at the same point; behind one that did,
+-- it stands at a greater one
 abbrev pub Behind : {O : Type 0} → Option O → ℕ → ℕ → Type 0
 Behind None at next = at ≤ next
 Behind (Some op) at next = at < next
@@ -21,13 +23,15 @@ module _ {O C : Type 0} (is_change : O → Bool) (publishes : List O → ℕ →
   others_with None n = n
   others_with (Some op) n = if is_change op then n else n + 1
 
-  -- What a call publishes follows from the operations that stood before it, its caller, and how many changes and others that caller had published.
-  -- So it does for a caller's items, each a call with its point: the operations that they published, in order, each with its point
+  -- What a call publishes follows from the operations that stood before it, its caller, and how
+  -- many changes and others that caller had published. So it does for a caller's items, each a call
+  -- with its point: the operations that they published, in order, each with its point
   abbrev pub entries_from : ℕ → List O → ℕ → ℕ → List (C × ℕ) → List (O × ℕ)
   entries_from caller seen changes others [] = []
   entries_from caller seen changes others (item ∷ items) =
       let found = publishes (take item.1 seen) caller changes others item.0 in
-      entry_at found item.1 ++ entries_from caller seen (changes_with found changes) (others_with found others) items
+      entry_at found item.1 ++ entries_from caller seen (changes_with found changes)
+      (others_with found others) items
 
   -- how many changes, and how many others, there are with those of the items
   abbrev pub changes_after : ℕ → List O → ℕ → ℕ → List (C × ℕ) → ℕ
@@ -47,7 +51,8 @@ module _ {O C : Type 0} (is_change : O → Bool) (publishes : List O → ℕ →
   Follow caller seen changes others [] = ⊤
   Follow caller seen changes others (item ∷ items) =
       let found = publishes (take item.1 seen) caller changes others item.0 in
-      All (λ next. Behind found item.1 next.1) items × Follow caller seen (changes_with found changes) (others_with found others) items
+      All (λ next. Behind found item.1 next.1) items
+      × Follow caller seen (changes_with found changes) (others_with found others) items
 
   -- what the items of a caller published, each with its point
   abbrev pub entries : ℕ → List O → List (C × ℕ) → List (O × ℕ)

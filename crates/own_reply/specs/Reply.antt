@@ -4,7 +4,11 @@ use Rattle.std.specs.Fmt.{decimal}
 use Rattle.httparse.specs.Ascii.{crlf_bytes}
 use Rattle.http_wire.specs.Lines.{ended, line_of}
 use Rattle.own_reply.specs.declared.error.OwnError.{OwnError}
-use Rattle.own_reply.specs.declared.error.OwnError.TheVariants.{Version, BadHead, HeadTooLarge, Connect, Target, Length, Coding, TooLong, Host, Unidentified, Dtab, Body, Negative, Failing, Empty, TooDeep, TooWide, Dial, Upstream}
+use Rattle.own_reply.specs.declared.error.OwnError.TheVariants.{Version, BadHead, HeadTooLarge}
+use Rattle.own_reply.specs.declared.error.OwnError.TheVariants.{Connect, Target, Length, Coding}
+use Rattle.own_reply.specs.declared.error.OwnError.TheVariants.{TooLong, Host, Unidentified, Dtab}
+use Rattle.own_reply.specs.declared.error.OwnError.TheVariants.{Body, Negative, Failing, Empty}
+use Rattle.own_reply.specs.declared.error.OwnError.TheVariants.{TooDeep, TooWide, Dial, Upstream}
 
 -- the word that names the refusal, in the field `l5d-err` and in the body
 abbrev pub text_of : OwnError → List ℕ
@@ -91,7 +95,8 @@ connection_of closing = if closing then line_of (codes "Connection") (codes "clo
 -- the status line and the fields
 abbrev pub lines_of : OwnError → Bool → List (List ℕ)
 lines_of err closing =
-    status_line err ∷ line_of (codes "Content-Type") (codes "text/plain") ∷ line_of (codes "l5d-err") (text_of err) ∷ length_line err ∷ connection_of closing
+    status_line err ∷ line_of (codes "Content-Type") (codes "text/plain")
+    ∷ line_of (codes "l5d-err") (text_of err) ∷ length_line err ∷ connection_of closing
 
 -- the head: each line ends in CR LF, and an empty line ends the head
 unfoldable pub head_of : OwnError → Bool → List ℕ

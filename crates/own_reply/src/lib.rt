@@ -1,11 +1,13 @@
 //! The replies that the router writes itself, where it passes no reply on.
 //!
-//! [`OwnError`] says why, and [`own_reply`] gives the bytes: a status line, three or four fields, and a body of one
-//! word. The word stands in the field `l5d-err` too, so that a client may tell the router's replies from a service's.
+//! [`OwnError`] says why, and [`own_reply`] gives the bytes: a status line, three or four fields,
+//! and a body of one word. The word stands in the field `l5d-err` too, so that a client may tell
+//! the router's replies from a service's.
 //!
 //! # What is proved
-//! [`own_reply`] gives exactly the bytes that `specs/Reply.antt` says, for each error, closing or not, with a body or
-//! without. [`own_replies_are_replies`] is the law that each is read as a reply whose one Content-Length is the length of its body.
+//! [`own_reply`] gives exactly the bytes that `specs/Reply.antt` says, for each error, closing or
+//! not, with a body or without. [`own_replies_are_replies`] is the law that each is read as a reply
+//! whose one Content-Length is the length of its body.
 //!
 //! # Example
 //! ```

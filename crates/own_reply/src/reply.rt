@@ -11,8 +11,9 @@ use std::alloc::Global;
 /// Room for any reply.
 const ROOM: usize = 200;
 
-/// The whole reply that tells a client of the refusal. It says `Connection: close` where it is `closing`. Its body is
-/// left out where not `with_body`, as for a HEAD request, and the fields are then the same (RFC 9110 section 9.3.2).
+/// The whole reply that tells a client of the refusal. It says `Connection: close` where it is
+/// `closing`. Its body is left out where not `with_body`, as for a HEAD request, and the fields are
+/// then the same (RFC 9110 section 9.3.2).
 ///
 /// It takes time for the bytes of the reply, fewer than 200, and memory for 200, at once.
 pub fn own_reply(alloc: Global, err: OwnError, closing: bool, with_body: bool) -> Mem<Bytes>

@@ -1,6 +1,7 @@
 //! The budget of retries of one connection.
 ghost use Rattle.std.specs.Prelude.{◌≡◌};
-ghost use Rattle.retry_budget.specs.Budget.{AreAllowed, behind_request, behind_spend, can_spend, opening};
+ghost use Rattle.retry_budget.specs.Budget.{AreAllowed, behind_request, behind_spend, can_spend};
+ghost use Rattle.retry_budget.specs.Budget.{opening};
 
 use crate::Tries;
 use std::marker::Model;

@@ -36,6 +36,7 @@ use Rattle.router.specs.contracts.current.Current as Current
 use Rattle.router.specs.contracts.desk.Desk as Desk
 use Rattle.router.specs.contracts.pass.Pass as Pass
 use Rattle.router.specs.contracts.router.Router as Router
+use Rattle.router.specs.contracts.ticket.Ticket as Ticket
 use Rattle.router.specs.contracts.update.Update as Update
 use Rattle.router.specs.declared.naming.Naming as naming
 use Rattle.router.proofs.Trees.{dtab_send, dtab_sync, outcome_send, outcome_sync}
@@ -148,4 +149,10 @@ module _ (T : RattleType) (n : naming.Ghosts T.Denot) (l : ledger.Ghosts T.Denot
   pass_send = declared_send (Pass.the_type T n l) (
     search (as_row_send, cell_handles, current_send, current_sync) depth 40,
     (load_seat_send, (search (share.the_send, sendable) depth 40, (search sendable, (search sendable, (search sendable, tt))))),
+  )
+
+  pub ticket_send : IsSend (Ticket.the_row T n l)
+  ticket_send = declared_send (Ticket.the_type T n l) (
+    search (as_row_send, cell_handles, update_send) depth 40,
+    (search sendable, (search (sendable, crosses) depth 40, tt)),
   )

@@ -16,4 +16,5 @@ pub mod Remembering
 pub mod Short
 pub mod Starting
 pub mod Swapping
+pub mod Telling
 pub mod Trees

@@ -22,11 +22,13 @@ use Rattle.router.specs.Picked.{IsAnswer}
 
 module _ {J : Type 0} {g : Ghosts J} where
   -- a look was answered from the state at its point
-  pub record IsLooked (old new : Pass J g) (asks : LookValue) (place : ℕ) (reply : Reply) : Type 0 where
-    pub entered : Entered old new (looked asks)
-    pub reads : reads_in new ≡ reads_in old
-    pub at_place : place ≡ place_of (seen_in new)
-    pub answered : reply_value reply ≡ look_of g.settings (value_of g.settings (seen_in new)).state asks
+  pub record IsLooked (old new : Pass J g) (asks : LookValue) (place : ℕ) (reply : Reply) : Type 0
+    where
+      pub entered : Entered old new (looked asks)
+      pub reads : reads_in new ≡ reads_in old
+      pub at_place : place ≡ place_of (seen_in new)
+      pub answered : reply_value reply
+          ≡ look_of g.settings (value_of g.settings (seen_in new)).state asks
 
   abbrev pub Looks : Pass J g → Pass J g → LookValue → Looked → Type 0
   Looks old new asks (look.Said place reply) = IsLooked old new asks place reply
@@ -35,20 +37,26 @@ module _ {J : Type 0} {g : Ghosts J} where
   -- a pick was answered from the value at its point
   pub record IsPicked (old new : Pass J g) (ask : AskValue) (a : Answer) : Type 0 where
     pub entered : Entered old new (asked ask)
-    pub answer : IsAnswer g.settings (value_of g.settings (seen_in new)) (place_of (seen_in new)) ask (reads_in old) (reads_in new) a
+    pub answer : IsAnswer g.settings (value_of g.settings (seen_in new)) (place_of (seen_in new))
+        ask (reads_in old) (reads_in new) a
 
   abbrev pub Picks : Pass J g → Pass J g → AskValue → Answer → Type 0
-  Picks old new ask (answer.Picked choice client residual fresh) = IsPicked old new ask (answer.Picked choice client residual fresh)
-  Picks old new ask (answer.None why place fresh) = IsPicked old new ask (answer.None why place fresh)
+  Picks old new ask (answer.Picked choice client residual fresh) =
+      IsPicked old new ask (answer.Picked choice client residual fresh)
+  Picks old new ask (answer.None why place fresh) =
+      IsPicked old new ask (answer.None why place fresh)
   Picks old new ask answer.NoEntry = NotLetIn old new
 
   -- a pick was answered by what is kept in the value at its point
-  pub record IsPeeked (old new : Pass J g) (ask : AskValue) (names : Names) (p : Peek) : Type 0 where
-    pub entered : Entered old new (asked ask)
-    pub answer : IsPeek g.settings (value_of g.settings (seen_in new)) (place_of (seen_in new)) ask (reads_in old) (reads_in new) names p
+  pub record IsPeeked (old new : Pass J g) (ask : AskValue) (names : Names) (p : Peek) : Type 0
+    where
+      pub entered : Entered old new (asked ask)
+      pub answer : IsPeek g.settings (value_of g.settings (seen_in new)) (place_of (seen_in new)) ask
+          (reads_in old) (reads_in new) names p
 
   abbrev pub Peeks : Pass J g → Pass J g → AskValue → Names → Peek → Type 0
   Peeks old new ask names (peek.Hit choice) = IsPeeked old new ask names (peek.Hit choice)
-  Peeks old new ask names (peek.HitNone why place) = IsPeeked old new ask names (peek.HitNone why place)
+  Peeks old new ask names (peek.HitNone why place) =
+      IsPeeked old new ask names (peek.HitNone why place)
   Peeks old new ask names (peek.Miss place) = IsPeeked old new ask names (peek.Miss place)
   Peeks old new ask names peek.NoEntry = NotLetIn old new × AreEmpty names

@@ -11,7 +11,8 @@ use Rattle.router.specs.declared.picking.Found.{Found}
 use Rattle.router.specs.declared.picking.Found.TheVariants as found
 use Rattle.router.specs.declared.detached.Detached.{Detached}
 use Rattle.router.specs.Chosen.{IsPermitted}
-use Rattle.router.specs.Picked.{IsAnswer, IsAsked, IsWorkedOut, is_kept_for, is_let_in, said_by, loads_by, place_by, fresh_by}
+use Rattle.router.specs.Picked.{IsAnswer, IsAsked, IsWorkedOut, is_kept_for, is_let_in, said_by}
+use Rattle.router.specs.Picked.{loads_by, place_by, fresh_by}
 
 abbrev pub settings_out : Detached → SettingsValue
 settings_out d = settings_of (arc_value d.settings)
@@ -30,20 +31,26 @@ IsNew settings state ask None = ⊥
 IsNew settings state ask (Some b) = IsAsked ask (kept_of b) × IsWorkedOut settings state (kept_of b)
 
 -- the right answer in this state by a delegation, which it gives
-pub record IsDelegatedAnswer (settings : SettingsValue) (state : StateValue) (ask : AskValue) (before after : List (ℕ × ℕ)) (a : Answer) : Type 0 where
+pub record IsDelegatedAnswer (settings : SettingsValue) (state : StateValue) (ask : AskValue)
+    (before after : List (ℕ × ℕ)) (a : Answer) : Type 0 where
   pub let_in : is_let_in a ≡ true
   pub permitted : IsPermitted settings state ask before after (loads_by a) (said_by a)
   pub at_place : place_by a ≡ state.place
   pub fresh : IsNew settings state ask (fresh_by a)
 
 -- nothing is kept for the ask in this value, of which this is the state, and no load was read
-pub record IsMissed (settings : SettingsValue) (value : Value) (place : ℕ) (ask : AskValue) (before after : List (ℕ × ℕ)) (d : Detached) : Type 0 where
+pub record IsMissed (settings : SettingsValue) (value : Value) (place : ℕ) (ask : AskValue)
+    (before after : List (ℕ × ℕ)) (d : Detached) : Type 0 where
   pub none : is_kept_for value ask ≡ false
   pub unread : after ≡ before
   pub at_place : place ≡ value.state.place
   pub out : IsOut settings value.state d
 
--- what a pick finds in a value: the answer, by what is kept for it; or, exactly where nothing is kept for it, the state to delegate in
-abbrev pub IsFound : SettingsValue → Value → ℕ → AskValue → List (ℕ × ℕ) → List (ℕ × ℕ) → Found → Type 0
-IsFound settings value place ask before after (found.Kept a) = (is_kept_for value ask ≡ true) × IsAnswer settings value place ask before after a
-IsFound settings value place ask before after (found.Nothing d) = IsMissed settings value place ask before after d
+-- what a pick finds in a value: the answer, by what is kept for it; or, exactly where nothing is
+-- kept for it, the state to delegate in
+abbrev pub IsFound : SettingsValue → Value → ℕ → AskValue → List (ℕ × ℕ) → List (ℕ × ℕ) → Found
+    → Type 0
+IsFound settings value place ask before after (found.Kept a) =
+    (is_kept_for value ask ≡ true) × IsAnswer settings value place ask before after a
+IsFound settings value place ask before after (found.Nothing d) =
+    IsMissed settings value place ask before after d

@@ -11,6 +11,7 @@ pub mod Peeked
 pub mod Picked
 pub mod Short
 pub mod Standing
+pub mod Tickets
 pub mod Update
 pub mod Values
 pub mod Views

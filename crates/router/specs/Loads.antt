@@ -23,4 +23,6 @@ AreLoadsAt (neither why) found = AreLoads None found
 
 -- a pick that was not answered read nothing, or all that it reads
 abbrev pub MayHaveRead : Offer → List (ℕ × ℕ) → List (ℕ × ℕ) → Type 0
-MayHaveRead offer before after = (after ≡ before) ⊎ ((loads : ℕ × ℕ) × (after ≡ before ++ reads_at offer loads) × AreLoadsAt offer loads)
+MayHaveRead offer before after =
+    (after ≡ before) ⊎ ((loads : ℕ × ℕ) × (after ≡ before ++ reads_at offer loads)
+    × AreLoadsAt offer loads)

@@ -45,10 +45,13 @@ module _ {J : Type 0} {g : Ghosts J} where
   abbrev pub kept_in : Pass J g → ℕ
   kept_in p = others_made is_change (publishes g.settings) (number_in p) (seen_in p) (items_in p)
 
-  -- One call: what it had seen begins what it has seen then; the call is one item more, at a point no earlier than what had been seen; and
-  -- what the call published, if anything, stands there at that point
+  -- One call: what it had seen begins what it has seen then; the call is one item more, at a point
+  -- no earlier than what had been seen; and what the call published, if anything, stands there at
+  -- that point
   abbrev pub Called : Pass J g → Pass J g → Call → ℕ → Type 0
-  Called old new call at = calls.Called is_change (publishes g.settings) (number_in old) (seen_in old) (seen_in new) (items_in old) (items_in new) call at
+  Called old new call at =
+      calls.Called is_change (publishes g.settings) (number_in old) (seen_in old) (seen_in new)
+      (items_in old) (items_in new) call at
 
   -- no load was read, and the slots stay
   pub record SameSeat (old new : Pass J g) : Type 0 where
@@ -63,7 +66,8 @@ module _ {J : Type 0} {g : Ghosts J} where
     pub items : items_in new ≡ items_in old
     pub refusals : refusals_in new ≡ refusals_in old
 
-  -- it was not let in: the number of refusals rose, or stands at its last value, and all else is as before
+  -- it was not let in: the number of refusals rose, or stands at its last value, and all else is as
+  -- before
   pub record NotLetIn (old new : Pass J g) : Type 0 where
     pub refusals : refusals_in new ≡ min (refusals_in old + 1) (2 ^ 64 - 1)
     pub seen : seen_in new ≡ seen_in old
@@ -77,7 +81,8 @@ module _ {J : Type 0} {g : Ghosts J} where
     pub refusals : refusals_in new ≡ refusals_in old
     pub seat : SameSeat old new
 
-  -- a change was not answered: the pass may have seen more, and may not have been let in, which its count of refusals shows; nothing was called
+  -- a change was not answered: the pass may have seen more, and may not have been let in, which its
+  -- count of refusals shows; nothing was called
   pub record Unanswered (old new : Pass J g) : Type 0 where
     pub seen : IsPrefix (seen_in old) (seen_in new)
     pub items : items_in new ≡ items_in old

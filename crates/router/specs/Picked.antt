@@ -1,5 +1,6 @@
 -- When a pick is answered rightly.
-use Rattle.std.specs.Prelude.{◌≡◌, ℕ, ◌-◌, ◌^◌, min, Bool, true, false, List, Option, Some, None, is_some}
+use Rattle.std.specs.Prelude.{◌≡◌, ℕ, ◌-◌, ◌^◌, min, Bool, true, false, List, Option, Some, None}
+use Rattle.std.specs.Prelude.{is_some}
 use Rattle.addr_book.specs.Namer.{named_in}
 use Rattle.bind_cache.specs.Kept.{IsRight, Kept}
 use Rattle.bind_cache.specs.Cache.{found_in}
@@ -28,10 +29,13 @@ pub record IsAsked (ask : AskValue) (k : Kept) : Type 0 where
 abbrev pub is_kept_for : Value → AskValue → Bool
 is_kept_for value ask = is_some (found_in value.cache ask.path ask.own)
 
--- a delegation is given just where nothing was kept for the ask, and then it is the ask's, worked out in this state
+-- a delegation is given just where nothing was kept for the ask, and then it is the ask's, worked
+-- out in this state
 abbrev pub IsFresh : SettingsValue → Value → AskValue → Option Binding → Type 0
 IsFresh settings value ask None = is_kept_for value ask ≡ true
-IsFresh settings value ask (Some b) = (is_kept_for value ask ≡ false) × IsAsked ask (kept_of b) × IsWorkedOut settings value.state (kept_of b)
+IsFresh settings value ask (Some b) =
+    (is_kept_for value ask ≡ false) × IsAsked ask (kept_of b)
+    × IsWorkedOut settings value.state (kept_of b)
 
 -- whether the pass was let in
 abbrev pub is_let_in : Answer → Bool
@@ -40,7 +44,13 @@ is_let_in _ = true
 
 -- what an answer says, where it was
 abbrev pub said_by : Answer → PickValue
-said_by (answer.Picked choice client residual fresh) = replica (record { addr = choice.addr; slot = choice.slot; client = client; residual = residual })
+said_by (answer.Picked choice client residual fresh) =
+    replica (record {
+      addr = choice.addr;
+      slot = choice.slot;
+      client = client;
+      residual = residual;
+    })
 said_by (answer.None why place fresh) = none why
 said_by answer.NoEntry = none Neg
 
@@ -61,8 +71,10 @@ fresh_by (answer.Picked choice client residual fresh) = fresh
 fresh_by (answer.None why place fresh) = fresh
 fresh_by answer.NoEntry = None
 
--- the right answer in this value, at this place of the history, with what was read of the loads for it
-pub record IsAnswer (settings : SettingsValue) (value : Value) (place : ℕ) (ask : AskValue) (before after : List (ℕ × ℕ)) (a : Answer) : Type 0 where
+-- the right answer in this value, at this place of the history, with what was read of the loads for
+-- it
+pub record IsAnswer (settings : SettingsValue) (value : Value) (place : ℕ) (ask : AskValue)
+    (before after : List (ℕ × ℕ)) (a : Answer) : Type 0 where
   pub let_in : is_let_in a ≡ true
   pub permitted : IsPermitted settings value.state ask before after (loads_by a) (said_by a)
   pub at_place : place_by a ≡ place

@@ -27,17 +27,23 @@ operations_of us = map operation_of us
 
 -- what any value comes to by an update, also where it doesn't fit
 abbrev pub taking : SettingsValue → Value → Update → Value
-taking settings value (update.Changed by serial change ready) = with_change settings value (change_of change) (ready_of ready)
-taking settings value (update.Kept by serial binding) = with_kept value (kept_of (arc_value binding))
+taking settings value (update.Changed by serial change ready) =
+    with_change settings value (change_of change) (ready_of ready)
+taking settings value (update.Kept by serial binding) =
+    with_kept value (kept_of (arc_value binding))
 
 abbrev pub taken_in : SettingsValue → List Update → Value
 taken_in settings us = fold (taking settings) opening_value us
 
--- an update fits a value: its change is accepted there, and its parts are those prepared of it there; or its delegation is right there, cheap, and has no like
+-- an update fits a value: its change is accepted there, and its parts are those prepared of it
+-- there; or its delegation is right there, cheap, and has no like
 abbrev pub UpdateFits : SettingsValue → Value → Update → Type 0
-UpdateFits settings value (update.Changed by serial change ready) = IsReadyFor settings value.state (change_of change) (ready_of ready)
-UpdateFits settings value (update.Kept by serial binding) = Fits settings value (kept by serial (kept_of (arc_value binding)))
+UpdateFits settings value (update.Changed by serial change ready) =
+    IsReadyFor settings value.state (change_of change) (ready_of ready)
+UpdateFits settings value (update.Kept by serial binding) =
+    Fits settings value (kept by serial (kept_of (arc_value binding)))
 
 abbrev pub AllUpdatesFit : SettingsValue → Value → List Update → Type 0
 AllUpdatesFit settings value [] = ⊤
-AllUpdatesFit settings value (u ∷ us) = UpdateFits settings value u × AllUpdatesFit settings (taking settings value u) us
+AllUpdatesFit settings value (u ∷ us) =
+    UpdateFits settings value u × AllUpdatesFit settings (taking settings value u) us

@@ -42,7 +42,8 @@ module _ {S : Type 0} where
   abbrev pub BeganEmpty : Reader Current Update Shown S → Type 0
   BeganEmpty r = IsEmpty (opening_of r)
 
-  -- the reader entered for one call: it has seen no less than it had, and the call is one item more, at the end of what it has seen then
+  -- the reader entered for one call: it has seen no less than it had, and the call is one item
+  -- more, at the end of what it has seen then
   pub record Entered (old new : Reader Current Update Shown S) (asked : Call) : Type 0 where
     pub same : SameReader old new
     pub refused : refusals_of new ≡ refusals_of old

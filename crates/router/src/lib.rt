@@ -8,8 +8,9 @@
 //! [`Router::hold`] and [`Router::give`] count a request at its replica. [`Router::report`] answers
 //! a report of a success that changes nothing, without a lock and without memory.
 //! [`Router::change`] changes the state under a lock, and [`Router::remember`] keeps a delegation
-//! that a pick worked out. [`Router::meet`] lets two passes see the same, and [`Router::close`]
-//! ends it all.
+//! that a pick worked out. [`Router::meet`] lets two passes see the same, a [`Ticket`] of one lets
+//! another see what it has seen ([`Pass::ticket`], [`Pass::learn`]), and [`Router::close`] ends it
+//! all.
 //!
 //! A router begins in two calls: [`open`] makes it, and [`Opened::named`] gives it a name, a type
 //! that says which router it is ([`Naming`]; callers pick `Brand`).
@@ -59,6 +60,7 @@ mod peeking;
 mod picking;
 mod reporting;
 mod router;
+mod ticket;
 mod update;
 
 pub use answer::{Answer, Choice, Looked, Peek, Remembered};
@@ -70,6 +72,7 @@ pub use opening::{Opened, open};
 pub use pass::Pass;
 pub use router::Router;
 use std::alloc::AllocError;
+pub use ticket::Ticket;
 pub use update::{Past, Update};
 
 /// A value, unless there was no memory for it.

@@ -35,7 +35,8 @@ pub struct Pass<J: Naming> {
     ghost of_words: { Some (words_of_seat seat) ≡ J.words },
     ghost empty: { BeganEmpty reader },
     ghost settings: { settings_by reader ≡ J.settings } by { Coded-set coded_settings _ _ },
-    ghost stands: { Stands J.settings (number_of reader) (seen_by reader) (items_by reader) made kept place } by { Stands-prop _ _ _ _ _ _ _ },
+    ghost stands: { Stands J.settings (number_of reader) (seen_by reader) (items_by reader) made
+        kept place } by { Stands-prop _ _ _ _ _ _ _ },
     ghost counted: { share.amount ≡ made + kept },
     ghost one_part: { share.parts ≡ 1 },
 }

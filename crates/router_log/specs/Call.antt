@@ -1,5 +1,6 @@
 -- What a router's callers ask, and what that publishes.
-use Rattle.std.specs.Prelude.{ℕ, ◌-◌, ◌^◌, ◌==◌, ◌||◌, nat_lt, nat_le, Bool, not, if◌then◌else◌, List, Option, Some, None, is_some}
+use Rattle.std.specs.Prelude.{ℕ, ◌-◌, ◌^◌, ◌==◌, ◌||◌, nat_lt, nat_le, Bool, not, if◌then◌else◌}
+use Rattle.std.specs.Prelude.{List, Option, Some, None, is_some}
 use Rattle.machine.specs.Values.{SettingsValue, ChangeValue, LookValue, AskValue}
 use Rattle.machine.specs.State.{is_accepted}
 use Rattle.bind_cache.specs.Kept.{Kept}
@@ -35,13 +36,17 @@ are_spent ops = nat_le (2 ^ 64 - 1) (kept_count ops)
 
 -- whether a delegation is kept, where these operations were published before
 abbrev pub is_kept : SettingsValue → List Operation → Kept → Bool
-is_kept settings ops k = not (is_large k || (is_late ops k || (is_had settings ops k || are_spent ops)))
+is_kept settings ops k =
+    not (is_large k || (is_late ops k || (is_had settings ops k || are_spent ops)))
 
--- what a call publishes, by what was published before it: a change that the state accepts, a delegation that is kept, and nothing else. It has the number of its
--- caller, and its own among the caller's changes, or kept delegations
+-- what a call publishes, by what was published before it: a change that the state accepts, a
+-- delegation that is kept, and nothing else. It has the number of its caller, and its own among the
+-- caller's changes, or kept delegations
 abbrev pub publishes : SettingsValue → List Operation → ℕ → ℕ → ℕ → Call → Option Operation
 publishes settings before caller changes others (asked ask) = None
 publishes settings before caller changes others (looked look) = None
 publishes settings before caller changes others (changing change) =
-    if is_accepted (value_of settings before).state change then Some (changed caller changes change) else None
-publishes settings before caller changes others (keeping k) = if is_kept settings before k then Some (kept caller others k) else None
+    if is_accepted (value_of settings before).state change then Some (changed caller changes change)
+    else None
+publishes settings before caller changes others (keeping k) =
+    if is_kept settings before k then Some (kept caller others k) else None

@@ -1,14 +1,16 @@
--- Codes of the values of a router: that each is a plain value, of which any two are equal in one way at most. Struct fields that are facts about such values rest on
--- these. Nothing else does.
+-- Codes of the values of a router: that each is a plain value, of which any two are equal in one
+-- way at most. Struct fields that are facts about such values rest on these. Nothing else does.
 use Rattle.std.specs.Prelude.{ℕ, zero, suc, ◌≡◌, List, [], ◌∷◌, Bool, Option, refl, ◌⊎◌}
-use Rattle.std.specs.Coded.{Coded, code_by, coded×, coded_ℕ, coded_bool, coded_list, coded_option, coded⊎}
+use Rattle.std.specs.Coded.{Coded, code_by, coded×, coded_ℕ, coded_bool, coded_list, coded_option}
+use Rattle.std.specs.Coded.{coded⊎}
 use Rattle.std.specs.FinMap.{code}
 use base.Stored.{Gv, gnil, gnum, gcons}
 use denote.Struct.Codes.{itself}
 use mathlib.Core.Path.{ap, ◌∙◌}
 use mathlib.Core.Logic.{inl, inr}
 use Rattle.name_tree.specs.Path.{Labels}
-use Rattle.name_tree.specs.Value.{TreeValue, leaf, neg, fail, empty, alt, union, TreeValues, none, more, Branches, no_branch, branch}
+use Rattle.name_tree.specs.Value.{TreeValue, leaf, neg, fail, empty, alt, union, TreeValues, none}
+use Rattle.name_tree.specs.Value.{more, Branches, no_branch, branch}
 use Rattle.dtab_table.specs.Pattern.{Pattern}
 use Rattle.dtab_table.specs.Rules.{Rule}
 use Rattle.addr_book.specs.declared.addr.Addr.{Addr}
@@ -20,12 +22,14 @@ use Rattle.addr_book.specs.declared.addr.Weighted.{Weighted}
 use Rattle.addr_book.specs.Book.{contents_code}
 use Rattle.addr_book.specs.Book.{Contents as Book}
 use Rattle.addr_book.specs.Found.{Found, one, many, FoundList, no_member, member}
-use Rattle.bind_core.specs.Delegation.{Ending, negative, failing, no_replica, too_deep, too_wide, bound}
+use Rattle.bind_core.specs.Delegation.{Ending, negative, failing, no_replica, too_deep, too_wide}
+use Rattle.bind_core.specs.Delegation.{bound}
 use Rattle.ns_store.specs.Contents.{Space, Spaces}
 use Rattle.ns_store.specs.Contents.{Contents as Store}
 use Rattle.choose_core.specs.declared.mark.Limits.{Limits}
 use Rattle.choose_core.specs.Marks.{MarkMap, marks_code}
-use Rattle.machine.specs.Values.{SettingsValue, StateValue, ChangeValue, create, put, delete, set_addrs, drop_service, report}
+use Rattle.machine.specs.Values.{SettingsValue, StateValue, ChangeValue, create, put, delete}
+use Rattle.machine.specs.Values.{set_addrs, drop_service, report}
 use Rattle.bind_cache.specs.Kept.{Kept}
 use Rattle.router_log.specs.Operation.{Operation, changed, kept}
 use Rattle.router_log.specs.Value.{Value}
@@ -57,7 +61,8 @@ labels_of (gcons l ls) = label_of l ∷ labels_of ls
 
 pub labels_back : (ls : Labels) → labels_of (labels_code ls) ≡ ls
 labels_back [] = refl
-labels_back (l ∷ ls) = ap (λ x. x ∷ labels_of (labels_code ls)) (label_back l) ∙ ap (λ xs. l ∷ xs) (labels_back ls)
+labels_back (l ∷ ls) =
+    ap (λ x. x ∷ labels_of (labels_code ls)) (label_back l) ∙ ap (λ xs. l ∷ xs) (labels_back ls)
 
 -- a tree by its shape
 abbrev mutual
@@ -107,11 +112,14 @@ mutual
 
   pub trees_back : (ts : TreeValues) → trees_in (trees_code ts) ≡ ts
   trees_back none = refl
-  trees_back (more t ts) = ap (λ x. more x (trees_in (trees_code ts))) (tree_back t) ∙ ap (more t) (trees_back ts)
+  trees_back (more t ts) =
+      ap (λ x. more x (trees_in (trees_code ts))) (tree_back t) ∙ ap (more t) (trees_back ts)
 
   pub branches_back : (bs : Branches) → branches_in (branches_code bs) ≡ bs
   branches_back no_branch = refl
-  branches_back (branch n t bs) = ap (λ x. branch n x (branches_in (branches_code bs))) (tree_back t) ∙ ap (branch n t) (branches_back bs)
+  branches_back (branch n t bs) =
+      ap (λ x. branch n x (branches_in (branches_code bs))) (tree_back t)
+      ∙ ap (branch n t) (branches_back bs)
 
 abbrev pub coded_tree : Coded TreeValue
 coded_tree = code_by Gv itself tree_code tree_in tree_back
@@ -123,7 +131,9 @@ abbrev pub coded_labels : Coded Labels
 coded_labels = coded_list coded_bytes
 
 abbrev pub coded_rule : Coded Rule
-coded_rule = code_by (List Pattern × TreeValue) (coded× (coded_list (coded_option coded_bytes)) coded_tree) (λ r. (r.prefix, r.tree)) (λ p. record { prefix = p.0; tree = p.1 }) (λ _. refl)
+coded_rule =
+    code_by (List Pattern × TreeValue) (coded× (coded_list (coded_option coded_bytes)) coded_tree)
+    (λ r. (r.prefix, r.tree)) (λ p. record { prefix = p.0; tree = p.1 }) (λ _. refl)
 
 abbrev pub coded_rules : Coded (List Rule)
 coded_rules = coded_list coded_rule
@@ -142,10 +152,13 @@ cluster_back (Inet addr) = refl
 cluster_back (Fs name) = refl
 
 abbrev pub coded_cluster : Coded Cluster
-coded_cluster = code_by (Addr ⊎ List ℕ) (coded⊎ addr_code coded_bytes) cluster_cases cluster_of cluster_back
+coded_cluster =
+    code_by (Addr ⊎ List ℕ) (coded⊎ addr_code coded_bytes) cluster_cases cluster_of cluster_back
 
 abbrev pub coded_leaf : Coded Leaf
-coded_leaf = code_by (Cluster × (Labels × Labels)) (coded× coded_cluster (coded× coded_labels coded_labels)) (λ l. (l.cluster, (l.client, l.residual)))
+coded_leaf =
+    code_by (Cluster × (Labels × Labels)) (coded× coded_cluster (coded× coded_labels coded_labels))
+    (λ l. (l.cluster, (l.client, l.residual)))
     (λ p. record { cluster = p.0; client = p.1.0; residual = p.1.1 }) (λ _. refl)
 
 -- what a delegation found
@@ -160,10 +173,12 @@ abbrev mutual
 
 mutual
   pub found_inj : (x y : Found) → found_code x ≡ found_code y → x ≡ y
-  found_inj (one l) (one m) is = ap one (coded_leaf.inj l m (let e : coded_leaf.code l ≡ coded_leaf.code m = cc in e))
+  found_inj (one l) (one m) is =
+      ap one (coded_leaf.inj l m (let e : coded_leaf.code l ≡ coded_leaf.code m = cc in e))
   found_inj (one l) (many ms) is = absurd cc
   found_inj (many ms) (one l) is = absurd cc
-  found_inj (many ms) (many ns) is = ap many (members_inj ms ns (let e : members_code ms ≡ members_code ns = cc in e))
+  found_inj (many ms) (many ns) is =
+      ap many (members_inj ms ns (let e : members_code ms ≡ members_code ns = cc in e))
 
   pub members_inj : (xs ys : FoundList) → members_code xs ≡ members_code ys → xs ≡ ys
   members_inj no_member no_member is = refl
@@ -210,20 +225,31 @@ coded_ending = code_by (ℕ ⊎ Found) (coded⊎ coded_ℕ coded_found) ending_c
 
 -- settings and states
 abbrev pub coded_limits : Coded Limits
-coded_limits = code_by (ℕ × ℕ) (coded× coded_ℕ coded_ℕ) (λ l. (l.failures, l.backoff)) (λ p. record { failures = p.0; backoff = p.1 }) (λ _. refl)
+coded_limits =
+    code_by (ℕ × ℕ) (coded× coded_ℕ coded_ℕ) (λ l. (l.failures, l.backoff))
+    (λ p. record { failures = p.0; backoff = p.1 }) (λ _. refl)
 
 abbrev pub coded_settings : Coded SettingsValue
-coded_settings = code_by (List ℕ × (List Rule × Limits)) (coded× coded_bytes (coded× coded_rules coded_limits)) (λ s. (s.space, (s.base, s.limits)))
+coded_settings =
+    code_by (List ℕ × (List Rule × Limits)) (coded× coded_bytes (coded× coded_rules coded_limits))
+    (λ s. (s.space, (s.base, s.limits)))
     (λ p. record { space = p.0; base = p.1.0; limits = p.1.1 }) (λ _. refl)
 
 abbrev pub coded_space : Coded Space
-coded_space = code_by (ℕ × List Rule) (coded× coded_ℕ coded_rules) (λ s. (s.version, s.rules)) (λ p. record { version = p.0; rules = p.1 }) (λ _. refl)
+coded_space =
+    code_by (ℕ × List Rule) (coded× coded_ℕ coded_rules) (λ s. (s.version, s.rules))
+    (λ p. record { version = p.0; rules = p.1 }) (λ _. refl)
 
 abbrev pub coded_store : Coded Store
-coded_store = code_by (Spaces × ℕ) (coded× (code coded_bytes coded_space) coded_ℕ) (λ s. (s.spaces, s.next)) (λ p. record { spaces = p.0; next = p.1 }) (λ _. refl)
+coded_store =
+    code_by (Spaces × ℕ) (coded× (code coded_bytes coded_space) coded_ℕ) (λ s. (s.spaces, s.next))
+    (λ p. record { spaces = p.0; next = p.1 }) (λ _. refl)
 
 abbrev pub coded_state : Coded StateValue
-coded_state = code_by ((Store × Book) × (MarkMap × ℕ)) (coded× (coded× coded_store contents_code) (coded× marks_code coded_ℕ)) (λ s. ((s.store, s.book), (s.marks, s.place)))
+coded_state =
+    code_by ((Store × Book) × (MarkMap × ℕ))
+    (coded× (coded× coded_store contents_code) (coded× marks_code coded_ℕ))
+    (λ s. ((s.store, s.book), (s.marks, s.place)))
     (λ p. record { store = p.0.0; book = p.0.1; marks = p.1.0; place = p.1.1 }) (λ _. refl)
 
 -- delegations that are kept
@@ -231,20 +257,39 @@ abbrev pub KeptParts : Type 0
 KeptParts = (Labels × List Rule) × (Ending × (ℕ × (List Labels × (ℕ × ℕ))))
 
 abbrev pub coded_kept : Coded Kept
-coded_kept = code_by KeptParts (coded× (coded× coded_labels coded_rules) (coded× coded_ending (coded× coded_ℕ (coded× (coded_list coded_labels) (coded× coded_ℕ coded_ℕ)))))
+coded_kept =
+    code_by KeptParts (coded× (coded× coded_labels coded_rules)
+    (coded× coded_ending (coded× coded_ℕ
+    (coded× (coded_list coded_labels) (coded× coded_ℕ coded_ℕ)))))
     (λ k. ((k.path, k.local), (k.ending, (k.cost, (k.asked, (k.bytes, k.place))))))
-    (λ p. record { path = p.0.0; local = p.0.1; ending = p.1.0; cost = p.1.1.0; asked = p.1.1.1.0; bytes = p.1.1.1.1.0; place = p.1.1.1.1.1 }) (λ _. refl)
+    (λ p. record {
+      path = p.0.0;
+      local = p.0.1;
+      ending = p.1.0;
+      cost = p.1.1.0;
+      asked = p.1.1.1.0;
+      bytes = p.1.1.1.1.0;
+      place = p.1.1.1.1.1;
+    }) (λ _. refl)
 
 abbrev pub coded_value : Coded Value
-coded_value = code_by (StateValue × List Kept) (coded× coded_state (coded_list coded_kept)) (λ v. (v.state, v.cache)) (λ p. record { state = p.0; cache = p.1 }) (λ _. refl)
+coded_value =
+    code_by (StateValue × List Kept) (coded× coded_state (coded_list coded_kept))
+    (λ v. (v.state, v.cache)) (λ p. record { state = p.0; cache = p.1 }) (λ _. refl)
 
 -- changes
 abbrev pub ChangeParts : Type 0
-ChangeParts = ((List ℕ × List Rule) ⊎ (List ℕ × (Option ℕ × List Rule))) ⊎ ((List ℕ × Option ℕ) ⊎ ((List ℕ × List Weighted) ⊎ (List ℕ ⊎ (Addr × (Bool × ℕ)))))
+ChangeParts =
+    ((List ℕ × List Rule) ⊎ (List ℕ × (Option ℕ × List Rule)))
+    ⊎ ((List ℕ × Option ℕ) ⊎ ((List ℕ × List Weighted) ⊎ (List ℕ ⊎ (Addr × (Bool × ℕ)))))
 
 abbrev pub coded_parts : Coded ChangeParts
-coded_parts = coded⊎ (coded⊎ (coded× coded_bytes coded_rules) (coded× coded_bytes (coded× (coded_option coded_ℕ) coded_rules)))
-    (coded⊎ (coded× coded_bytes (coded_option coded_ℕ)) (coded⊎ (coded× coded_bytes (coded_list weighted_code)) (coded⊎ coded_bytes (coded× addr_code (coded× coded_bool coded_ℕ)))))
+coded_parts =
+    coded⊎ (coded⊎ (coded× coded_bytes coded_rules)
+    (coded× coded_bytes (coded× (coded_option coded_ℕ) coded_rules)))
+    (coded⊎ (coded× coded_bytes (coded_option coded_ℕ))
+    (coded⊎ (coded× coded_bytes (coded_list weighted_code))
+    (coded⊎ coded_bytes (coded× addr_code (coded× coded_bool coded_ℕ)))))
 
 abbrev pub change_parts : ChangeValue → ChangeParts
 change_parts (create name rules) = inl (inl (name, rules))
@@ -287,4 +332,7 @@ operation_back (changed caller serial change) = refl
 operation_back (kept caller serial k) = refl
 
 abbrev pub coded_operation : Coded Operation
-coded_operation = code_by ((ℕ × (ℕ × ChangeValue)) ⊎ (ℕ × (ℕ × Kept))) (coded⊎ (coded× coded_ℕ (coded× coded_ℕ coded_change)) (coded× coded_ℕ (coded× coded_ℕ coded_kept))) operation_parts operation_from operation_back
+coded_operation =
+    code_by ((ℕ × (ℕ × ChangeValue)) ⊎ (ℕ × (ℕ × Kept)))
+    (coded⊎ (coded× coded_ℕ (coded× coded_ℕ coded_change))
+    (coded× coded_ℕ (coded× coded_ℕ coded_kept))) operation_parts operation_from operation_back

@@ -3,8 +3,8 @@ use Rattle.std.specs.Prelude.{ℕ, Bool, true, false, List, length, filter, not}
 use Rattle.machine.specs.Values.{ChangeValue}
 use Rattle.bind_cache.specs.Kept.{Kept}
 
--- an accepted change, or a delegation that is kept. Each has the number of its caller, and its own number among that caller's changes, or among that caller's
--- kept delegations
+-- an accepted change, or a delegation that is kept. Each has the number of its caller, and its own
+-- number among that caller's changes, or among that caller's kept delegations
 pub data Operation : Type 0 where
   changed : ℕ → ℕ → ChangeValue → Operation
   kept : ℕ → ℕ → Kept → Operation

@@ -1,4 +1,5 @@
--- What a copy of a router's value comes to that takes in a prepared change or a delegation, whether or not that fits it.
+-- What a copy of a router's value comes to that takes in a prepared change or a delegation, whether
+-- or not that fits it.
 use Rattle.std.specs.Prelude.{nat_le, ◌&&◌, Bool, if◌then◌else◌, List, is_none}
 use Rattle.machine.specs.Values.{SettingsValue, ChangeValue}
 use Rattle.machine.specs.Ready.{ReadyValue, absorbed}

@@ -20,9 +20,9 @@ use std::alloc::AllocError;
 /// A value, unless there was no memory for it.
 type Mem<T> = Result<T, AllocError>;
 
-/// Takes in a prepared change: the state absorbs it, and the cache drops exactly what it touches. An
-/// `Err` changes nothing. It takes no memory: `none`, a table without entries, stands for that of a
-/// namespace that is not there.
+/// Takes in a prepared change: the state absorbs it, and the cache drops exactly what it touches.
+/// An `Err` changes nothing. It takes no memory: `none`, a table without entries, stands for that
+/// of a namespace that is not there.
 ///
 /// Beside the absorbing, a change of the first namespace's table compares the tables before and
 /// after, and then each path that was looked up for a kept delegation with the rules between which
@@ -37,11 +37,15 @@ pub fn take_change(
     ready: &Ready,
 ) -> Mem<()>
     requires none { rules_of none.now ≡ [] }
-    ensures state { OnOk result (state_of state.new ≡ absorbed (state_of state.old) (ready_of ready.now)) }
+    ensures state { OnOk result
+        (state_of state.new ≡ absorbed (state_of state.old) (ready_of ready.now)) }
     ensures cache { OnOk result
-        (bindings_of cache.new ≡ untouched_by (settings_of settings.now) (state_of state.old) (absorbed (state_of state.old) (ready_of ready.now))
+        (bindings_of cache.new ≡ untouched_by (settings_of settings.now) (state_of state.old)
+        (absorbed (state_of state.old) (ready_of ready.now))
         (change_of change.now) (bindings_of cache.old)) }
-    ensures err { OnErr result ((state_of state.new ≡ state_of state.old) × (bindings_of cache.new ≡ bindings_of cache.old)) }
+    ensures err { OnErr result
+        ((state_of state.new ≡ state_of state.old)
+        × (bindings_of cache.new ≡ bindings_of cache.old)) }
 {
     match change {
         Change::Create { name, .. } => take_table(none, settings, state, cache, name, ready),
@@ -74,11 +78,15 @@ fn take_table(
     ready: &Ready,
 ) -> Mem<()>
     requires none { rules_of none.now ≡ [] }
-    ensures state { OnOk result (state_of state.new ≡ absorbed (state_of state.old) (ready_of ready.now)) }
+    ensures state { OnOk result
+        (state_of state.new ≡ absorbed (state_of state.old) (ready_of ready.now)) }
     ensures cache { OnOk result
-        (bindings_of cache.new ≡ retold (settings_of settings.now) (state_of state.old) (absorbed (state_of state.old) (ready_of ready.now)) name.now
+        (bindings_of cache.new ≡ retold (settings_of settings.now) (state_of state.old)
+        (absorbed (state_of state.old) (ready_of ready.now)) name.now
         (bindings_of cache.old)) }
-    ensures err { OnErr result ((state_of state.new ≡ state_of state.old) × (bindings_of cache.new ≡ bindings_of cache.old)) }
+    ensures err { OnErr result
+        ((state_of state.new ≡ state_of state.old)
+        × (bindings_of cache.new ≡ bindings_of cache.old)) }
 {
     if name.text() != settings.space.text() {
         return state.absorb(ready);
@@ -94,11 +102,15 @@ fn take_table(
 
 /// Takes in the addresses of a service. An `Err` changes nothing.
 fn take_addrs(state: &mut State, cache: &mut Cache, service: &Name, ready: &Ready) -> Mem<()>
-    ensures state { OnOk result (state_of state.new ≡ absorbed (state_of state.old) (ready_of ready.now)) }
+    ensures state { OnOk result
+        (state_of state.new ≡ absorbed (state_of state.old) (ready_of ready.now)) }
     ensures cache { OnOk result
         (bindings_of cache.new ≡
-        (if contains_key (state_of state.old).book.services service.now then bindings_of cache.old else after_service service.now (bindings_of cache.old))) }
-    ensures err { OnErr result ((state_of state.new ≡ state_of state.old) × (bindings_of cache.new ≡ bindings_of cache.old)) }
+        (if contains_key (state_of state.old).book.services service.now then bindings_of cache.old
+        else after_service service.now (bindings_of cache.old))) }
+    ensures err { OnErr result
+        ((state_of state.new ≡ state_of state.old)
+        × (bindings_of cache.new ≡ bindings_of cache.old)) }
 {
     let is_there = state.book().cluster(service).is_some();
     state.absorb(ready)?;
@@ -110,9 +122,13 @@ fn take_addrs(state: &mut State, cache: &mut Cache, service: &Name, ready: &Read
 
 /// Takes in that a service is gone. An `Err` changes nothing.
 fn take_drop(state: &mut State, cache: &mut Cache, service: &Name, ready: &Ready) -> Mem<()>
-    ensures state { OnOk result (state_of state.new ≡ absorbed (state_of state.old) (ready_of ready.now)) }
-    ensures cache { OnOk result (bindings_of cache.new ≡ after_service service.now (bindings_of cache.old)) }
-    ensures err { OnErr result ((state_of state.new ≡ state_of state.old) × (bindings_of cache.new ≡ bindings_of cache.old)) }
+    ensures state { OnOk result
+        (state_of state.new ≡ absorbed (state_of state.old) (ready_of ready.now)) }
+    ensures cache { OnOk result
+        (bindings_of cache.new ≡ after_service service.now (bindings_of cache.old)) }
+    ensures err { OnErr result
+        ((state_of state.new ≡ state_of state.old)
+        × (bindings_of cache.new ≡ bindings_of cache.old)) }
 {
     state.absorb(ready)?;
     cache.touch_service(service);

@@ -39,6 +39,8 @@ pub enum Act {
     RememberTwice,
     /// The pass and the one behind it meet.
     Meet,
+    /// The pass behind this one learns what this one has seen.
+    Tell,
     /// What the pass counts.
     Count,
 }
@@ -59,6 +61,13 @@ fn met<J: Naming, R: Wait>(
     next: &mut Pass<J>,
 ) -> Option<String> {
     router.meet(rt, pass, next);
+    let (first, second) = (pass.place(), next.place());
+    format!(in alloc; "places {first} {second}").ok()
+}
+
+/// The next pass learns what this one has seen: the places of both then.
+fn told<J: Naming>(alloc: Global, pass: &Pass<J>, next: &mut Pass<J>) -> Option<String> {
+    next.learn(pass.ticket());
     let (first, second) = (pass.place(), next.place());
     format!(in alloc; "places {first} {second}").ok()
 }
@@ -90,6 +99,7 @@ pub fn answer<J: Naming, L: Ledger, R: Wait>(
         }
         Act::RememberTwice => remember_twice(rt, alloc, router, pass, steps),
         Act::Meet => met(rt, alloc, router, pass, next),
+        Act::Tell => told(alloc, pass, next),
         Act::Count => counted(alloc, pass),
     }
 }

@@ -24,7 +24,8 @@ const TABLES: u64 = 500;
 /// How often each reader picks.
 const PICKS: u64 = 2_000;
 
-/// The table of a place: it sends `/svc/web` to the service `one` at an even place, and to `two` at an odd one.
+/// The table of a place: it sends `/svc/web` to the service `one` at an even place, and to `two` at
+/// an odd one.
 fn table_at(place: u64) -> &'static str {
     if place % 2 == 0 {
         "/svc/web => /#/io.l5d.fs/one"
@@ -50,7 +51,8 @@ fn swap<J: Naming, R: Wait>(
     true
 }
 
-/// The place of a pick, where its port is that of the table there. What it worked out is given back, and its slot is held for a moment.
+/// The place of a pick, where its port is that of the table there. What it worked out is given
+/// back, and its slot is held for a moment.
 fn served<J: Naming, L: Ledger, R: Wait>(
     rt: &R,
     alloc: Global,
@@ -85,7 +87,8 @@ fn hold_for_a_moment<J: Naming>(router: &Router<J>, pass: &mut Pass<J>, slot: u3
     true
 }
 
-/// Whether each pick is right for its table, and none is of an older one than its pass had seen before.
+/// Whether each pick is right for its table, and none is of an older one than its pass had seen
+/// before.
 fn watch<J: Naming, L: Ledger, R: Wait>(
     rt: &R,
     alloc: Global,

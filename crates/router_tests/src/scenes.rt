@@ -9,8 +9,9 @@ const B: usize = 1;
 
 const C: usize = 2;
 
-/// A change of one caller is seen by another that asks later, and by both where two meet.
-const MEETING: [Row; 13] = [
+/// A change of one caller is seen by another that asks later, by both where two meet, and by one
+/// that is told what the other has seen.
+const MEETING: [Row; 16] = [
     (B, Act::Look, "at 0 missing"),
     (
         A,
@@ -28,9 +29,13 @@ const MEETING: [Row; 13] = [
     (A, Act::Create("other", "/a => /b"), "version 2"),
     (A, Act::Meet, "places 2 2"),
     (B, Act::Count, "pass 1 place 2 made 0 kept 0 refused 0"),
+    (C, Act::Tell, "places 1 2"),
+    (B, Act::Tell, "places 2 2"),
+    (C, Act::Count, "pass 2 place 2 made 0 kept 0 refused 0"),
 ];
 
-/// The replica with the lesser load is taken. Two requests on one of twice the weight are as much as one on the other.
+/// The replica with the lesser load is taken. Two requests on one of twice the weight are as much
+/// as one on the other.
 const LOADS: [Row; 13] = [
     (A, Act::Set("web", "127.0.0.1 1\n127.0.0.1 2\n"), "set 2"),
     (A, Act::Hold(0), "holds 0"),
@@ -48,12 +53,13 @@ const LOADS: [Row; 13] = [
     (C, Act::Pick, "at 2 port 1 slot 0 loads 2 1"),
     (C, Act::Give, "gave 1"),
     (C, Act::Pick, "at 2 port 2 slot 1 loads 2 0"),
-    // The first caller has asked nothing since its own change. The router's end gives back what it and the second one hold.
+    // The first caller has asked nothing since its own change. The router's end gives back what it
+    // and the second one hold.
     (A, Act::Count, "pass 0 place 1 made 1 kept 0 refused 0"),
 ];
 
-/// A report of a success changes nothing where the address has no failures, and is answered so in what its caller sees then. A caller sees the changes that
-/// others made.
+/// A report of a success changes nothing where the address has no failures, and is answered so in
+/// what its caller sees then. A caller sees the changes that others made.
 const REPORTS: [Row; 12] = [
     (A, Act::Set("web", "127.0.0.1 1"), "set 1"),
     (B, Act::Succeed(1), "failures 0"),
@@ -69,7 +75,8 @@ const REPORTS: [Row; 12] = [
     (A, Act::Count, "pass 0 place 3 made 2 kept 0 refused 0"),
 ];
 
-/// A delegation is kept where no change was made since it was worked out, and found until a change touches it.
+/// A delegation is kept where no change was made since it was worked out, and found until a change
+/// touches it.
 const REMEMBERED: [Row; 16] = [
     (B, Act::Create("one", "/x => /y"), "version 1"),
     (B, Act::Create("two", "/x => /y"), "version 2"),
@@ -108,14 +115,16 @@ const REMEMBERED: [Row; 16] = [
 /// Seven branches at each of three lookups, which come to nothing.
 const WIDE: &str = "/svc=>/a&/a&/a&/a&/a&/a&/a;/a=>/b&/b&/b&/b&/b&/b&/b;/b=>/c&/c&/c&/c&/c&/c&/c";
 
-/// A delegation of more than 256 lookups is not kept. Its lookups are not told, so its text is the path's.
+/// A delegation of more than 256 lookups is not kept. Its lookups are not told, so its text is the
+/// path's.
 const COSTLY: [Row; 3] = [
     (A, Act::Remember, "large 400 8"),
     (A, Act::Peek, "miss at 0 names 0"),
     (A, Act::Count, "pass 0 place 0 made 0 kept 0 refused 0"),
 ];
 
-/// One of 100 lookups is not kept where their paths have more than 8,192 bytes, of which the last has 206.
+/// One of 100 lookups is not kept where their paths have more than 8,192 bytes, of which the last
+/// has 206.
 const LONG: [Row; 2] = [
     (A, Act::Remember, "large 100 10708"),
     (B, Act::Peek, "miss at 0 names 0"),

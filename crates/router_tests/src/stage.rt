@@ -105,7 +105,8 @@ fn staged<J: Naming, R: Wait + Abort>(
     Some(ended(rt, router, passes))
 }
 
-/// Plays a scene on a new router with this configured table, and ends it: how many changes there were.
+/// Plays a scene on a new router with this configured table, and ends it: how many changes there
+/// were.
 pub fn run<R: Wait + Abort>(rt: &R, alloc: Global, base: &str, rows: &[Row]) -> Option<u64> {
     let Ok(opened) = open(rt, alloc, settings(alloc, base)?, 3) else {
         return None;

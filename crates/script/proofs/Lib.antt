@@ -1,4 +1,9 @@
+pub mod Colons
+pub mod CommandTexts
+pub mod ItemTexts
 pub mod Naming
+pub mod NextWords
 pub mod Tables
 pub mod Turning
 pub mod Walking
+pub mod WordTexts

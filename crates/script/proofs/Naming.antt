@@ -3,6 +3,7 @@ use Rattle.std.proofs.Common.{◌≡◌, ℕ, ◌≤◌, List, length, Bool, tru
 use Rattle.std.specs.Prelude.{◌&&◌, nat_le, if◌then◌else◌}
 use Rattle.std.specs.List.{list_all}
 use Rattle.std.proofs.lemmas.Bool.Decides.{nat_tests}
+use Rattle.std.proofs.lemmas.Option.{cond_some}
 use Rattle.std.proofs.lemmas.List.Sums.{AllPass-from_list_all, list_all-from_AllPass}
 use Rattle.addr_book.specs.Name.{is_name_byte, IsName}
 use Rattle.script.specs.Words.{name_of}
@@ -27,6 +28,15 @@ pub name_known : (text : List ℕ) → IsName text → name_of text ≡ Some tex
 name_known text h =
     ap (λ b. if b then Some text else None)
     (all_are (nat_le 1 (length text)) (nat_le (length text) 255) (list_all is_name_byte text) (small 1 (length text) h.some) (small (length text) 255 h.few) (list_all-from_AllPass is_name_byte text h.bytes))
+
+pub name_found : (text v : List ℕ) → name_of text ≡ Some v → IsName text × (text ≡ v)
+name_found text v e =
+    let found = cond_some ((nat_le 1 (length text) && nat_le (length text) 255) && list_all is_name_byte text) text v e in
+    let parts = both_are (nat_le 1 (length text) && nat_le (length text) 255) (list_all is_name_byte text) found.0 in
+    let sizes = both_are (nat_le 1 (length text)) (nat_le (length text) 255) parts.0 in (
+      record { some = within 1 (length text) sizes.0; few = within (length text) 255 sizes.1; bytes = AllPass-from_list_all is_name_byte text parts.1 },
+      found.1,
+    )
 
 pub name_unknown : (text : List ℕ) → (IsName text → ⊥) → name_of text ≡ None
 name_unknown text unnamed = more ((nat_le 1 (length text) && nat_le (length text) 255) && list_all is_name_byte text) refl

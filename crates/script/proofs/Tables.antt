@@ -6,7 +6,7 @@ use Rattle.std.proofs.lemmas.List.{nil_from_length}
 use Rattle.dtab_table.specs.Rules.{Rule}
 use Rattle.dtab_table.specs.Computed.{table_of}
 
-nothing : table_of [] ≡ Some []
+pub nothing : table_of [] ≡ Some []
 unfolding table_of
 nothing = refl
 

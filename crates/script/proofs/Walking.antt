@@ -10,7 +10,7 @@ use Rattle.addr_book.specs.FileLine.{is_gap, joined, drop_gaps, behind_word, wor
 use Rattle.script.specs.Words.{behind, goes_on, words_of, put_first, addrs_in, weighted_in, list_in}
 
 -- a gap has no word
-words_gap : (xs : List ℕ) → words_of (drop_gaps xs) ≡ words_of xs
+pub words_gap : (xs : List ℕ) → words_of (drop_gaps xs) ≡ words_of xs
 words_gap [] = refl
 words_gap (x ∷ xs) = more (words_gap xs) (is_gap x) refl
   where
@@ -27,13 +27,13 @@ drop_again (x ∷ xs) = more (drop_again xs) (is_gap x) refl
     more rest true e = rw e rest
     more rest false e = rw e (rw e refl)
 
-length-gaps : (xs : List ℕ) → length (drop_gaps xs) ≤ length xs
+pub length-gaps : (xs : List ℕ) → length (drop_gaps xs) ≤ length xs
 length-gaps [] = omega arith
 length-gaps (x ∷ xs) =
     let rest = length-gaps xs in
     elim (is_gap x) as (λ b. length (if b then drop_gaps xs else x ∷ xs) ≤ suc (length xs)) [ true ↦ omega arith | false ↦ omega arith ]
 
-length-behind : (xs : List ℕ) → length (behind_word xs) ≤ length xs
+pub length-behind : (xs : List ℕ) → length (behind_word xs) ≤ length xs
 length-behind [] = omega arith
 length-behind (x ∷ xs) =
     let rest = length-behind xs in
@@ -53,7 +53,7 @@ cut_shorter : (x : ℕ) (xs : List ℕ) → is_gap x ≡ false → length (behin
 cut_shorter x xs e = rw e (omega (arith, length-gaps (behind_word xs), length-behind xs))
 
 -- a text that begins with a word has that word first, and then the words behind it
-words_cut : (x : ℕ) (xs : List ℕ) → is_gap x ≡ false → words_of (x ∷ xs) ≡ word_of (x ∷ xs) ∷ words_of (behind (x ∷ xs))
+pub words_cut : (x : ℕ) (xs : List ℕ) → is_gap x ≡ false → words_of (x ∷ xs) ≡ word_of (x ∷ xs) ∷ words_of (behind (x ∷ xs))
 words_cut x [] e = rw e refl
 words_cut x (y ∷ ys) e = more (λ g. words_cut y ys g) (is_gap y) refl
   where

@@ -1,5 +1,7 @@
 pub mod Carried
 pub mod Command
+pub mod Exact
+pub mod Grammar
 pub mod Line
 pub mod Ran
 pub mod Reply

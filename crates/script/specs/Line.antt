@@ -1,5 +1,6 @@
 -- What a line of a script says.
-use Rattle.std.specs.Prelude.{ℕ, Bool, true, false, if◌then◌else◌, List, [], ◌∷◌, Option, Some, None, option_map}
+use Rattle.std.specs.Prelude.{ℕ, Bool, true, false, if◌then◌else◌, List, [], ◌∷◌, Option, Some}
+use Rattle.std.specs.Prelude.{None, option_map}
 use Rattle.std.specs.Option.{option_and_then}
 use Rattle.name_tree.specs.Path.{Labels}
 use Rattle.name_tree.specs.Computed.{path_of}
@@ -8,12 +9,14 @@ use Rattle.dtab_table.specs.Computed.{table_of}
 use Rattle.addr_book.specs.declared.addr.Addr.{Addr}
 use Rattle.addr_book.specs.declared.addr.Weighted.{Weighted}
 use Rattle.addr_book.specs.FileLine.{is_empty, drop_gaps, word_of, behind_word, single_word}
-use Rattle.machine.specs.Values.{ChangeValue, create, put, delete, set_addrs, drop_service, report, LookValue, get_table, list_names, view, AskValue}
+use Rattle.machine.specs.Values.{ChangeValue, create, put, delete, set_addrs, drop_service, report}
+use Rattle.machine.specs.Values.{LookValue, get_table, list_names, view, AskValue}
 use Rattle.script.specs.declared.command.Command.{Command}
 use Rattle.script.specs.declared.command.Command.TheVariants as command
 use Rattle.script.specs.declared.line.Numbers.{Numbers}
 use Rattle.script.specs.Command.{command_of}
-use Rattle.script.specs.Words.{drop_blanks, behind, words_of, name_of, number_of, version_of, addr_in, list_in}
+use Rattle.script.specs.Words.{drop_blanks, behind, words_of, name_of, number_of, version_of}
+use Rattle.script.specs.Words.{addr_in, list_in}
 
 pub data LineValue : Type 0 where
   -- nothing
@@ -57,12 +60,20 @@ report_line good _ _ = bad
 
 -- the moment and the three words of a pick
 abbrev pub numbers_of : Option ℕ → Option ℕ → Option ℕ → Option ℕ → Option Numbers
-numbers_of (Some moment) (Some branch) (Some first) (Some second) = Some (record { moment = moment; branch = branch; first = first; second = second })
+numbers_of (Some moment) (Some branch) (Some first) (Some second) =
+    Some (record { moment = moment; branch = branch; first = first; second = second })
 numbers_of _ _ _ _ = None
 
 abbrev pub ask_line : Option Labels → Option Numbers → Option (List Rule) → LineValue
 ask_line (Some path) (Some n) (Some rules) =
-    ask (record { path = path; own = rules; moment = n.moment; branch_word = n.branch; first_draw = n.first; second_draw = n.second })
+    ask (record {
+      path = path;
+      own = rules;
+      moment = n.moment;
+      branch_word = n.branch;
+      first_draw = n.first;
+      second_draw = n.second;
+    })
 ask_line _ _ _ = bad
 
 -- ---- what follows a command, from the gap behind it on
@@ -83,7 +94,8 @@ put_in rest =
 abbrev pub delete_in : List ℕ → LineValue
 delete_in rest =
     let text = drop_gaps rest in
-    delete_line (name_of (word_of text)) (option_and_then version_of (single_word (behind_word text)))
+    delete_line (name_of (word_of text))
+    (option_and_then version_of (single_word (behind_word text)))
 
 -- NAME and any number of addresses
 abbrev pub addrs_in_line : List ℕ → LineValue
@@ -95,7 +107,8 @@ addrs_in_line rest =
 abbrev pub report_in : Bool → List ℕ → LineValue
 report_in good rest =
     let text = drop_gaps rest in
-    report_line good (addr_in (word_of text)) (option_and_then number_of (single_word (behind_word text)))
+    report_line good (addr_in (word_of text))
+    (option_and_then number_of (single_word (behind_word text)))
 
 -- PATH, MOMENT, three words and TABLE
 abbrev pub long_pick_in : List ℕ → LineValue
@@ -104,17 +117,21 @@ long_pick_in text =
     let branch = behind moment in
     let first = behind branch in
     let second = behind first in
-    ask_line (path_of (word_of text)) (numbers_of (number_of (word_of moment)) (number_of (word_of branch)) (number_of (word_of first)) (number_of (word_of second))) (table_of (behind second))
+    ask_line (path_of (word_of text))
+    (numbers_of (number_of (word_of moment)) (number_of (word_of branch))
+    (number_of (word_of first)) (number_of (word_of second))) (table_of (behind second))
 
 -- a pick of a path at the moment 0, with the words 0 and no table of its own
 abbrev pub plain_ask : Labels → AskValue
-plain_ask path = record { path = path; own = []; moment = 0; branch_word = 0; first_draw = 0; second_draw = 0 }
+plain_ask path =
+    record { path = path; own = []; moment = 0; branch_word = 0; first_draw = 0; second_draw = 0 }
 
 -- PATH alone, or the long form
 abbrev pub pick_in : List ℕ → LineValue
 pick_in rest =
     let text = drop_gaps rest in
-    if is_empty (behind text) then line_or_bad (λ path. ask (plain_ask path)) (path_of (word_of text)) else long_pick_in text
+    if is_empty (behind text)
+    then line_or_bad (λ path. ask (plain_ask path)) (path_of (word_of text)) else long_pick_in text
 
 -- a command, and what follows it
 abbrev pub command_value : Command → List ℕ → LineValue
@@ -122,18 +139,22 @@ command_value command.Dtab rest = line_or_bad table (table_of (drop_gaps rest))
 command_value command.Create rest = create_in rest
 command_value command.Put rest = put_in rest
 command_value command.Delete rest = delete_in rest
-command_value command.Get rest = line_or_bad (λ name. look (get_table name)) (option_and_then name_of (single_word rest))
+command_value command.Get rest =
+    line_or_bad (λ name. look (get_table name)) (option_and_then name_of (single_word rest))
 command_value command.List rest = if is_empty (drop_gaps rest) then look list_names else bad
 command_value command.Addrs rest = addrs_in_line rest
-command_value command.Drop rest = line_or_bad (λ name. change (drop_service name)) (option_and_then name_of (single_word rest))
+command_value command.Drop rest =
+    line_or_bad (λ name. change (drop_service name)) (option_and_then name_of (single_word rest))
 command_value command.Fail rest = report_in false rest
 command_value command.Good rest = report_in true rest
 command_value command.Pick rest = pick_in rest
-command_value command.View rest = line_or_bad (λ path. look (view path [])) (option_and_then path_of (single_word rest))
+command_value command.View rest =
+    line_or_bad (λ path. look (view path [])) (option_and_then path_of (single_word rest))
 
 -- a text that begins with its first word
 abbrev pub words_value : List ℕ → LineValue
-words_value text = line_or_bad (λ command. command_value command (behind_word text)) (command_of (word_of text))
+words_value text =
+    line_or_bad (λ command. command_value command (behind_word text)) (command_of (word_of text))
 
 -- a line without its line feed: blanks alone, or a command between gaps
 abbrev pub line_value : List ℕ → LineValue

@@ -18,7 +18,14 @@ IsSoundTurn (changing c) = IsSoundChange c
 IsSoundTurn (picking ask) = Unit {0}
 
 abbrev pub run_of : Run → RunValue
-run_of run = record { state = state_of run.state; refused = run.refused; picked = run.picked; lacking = run.lacking; ports = run.ports }
+run_of run =
+    record {
+      state = state_of run.state;
+      refused = run.refused;
+      picked = run.picked;
+      lacking = run.lacking;
+      ports = run.ports;
+    }
 
 -- so many turns give no greater counts, as a port is at most 65,535
 pub record IsWithin (turns : ℕ) (run : RunValue) : Type 0 where

@@ -10,7 +10,10 @@ use Rattle.addr_book.specs.Addr.{addr_text}
 use Rattle.choose_core.specs.declared.mark.Mark.{Mark}
 use Rattle.machine.specs.declared.chosen.Why.{Why}
 use Rattle.machine.specs.declared.chosen.Why.TheVariants as why
-use Rattle.machine.specs.Values.{ReplyValue, version, exists_at, too_many_names, versions_spent, missing, stale_at, deleted, set_to, book_full, too_many_services, dropped, marked_as, not_kept, history_spent, table, namespaces, addrs, counts, viewed, ChosenValue, picked, not_picked}
+use Rattle.machine.specs.Values.{ReplyValue, version, exists_at, too_many_names, versions_spent}
+use Rattle.machine.specs.Values.{missing, stale_at, deleted, set_to, book_full, too_many_services}
+use Rattle.machine.specs.Values.{dropped, marked_as, not_kept, history_spent, table, namespaces}
+use Rattle.machine.specs.Values.{addrs, counts, viewed, ChosenValue, picked, not_picked}
 use Rattle.delegate_view.specs.View.{view_of}
 
 -- what a line is answered
@@ -34,7 +37,9 @@ spaced (b ∷ text) = 32 ∷ b ∷ text
 -- a name and its number, for each thing that is counted
 abbrev pub counts_text : ℕ → ℕ → ℕ → ℕ → List ℕ
 counts_text changes marks spaces services =
-    with_number (with_number (with_number (with_number (codes "changes") changes ++ codes " marks") marks ++ codes " namespaces") spaces ++ codes " services") services
+    with_number (with_number
+    (with_number (with_number (codes "changes") changes ++ codes " marks") marks
+    ++ codes " namespaces") spaces ++ codes " services") services
 
 -- the text of a reply
 abbrev pub reply_text : ReplyValue → List ℕ
@@ -52,7 +57,8 @@ reply_text dropped = codes "dropped"
 reply_text (marked_as mark) = with_number (with_number (codes "mark") mark.count) mark.until
 reply_text not_kept = codes "not-kept"
 reply_text history_spent = codes "history-spent"
-reply_text (table n rules) = with_number (codes "version") n ++ codes " dtab" ++ spaced (canon_table rules)
+reply_text (table n rules) =
+    with_number (codes "version") n ++ codes " dtab" ++ spaced (canon_table rules)
 reply_text (namespaces names) = codes "names" ++ flat_map (λ name. 32 ∷ name) names
 reply_text (addrs list) = codes "addrs" ++ flat_map (λ item. 32 ∷ addr_text item.addr) list
 reply_text (counts changes marks spaces services) = counts_text changes marks spaces services
@@ -68,7 +74,8 @@ why_word why.TooWide = codes "too-wide"
 
 -- the address that is picked, the path that named it, and the rest; or why there is none
 abbrev pub pick_text : ChosenValue → List ℕ
-pick_text (picked addr client residual) = addr_text addr ++ 32 ∷ [] ++ canon_path client ++ 32 ∷ [] ++ canon_path residual
+pick_text (picked addr client residual) =
+    addr_text addr ++ 32 ∷ [] ++ canon_path client ++ 32 ∷ [] ++ canon_path residual
 pick_text (not_picked w) = why_word w
 
 abbrev pub said_text : SaidValue → List ℕ

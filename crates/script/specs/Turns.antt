@@ -1,10 +1,13 @@
 -- The turns of generated runs: changes and picks, made of a generator's words.
-use Rattle.std.specs.Prelude.{ℕ, zero, suc, ◌+◌, ◌/◌, ◌%◌, ◌==◌, nat_lt, false, if◌then◌else◌, List, [], ◌∷◌, None}
+use Rattle.std.specs.Prelude.{ℕ, zero, suc, ◌+◌, ◌/◌, ◌%◌, ◌==◌, nat_lt, false, if◌then◌else◌, List}
+use Rattle.std.specs.Prelude.{[], ◌∷◌, None}
 use Rattle.rand_core.specs.Pcg32Seed.{pcg32_seed}
 use Rattle.rand_pcg.specs.Lcg.{Lcg}
 use Rattle.rand_pcg.specs.Pcg.{pcg64, pcg64_of_seed}
-use Rattle.machine.specs.Values.{ChangeValue, create, put, set_addrs, drop_service, report, AskValue}
-use Rattle.turn_parts.specs.Parts.{local_addr, addrs_from, service_name, service_path, namer_rule, table_by}
+use Rattle.machine.specs.Values.{ChangeValue, create, put, set_addrs, drop_service, report}
+use Rattle.machine.specs.Values.{AskValue}
+use Rattle.turn_parts.specs.Parts.{local_addr, addrs_from, service_name, service_path, namer_rule}
+use Rattle.turn_parts.specs.Parts.{table_by}
 use Rattle.script.specs.Carried.{default_name}
 
 -- what a turn asks of a state
@@ -20,26 +23,39 @@ words_of_seed seed = pcg64_of_seed (pcg32_seed 32 seed)
 abbrev pub first_change : ChangeValue
 first_change = create default_name (namer_rule ∷ [])
 
--- the change of a kind, for a service and a number: up to four addresses, no such service any more, another table, or a failure
+-- the change of a kind, for a service and a number: up to four addresses, no such service any more,
+-- another table, or a failure
 abbrev pub change_by : ℕ → ℕ → ℕ → ℕ → ChangeValue
 change_by kind s q turn =
     if kind == 0 then set_addrs (service_name s) (addrs_from (q % 5) (1024 + q)) else
     if kind == 1 then drop_service (service_name s) else
-    if kind == 2 then put default_name None (table_by s) else report (local_addr (1024 + q)) false turn
+    if kind == 2 then put default_name None (table_by s)
+    else report (local_addr (1024 + q)) false turn
 
 -- the pick of a service at the moment of its turn, by the next three words
 abbrev pub pick_by : ℕ → ℕ → Lcg → TurnValue × Lcg
 pick_by s turn words =
     let branch = pcg64 words in
     let first = pcg64 branch.1 in
-    let second = pcg64 first.1 in
-    (picking (record { path = service_path s; own = []; moment = turn; branch_word = branch.0; first_draw = first.0; second_draw = second.0 }), second.1)
+    let second = pcg64 first.1 in (
+      picking (record {
+        path = service_path s;
+        own = [];
+        moment = turn;
+        branch_word = branch.0;
+        first_draw = first.0;
+        second_draw = second.0;
+      }),
+      second.1,
+    )
 
--- the turn of a word, and the words behind it. The word's lowest three bits are the kind, of which 4 to 7 are picks, the next four bits a service, and the
--- next twelve a number
+-- the turn of a word, and the words behind it. The word's lowest three bits are the kind, of which
+-- 4 to 7 are picks, the next four bits a service, and the next twelve a number
 abbrev pub turn_by : ℕ → ℕ → Lcg → TurnValue × Lcg
 turn_by turn word words =
-    if nat_lt (word % 8) 4 then (changing (change_by (word % 8) (word / 8 % 16) (word / 128 % 4096) turn), words) else pick_by (word / 8 % 16) turn words
+    if nat_lt (word % 8) 4 then
+    (changing (change_by (word % 8) (word / 8 % 16) (word / 128 % 4096) turn), words)
+    else pick_by (word / 8 % 16) turn words
 
 -- the turn with this number, and the words behind it
 unfoldable pub next_turn : ℕ → Lcg → TurnValue × Lcg

@@ -1,5 +1,6 @@
 -- The words of a script's line, and what they stand for.
-use Rattle.std.specs.Prelude.{ℕ, ◌-◌, ◌^◌, ◌==◌, Bool, false, not, nat_le, ◌&&◌, if◌then◌else◌, List, [], ◌∷◌, codes, length, Option, Some, None, option_map}
+use Rattle.std.specs.Prelude.{ℕ, ◌-◌, ◌^◌, ◌==◌, Bool, false, not, nat_le, ◌&&◌, if◌then◌else◌}
+use Rattle.std.specs.Prelude.{List, [], ◌∷◌, codes, length, Option, Some, None, option_map}
 use Rattle.std.specs.Option.{option_and_then}
 use Rattle.std.specs.List.{list_all}
 use Rattle.std.specs.Str.{bytes_eq}
@@ -8,7 +9,8 @@ use Rattle.addr_book.specs.declared.addr.Addr.{Addr}
 use Rattle.addr_book.specs.declared.addr.Weighted.{Weighted}
 use Rattle.addr_book.specs.Addr.{number_value, at_most, addr_of, host_value, port_value}
 use Rattle.addr_book.specs.AddrList.{first_places}
-use Rattle.addr_book.specs.FileLine.{is_gap, joined, drop_gaps, behind_word, before_star, behind_star, line_weight}
+use Rattle.addr_book.specs.FileLine.{is_gap, joined, drop_gaps, behind_word, before_star}
+use Rattle.addr_book.specs.FileLine.{behind_star, line_weight}
 use Rattle.addr_book.specs.Name.{is_name_byte}
 
 -- a line behind its leading blanks: spaces, tabs, CRs and LFs
@@ -28,11 +30,15 @@ goes_on (b ∷ bs) = not (is_gap b)
 -- the words of a text, in order: the pieces between its gaps
 abbrev pub words_of : List ℕ → List (List ℕ)
 words_of [] = []
-words_of (b ∷ bs) = if is_gap b then words_of bs else if goes_on bs then joined b (words_of bs) else (b ∷ []) ∷ words_of bs
+words_of (b ∷ bs) =
+    if is_gap b then words_of bs else if goes_on bs then joined b (words_of bs)
+    else (b ∷ []) ∷ words_of bs
 
 -- the name that a word is: 1 to 255 bytes of letters, digits and `_ : . -`
 abbrev pub name_of : List ℕ → Option (List ℕ)
-name_of word = if (nat_le 1 (length word) && nat_le (length word) 255) && list_all is_name_byte word then Some word else None
+name_of word =
+    if (nat_le 1 (length word) && nat_le (length word) 255) && list_all is_name_byte word
+    then Some word else None
 
 -- a number of 64 bits: decimal digits without leading zeros
 abbrev pub number_of : List ℕ → Option ℕ
@@ -40,7 +46,8 @@ number_of word = at_most (2 ^ 64 - 1) (number_value word)
 
 -- a version that a namespace must have, or `*` for any
 abbrev pub version_of : List ℕ → Option (Option ℕ)
-version_of word = if bytes_eq word (codes "*") then Some None else option_map (λ n. Some n) (number_of word)
+version_of word =
+    if bytes_eq word (codes "*") then Some None else option_map (λ n. Some n) (number_of word)
 
 -- the bytes before the first `:`, and those behind it, if there is one
 abbrev pub before_colon : List ℕ → List ℕ
@@ -53,7 +60,8 @@ behind_colon (b ∷ bs) = if b == 58 then Some bs else behind_colon bs
 
 -- the address of a word `host:port`
 abbrev pub addr_in : List ℕ → Option Addr
-addr_in word = addr_of (host_value (before_colon word)) (option_and_then port_value (behind_colon word))
+addr_in word =
+    addr_of (host_value (before_colon word)) (option_and_then port_value (behind_colon word))
 
 abbrev pub with_weight : Option Addr → Option ℕ → Option Weighted
 with_weight (Some addr) (Some weight) = Some (record { addr = addr; weight = weight })
@@ -72,6 +80,8 @@ abbrev pub addrs_in : List (List ℕ) → Option (List Weighted)
 addrs_in [] = Some []
 addrs_in (word ∷ words) = put_first (weighted_in word) (addrs_in words)
 
--- the addresses that a line gives a service: of at most 1,024 words, each kept once, at its first place and with its first weight
+-- the addresses that a line gives a service: of at most 1,024 words, each kept once, at its first
+-- place and with its first weight
 abbrev pub list_in : List (List ℕ) → Option (List Weighted)
-list_in words = if nat_le (length words) 1024 then option_map first_places (addrs_in words) else None
+list_in words =
+    if nat_le (length words) 1024 then option_map first_places (addrs_in words) else None

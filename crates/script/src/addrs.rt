@@ -1,5 +1,6 @@
 //! The addresses of a line.
-ghost use Rattle.std.specs.Prelude.{◌≡◌, ◌<◌, ◌≤◌, ◌⊎◌, None, Some, length, MatchResult, IfOk, IfErr};
+ghost use Rattle.std.specs.Prelude.{◌≡◌, ◌<◌, ◌≤◌, ◌⊎◌, None, Some, length, MatchResult, IfOk};
+ghost use Rattle.std.specs.Prelude.{IfErr};
 ghost use Rattle.addr_book.specs.AddrList.{HaveWeights};
 ghost use Rattle.script.specs.Words.{words_of, addrs_in, list_in};
 
@@ -7,9 +8,11 @@ use crate::words::{LineFault, cut_word, read_weighted};
 use addr_book::{AddrList, MOST_ADDRS, Weighted, without_gap};
 use std::alloc::Global;
 
-/// The addresses that a line gives a service, in words between gaps: at most 1,024, each kept once, at its first place and with its first weight.
+/// The addresses that a line gives a service, in words between gaps: at most 1,024, each kept once,
+/// at its first place and with its first weight.
 pub(crate) fn read_list(alloc: Global, text: &[u8]) -> Result<AddrList, LineFault>
-    ensures { MatchResult result (λ list. list_in (words_of text.now) ≡ Some list) (λ fault. fault ≡ LineFault.BadLine → list_in (words_of text.now) ≡ None) }
+    ensures { MatchResult result (λ list. list_in (words_of text.now) ≡ Some list)
+        (λ fault. fault ≡ LineFault.BadLine → list_in (words_of text.now) ≡ None) }
 {
     let items = read_items(alloc, text)?;
     match AddrList::distinct(alloc, items.as_slice()) {
@@ -24,7 +27,9 @@ fn read_items(alloc: Global, text: &[u8]) -> Result<Vec<Weighted>, LineFault>
     ensures few { IfOk result (λ items. length items.items ≤ 1024) }
     ensures words { IfOk result (λ items. length (words_of text.now) ≤ 1024) }
     ensures weights { IfOk result (λ items. HaveWeights items.items) }
-    ensures bad { IfErr result (λ fault. fault ≡ LineFault.BadLine → (1024 < length (words_of text.now)) ⊎ (addrs_in (words_of text.now) ≡ None)) }
+    ensures bad { IfErr result
+        (λ fault. fault ≡ LineFault.BadLine → (1024 < length (words_of text.now))
+        ⊎ (addrs_in (words_of text.now) ≡ None)) }
 {
     let mut items = Vec::new(alloc);
     let mut rest = without_gap(text);

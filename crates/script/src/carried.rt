@@ -4,7 +4,8 @@ ghost use Rattle.dtab_table.specs.Dtab.{rules_of};
 ghost use Rattle.dtab_table.specs.TableCanon.{AreSoundRules};
 ghost use Rattle.machine.specs.Code.{settings_of, state_of, change_of, reply_value};
 ghost use Rattle.machine.specs.State.{reply_of, after, IsSoundChange};
-ghost use Rattle.script.specs.Carried.{default_name, script_settings, table_change, table_said, line_answer, line_after};
+ghost use Rattle.script.specs.Carried.{default_name, script_settings, table_change, table_said};
+ghost use Rattle.script.specs.Carried.{line_answer, line_after};
 ghost use Rattle.script.specs.Said.{line_said, said_of, IsSoundLine};
 
 use crate::Mem;
@@ -28,8 +29,8 @@ pub(crate) fn default_name(alloc: Global) -> Mem<Name>
     }
 }
 
-/// What the router of scripts is set up with: the namespace `default`, no configured table, and replicas that are left out for 5,000 milliseconds
-/// after five failures in a row.
+/// What the router of scripts is set up with: the namespace `default`, no configured table, and
+/// replicas that are left out for 5,000 milliseconds after five failures in a row.
 pub fn script_settings(alloc: Global) -> Mem<Settings>
     ensures { IfOk result (λ settings. settings_of settings ≡ script_settings) }
 {
@@ -55,8 +56,12 @@ pub fn carry_out<L: Ledger>(
     steps: &mut Steps<L>,
 ) -> Mem<Option<Said>>
     requires { IsSoundLine (line_said line) }
-    ensures said { IfOk result (λ said. option_map said_of said ≡ line_answer (settings_of settings.now) (state_of state.old) (line_said line)) }
-    ensures ok { OnOk result (state_of state.new ≡ line_after (settings_of settings.now) (state_of state.old) (line_said line)) }
+    ensures said { IfOk result
+        (λ said. option_map said_of said
+        ≡ line_answer (settings_of settings.now) (state_of state.old) (line_said line)) }
+    ensures ok { OnOk result
+        (state_of state.new ≡ line_after (settings_of settings.now) (state_of state.old)
+        (line_said line)) }
     ensures err { OnErr result (state_of state.new ≡ state_of state.old) }
 {
     match line {
@@ -68,11 +73,17 @@ pub fn carry_out<L: Ledger>(
     }
 }
 
-/// Makes a table that of the namespace `default`, which need not be there. An `Err` changes nothing.
+/// Makes a table that of the namespace `default`, which need not be there. An `Err` changes
+/// nothing.
 fn set_table(alloc: Global, settings: &Settings, state: &mut State, dtab: Dtab) -> Mem<Said>
     requires { AreSoundRules (rules_of dtab) }
-    ensures said { IfOk result (λ said. said_of said ≡ table_said (reply_of (settings_of settings.now) (state_of state.old) (table_change (state_of state.old) (rules_of dtab)))) }
-    ensures ok { OnOk result (state_of state.new ≡ after (settings_of settings.now) (state_of state.old) (table_change (state_of state.old) (rules_of dtab))) }
+    ensures said { IfOk result
+        (λ said. said_of said ≡ table_said
+        (reply_of (settings_of settings.now) (state_of state.old)
+        (table_change (state_of state.old) (rules_of dtab)))) }
+    ensures ok { OnOk result
+        (state_of state.new ≡ after (settings_of settings.now) (state_of state.old)
+        (table_change (state_of state.old) (rules_of dtab))) }
     ensures err { OnErr result (state_of state.new ≡ state_of state.old) }
 {
     let name = default_name(alloc)?;

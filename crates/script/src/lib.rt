@@ -1,11 +1,14 @@
-//! Scripts for a router: the lines that ask for changes, looks and picks, what they do, and the texts of the replies.
+//! Scripts for a router: the lines that ask for changes, looks and picks, what they do, and the
+//! texts of the replies.
 //!
-//! [`read_line`] reads a line as a [`Line`], [`carry_out`] carries it out on a state of the router, and [`reply_text`] writes the reply to it.
-//! [`script_settings`] is what the router of scripts is set up with. [`storm`] makes a run of generated changes and picks, and sums it up in a line.
+//! [`read_line`] reads a line as a [`Line`], [`carry_out`] carries it out on a state of the router,
+//! and [`reply_text`] writes the reply to it. [`script_settings`] is what the router of scripts is
+//! set up with. [`storm`] makes a run of generated changes and picks, and sums it up in a line.
 //! [`read_number`] reads a word that is a number.
 //!
 //! # Lines
-//! Words stand between spaces and tabs. TABLE goes from its first other byte to the end of the line.
+//! Words stand between spaces and tabs. TABLE goes from its first other byte to the end of the
+//! line.
 //!
 //! | line | asks |
 //! |---|---|
@@ -19,9 +22,11 @@
 //! | `view PATH` | how a path is delegated |
 //!
 //! # What is proved
-//! A line is read exactly as `specs/Line.antt` has it, and [`LineFault::BadLine`] comes exactly where it is outside the grammar. What a line is answered
-//! and the state that it leaves are exactly those of `specs/Carried.antt`. The text of a reply is exactly that of `specs/Reply.antt`. The turns of a
-//! generated run are exactly those of `specs/Turns.antt`, and its line is that of `specs/Storm.antt`.
+//! A line is read exactly as `specs/Line.antt` has it, and [`LineFault::BadLine`] comes exactly
+//! where it is outside the grammar. What a line is answered and the state that it leaves are
+//! exactly those of `specs/Carried.antt`. The text of a reply is exactly that of
+//! `specs/Reply.antt`. The turns of a generated run are exactly those of `specs/Turns.antt`, and
+//! its line is that of `specs/Storm.antt`.
 //!
 //! # Example
 //! ```
@@ -38,6 +43,7 @@ use std::alloc::AllocError;
 mod addrs;
 mod carried;
 mod command;
+mod laws;
 mod line;
 mod reply;
 mod run;
@@ -45,6 +51,7 @@ mod turn;
 mod words;
 
 pub use carried::{carry_out, script_settings};
+pub use laws::computed_lines_are_exact;
 pub use line::{Line, read_line};
 pub use reply::{Said, reply_text};
 pub use run::storm;

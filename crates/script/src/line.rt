@@ -1,6 +1,8 @@
 //! The lines of a script.
 ghost use Rattle.std.specs.Prelude.{◌≡◌, MatchResult, IfOk};
-ghost use Rattle.script.specs.Line.{line_value, words_value, command_value, create_in, put_in, delete_in, addrs_in_line, report_in, pick_in, long_pick_in, numbers_of, bad};
+ghost use Rattle.script.specs.Line.{line_value, words_value, command_value, create_in, put_in};
+ghost use Rattle.script.specs.Line.{delete_in, addrs_in_line, report_in, pick_in, long_pick_in};
+ghost use Rattle.script.specs.Line.{numbers_of, bad};
 ghost use Rattle.script.specs.Words.{number_of};
 ghost use Rattle.script.specs.Said.{line_said, IsSoundLine};
 
@@ -20,7 +22,8 @@ use std::alloc::Global;
 pub enum Line {
     /// Nothing: it has only blanks.
     Blank,
-    /// `dtab TABLE`: this is the table of the namespace `default` from now on, whether it is there or not.
+    /// `dtab TABLE`: this is the table of the namespace `default` from now on, whether it is there
+    /// or not.
     Table(Dtab),
     /// A change.
     Change(Change),
@@ -32,7 +35,8 @@ pub enum Line {
 
 /// Reads a line of a script, without its line feed.
 pub fn read_line(alloc: Global, line: &[u8]) -> Result<Line, LineFault>
-    ensures line { MatchResult result (λ said. line_value line.now ≡ line_said said) (λ fault. fault ≡ LineFault.BadLine → line_value line.now ≡ bad) }
+    ensures line { MatchResult result (λ said. line_value line.now ≡ line_said said)
+        (λ fault. fault ≡ LineFault.BadLine → line_value line.now ≡ bad) }
     ensures sound { IfOk result (λ said. IsSoundLine (line_said said)) }
 {
     if is_blank_line(line) {
@@ -47,7 +51,8 @@ pub fn read_line(alloc: Global, line: &[u8]) -> Result<Line, LineFault>
 
 /// What a line says, by its command and what follows it.
 fn read_rest(alloc: Global, command: Command, rest: &[u8]) -> Result<Line, LineFault>
-    ensures line { MatchResult result (λ said. command_value command rest.now ≡ line_said said) (λ fault. fault ≡ LineFault.BadLine → command_value command rest.now ≡ bad) }
+    ensures line { MatchResult result (λ said. command_value command rest.now ≡ line_said said)
+        (λ fault. fault ≡ LineFault.BadLine → command_value command rest.now ≡ bad) }
     ensures sound { IfOk result (λ said. IsSoundLine (line_said said)) }
 {
     match command {
@@ -81,7 +86,8 @@ fn read_rest(alloc: Global, command: Command, rest: &[u8]) -> Result<Line, LineF
 
 /// What `create` asks, by the text behind it.
 fn read_create(alloc: Global, rest: &[u8]) -> Result<Line, LineFault>
-    ensures line { MatchResult result (λ said. create_in rest.now ≡ line_said said) (λ fault. fault ≡ LineFault.BadLine → create_in rest.now ≡ bad) }
+    ensures line { MatchResult result (λ said. create_in rest.now ≡ line_said said)
+        (λ fault. fault ≡ LineFault.BadLine → create_in rest.now ≡ bad) }
     ensures sound { IfOk result (λ said. IsSoundLine (line_said said)) }
 {
     let (word, text) = cut_word(without_gap(rest));
@@ -92,7 +98,8 @@ fn read_create(alloc: Global, rest: &[u8]) -> Result<Line, LineFault>
 
 /// What `put` asks, by the text behind it.
 fn read_put(alloc: Global, rest: &[u8]) -> Result<Line, LineFault>
-    ensures line { MatchResult result (λ said. put_in rest.now ≡ line_said said) (λ fault. fault ≡ LineFault.BadLine → put_in rest.now ≡ bad) }
+    ensures line { MatchResult result (λ said. put_in rest.now ≡ line_said said)
+        (λ fault. fault ≡ LineFault.BadLine → put_in rest.now ≡ bad) }
     ensures sound { IfOk result (λ said. IsSoundLine (line_said said)) }
 {
     let (word, more) = cut_word(without_gap(rest));
@@ -111,7 +118,8 @@ fn read_put(alloc: Global, rest: &[u8]) -> Result<Line, LineFault>
 
 /// What `delete` asks, by the text behind it.
 fn read_delete(alloc: Global, rest: &[u8]) -> Result<Line, LineFault>
-    ensures line { MatchResult result (λ said. delete_in rest.now ≡ line_said said) (λ fault. fault ≡ LineFault.BadLine → delete_in rest.now ≡ bad) }
+    ensures line { MatchResult result (λ said. delete_in rest.now ≡ line_said said)
+        (λ fault. fault ≡ LineFault.BadLine → delete_in rest.now ≡ bad) }
     ensures sound { IfOk result (λ said. IsSoundLine (line_said said)) }
 {
     let (word, more) = split_word(without_gap(rest));
@@ -124,7 +132,8 @@ fn read_delete(alloc: Global, rest: &[u8]) -> Result<Line, LineFault>
 
 /// What `addrs` asks, by the text behind it.
 fn read_set(alloc: Global, rest: &[u8]) -> Result<Line, LineFault>
-    ensures line { MatchResult result (λ said. addrs_in_line rest.now ≡ line_said said) (λ fault. fault ≡ LineFault.BadLine → addrs_in_line rest.now ≡ bad) }
+    ensures line { MatchResult result (λ said. addrs_in_line rest.now ≡ line_said said)
+        (λ fault. fault ≡ LineFault.BadLine → addrs_in_line rest.now ≡ bad) }
     ensures sound { IfOk result (λ said. IsSoundLine (line_said said)) }
 {
     let (word, more) = split_word(without_gap(rest));
@@ -135,7 +144,8 @@ fn read_set(alloc: Global, rest: &[u8]) -> Result<Line, LineFault>
 
 /// What `fail` or `good` asks, by the text behind it.
 fn read_report(good: bool, rest: &[u8]) -> Result<Line, LineFault>
-    ensures line { MatchResult result (λ said. report_in good rest.now ≡ line_said said) (λ fault. fault ≡ LineFault.BadLine → report_in good rest.now ≡ bad) }
+    ensures line { MatchResult result (λ said. report_in good rest.now ≡ line_said said)
+        (λ fault. fault ≡ LineFault.BadLine → report_in good rest.now ≡ bad) }
     ensures sound { IfOk result (λ said. IsSoundLine (line_said said)) }
 {
     let (word, more) = split_word(without_gap(rest));
@@ -147,7 +157,8 @@ fn read_report(good: bool, rest: &[u8]) -> Result<Line, LineFault>
 
 /// What `pick` asks, by the text behind it.
 fn read_pick(alloc: Global, rest: &[u8]) -> Result<Line, LineFault>
-    ensures line { MatchResult result (λ said. pick_in rest.now ≡ line_said said) (λ fault. fault ≡ LineFault.BadLine → pick_in rest.now ≡ bad) }
+    ensures line { MatchResult result (λ said. pick_in rest.now ≡ line_said said)
+        (λ fault. fault ≡ LineFault.BadLine → pick_in rest.now ≡ bad) }
     ensures sound { IfOk result (λ said. IsSoundLine (line_said said)) }
 {
     let text = without_gap(rest);
@@ -166,7 +177,8 @@ fn read_pick(alloc: Global, rest: &[u8]) -> Result<Line, LineFault>
 
 /// What the long `pick` asks, by the text from its path on.
 fn read_long_pick(alloc: Global, text: &[u8]) -> Result<Line, LineFault>
-    ensures line { MatchResult result (λ said. long_pick_in text.now ≡ line_said said) (λ fault. fault ≡ LineFault.BadLine → long_pick_in text.now ≡ bad) }
+    ensures line { MatchResult result (λ said. long_pick_in text.now ≡ line_said said)
+        (λ fault. fault ≡ LineFault.BadLine → long_pick_in text.now ≡ bad) }
     ensures sound { IfOk result (λ said. IsSoundLine (line_said said)) }
 {
     let (path, more) = cut_word(text);
@@ -202,7 +214,8 @@ pub struct Numbers {
 
 /// The numbers of a pick, where each word is one.
 fn read_numbers(moment: &[u8], branch: &[u8], first: &[u8], second: &[u8]) -> Option<Numbers>
-    ensures { result ≡ numbers_of (number_of moment.now) (number_of branch.now) (number_of first.now) (number_of second.now) }
+    ensures { result ≡ numbers_of (number_of moment.now) (number_of branch.now)
+        (number_of first.now) (number_of second.now) }
 {
     match (
         read_number(moment),

@@ -6,7 +6,8 @@ ghost use Rattle.addr_book.specs.Addr.{addr_text};
 ghost use Rattle.dtab_table.specs.Dtab.{rules_of};
 ghost use Rattle.dtab_table.specs.TableCanon.{canon_table};
 ghost use Rattle.machine.specs.Code.{reply_value, chosen_value};
-ghost use Rattle.script.specs.Reply.{reply_text, pick_text, said_text, why_word, with_number, spaced, counts_text};
+ghost use Rattle.script.specs.Reply.{reply_text, pick_text, said_text, why_word, with_number};
+ghost use Rattle.script.specs.Reply.{spaced, counts_text};
 ghost use Rattle.script.specs.Said.{said_of};
 
 use crate::{Bytes, Mem};
@@ -32,8 +33,9 @@ pub enum Said {
     Chosen(Chosen),
 }
 
-/// The text of an answer, without a line feed: `ok`; a reply in a word and its numbers; or the address that was picked, the path that named it and
-/// the rest, with spaces between them, or why there is none in a word.
+/// The text of an answer, without a line feed: `ok`; a reply in a word and its numbers; or the
+/// address that was picked, the path that named it and the rest, with spaces between them, or why
+/// there is none in a word.
 pub fn reply_text(alloc: Global, said: &Said) -> Mem<Bytes>
     ensures { IfOk result (λ text. text.items ≡ said_text (said_of said.now)) }
 {
@@ -130,7 +132,8 @@ pub(crate) fn numbered(alloc: Global, word: &[u8], number: u64) -> Mem<Bytes>
 
 /// The mark of an address: its failures, and until when it is left out.
 fn text_of_mark(alloc: Global, mark: Mark) -> Mem<Bytes>
-    ensures { IfOk result (λ text. text.items ≡ with_number (with_number (codes "mark") mark.count) mark.until) }
+    ensures { IfOk result
+        (λ text. text.items ≡ with_number (with_number (codes "mark") mark.count) mark.until) }
 {
     let mut out = numbered(alloc, b"mark", u64::from(mark.count))?;
     append_number(mark.until, &mut out)?;
@@ -139,7 +142,9 @@ fn text_of_mark(alloc: Global, mark: Mark) -> Mem<Bytes>
 
 /// A namespace's version and its table.
 fn text_of_table(alloc: Global, version: u64, dtab: &Dtab) -> Mem<Bytes>
-    ensures { IfOk result (λ text. text.items ≡ with_number (codes "version") version ++ codes " dtab" ++ spaced (canon_table (rules_of dtab.now))) }
+    ensures { IfOk result
+        (λ text. text.items ≡ with_number (codes "version") version ++ codes " dtab"
+        ++ spaced (canon_table (rules_of dtab.now))) }
 {
     let mut out = numbered(alloc, b"version", version)?;
     out.extend_from_slice(b" dtab")?;
@@ -161,7 +166,8 @@ fn append_spaced(text: &[u8], out: &mut Bytes) -> Mem<()>
 
 /// Names, each behind a space.
 fn text_of_names(alloc: Global, names: &[Name]) -> Mem<Bytes>
-    ensures { IfOk result (λ text. text.items ≡ codes "names" ++ flat_map (λ name. 32 ∷ name) names.now) }
+    ensures { IfOk result
+        (λ text. text.items ≡ codes "names" ++ flat_map (λ name. 32 ∷ name) names.now) }
 {
     let mut out = b"names".to_vec(alloc)?;
     for name in names {
@@ -173,7 +179,9 @@ fn text_of_names(alloc: Global, names: &[Name]) -> Mem<Bytes>
 
 /// Addresses, each behind a space.
 fn text_of_addrs(alloc: Global, list: &[Weighted]) -> Mem<Bytes>
-    ensures { IfOk result (λ text. text.items ≡ codes "addrs" ++ flat_map (λ item. 32 ∷ addr_text item.addr) list.now) }
+    ensures { IfOk result
+        (λ text. text.items ≡ codes "addrs"
+        ++ flat_map (λ item. 32 ∷ addr_text item.addr) list.now) }
 {
     let mut out = b"addrs".to_vec(alloc)?;
     for item in list {

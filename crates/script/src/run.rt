@@ -33,13 +33,15 @@ struct Run {
     ports: u64,
 }
 
-/// Takes so many generated turns on a new state, each a change or a pick by the words of the generator [`Pcg64`] with this seed, and sums them up in
-/// the line `changes C refused R picked P none Q ports S`: how many changes were accepted and how many were not, how many picks gave a
+/// Takes so many generated turns on a new state, each a change or a pick by the words of the
+/// generator [`Pcg64`] with this seed, and sums them up in the line `changes C refused R picked P
+/// none Q ports S`: how many changes were accepted and how many were not, how many picks gave a
 /// replica and how many gave none, and the sum of the picked ports.
 ///
-/// The namespace `default` is there from the start, with `/svc => /#/io.l5d.fs`. A turn sets up to four addresses of one of 16 services, drops
-/// the service, sends it to the next one, reports a failure, or picks a replica for it; half of all words are picks. A turn's number is its
-/// moment. The same seed gives the same line.
+/// The namespace `default` is there from the start, with `/svc => /#/io.l5d.fs`. A turn sets up to
+/// four addresses of one of 16 services, drops the service, sends it to the next one, reports a
+/// failure, or picks a replica for it; half of all words are picks. A turn's number is its moment.
+/// The same seed gives the same line.
 pub fn storm(alloc: Global, settings: &Settings, turns: u32, seed: u64) -> Mem<Bytes>
     ensures { IfOk result (λ text. text.items ≡ storm_of (settings_of settings.now) turns seed) }
 {
@@ -57,7 +59,9 @@ fn run_of_turns<L: Ledger>(
     requires name { blank.name ≡ L.name }
     requires parts { blank.parts ≡ L.parts }
     requires some { 0 < blank.parts }
-    ensures { IfOk result (λ run. run_of run ≡ after_turns (settings_of settings.now) (first_run (settings_of settings.now)) (turns_from turns 0 (words_of_seed seed))) }
+    ensures { IfOk result
+        (λ run. run_of run ≡ after_turns (settings_of settings.now)
+        (first_run (settings_of settings.now)) (turns_from turns 0 (words_of_seed seed))) }
 {
     let mut steps = Steps::<L>::start(blank);
     let mut words = Pcg64::seed_from_u64(seed);
@@ -71,8 +75,11 @@ fn run_of_turns<L: Ledger>(
 /// Makes a change, and says whether it was accepted.
 fn is_accepted(state: &mut State, alloc: Global, settings: &Settings, change: &Change) -> Mem<bool>
     requires { IsSoundChange (change_of change.now) }
-    ensures accepted { IfOk result (λ accepted. accepted ≡ is_accepted (state_of state.old) (change_of change.now)) }
-    ensures state { OnOk result (state_of state.new ≡ after (settings_of settings.now) (state_of state.old) (change_of change.now)) }
+    ensures accepted { IfOk result
+        (λ accepted. accepted ≡ is_accepted (state_of state.old) (change_of change.now)) }
+    ensures state { OnOk result
+        (state_of state.new ≡ after (settings_of settings.now) (state_of state.old)
+        (change_of change.now)) }
 {
     let place = state.place();
     let _reply = state.apply(alloc, settings, change)?;
@@ -117,7 +124,9 @@ impl Run {
     ) -> Mem<()>
         requires few { number < 2 ^ 32 }
         requires within { IsWithin number (run_of self.old) }
-        ensures run { OnOk result (run_of self.new ≡ after_turn (settings_of settings.now) (run_of self.old) (next_turn number words.old).0) }
+        ensures run { OnOk result
+            (run_of self.new ≡ after_turn (settings_of settings.now) (run_of self.old)
+            (next_turn number words.old).0) }
         ensures words { OnOk result (words.new ≡ (next_turn number words.old).1) }
         ensures within { OnOk result (IsWithin (number + 1) (run_of self.new)) }
     {
@@ -131,7 +140,9 @@ impl Run {
     fn change(&mut self, alloc: Global, settings: &Settings, change: &Change) -> Mem<()>
         requires sound { IsSoundChange (change_of change.now) }
         requires room { (run_of self.old).refused < 2 ^ 32 }
-        ensures { OnOk result (run_of self.new ≡ after_turn (settings_of settings.now) (run_of self.old) (changing (change_of change.now))) }
+        ensures { OnOk result (run_of self.new
+            ≡ after_turn (settings_of settings.now) (run_of self.old)
+            (changing (change_of change.now))) }
     {
         if !is_accepted(&mut self.state, alloc, settings, change)? {
             self.refused += 1;
@@ -150,7 +161,9 @@ impl Run {
         requires picked { (run_of self.old).picked < 2 ^ 32 }
         requires lacking { (run_of self.old).lacking < 2 ^ 32 }
         requires ports { (run_of self.old).ports < 2 ^ 48 }
-        ensures run { OnOk result (run_of self.new ≡ after_turn (settings_of settings.now) (run_of self.old) (picking (ask_of ask.now))) }
+        ensures run { OnOk result
+            (run_of self.new ≡ after_turn (settings_of settings.now) (run_of self.old)
+            (picking (ask_of ask.now))) }
         ensures ports { OnOk result ((run_of self.new).ports ≤ (run_of self.old).ports + 65535) }
     {
         match self.state.choose(alloc, settings, ask, steps)? {

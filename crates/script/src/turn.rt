@@ -23,8 +23,9 @@ pub(crate) enum Turn {
     Pick(Ask),
 }
 
-/// The turn with this number, by the generator's next words. The first of them says by its lowest three bits what kind of turn it is, of which 4 to
-/// 7 are picks, by the next four which service it is about, and by the next twelve how many addresses there are and which.
+/// The turn with this number, by the generator's next words. The first of them says by its lowest
+/// three bits what kind of turn it is, of which 4 to 7 are picks, by the next four which service it
+/// is about, and by the next twelve how many addresses there are and which.
 #[tactic(auto, unfolding(crate::specs::Turns::next_turn))]
 pub(crate) fn next_turn(alloc: Global, words: &mut Pcg64, number: u64) -> Mem<Turn>
     ensures turn { IfOk result (λ turn. (turn_value turn, words.new) ≡ next_turn number words.old) }
@@ -42,7 +43,8 @@ pub(crate) fn next_turn(alloc: Global, words: &mut Pcg64, number: u64) -> Mem<Tu
 
 /// The pick of a service, by the generator's next three words.
 fn pick_by(alloc: Global, words: &mut Pcg64, service: u64, number: u64) -> Mem<Ask>
-    ensures { IfOk result (λ ask. (picking (ask_of ask), words.new) ≡ pick_by service number words.old) }
+    ensures { IfOk result
+        (λ ask. (picking (ask_of ask), words.new) ≡ pick_by service number words.old) }
 {
     let branch = words.next_word();
     let first = words.next_word();

@@ -1,5 +1,6 @@
 //! The words of a script's line, and what they stand for.
-ghost use Rattle.std.specs.Prelude.{◌≡◌, ◌-◌, ◌^◌, None, Some, MatchResult, IfOk, IfErr, IfSome, option_map};
+ghost use Rattle.std.specs.Prelude.{◌≡◌, ◌-◌, ◌^◌, None, Some, MatchResult, IfOk, IfErr, IfSome};
+ghost use Rattle.std.specs.Prelude.{option_map};
 ghost use Rattle.std.specs.Option.{option_and_then};
 ghost use Rattle.addr_book.specs.Addr.{at_most, digits_behind, port_value};
 ghost use Rattle.addr_book.specs.AddrList.{IsWeight};
@@ -8,7 +9,8 @@ ghost use Rattle.name_tree.specs.Computed.{path_of};
 ghost use Rattle.dtab_table.specs.Computed.{table_of};
 ghost use Rattle.dtab_table.specs.Dtab.{rules_of};
 ghost use Rattle.dtab_table.specs.TableCanon.{AreSoundRules};
-ghost use Rattle.script.specs.Words.{drop_blanks, behind, name_of, number_of, version_of, before_colon, behind_colon, addr_in, weighted_in};
+ghost use Rattle.script.specs.Words.{drop_blanks, behind, name_of, number_of, version_of};
+ghost use Rattle.script.specs.Words.{before_colon, behind_colon, addr_in, weighted_in};
 
 use addr_book::{
     Addr, Name, NameFault, Weighted, cut_at_star, read_ip, read_line_weight, read_port, split_word,
@@ -63,7 +65,8 @@ pub(crate) fn only_word(text: &[u8]) -> Result<&[u8], LineFault>
 
 /// The name that a word is.
 pub(crate) fn read_name(alloc: Global, word: &[u8]) -> Result<Name, LineFault>
-    ensures { MatchResult result (λ name. name_of word.now ≡ Some name) (λ fault. fault ≡ LineFault.BadLine → name_of word.now ≡ None) }
+    ensures { MatchResult result (λ name. name_of word.now ≡ Some name)
+        (λ fault. fault ≡ LineFault.BadLine → name_of word.now ≡ None) }
 {
     match Name::of(alloc, word) {
         Ok(name) => Ok(name),
@@ -74,7 +77,8 @@ pub(crate) fn read_name(alloc: Global, word: &[u8]) -> Result<Name, LineFault>
 
 /// The path that a word is.
 pub(crate) fn read_path_word(alloc: Global, word: &[u8]) -> Result<Path, LineFault>
-    ensures { MatchResult result (λ path. path_of word.now ≡ Some path) (λ fault. fault ≡ LineFault.BadLine → path_of word.now ≡ None) }
+    ensures { MatchResult result (λ path. path_of word.now ≡ Some path)
+        (λ fault. fault ≡ LineFault.BadLine → path_of word.now ≡ None) }
 {
     match read_path(alloc, word) {
         Ok(path) => Ok(path),
@@ -85,7 +89,8 @@ pub(crate) fn read_path_word(alloc: Global, word: &[u8]) -> Result<Path, LineFau
 
 /// The table that a text is. The empty text is the table without entries.
 pub(crate) fn read_table(alloc: Global, text: &[u8]) -> Result<Dtab, LineFault>
-    ensures table { MatchResult result (λ dtab. table_of text.now ≡ Some (rules_of dtab)) (λ fault. fault ≡ LineFault.BadLine → table_of text.now ≡ None) }
+    ensures table { MatchResult result (λ dtab. table_of text.now ≡ Some (rules_of dtab))
+        (λ fault. fault ≡ LineFault.BadLine → table_of text.now ≡ None) }
     ensures sound { IfOk result (λ dtab. AreSoundRules (rules_of dtab)) }
 {
     if text.is_empty() {

@@ -46,9 +46,11 @@ fn passes<R: Wait>(
     let replies = [gives[1]];
     let played = play(rt, alloc, &Scene::of(FIXED, gives[0], &replies))?;
     let [sent, written] = wanted;
-    Ok(played.ended == Some(PeerEnded)
-        && played.sent.as_str() == sent
-        && played.written.as_str() == written)
+    Ok(
+        played.ended == Some(PeerEnded)
+            && played.sent.as_str() == sent
+            && played.written.as_str() == written,
+    )
 }
 
 #[test]
@@ -81,7 +83,12 @@ fn a_mebibyte_goes_on_and_back(rt: HostRuntime) -> Result<(), Fail> {
     let reply = "HTTP/1.1 200 OK|Content-Length: 1048576|";
     let gives = around_body(alloc, &[request, "|"], 'a', "")?;
     let replied = around_body(alloc, &[reply, "|"], 'b', "")?;
-    let sent = around_body(alloc, &["<", request, SENT, "Connection: close||"], 'a', ">")?;
+    let sent = around_body(
+        alloc,
+        &["<", request, SENT, "Connection: close||"],
+        'a',
+        ">",
+    )?;
     let written = around_body(alloc, &[reply, "Via: 1.1 linkerd||"], 'b', "")?;
     let passed = passes(
         &rt,

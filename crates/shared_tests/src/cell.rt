@@ -1,9 +1,13 @@
-//! Cells over a sum: that calls succeed, what readers see of what was published, and which handles may go to other threads.
-ghost use Rattle.std.specs.Prelude.{◌≡◌, ◌+◌, ◌<◌, ◌≤◌, ◌%◌, ◌^◌, ◌++◌, [], ◌∷◌, length, fold, IfSome, IfNone};
+//! Cells over a sum: that calls succeed, what readers see of what was published, and which handles
+//! may go to other threads.
+ghost use Rattle.std.specs.Prelude.{◌≡◌, ◌+◌, ◌<◌, ◌≤◌, ◌%◌, ◌^◌, ◌++◌, [], ◌∷◌, length, fold};
+ghost use Rattle.std.specs.Prelude.{IfSome, IfNone};
 ghost use Rattle.std.specs.Thread.{IsSync};
 ghost use mathlib.Core.List.{IsPrefix};
-ghost use Rattle.snap_cell.specs.Views.{seen_of, items_of, cell_of, number_of, opening_of, EachOf, IsThere, Refused};
-ghost use Rattle.snap_cell.specs.Writers.{published_by, cell_written, opening_written, reader_count};
+ghost use Rattle.snap_cell.specs.Views.{seen_of, items_of, cell_of, number_of, opening_of, EachOf};
+ghost use Rattle.snap_cell.specs.Views.{IsThere, Refused};
+ghost use Rattle.snap_cell.specs.Writers.{published_by, cell_written, opening_written};
+ghost use Rattle.snap_cell.specs.Writers.{reader_count};
 
 use left_right::Absorb;
 use snap_cell::*;
@@ -53,9 +57,13 @@ impl Published<Add> for Sum {
 
 /// The sum after what the reader then has seen, and an item at that point.
 fn read(reader: &mut Reader<Sum, Add, u64>, item: u64) -> Option<u64>
-    ensures sum { IfSome result (λ n. n ≡ fold ⟦<Sum as Absorb<Add>>⟧.applied (opening_of reader.old).0 (seen_of reader.new)) }
+    ensures sum { IfSome result
+        (λ n. n ≡ fold ⟦<Sum as Absorb<Add>>⟧.applied (opening_of reader.old).0
+        (seen_of reader.new)) }
     ensures before { IfSome result (λ n. IsPrefix (seen_of reader.old) (seen_of reader.new)) }
-    ensures item { IfSome result (λ n. items_of reader.new ≡ items_of reader.old ++ (item, length (seen_of reader.new)) ∷ []) }
+    ensures item { IfSome result
+        (λ n. items_of reader.new
+        ≡ items_of reader.old ++ (item, length (seen_of reader.new)) ∷ []) }
     ensures cell { cell_of reader.new ≡ cell_of reader.old }
     ensures there { IfSome result (λ n. IsThere reader.new) }
     ensures none { IfNone result (Refused reader.old reader.new) }
@@ -72,8 +80,10 @@ fn digit_of(by: u32, serial: u64, digit: u64) -> Add
 
 /// The sum of all that was published.
 fn latest<R: Wait>(rt: &R, writer: &mut Writer<Sum, Add>) -> u64
-    ensures sum { result ≡ fold ⟦<Sum as Absorb<Add>>⟧.applied (opening_written writer.old).0 (published_by writer.old) }
-    ensures same { (published_by writer.new ≡ published_by writer.old) × (cell_written writer.new ≡ cell_written writer.old) }
+    ensures sum { result ≡ fold ⟦<Sum as Absorb<Add>>⟧.applied (opening_written writer.old).0
+        (published_by writer.old) }
+    ensures same { (published_by writer.new ≡ published_by writer.old)
+        × (cell_written writer.new ≡ cell_written writer.old) }
 {
     let whole = writer.value(rt);
     let sum = whole.get().0;
@@ -92,8 +102,8 @@ fn end<R: Wait>(rt: &R, writer: Writer<Sum, Add>, readers: Vec<Reader<Sum, Add, 
     }
 }
 
-// What was seen before and after a publish of the second reader's caller, by that reader, which then has seen it, and by the first, which
-// entered later.
+// What was seen before and after a publish of the second reader's caller, by that reader, which
+// then has seen it, and by the first, which entered later.
 fn publish_one<R: Wait>(
     rt: &R,
     writer: &mut Writer<Sum, Add>,
@@ -201,7 +211,8 @@ fn watch(reader: &mut Reader<Sum, Add, u64>, turns: u64) -> bool
     true
 }
 
-/// One thread reads while this one publishes: whether the reader never saw the sum fall, and whether all was published.
+/// One thread reads while this one publishes: whether the reader never saw the sum fall, and
+/// whether all was published.
 fn publish_beside<R: Wait + Threads + Sync>(
     rt: &R,
     writer: &mut Writer<Sum, Add>,

@@ -26,7 +26,8 @@ impl Gate for Begun {
     fn done(&self, _worker: u32) {}
 }
 
-/// A job that waits at a meeting point until two are there, and ends with its number and whether they were.
+/// A job that waits at a meeting point until two are there, and ends with its number and whether
+/// they were.
 #[derive(Drop)]
 struct Meeting<'a> {
     number: u32,

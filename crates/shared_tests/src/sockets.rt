@@ -246,8 +246,8 @@ fn resume_behind<D: Dialer>(
     Ok((true, got))
 }
 
-/// A kept connection is resumed where it is quiet, and not where anything came over it, nor where it
-/// was kept for too long.
+/// A kept connection is resumed where it is quiet, and not where anything came over it, nor where
+/// it was kept for too long.
 #[test]
 fn kept_connections_are_looked_at(rt: HostRuntime) -> Result<(), Fail> {
     let mut net = SocketNet::of(&rt)?;

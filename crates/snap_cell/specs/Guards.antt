@@ -18,7 +18,8 @@ module _ {Y H T C : Type 0} {g : Ghosts Y H T C} where
   reader_in x = x.home.now
 
 -- the value that a reader entered
-abbrev pub value_in : {V O Q S H T C : Type 0} {g : Ghosts (Entered V O Q S) H T C} → Guard (Entered V O Q S) H T C g → V
+abbrev pub value_in : {V O Q S H T C : Type 0} {g : Ghosts (Entered V O Q S) H T C}
+    → Guard (Entered V O Q S) H T C g → V
 value_in x = x.stay.reading.reading.part.value.value
 
 module _ {V O S : Type 0} where

@@ -15,5 +15,6 @@ module _ {Q : Type 0} where
 
   -- points never fall, and none is above the end
   pub record InOrder (items : List (Q × ℕ)) (end : ℕ) : Type 0 where
-    pub rising : (i j : ℕ) (x y : Q × ℕ) → i ≤ j → slice_get items i ≡ Some x → slice_get items j ≡ Some y → x.1 ≤ y.1
+    pub rising : (i j : ℕ) (x y : Q × ℕ) → i ≤ j → slice_get items i ≡ Some x
+        → slice_get items j ≡ Some y → x.1 ≤ y.1
     pub within : (i : ℕ) (x : Q × ℕ) → slice_get items i ≡ Some x → x.1 ≤ end

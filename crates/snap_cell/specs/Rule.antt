@@ -8,11 +8,13 @@ use Rattle.snap_cell.specs.declared.kept.Origin.{Origin}
 use Rattle.snap_cell.specs.declared.kept.Kept.{Kept}
 use Rattle.snap_cell.specs.Legal.{Legal}
 
-module _ {V S O : Type 0} (state : V → S) (applied : S → O → S) (Fits : S → O → Type 0) (caller : O → ℕ) where
+module _ {V S O : Type 0} (state : V → S) (applied : S → O → S) (Fits : S → O → Type 0)
+    (caller : O → ℕ) where
   -- a copy is the fold of its operations, which are legal
   pub record Sound (k : Kept V O) : Type 0 where
     pub folded : state k.value ≡ fold applied (state k.origin.opening.value) k.known.seen.log
-    pub legal : Legal applied Fits caller (state k.origin.opening.value) k.origin.readers k.known.seen.log
+    pub legal : Legal applied Fits caller (state k.origin.opening.value) k.origin.readers
+        k.known.seen.log
     pub one_list : k.known.seen.book ≡ k.origin.empty.book
 
   -- the copy is sound, and is of the cell that each handle knows
@@ -28,7 +30,8 @@ module _ {V S O : Type 0} (state : V → S) (applied : S → O → S) (Fits : S 
   abbrev pub Shows : Option (Origin V O) → Kept V O → Kept V O → Option (Origin V O) → Type 0
   Shows v x y w = (w ≡ Some y.origin) × Sound y
 
-module _ {V S O : Type 0} (Fits : S → O → Type 0) (caller : O → ℕ) (applied : S → O → S) (state : V → S) where
+module _ {V S O : Type 0} (Fits : S → O → Type 0) (caller : O → ℕ) (applied : S → O → S)
+    (state : V → S) where
   -- one operation is pending, with the list that ends with it, and it may be published
   abbrev pub IsReady : Kept V O → List (Entry O) → Type 0
   IsReady x pending =

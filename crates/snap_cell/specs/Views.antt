@@ -93,4 +93,6 @@ module _ {V O Q S : Type 0} where
 
   -- what each has seen begins this list, and its items stand in order within that
   abbrev pub EachSeen : List O → List (Reader V O Q S) → Type 0
-  EachSeen ops rs = (i : ℕ) (r : Reader V O Q S) → slice_get rs i ≡ Some r → IsPrefix (seen_of r) ops × InOrder (items_of r) (length (seen_of r))
+  EachSeen ops rs =
+      (i : ℕ) (r : Reader V O Q S) → slice_get rs i ≡ Some r → IsPrefix (seen_of r) ops
+      × InOrder (items_of r) (length (seen_of r))

@@ -1,10 +1,12 @@
 //! A new cell.
-ghost use Rattle.std.specs.Prelude.{◌≡◌, ◌+◌, ◌<◌, ◌^◌, [], ◌∷◌, None, Some, length, drop, IfOk, MatchResult};
+ghost use Rattle.std.specs.Prelude.{◌≡◌, ◌+◌, ◌<◌, ◌^◌, [], ◌∷◌, None, Some, length, drop, IfOk};
+ghost use Rattle.std.specs.Prelude.{MatchResult};
 ghost use Rattle.left_right.specs.Sides.{view};
 ghost use Rattle.snap_cell.specs.Rule.{IsFirst, Opens, Stands};
 ghost use Rattle.snap_cell.specs.Origins.{origin_at};
 ghost use Rattle.snap_cell.specs.Views.{EachNew, EachThere};
-ghost use Rattle.snap_cell.specs.Writers.{published_by, cell_written, opening_written, reader_count, IsReadable};
+ghost use Rattle.snap_cell.specs.Writers.{published_by, cell_written, opening_written};
+ghost use Rattle.snap_cell.specs.Writers.{reader_count, IsReadable};
 
 use crate::history::Prefix;
 use crate::kept::{Entry, Kept, Origin};
@@ -52,7 +54,8 @@ fn open_now<V: Published<O>, O: Operation, R: Wait>(
 ) -> (Desk<V, O>, Result<(), AllocError>)
     requires { Opens desk.desk.shown.value (drop desk.behind desk.log.items) }
     ensures { MatchResult result.1
-        (λ _. Stands desk.desk.shown.value.origin desk.desk.shown.value.known result.0.desk.shown.value (view result.0.desk.place)
+        (λ _. Stands desk.desk.shown.value.origin desk.desk.shown.value.known
+        result.0.desk.shown.value (view result.0.desk.place)
         × (drop result.0.behind result.0.log.items ≡ []))
         (λ _. result.0.desk.shown.value ≡ desk.desk.shown.value) }
 {
@@ -67,8 +70,11 @@ fn new_desk<V: Published<O>, O: Operation, R: Wait>(
     second: Kept<V, O>,
 ) -> Mem<Desk<V, O>>
     requires first { IsFirst first }
-    requires alike { (V.state second.value ≡ V.state first.value) × (second.origin ≡ first.origin) × (second.known ≡ first.known) }
-    ensures { IfOk result (λ d. Stands first.origin first.known d.desk.shown.value (view d.desk.place) × (drop d.behind d.log.items ≡ [])) }
+    requires alike { (V.state second.value ≡ V.state first.value) × (second.origin ≡ first.origin)
+        × (second.known ≡ first.known) }
+    ensures { IfOk result
+        (λ d. Stands first.origin first.known d.desk.shown.value (view d.desk.place)
+        × (drop d.behind d.log.items ≡ [])) }
 {
     if first.origin.readers == u32::MAX {
         return Err(AllocError);
@@ -102,7 +108,8 @@ fn new_readers<V: Published<O>, O: Operation, Q>(
     count: u32,
 ) -> Mem<Vec<Reader<V, O, Q>>>
     requires { known.now.seen.log ≡ [] }
-    ensures { IfOk result (λ v. (length v.items ≡ count) × EachNew (origin_at first.now count known.now) v.items) }
+    ensures { IfOk result
+        (λ v. (length v.items ≡ count) × EachNew (origin_at first.now count known.now) v.items) }
 {
     let mut all = Vec::new(alloc);
     for number in 0..count {
@@ -138,7 +145,8 @@ fn open_doors<V: Published<O>, O: Operation, Q, R: Wait>(
     }
 }
 
-/// A new cell: its writer, and its readers, numbered from 0. Want of memory is the one error; the cell then never was.
+/// A new cell: its writer, and its readers, numbered from 0. Want of memory is the one error; the
+/// cell then never was.
 pub fn start<V: Published<O>, O: Operation, Q, R: Wait>(
     rt: &R,
     alloc: Global,
@@ -148,8 +156,11 @@ pub fn start<V: Published<O>, O: Operation, Q, R: Wait>(
 ) -> Mem<(Writer<V, O>, Vec<Reader<V, O, Q>>)>
     requires alike { V.state first ≡ V.state second }
     requires some { 0 < readers }
-    ensures writer { IfOk result (λ t. (published_by t.0 ≡ []) × (opening_written t.0 ≡ first) × (reader_count t.0 ≡ readers)) }
-    ensures readers { IfOk result (λ t. (length t.1.items ≡ readers) × EachNew (cell_written t.0) t.1.items) }
+    ensures writer { IfOk result
+        (λ t. (published_by t.0 ≡ []) × (opening_written t.0 ≡ first)
+        × (reader_count t.0 ≡ readers)) }
+    ensures readers { IfOk result
+        (λ t. (length t.1.items ≡ readers) × EachNew (cell_written t.0) t.1.items) }
     ensures there { IfOk result (λ t. IsReadable t.0 × EachThere t.1.items) }
 {
     let (head, known) = Prefix::start();

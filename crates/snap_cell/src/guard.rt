@@ -1,8 +1,9 @@
 //! The published value, as a guard lends it.
 ghost use Rattle.std.specs.Prelude.{◌≡◌};
 
-/// What a guard has while it reads, and how it goes back into its home, the reader. A type parameter of the guard stands
-/// for it, so that contracts see what the guard leaves behind its reference.
+/// What a guard has while it reads, and how it goes back into its home, the reader. A type
+/// parameter of the guard stands for it, so that contracts see what the guard leaves behind its
+/// reference.
 pub trait Stay {
     type Home;
 

@@ -1,4 +1,5 @@
-//! The list of published operations. It exists in proofs alone: what runs is one number, its length.
+//! The list of published operations. It exists in proofs alone: what runs is one number, its
+//! length.
 ghost use Rattle.std.specs.Prelude.{◌≡◌, ◌-◌, ◌<◌, ◌≤◌, ◌^◌, ◌++◌, ◌∷◌, [], length, IfSome};
 ghost use mathlib.Core.List.{IsPrefix};
 ghost use Rattle.snap_cell.specs.History.{head_of, longer};
@@ -113,11 +114,14 @@ impl<O> Prefix<O> {
         other.again()
     }
 
-    /// This list with one operation more, where this is the whole list. The operation is then in the list for good.
+    /// This list with one operation more, where this is the whole list. The operation is then in
+    /// the list for good.
     pub(crate) fn with(&self, head: &Head<O>, operation: &O) -> Option<Prefix<O>>
         requires head { head.now ≡ head_of self.now.seen.book }
         requires room { length self.now.seen.log < 2 ^ 64 - 1 }
-        ensures { IfSome result (λ p. (p.seen.log ≡ self.now.seen.log ++ operation.now ∷ []) × (p.seen.book ≡ self.now.seen.book)) }
+        ensures { IfSome result
+            (λ p. (p.seen.log ≡ self.now.seen.log ++ operation.now ∷ [])
+            × (p.seen.book ≡ self.now.seen.book)) }
     {
         let count = self.count;
         let mut seen = self.seen.again();
@@ -141,8 +145,9 @@ impl<O> Prefix<O> {
     }
 }
 
-/// Waits until the whole list begins with a part of it. It does at once, where the part was seen: readers see what the writer
-/// published and nothing else. The wait stands for that, which no clause of the list says.
+/// Waits until the whole list begins with a part of it. It does at once, where the part was seen:
+/// readers see what the writer published and nothing else. The wait stands for that, which no
+/// clause of the list says.
 pub(crate) fn await_part<O, R: Wait>(rt: &R, part: &Prefix<O>, whole: &Prefix<O>)
     requires { whole.now.seen.book ≡ part.now.seen.book }
     ensures part { IsPrefix part.now.seen.log whole.now.seen.log }

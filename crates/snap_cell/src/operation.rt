@@ -1,7 +1,8 @@
 //! What is published, and to what.
 use left_right::Absorb;
 
-/// A step that one caller publishes. A contract reads who published it, and which of that caller's operations it is.
+/// A step that one caller publishes. A contract reads who published it, and which of that caller's
+/// operations it is.
 pub trait Operation: Drop {
     ghost use Rattle.std.specs.Prelude.{ℕ};
 

@@ -16,8 +16,9 @@ mod learn;
 
 pub use enter::Entered;
 
-/// One reader of a cell. A contract sees the operations that it has seen or learnt of (`seen_of`), which begin the list of all
-/// that were published, its items, each with its point (`items_of`), its number and the number of its refusals.
+/// One reader of a cell. A contract sees the operations that it has seen or learnt of (`seen_of`),
+/// which begin the list of all that were published, its items, each with its point (`items_of`),
+/// its number and the number of its refusals.
 ///
 /// The lists exist in proofs alone. What runs is a place in the cell and three numbers.
 #[derive(Drop)]

@@ -65,7 +65,9 @@ impl<V: Published<O>, O: Operation> Door<V, O> {
     /// Takes the copy that was published last, if it has at least so many operations.
     pub(crate) fn enter(self, least: u64) -> Result<Reading<V, O>, Door<V, O>>
         ensures { MatchResult result
-            (λ r. Enters V.state V.applied V.fits O.caller (view self.reader.place) r.reading.part.value r.reading.part.value (view r.reading.place) × (least ≤ length r.reading.part.value.known.seen.log))
+            (λ r. Enters V.state V.applied V.fits O.caller (view self.reader.place)
+            r.reading.part.value r.reading.part.value (view r.reading.place)
+            × (least ≤ length r.reading.part.value.known.seen.log))
             (λ d. view d.reader.place ≡ view self.reader.place) }
     {
         let Door { reader } = self;
@@ -92,9 +94,12 @@ impl<V: Published<O>, O: Operation> Door<V, O> {
     ) -> Result<Reading<V, O>, Door<V, O>>
         requires cell { view self.reader.place ≡ Some origin.now }
         requires list { known.now.seen.book ≡ origin.now.empty.book }
-        ensures entered { IfOk result (λ r. Sound V.state V.applied V.fits O.caller r.reading.part.value
-            × (r.reading.part.value.origin ≡ origin.now) × (r.reading.part.value.known.seen.log ≡ known.now.seen.log)) }
-        ensures cell { MatchResult result (λ r. view r.reading.place ≡ Some origin.now) (λ d. view d.reader.place ≡ Some origin.now) }
+        ensures entered { IfOk result
+            (λ r. Sound V.state V.applied V.fits O.caller r.reading.part.value
+            × (r.reading.part.value.origin ≡ origin.now)
+            × (r.reading.part.value.known.seen.log ≡ known.now.seen.log)) }
+        ensures cell { MatchResult result (λ r. view r.reading.place ≡ Some origin.now)
+            (λ d. view d.reader.place ≡ Some origin.now) }
     {
         let reading = self.enter(known.count)?;
         if reading.get().known.count > known.count {

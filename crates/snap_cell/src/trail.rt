@@ -4,7 +4,8 @@ ghost use Rattle.snap_cell.specs.Items.{items_in, added};
 
 use std::snapshot::Snapshot;
 
-/// The items of a reader, each with its point. It has no bytes as a `Snapshot`, and no value of it is kept.
+/// The items of a reader, each with its point. It has no bytes as a `Snapshot`, and no value of it
+/// is kept.
 #[derive(Drop)]
 pub enum Trail<Q> {
     Empty,

@@ -17,8 +17,8 @@ mod value;
 
 pub use value::Whole;
 
-/// The one writer of a cell. A contract sees all operations that were published, in order (`published_by`). It is not `Drop`: end it
-/// by `close`.
+/// The one writer of a cell. A contract sees all operations that were published, in order
+/// (`published_by`). It is not `Drop`: end it by `close`.
 pub struct Writer<V: Published<O>, O: Operation>
 where
     Kept<V, O>: Absorb<Entry<O>>,
@@ -30,7 +30,8 @@ where
     pub(crate) door: Option<Door<V, O>>,
     pub(crate) origin: Origin<V, O>,
     pub(crate) known: Prefix<O>,
-    // An operation could not be published, and cannot be taken back. Then nothing is published any more.
+    // An operation could not be published, and cannot be taken back. Then nothing is published any
+    // more.
     pub(crate) stuck: bool,
     ghost of_cell: { ForSome door (λ d. view d.reader.place ≡ Some origin) },
     ghost one_list: { known.seen.book ≡ origin.empty.book },

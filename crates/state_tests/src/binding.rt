@@ -88,7 +88,8 @@ fn put_leaf(leaf: &Leaf, text: &mut Vec<u8>) -> Mem<()> {
     append_path(&leaf.residual, text)
 }
 
-/// A bound in words: that of a union is its branches in brackets, each with its weight in millionths.
+/// A bound in words: that of a union is its branches in brackets, each with its weight in
+/// millionths.
 #[cycle(put_bound)]
 fn put_bound(alloc: Global, bound: &Bound, text: &mut Vec<u8>) -> Mem<()> {
     match bound {
@@ -387,7 +388,8 @@ const TABLES: [(&str, &str, &str, &str, &str, &str); 9] = [
         "127.0.0.1:4 /$/inet/127.0.0.1/4 /x",
         "/s/x;/a/x;/b/x;/c/x;/$/inet/127.0.0.1/4/x;",
     ),
-    // A service of the book is bound, whether it has addresses or not. One that is not there is negative.
+    // A service of the book is bound, whether it has addresses or not. One that is not there is
+    // negative.
     (
         "/svc => /#/io.l5d.fs",
         "",
@@ -486,7 +488,8 @@ const TRACES: [(&str, &str, usize, &str); 8] = [
         4,
         "0 /s bound;1 /a bound;2 /$/inet/127.0.0.1/1 bound;1 /b failing;",
     ),
-    // A lookup that had not ended when something was too deep was too deep; one that had is as it ended.
+    // A lookup that had not ended when something was too deep was too deep; one that had is as it
+    // ended.
     (
         "/s => /b & /a & /c; /a => /a; /b => ~",
         "/s",
@@ -546,7 +549,8 @@ fn is_measured(
     Ok(is_counted && is_outcome(text.as_slice(), outcome))
 }
 
-/// `/aN` is looked up `2^(13 - N) - 1` times in a table of twelve levels: these sums come to 255, 256, 257, 9,999, 10,000 and 10,001, with the first lookup.
+/// `/aN` is looked up `2^(13 - N) - 1` times in a table of twelve levels: these sums come to 255,
+/// 256, 257, 9,999, 10,000 and 10,001, with the first lookup.
 const SUMS: [(&str, &str, Counts); 6] = [
     ("/s => /a6 | /a6", "negative", (255, 255, 255)),
     ("/s => /a5", "negative", (256, 256, 256)),

@@ -50,7 +50,8 @@ pub(crate) fn change(alloc: Global, line: &str) -> Result<Change, Fail>
     }
 }
 
-/// The question of a line; `addresses` are those of the service `web`, and `counts` how many there are of each kind.
+/// The question of a line; `addresses` are those of the service `web`, and `counts` how many there
+/// are of each kind.
 pub(crate) fn look(alloc: Global, line: &str) -> Result<Look, Fail> {
     if line == "counts" {
         return Ok(Look::Counts);

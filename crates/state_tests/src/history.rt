@@ -95,7 +95,8 @@ fn keep(alloc: Global, held: &mut Held, text: &str) -> Mem<()> {
     take_kept(&mut held.cache, &Arc::new(alloc, binding)?)
 }
 
-/// A state in which the table of `default` is `/svc => /#/io.l5d.fs; /a => /b`, and `web` has an address. `/svc/web` and `/a/x` are kept.
+/// A state in which the table of `default` is `/svc => /#/io.l5d.fs; /a => /b`, and `web` has an
+/// address. `/svc/web` and `/a/x` are kept.
 fn with_web(alloc: Global) -> Result<Held, Fail> {
     let mut held = opening(alloc)?;
     publish(
@@ -137,7 +138,8 @@ const CHANGES: [(&str, (bool, bool)); 7] = [
     ("fail 127.0.0.1:9001 0", (true, true)),
 ];
 
-/// A table drops what its changed rules match, in the first namespace; a service drops what names it, where it goes.
+/// A table drops what its changed rules match, in the first namespace; a service drops what names
+/// it, where it goes.
 #[test]
 fn changes_drop_what_they_touch(rt: HostRuntime) -> Result<(), Fail> {
     for (line, want) in &CHANGES {

@@ -1,4 +1,5 @@
-//! Tests of delegation, of what is kept of it, of a router's state, of the lines of scripts, and of schedules.
+//! Tests of delegation, of what is kept of it, of a router's state, of the lines of scripts, and of
+//! schedules.
 #![tactic(auto)]
 
 #[cfg(test)]

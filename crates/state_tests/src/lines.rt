@@ -71,7 +71,8 @@ fn drop_line(alloc: Global, bytes: usize) -> Mem<Bytes> {
     Ok(line)
 }
 
-/// A line of a command, then so many blanks, so many `;`, which are a table with no entry, and a blank at the end.
+/// A line of a command, then so many blanks, so many `;`, which are a table with no entry, and a
+/// blank at the end.
 fn table_line(alloc: Global, command: &str, blanks: usize, semicolons: usize) -> Mem<Bytes> {
     let mut line = Vec::from_slice(alloc, command.as_bytes())?;
     line.append(&mut Vec::from_elem(alloc, b' ', blanks)?)?;

@@ -13,7 +13,8 @@ use std::test::Fail;
 use step_count::Steps;
 use weave::{Asked, Bytes, Mem, Step, Told, ToldList, World, run, weave};
 
-/// A pass and what it does: `answer`, `remember`, `meet` with pass 0, a pick or another question, or a change, as lines of scripts have them.
+/// A pass and what it does: `answer`, `remember`, `meet` with pass 0, a pick or another question,
+/// or a change, as lines of scripts have them.
 type Row<'a> = (u32, &'a str);
 
 /// The step in which a pass asks something.
@@ -225,7 +226,8 @@ fn is_size_kept(
     is_kept(alloc, create.as_str(), pick.as_str())
 }
 
-/// A part of a table and how often it stands there, a label of a path and how many bytes more it has, and whether the delegation is kept.
+/// A part of a table and how often it stands there, a label of a path and how many bytes more it
+/// has, and whether the delegation is kept.
 const SIZES: [(&str, usize, &str, usize, bool); 4] = [
     ("/x | ", 254, "", 0, true),
     ("/x | ", 255, "", 0, false),
@@ -233,7 +235,8 @@ const SIZES: [(&str, usize, &str, usize, bool); 4] = [
     ("/x | /xx | ", 1, "/a", 1_631, false),
 ];
 
-/// A delegation of 256 lookups is kept, and one of 8,192 bytes, which are those of the path and of each path that was looked up.
+/// A delegation of 256 lookups is kept, and one of 8,192 bytes, which are those of the path and of
+/// each path that was looked up.
 #[test]
 fn large_delegations_are_not_kept(rt: HostRuntime) -> Result<(), Fail> {
     for (branch, branches, label, bytes, want) in &SIZES {
@@ -243,8 +246,9 @@ fn large_delegations_are_not_kept(rt: HostRuntime) -> Result<(), Fail> {
     Ok(())
 }
 
-/// What is told behind a change of two picks, and whether what they come to is kept from then on. `/svc/web` and `/a/x` were kept before the change;
-/// behind it two other passes ask for one each, and offer what they worked out.
+/// What is told behind a change of two picks, and whether what they come to is kept from then on.
+/// `/svc/web` and `/a/x` were kept before the change; behind it two other passes ask for one each,
+/// and offer what they worked out.
 fn told_behind(alloc: Global, change: &str) -> Result<String, Fail> {
     let rows = [
         (0, "create default /svc => /#/io.l5d.fs; /a => /b"),
@@ -266,7 +270,8 @@ fn told_behind(alloc: Global, change: &str) -> Result<String, Fail> {
     told_text(alloc, &rows)
 }
 
-/// Changes, and what is told behind them: nothing at the end of a pick where its delegation is kept still.
+/// Changes, and what is told behind them: nothing at the end of a pick where its delegation is kept
+/// still.
 const CHANGES: [(&str, &str); 6] = [
     (
         "put default * /svc => /#/io.l5d.fs; /a => /c",

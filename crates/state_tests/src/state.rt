@@ -240,7 +240,8 @@ fn taken<L: Ledger>(
     }
 }
 
-/// The port and the slot of the replica that is taken for `/svc/web`, with this third word; the other words are 0.
+/// The port and the slot of the replica that is taken for `/svc/web`, with this third word; the
+/// other words are 0.
 fn place_taken(
     alloc: Global,
     state: &State,

@@ -1,9 +1,11 @@
-//! A count of steps that takes no memory and no time: what a contract says of how much work is done.
+//! A count of steps that takes no memory and no time: what a contract says of how much work is
+//! done.
 //!
-//! Whoever works out a delegation is lent a [`Steps`] and calls [`Steps::tick`] once for each turn of
-//! its loop and each look into a table. A clause then bounds the work by what the count has risen
-//! by, and says that a path which was found in a cache made none at all. The count is a ghost: it
-//! is a share of a ledger, and the program that runs has neither a number nor an addition for it.
+//! Whoever works out a delegation is lent a [`Steps`] and calls [`Steps::tick`] once for each turn
+//! of its loop and each look into a table. A clause then bounds the work by what the count has
+//! risen by, and says that a path which was found in a cache made none at all. The count is a
+//! ghost: it is a share of a ledger, and the program that runs has neither a number nor an addition
+//! for it.
 //!
 //! # What is proved
 //! [`Steps::tick`] adds one, and nothing else moves the count.

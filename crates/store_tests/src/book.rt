@@ -1,4 +1,5 @@
-//! Names, hosts, ports, address files and paths with their answers, the slots of a book from change to change, and the limits.
+//! Names, hosts, ports, address files and paths with their answers, the slots of a book from change
+//! to change, and the limits.
 
 use addr_book::{
     Addr, AddrFault, AddrList, Book, BookFault, Cluster, Leaf, Mem, Name, NameFault, ONE_WEIGHT,
@@ -131,7 +132,8 @@ const FILES: [(&str, &str); 41] = [
     ),
 ];
 
-/// Addresses in words: each with `*` and its weight in millionths, unless that is one whole, and a space.
+/// Addresses in words: each with `*` and its weight in millionths, unless that is one whole, and a
+/// space.
 fn list_text(alloc: Global, items: &[Weighted]) -> Mem<Vec<u8>> {
     let mut text = Vec::new(alloc);
     for item in items {
@@ -294,7 +296,8 @@ fn at_port(port: u16) -> Addr {
     }
 }
 
-/// The slots of the ports 10, 20 and so on of 127.0.0.1, up to 70, each with a space; `-` where there is none.
+/// The slots of the ports 10, 20 and so on of 127.0.0.1, up to 70, each with a space; `-` where
+/// there is none.
 fn slots(alloc: Global, book: &Book) -> Mem<String> {
     let mut text = String::new(alloc);
     for port in [10, 20, 30, 40, 50, 60, 70] {
@@ -336,7 +339,8 @@ fn slots_after(
 /// Each change, and the slots behind it.
 const CHANGES: [(&str, Option<&[u16]>, &str); 7] = [
     ("web", Some(&[30, 10, 20]), "1 2 0 - - - - "),
-    // 10 leaves, 20 and 30 stay in another order, and two come, of which the first takes the slot of 10.
+    // 10 leaves, 20 and 30 stay in another order, and two come, of which the first takes the slot
+    // of 10.
     ("web", Some(&[50, 20, 40, 30]), "- 2 0 3 1 - - "),
     // An address of two services stays until both are gone.
     ("mail", Some(&[20, 60]), "- 2 0 3 1 4 - "),
@@ -491,10 +495,12 @@ fn set_empty(alloc: Global, book: &mut Book, count: u32) -> Result<(), Fail> {
     Ok(())
 }
 
-/// A service, the host of its addresses, the first port, how many there are, and why the book refuses them.
+/// A service, the host of its addresses, the first port, how many there are, and why the book
+/// refuses them.
 type Row = (&'static str, &'static str, u32, u32, Option<BookFault>);
 
-/// Sets the services of some rows, in their order. The first that did not come to what its row says.
+/// Sets the services of some rows, in their order. The first that did not come to what its row
+/// says.
 fn first_wrong(alloc: Global, book: &mut Book, rows: &[Row]) -> Result<Option<usize>, Fail> {
     for (at, (service, host, first, count, want)) in rows.iter().enumerate() {
         let addrs = lines(alloc, host, *first, *count, "")?;
@@ -523,7 +529,8 @@ fn a_book_has_8192_addresses(rt: HostRuntime) -> Result<(), Fail> {
     Ok(())
 }
 
-/// 4,096 services are there, and 8,192 addresses. Where an address is too many besides, the service is told.
+/// 4,096 services are there, and 8,192 addresses. Where an address is too many besides, the service
+/// is told.
 #[test]
 fn a_book_has_4096_services(rt: HostRuntime) -> Result<(), Fail> {
     let mut book = Book::start(rt.alloc())?;

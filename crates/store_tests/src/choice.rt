@@ -116,7 +116,8 @@ fn keeps_the_marks_of_the_book(rt: HostRuntime) -> Result<(), Fail> {
     Ok(())
 }
 
-/// The places that two words draw among addresses with these ports, which are those that the port 3 leaves alive.
+/// The places that two words draw among addresses with these ports, which are those that the port 3
+/// leaves alive.
 fn drawn(
     alloc: Global,
     marks: &Marks,

@@ -1,4 +1,5 @@
-//! Tests of services with their addresses, of named tables with their versions, and of the choice of a replica.
+//! Tests of services with their addresses, of named tables with their versions, and of the choice
+//! of a replica.
 #![tactic(auto)]
 
 #[cfg(test)]

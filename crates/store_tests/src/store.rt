@@ -1,4 +1,5 @@
-//! Changes of a store with their answers in order, the limits, and stores that absorb what others prepared.
+//! Changes of a store with their answers in order, the limits, and stores that absorb what others
+//! prepared.
 use addr_book::Name;
 use dtab_table::{Dtab, read_dtab, write_dtab};
 use ns_store::*;

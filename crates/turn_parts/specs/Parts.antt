@@ -14,7 +14,8 @@ local_addr port = record { ip = 2130706433; port = port }
 -- so many addresses of this machine, with ports that count up from one, each of the weight 1
 abbrev pub addrs_from : ℕ → ℕ → List Weighted
 addrs_from zero port = []
-addrs_from (suc n) port = record { addr = local_addr port; weight = 1000000 } ∷ addrs_from n (port + 1)
+addrs_from (suc n) port =
+    record { addr = local_addr port; weight = 1000000 } ∷ addrs_from n (port + 1)
 
 -- the name of a service: `s` and its number
 abbrev pub service_name : ℕ → List ℕ
@@ -26,12 +27,16 @@ service_path s = codes "svc" ∷ service_name s ∷ []
 
 -- the rule `/svc => /#/io.l5d.fs`
 abbrev pub namer_rule : Rule
-namer_rule = record { prefix = Some (codes "svc") ∷ []; tree = leaf (codes "#" ∷ codes "io.l5d.fs" ∷ []) }
+namer_rule =
+    record { prefix = Some (codes "svc") ∷ []; tree = leaf (codes "#" ∷ codes "io.l5d.fs" ∷ []) }
 
 -- the rule `/svc/sN => /#/io.l5d.fs/sM`
 abbrev pub service_rule : ℕ → ℕ → Rule
 service_rule n m =
-    record { prefix = Some (codes "svc") ∷ Some (service_name n) ∷ []; tree = leaf (codes "#" ∷ codes "io.l5d.fs" ∷ service_name m ∷ []) }
+    record {
+      prefix = Some (codes "svc") ∷ Some (service_name n) ∷ [];
+      tree = leaf (codes "#" ∷ codes "io.l5d.fs" ∷ service_name m ∷ []);
+    }
 
 -- the table that also sends one service to the next of the 16
 abbrev pub table_by : ℕ → List Rule

@@ -1,10 +1,13 @@
-//! What generated runs are made of: addresses of this machine, services, the paths that ask for them, and tables that send them to the book.
+//! What generated runs are made of: addresses of this machine, services, the paths that ask for
+//! them, and tables that send them to the book.
 //!
-//! A run of one caller and a run of several draw their turns from a seed by rules of their own. What a turn then sets, asks for or puts is made here, by
-//! numbers: [`addrs_from`] and [`local_addr`], [`service_name`] and [`service_path`], [`first_table`] and [`table_by`].
+//! A run of one caller and a run of several draw their turns from a seed by rules of their own.
+//! What a turn then sets, asks for or puts is made here, by numbers: [`addrs_from`] and
+//! [`local_addr`], [`service_name`] and [`service_path`], [`first_table`] and [`table_by`].
 //!
 //! # What is proved
-//! Each call gives exactly the value that `specs/Parts.antt` has for its numbers, and the tables are sound: each prefix and tree in them is of bytes.
+//! Each call gives exactly the value that `specs/Parts.antt` has for its numbers, and the tables
+//! are sound: each prefix and tree in them is of bytes.
 //!
 //! # Example
 //! ```

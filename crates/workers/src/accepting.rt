@@ -8,10 +8,12 @@ use std::sync::Wait;
 
 /// What serves peers, one after another.
 pub trait Serve<P: Peer> {
-    /// What one call does: the server before it, the peer before it, the peer behind it, and the server behind it.
+    /// What one call does: the server before it, the peer before it, the peer behind it, and the
+    /// server behind it.
     ghost serves: { Self → P → P → Self → Type 0 };
 
-    /// Serves a peer to the end of its connection, and gives it back. The gate is told of each request by the worker's number.
+    /// Serves a peer to the end of its connection, and gives it back. The gate is told of each
+    /// request by the worker's number.
     fn serve<R: Wait, G: Gate>(&mut self, rt: &R, peer: P, gate: &G, worker: u32) -> P
         ensures { serves self.old peer result self.new };
 }
@@ -25,7 +27,8 @@ pub enum Accepting {
     Failing,
 }
 
-/// Accepts peers until the listener is closed or fails too often in a row. Each goes to `serve`, and then to `finish`, before the next is accepted.
+/// Accepts peers until the listener is closed or fails too often in a row. Each goes to `serve`,
+/// and then to `finish`, before the next is accepted.
 pub fn accept_all<R: Wait, L: Listener, S: Serve<L::P>, G: Gate>(
     rt: &R,
     listener: &mut L,
@@ -33,9 +36,11 @@ pub fn accept_all<R: Wait, L: Listener, S: Serve<L::P>, G: Gate>(
     gate: &G,
     worker: u32,
 ) -> Accepting
-    ensures served { (served : List (L.P × L.P)) × ServesEach S.serves server.old served server.new × Lends served (L.state listener.old) (L.state listener.new) }
+    ensures served { (served : List (L.P × L.P)) × ServesEach S.serves server.old served server.new
+        × Lends served (L.state listener.old) (L.state listener.new) }
     ensures ends { Ends result (L.state listener.old) (L.state listener.new) }
-    ensures failing { result ≡ Accepting.Failing → Rose (L.faults listener.old) (L.faults listener.new) }
+    ensures failing { result ≡ Accepting.Failing
+        → Rose (L.faults listener.old) (L.faults listener.new) }
     ensures later { L.faults listener.old ≤ L.faults listener.new }
 {
     let mut failed = 0;

@@ -1,12 +1,17 @@
 //! Jobs that run beside one another.
-ghost use Rattle.std.specs.Prelude.{◌≡◌, ◌≤◌, ◌<◌, ℕ, [], length, map, MatchResult, IsSome, Some, slice_index_or, vec_capacity};
-ghost use Rattle.std.specs.List.{AllByRecursion, AllZip};
-ghost use Rattle.workers.specs.Runs.{ComesBack, Ran};
+ghost use Rattle.std.specs.Prelude.{◌≡◌, ◌≤◌, [], length, MatchResult, IfErr, vec_capacity};
+ghost use Rattle.std.specs.List.{AllZip};
+ghost use Rattle.workers.specs.Runs.{ComesBack};
 
+use core::thread::Stack;
 use line_base::Gate;
+use std::snapshot::Snapshot;
 use std::sync::Wait;
 use std::thread;
-use std::thread::Threads;
+use std::thread::{Promise, PromisedHandle, Scope, Threads};
+
+/// How many bytes of stack the thread of a job has, whatever the system's default is.
+pub const STACK_BYTES: usize = 8 * 1024 * 1024;
 
 /// What one thread is to do.
 pub trait Job: Drop {
@@ -28,67 +33,92 @@ pub struct JobsBack<J> {
     pub jobs: Vec<J>,
 }
 
-/// A job, and the end of its run once it has run.
+/// What a thread gives back: the job that it was given, as one run leaves it, and the end of that.
 #[derive(Drop)]
-struct Slot<J: Job> {
-    job: J,
-    end: Option<J::End>,
+struct RunOf<J: Job> {
+    before: Snapshot<J>,
 }
 
-/// Puts each job into a slot of its own.
-fn to_slots<J: Job>(jobs: Vec<J>, slots: &mut Vec<Slot<J>>)
-    requires empty { slots.old.items ≡ [] }
-    requires room { length jobs.items ≤ vec_capacity slots.old }
-    ensures { map (λ s. s.job) slots.new.items ≡ jobs.items }
+impl<J: Job> Promise<(J, J::End)> for RunOf<J> {
+    ghost kept_by = { λ run back. J.runs run.before.value back.0 back.1 };
+}
+
+/// A job that was begun: its thread, or the job and its end where none could be made.
+type Begun<J> = Result<PromisedHandle<(J, <J as Job>::End), RunOf<J>>, (J, <J as Job>::End)>;
+
+/// Runs a job, and gives it back with the end of its run.
+fn run_here<R: Wait, J: Job, G: Gate>(rt: &R, mut job: J, gate: &G) -> (J, J::End)
+    ensures { ComesBack J.runs job result }
+{
+    let end = job.run(rt, gate);
+    (job, end)
+}
+
+/// Begins a job in a thread of its own. Where none can be made, it runs it to its end.
+fn begin<'s, E, R: Wait + Sync, J: Job + Send + 's, G: Gate + Sync>(
+    scope: &Scope<'s, E>,
+    rt: &'s R,
+    job: J,
+    gate: &'s G,
+) -> Begun<J>
+where
+    J::End: Send + 's,
+    ensures { MatchResult result (λ thread. thread.promise.before.value ≡ job)
+        (ComesBack J.runs job) }
+{
+    let promise = RunOf {
+        before: Snapshot::of(&job),
+    };
+    let run = move || -> (J, J::End)
+        ensures { ComesBack J.runs job result }
+    { run_here(rt, job, gate) };
+    let stack = Stack::new().stack_size(STACK_BYTES);
+    match stack.spawn_scoped_with(scope, promise, run) {
+        Ok(thread) => Ok(thread),
+        Err(refused) => Err((refused.value)()),
+    }
+}
+
+/// Waits for the end of a job that was begun.
+fn finish<R: Threads, J: Job>(rt: &R, begun: Begun<J>) -> (J, J::End)
+    ensures { (job : _) → MatchResult begun (λ thread. thread.promise.before.value ≡ job)
+        (ComesBack J.runs job) → ComesBack J.runs job result }
+{
+    match begun {
+        Ok(thread) => thread.join(rt),
+        Err(back) => back,
+    }
+}
+
+/// Begins all jobs, and waits for their ends.
+fn run_all<'s, E, R: Threads + Wait + Sync, J: Job + Send + 's, G: Gate + Sync>(
+    scope: &Scope<'s, E>,
+    rt: &'s R,
+    jobs: Vec<J>,
+    gate: &'s G,
+    mut begun: Vec<Begun<J>>,
+    mut back: Vec<(J, J::End)>,
+) -> Vec<(J, J::End)>
+where
+    J::End: Send + 's,
+    requires empty { (begun.items ≡ []) × (back.items ≡ []) }
+    requires room { (length jobs.items ≤ vec_capacity begun)
+        × (length jobs.items ≤ vec_capacity back) }
+    ensures { AllZip (ComesBack J.runs) jobs.items result.items }
 {
     for job in jobs {
-        slots.push_reserved(Slot { job, end: None });
+        begun.push_reserved(begin(scope, rt, job, gate));
     }
-}
-
-/// Runs the job of a slot.
-fn run_slot<R: Wait, J: Job, G: Gate>(rt: &R, slot: &mut Slot<J>, gate: &G)
-    ensures { Ran J.runs slot.old.job slot.new.job slot.new.end }
-{
-    slot.end = Some(slot.job.run(rt, gate));
-}
-
-/// Runs the job of each slot, each in a thread of its own where one can be made.
-fn run_slots<R: Threads + Wait + Sync, J: Job + Send, G: Gate + Sync>(
-    rt: &R,
-    slots: &mut [Slot<J>],
-    gate: &G,
-)
-where
-    J::End: Send,
-    ensures count { length slots.new ≡ length slots.old }
-    ensures ran { (at : ℕ) (d : _) → at < length slots.old
-        → Ran J.runs (slice_index_or slots.old at d).job (slice_index_or slots.new at d).job (slice_index_or slots.new at d).end }
-{
-    let threads = slots.len();
-    if threads > 0 {
-        thread::for_each_mut(rt, slots, threads, &|_, slot| run_slot(rt, slot, gate));
+    for one in begun {
+        back.push_reserved(finish(rt, one));
     }
-}
-
-/// Takes each job out of its slot, with its end.
-fn from_slots<J: Job>(slots: Vec<Slot<J>>, back: &mut Vec<(J, J::End)>)
-    requires ended { AllByRecursion (λ s. IsSome s.end) slots.items }
-    requires empty { back.old.items ≡ [] }
-    requires room { length slots.items ≤ vec_capacity back.old }
-    ensures jobs { map (λ b. b.0) back.new.items ≡ map (λ s. s.job) slots.items }
-    ensures ends { map (λ b. Some b.1) back.new.items ≡ map (λ s. s.end) slots.items }
-{
-    for slot in slots {
-        let Slot { job, end } = slot;
-        let Some(end) = end else { unreachable!() };
-        back.push_reserved((job, end));
-    }
+    back
 }
 
 /// Runs these jobs beside one another, and hands each back with its end, in their order.
 ///
-/// Each has a thread of its own; where none can be made, they run one after another in the caller's.
+/// Each has a thread of its own, with a stack of [`STACK_BYTES`]. One for which none can be made
+/// runs in the caller's, before those behind it are begun.
 pub fn run_workers<R: Threads + Wait + Sync, J: Job + Send, G: Gate + Sync>(
     rt: &R,
     jobs: Vec<J>,
@@ -96,17 +126,24 @@ pub fn run_workers<R: Threads + Wait + Sync, J: Job + Send, G: Gate + Sync>(
 ) -> Result<Vec<(J, J::End)>, JobsBack<J>>
 where
     J::End: Send,
-    ensures { MatchResult result (λ back. AllZip (ComesBack J.runs) jobs.items back.items) (λ back. back.jobs ≡ jobs) }
+    ensures { MatchResult result (λ back. AllZip (ComesBack J.runs) jobs.items back.items)
+        (λ back. back.jobs ≡ jobs) }
 {
     let alloc = *jobs.allocator();
-    let Ok(mut slots) = Vec::with_capacity(alloc, jobs.len()) else {
+    let Ok(begun) = Vec::with_capacity(alloc, jobs.len()) else {
         return Err(JobsBack { jobs });
     };
-    let Ok(mut back) = Vec::with_capacity(alloc, jobs.len()) else {
+    let Ok(back) = Vec::with_capacity(alloc, jobs.len()) else {
         return Err(JobsBack { jobs });
     };
-    to_slots(jobs, &mut slots);
-    run_slots(rt, slots.as_mut_slice(), gate);
-    from_slots(slots, &mut back);
-    Ok(back)
+    Ok(thread::scope(
+        thread::scope_env(),
+        rt,
+        move |scope| -> Vec<(J, J::End)>
+            requires { (begun.items ≡ []) × (back.items ≡ [])
+                × (length jobs.items ≤ vec_capacity begun)
+                × (length jobs.items ≤ vec_capacity back) }
+            ensures { AllZip (ComesBack J.runs) jobs.items result.items }
+        { run_all(scope, rt, jobs, gate, begun, back) },
+    ))
 }

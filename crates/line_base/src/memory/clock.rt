@@ -7,7 +7,8 @@ use std::alloc::Global;
 use std::marker::Model;
 use std::sync::Arc;
 
-/// A clock that gives the moments of a list, and then its last one again and again; 0 where the list has none.
+/// A clock that gives the moments of a list, and then its last one again and again; 0 where the
+/// list has none.
 ///
 /// Its forks share the list. Of more than 2^63 of them the further ones give 0 and tell nothing.
 #[derive(Drop)]
@@ -25,13 +26,19 @@ impl Model for MemClock {
 
     ghost Value = { Timing };
 
-    ghost view = { λ c. record { all = option_map (λ (m : Arc (Vec ℕ Global) Global). (arc_value m).items) c.moments; to_come = option_map (λ (m : Arc (Vec ℕ Global) Global). drop c.at (arc_value m).items) c.moments } };
+    ghost view = { λ c. record {
+      all = option_map
+          (λ (m : Arc (Vec ℕ Global) Global). (arc_value m).items) c.moments;
+      to_come = option_map (λ (m : Arc (Vec ℕ Global) Global). drop c.at (arc_value m).items)
+          c.moments;
+    } };
 }
 
 impl MemClock {
     /// A clock that begins with the first of these moments.
     pub fn of(alloc: Global, moments: Vec<u64>) -> Mem<MemClock>
-        ensures { IfOk result (λ c. c ≡ record { all = Some moments.items; to_come = Some moments.items }) }
+        ensures { IfOk result
+            (λ c. c ≡ record { all = Some moments.items; to_come = Some moments.items }) }
     {
         let moments = Arc::new(alloc, moments)?;
         Ok(MemClock {

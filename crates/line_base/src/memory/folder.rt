@@ -1,7 +1,8 @@
 //! Folders in memory.
 ghost use Rattle.std.specs.Prelude.{◌≡◌, ◌↔◌, [], map, IfOk, Err, Some};
 ghost use Rattle.std.specs.String.{string_bytes};
-ghost use Rattle.line_base.specs.Files.{AreNames, Finds, FindsAt, HasFolderCause, IsWithin, Names, file_at, names_in, path_of};
+ghost use Rattle.line_base.specs.Files.{AreNames, Finds, FindsAt, HasFolderCause, IsWithin, Names};
+ghost use Rattle.line_base.specs.Files.{file_at, names_in, path_of};
 ghost use Rattle.line_base.specs.Memory.{FailsNext, called, filed_of};
 
 use crate::folder::{Folder, FolderFault, Found, NameList};
@@ -24,13 +25,21 @@ impl Model for MemFile {
 
     ghost Value = { File };
 
-    ghost view = { λ f. record { folder = string_bytes f.folder; name = string_bytes f.name; bytes = f.bytes.items } };
+    ghost view = { λ f. record {
+      folder = string_bytes f.folder;
+      name = string_bytes f.name;
+      bytes = f.bytes.items;
+    } };
 }
 
 impl MemFile {
     /// The file at `folder`, a slash, and `name`. It takes no memory.
     pub fn of(folder: String, name: String, bytes: Vec<u8>) -> MemFile
-        ensures { result ≡ record { folder = string_bytes folder; name = string_bytes name; bytes = bytes.items } }
+        ensures { result ≡ record {
+          folder = string_bytes folder;
+          name = string_bytes name;
+          bytes = bytes.items;
+        } }
     {
         MemFile {
             folder,
@@ -90,7 +99,8 @@ impl MemFolder {
 
 /// The names of a folder's files, in the order of the files.
 fn names_of(alloc: Global, files: &[MemFile], folder: &str) -> Mem<Vec<String>>
-    ensures { IfOk result (λ names. map (λ n. string_bytes n) names.items ≡ names_in files.now folder.now) }
+    ensures { IfOk result
+        (λ names. map (λ n. string_bytes n) names.items ≡ names_in files.now folder.now) }
 {
     let mut names = Vec::new(alloc);
     for file in files {

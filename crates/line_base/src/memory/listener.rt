@@ -1,5 +1,6 @@
 //! A listener in memory.
-ghost use Rattle.std.specs.Prelude.{◌≡◌, ◌<◌, ◌++◌, [], Ok, None, Some, IsErr, IfOk, IfSome, OnErr, option_to_list};
+ghost use Rattle.std.specs.Prelude.{◌≡◌, ◌<◌, ◌++◌, [], Ok, None, Some, IsErr, IfOk, IfSome, OnErr};
+ghost use Rattle.std.specs.Prelude.{option_to_list};
 ghost use Rattle.line_base.specs.Accepts.{after_accept, after_finish, new_listening};
 ghost use Rattle.line_base.specs.Counts.{HasCause};
 ghost use Rattle.line_base.specs.Memory.{FailsNext};
@@ -13,7 +14,8 @@ use std::marker::Model;
 use std::snapshot::Snapshot;
 use std::vec::IntoIter;
 
-/// A listener that hands out the peers of a list, one a call, and is closed behind the last. It keeps those that come back.
+/// A listener that hands out the peers of a list, one a call, and is closed behind the last. It
+/// keeps those that come back.
 ///
 /// Calls of `accept` are counted from 0, as long as it is not closed.
 #[derive(Drop)]
@@ -41,7 +43,11 @@ impl<P: Peer + Drop> Model for MemListener<P> {
     ghost view = { λ l. record {
       state = record {
         endpoint = l.endpoint;
-        visits = Some (record { handed = map (λ s. s.value) l.handed.items; returned = l.returned.items; room = l.room });
+        visits = Some (record {
+          handed = map (λ s. s.value) l.handed.items;
+          returned = l.returned.items;
+          room = l.room;
+        });
         closes = l.closes;
         accepted = l.accepted;
         finished = l.finished;
@@ -57,7 +63,8 @@ impl<P: Peer + Drop> Model for MemListener<P> {
 }
 
 impl<P: Peer + Drop> MemListener<P> {
-    /// A listener, made for this endpoint if there is one, to which these peers are to come. The accepts whose numbers are in `failing` fail.
+    /// A listener, made for this endpoint if there is one, to which these peers are to come. The
+    /// accepts whose numbers are in `failing` fail.
     pub fn of(
         alloc: Global,
         endpoint: Option<Endpoint>,
@@ -120,12 +127,14 @@ impl<P: Peer + Drop> Listener for MemListener<P> {
 
     ghost faults = { λ l. l.faults };
 
-    /// Fails at the calls that are listed, and where there is no memory for the peer to come back to.
+    /// Fails at the calls that are listed, and where there is no memory for the peer to come back
+    /// to.
     fn accept(&mut self) -> Result<Option<P>, Failed>
         ensures state { self.new.state ≡ after_accept self.old.state result }
         ensures closed { 0 < self.old.state.closes → result ≡ Ok None }
         ensures cause { HasCause self.old.faults self.new.faults result }
-        ensures gives { IfOk result (λ peer. self.old.coming ≡ option_to_list peer ++ self.new.coming) }
+        ensures gives { IfOk result
+            (λ peer. self.old.coming ≡ option_to_list peer ++ self.new.coming) }
         ensures ends { result ≡ Ok None → self.old.state.closes ≡ 0 → self.old.coming ≡ [] }
         ensures waits { OnErr result (self.new.coming ≡ self.old.coming) }
         ensures fails { self.old.state.closes ≡ 0 → FailsNext self.old.plan → IsErr result }

@@ -35,7 +35,8 @@ impl Unread {
         &self.bytes[self.at..]
     }
 
-    /// Gives as many bytes as there are, but no more than there is room for, and no more than `most`.
+    /// Gives as many bytes as there are, but no more than there is room for, and no more than
+    /// `most`.
     pub(crate) fn give(&mut self, into: &mut [u8], most: usize) -> usize
         ensures count { result ≡ min (min (length into.new) most) (length self.old) }
         ensures given { take result into.new ≡ take result self.old }

@@ -5,7 +5,9 @@ ghost use mathlib.Core.List.{IsPrefix};
 ghost use Rattle.snap_cell.specs.Items.{added, InOrder};
 ghost use Rattle.snap_cell.specs.Legal.{Legal};
 ghost use Rattle.snap_cell.specs.Rule.{Sound};
-ghost use Rattle.snap_cell.specs.Views.{seen_of, items_of, number_of, refusals_of, opening_of, readers_of, IsThere, SameReader, Unmoved, Returned, Refused};
+ghost use Rattle.snap_cell.specs.Views.{seen_of, items_of, number_of, refusals_of, opening_of};
+ghost use Rattle.snap_cell.specs.Views.{readers_of, IsThere, SameReader, Unmoved, Returned};
+ghost use Rattle.snap_cell.specs.Views.{Refused};
 
 use super::Reader;
 use crate::guard::{Guard, Stay};
@@ -70,26 +72,39 @@ impl<V: Published<O>, O: Operation, Q> Reader<V, O, Q> {
         self.refused
     }
 
-    /// Enters the published value, and adds the item, if there is one, at this point. It takes no lock and no memory, and waits
-    /// for nobody: a few atomic operations, however many readers and operations there are.
+    /// Enters the published value, and adds the item, if there is one, at this point. It takes no
+    /// lock and no memory, and waits for nobody: a few atomic operations, however many readers and
+    /// operations there are.
     ///
-    /// The value is that of some beginning of the published operations, which has all that this reader had seen or learnt of.
-    /// The reader has then seen those, and the item's point is their number. The guard gives the reader back when it ends.
+    /// The value is that of some beginning of the published operations, which has all that this
+    /// reader had seen or learnt of. The reader has then seen those, and the item's point is their
+    /// number. The guard gives the reader back when it ends.
     ///
     /// # Errors
-    /// `None` where the reader is not let in: its guard was forgotten. Then the number of refusals rises, or stands at
-    /// `u64::MAX`, and all else is as before. The same is answered where the value that is there had fewer operations than
-    /// the reader knows of, which would be a fault of the copies.
+    /// `None` where the reader is not let in: its guard was forgotten. Then the number of refusals
+    /// rises, or stands at `u64::MAX`, and all else is as before. The same is answered where the
+    /// value that is there had fewer operations than the reader knows of, which would be a fault of
+    /// the copies.
     pub fn enter(&mut self, item: Option<Snapshot<Q>>) -> Option<Guard<'_, Entered<V, O, Q>>>
-        ensures* rests { sem 𝓛 (RestsIfNone (the_row V.row O.row Q.row V.State.row V.Published.own ⟦<V as Absorb<O>>⟧ O.Operation)
+        ensures* rests { sem 𝓛 (RestsIfNone
+            (the_row V.row O.row Q.row V.State.row V.Published.own ⟦<V as Absorb<O>>⟧ O.Operation)
             self.entry lender_of result (Refused self.old)) }
         ensures same_reference { IfSome result (λ g. lender_of g ≡ self.entry.ghost_name) }
-        ensures same { IfSome result (λ g. SameReader self.old (reader_in g) × (refusals_of (reader_in g) ≡ refusals_of self.old)) }
+        ensures same { IfSome result
+            (λ g. SameReader self.old (reader_in g)
+            × (refusals_of (reader_in g) ≡ refusals_of self.old)) }
         ensures before { IfSome result (λ g. IsPrefix (seen_of self.old) (seen_of (reader_in g))) }
-        ensures value { IfSome result (λ g. V.state (value_in g) ≡ fold V.applied (V.state (opening_of self.old)) (seen_of (reader_in g))) }
-        ensures legal { IfSome result (λ g. Legal V.applied V.fits O.caller (V.state (opening_of self.old)) (readers_of self.old) (seen_of (reader_in g))) }
-        ensures item { IfSome result (λ g. items_of (reader_in g) ≡ added (items_of self.old) item (length (seen_of (reader_in g)))) }
-        ensures order { IfSome result (λ g. InOrder (items_of (reader_in g)) (length (seen_of (reader_in g)))) }
+        ensures value { IfSome result
+            (λ g. V.state (value_in g)
+            ≡ fold V.applied (V.state (opening_of self.old)) (seen_of (reader_in g))) }
+        ensures legal { IfSome result
+            (λ g. Legal V.applied V.fits O.caller (V.state (opening_of self.old))
+            (readers_of self.old) (seen_of (reader_in g))) }
+        ensures item { IfSome result
+            (λ g. items_of (reader_in g)
+            ≡ added (items_of self.old) item (length (seen_of (reader_in g)))) }
+        ensures order { IfSome result
+            (λ g. InOrder (items_of (reader_in g)) (length (seen_of (reader_in g)))) }
     {
         let reading = self.take_reading()?;
         self.see(&reading.get().known, item);
@@ -106,7 +121,8 @@ impl<V: Published<O>, O: Operation, Q> Reader<V, O, Q> {
     fn take_reading(&mut self) -> Option<Reading<V, O>>
         ensures refused { IfNone result (Refused self.old self.new) }
         ensures unmoved { IfSome result (λ r. Unmoved self.old self.new) }
-        ensures entered { IfSome result (λ r. Sound V.state V.applied V.fits O.caller r.reading.part.value
+        ensures entered { IfSome result
+            (λ r. Sound V.state V.applied V.fits O.caller r.reading.part.value
             × (r.reading.part.value.origin ≡ self.old.origin)
             × (view r.reading.place ≡ Some self.old.origin)
             × (length (seen_of self.old) ≤ length r.reading.part.value.known.seen.log)) }
@@ -135,7 +151,8 @@ impl<V: Published<O>, O: Operation, Q> Reader<V, O, Q> {
         ensures there { IsThere self.old → IsThere self.new }
         ensures seen { seen_of self.new ≡ list.now.seen.log }
         ensures before { IsPrefix (seen_of self.old) (seen_of self.new) }
-        ensures items { items_of self.new ≡ added (items_of self.old) item (length (seen_of self.new)) }
+        ensures items { items_of self.new
+            ≡ added (items_of self.old) item (length (seen_of self.new)) }
     {
         self.known = self.known.newer(list);
         let items = mem::replace(&mut self.items, Snapshot::of(&Trail::Empty));

@@ -2,7 +2,8 @@
 ghost use Rattle.std.specs.Prelude.{◌≡◌, ◌<◌, ◌↔◌, length, IsErr, IfErr, OnOk};
 ghost use Rattle.snap_cell.specs.Legal.{Legal};
 ghost use Rattle.snap_cell.specs.Views.{EachSeen, EachOf};
-ghost use Rattle.snap_cell.specs.Writers.{published_by, cell_written, opening_written, reader_count};
+ghost use Rattle.snap_cell.specs.Writers.{published_by, cell_written, opening_written};
+ghost use Rattle.snap_cell.specs.Writers.{reader_count};
 
 use super::Writer;
 use super::value::enter_whole;
@@ -28,7 +29,8 @@ fn await_readers<V: Published<O>, O: Operation, Q, R: Wait>(
 }
 
 impl<V: Published<O>, O: Operation> Writer<V, O> {
-    /// Ends the cell, and shows that there was one list: what each reader has seen begins the list of all that were published.
+    /// Ends the cell, and shows that there was one list: what each reader has seen begins the list
+    /// of all that were published.
     ///
     /// # Errors
     /// All is handed back as it was, exactly where fewer readers are handed in than the cell has.
@@ -41,7 +43,9 @@ impl<V: Published<O>, O: Operation> Writer<V, O> {
         ensures refused { IsErr result ↔ (length readers.items < reader_count self) }
         ensures back { IfErr result (λ b. (b.0 ≡ self) × (b.1 ≡ readers)) }
         ensures seen { OnOk result (EachSeen (published_by self) readers.items) }
-        ensures legal { OnOk result (Legal V.applied V.fits O.caller (V.state (opening_written self)) (reader_count self) (published_by self)) }
+        ensures legal { OnOk result
+            (Legal V.applied V.fits O.caller (V.state (opening_written self)) (reader_count self)
+            (published_by self)) }
     {
         if readers.len() < self.origin.readers as usize {
             return Err((self, readers));

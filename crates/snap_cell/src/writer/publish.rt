@@ -4,8 +4,10 @@ ghost use mathlib.Core.List.{IsPrefix};
 ghost use Rattle.left_right.specs.Sides.{view};
 ghost use Rattle.snap_cell.specs.Rule.{IsReady, Stands, Follows};
 ghost use Rattle.snap_cell.specs.Items.{added, InOrder};
-ghost use Rattle.snap_cell.specs.Views.{list_of, cell_of, number_of, refusals_of, seen_of, items_of, SameReader, IsThere};
-ghost use Rattle.snap_cell.specs.Writers.{published_by, cell_written, opening_written, reader_count, told_by, list_told, IsReadable};
+ghost use Rattle.snap_cell.specs.Views.{list_of, cell_of, number_of, refusals_of, seen_of};
+ghost use Rattle.snap_cell.specs.Views.{items_of, SameReader, IsThere};
+ghost use Rattle.snap_cell.specs.Writers.{published_by, cell_written, opening_written};
+ghost use Rattle.snap_cell.specs.Writers.{reader_count, told_by, list_told, IsReadable};
 
 use super::{Note, Writer};
 use crate::kept::Entry;
@@ -20,11 +22,14 @@ fn publish_now<V: Published<O>, O: Operation, R: Wait>(
     desk: Desk<V, O>,
     rt: &R,
 ) -> (Desk<V, O>, Result<(), AllocError>)
-    requires { IsReady V.fits O.caller V.applied V.state desk.desk.shown.value (drop desk.behind desk.log.items) }
+    requires { IsReady V.fits O.caller V.applied V.state desk.desk.shown.value
+        (drop desk.behind desk.log.items) }
     ensures { MatchResult result.1
-        (λ _. Follows desk.desk.shown.value (drop desk.behind desk.log.items) result.0.desk.shown.value (view result.0.desk.place)
+        (λ _. Follows desk.desk.shown.value (drop desk.behind desk.log.items)
+        result.0.desk.shown.value (view result.0.desk.place)
         × (drop result.0.behind result.0.log.items ≡ []))
-        (λ _. (result.0.desk.shown.value ≡ desk.desk.shown.value) × (view result.0.desk.place ≡ view desk.desk.place)) }
+        (λ _. (result.0.desk.shown.value ≡ desk.desk.shown.value)
+        × (view result.0.desk.place ≡ view desk.desk.place)) }
 {
     desk.publish_as::<Show, R>(rt)
 }
@@ -38,8 +43,10 @@ fn publish_entry<V: Published<O>, O: Operation, R: Wait>(
     requires settled { drop desk.behind desk.log.items ≡ [] }
     requires ready { IsReady V.fits O.caller V.applied V.state desk.desk.shown.value (entry ∷ []) }
     ensures { MatchResult result.1
-        (λ _. Stands desk.desk.shown.value.origin entry.known result.0.desk.shown.value (view result.0.desk.place) × (drop result.0.behind result.0.log.items ≡ []))
-        (λ _. (result.0.desk.shown.value ≡ desk.desk.shown.value) × (view result.0.desk.place ≡ view desk.desk.place)) }
+        (λ _. Stands desk.desk.shown.value.origin entry.known result.0.desk.shown.value
+        (view result.0.desk.place) × (drop result.0.behind result.0.log.items ≡ []))
+        (λ _. (result.0.desk.shown.value ≡ desk.desk.shown.value)
+        × (view result.0.desk.place ≡ view desk.desk.place)) }
 {
     match desk.append(entry) {
         Ok(()) => publish_now(desk, rt),
@@ -48,11 +55,13 @@ fn publish_entry<V: Published<O>, O: Operation, R: Wait>(
 }
 
 impl<V: Published<O>, O: Operation> Writer<V, O> {
-    /// All that was published until now, for a reader to learn. It takes no memory and waits for nobody.
+    /// All that was published until now, for a reader to learn. It takes no memory and waits for
+    /// nobody.
     pub fn tell(&mut self) -> Note<O>
         ensures told { told_by result ≡ published_by self.old }
         ensures list { list_told result ≡ list_of (cell_written self.old) }
-        ensures same { (published_by self.new ≡ published_by self.old) × (cell_written self.new ≡ cell_written self.old) }
+        ensures same { (published_by self.new ≡ published_by self.old)
+            × (cell_written self.new ≡ cell_written self.old) }
         ensures readable { IsReadable self.old → IsReadable self.new }
     {
         Note {
@@ -60,16 +69,21 @@ impl<V: Published<O>, O: Operation> Writer<V, O> {
         }
     }
 
-    /// Publishes one operation: it is then the last of those that were published. It waits for readers that are still in the
-    /// older copy. It costs two absorbs, one for each copy, and a visit to each reader's place.
+    /// Publishes one operation: it is then the last of those that were published. It waits for
+    /// readers that are still in the older copy. It costs two absorbs, one for each copy, and a
+    /// visit to each reader's place.
     ///
     /// # Errors
-    /// Want of memory publishes nothing. It may then come at every later publish of this writer: an operation that a copy had no
-    /// memory to absorb can't be taken out of the cell's log again. It is answered too where `u64::MAX` operations were published.
+    /// Want of memory publishes nothing. It may then come at every later publish of this writer: an
+    /// operation that a copy had no memory to absorb can't be taken out of the cell's log again. It
+    /// is answered too where `u64::MAX` operations were published.
     pub fn publish<R: Wait>(&mut self, rt: &R, operation: O) -> Mem<()>
-        requires fits { V.fits (fold V.applied (V.state (opening_written self.old)) (published_by self.old)) operation }
+        requires fits { V.fits (fold V.applied (V.state (opening_written self.old))
+            (published_by self.old)) operation }
         requires caller { O.caller operation < reader_count self.old }
-        ensures published { MatchResult result (λ _. published_by self.new ≡ published_by self.old ++ operation ∷ []) (λ _. published_by self.new ≡ published_by self.old) }
+        ensures published { MatchResult result
+            (λ _. published_by self.new ≡ published_by self.old ++ operation ∷ [])
+            (λ _. published_by self.new ≡ published_by self.old) }
         ensures cell { cell_written self.new ≡ cell_written self.old }
         ensures readable { IsReadable self.old → IsReadable self.new }
     {
@@ -100,12 +114,15 @@ impl<V: Published<O>, O: Operation> Writer<V, O> {
         }
     }
 
-    /// Publishes an operation of a reader's caller, and lets the reader see it: a caller's whole change, as it is made under the writer's
-    /// lock. The reader sees all that was published before, and then the operation; an item, if there is one, stands at its point, which
-    /// is how many operations were published before it. For a call that is refused there [`Reader::catch_up`] adds the item.
+    /// Publishes an operation of a reader's caller, and lets the reader see it: a caller's whole
+    /// change, as it is made under the writer's lock. The reader sees all that was published
+    /// before, and then the operation; an item, if there is one, stands at its point, which is how
+    /// many operations were published before it. For a call that is refused there
+    /// [`Reader::catch_up`] adds the item.
     ///
     /// # Errors
-    /// As [`Writer::publish`]. The reader has then seen all that was published, and has no item of this call.
+    /// As [`Writer::publish`]. The reader has then seen all that was published, and has no item of
+    /// this call.
     pub fn publish_for<Q, R: Wait>(
         &mut self,
         rt: &R,
@@ -114,16 +131,23 @@ impl<V: Published<O>, O: Operation> Writer<V, O> {
         item: Option<Snapshot<Q>>,
     ) -> Mem<()>
         requires own { cell_of reader.old ≡ cell_written self.old }
-        requires fits { V.fits (fold V.applied (V.state (opening_written self.old)) (published_by self.old)) operation }
+        requires fits { V.fits (fold V.applied (V.state (opening_written self.old))
+            (published_by self.old)) operation }
         requires caller { O.caller operation ≡ number_of reader.old }
         ensures cell { cell_written self.new ≡ cell_written self.old }
-        ensures same { SameReader reader.old reader.new × (refusals_of reader.new ≡ refusals_of reader.old) }
+        ensures same { SameReader reader.old reader.new
+            × (refusals_of reader.new ≡ refusals_of reader.old) }
         ensures there { IsThere reader.old → IsThere reader.new }
         ensures readable { IsReadable self.old → IsReadable self.new }
-        ensures published { MatchResult result (λ _. published_by self.new ≡ published_by self.old ++ operation ∷ []) (λ _. published_by self.new ≡ published_by self.old) }
+        ensures published { MatchResult result
+            (λ _. published_by self.new ≡ published_by self.old ++ operation ∷ [])
+            (λ _. published_by self.new ≡ published_by self.old) }
         ensures before { IsPrefix (seen_of reader.old) (published_by self.old) }
         ensures seen { seen_of reader.new ≡ published_by self.new }
-        ensures item { MatchResult result (λ _. items_of reader.new ≡ added (items_of reader.old) item (length (published_by self.old))) (λ _. items_of reader.new ≡ items_of reader.old) }
+        ensures item { MatchResult result
+            (λ _. items_of reader.new
+            ≡ added (items_of reader.old) item (length (published_by self.old)))
+            (λ _. items_of reader.new ≡ items_of reader.old) }
         ensures order { InOrder (items_of reader.new) (length (seen_of reader.new)) }
     {
         reader.catch_up(rt, self, None);

@@ -4,7 +4,8 @@ ghost use Rattle.std.specs.Option.{ForSome};
 ghost use Rattle.left_right.specs.Sides.{view};
 ghost use Rattle.snap_cell.specs.Legal.{Legal};
 ghost use Rattle.snap_cell.specs.Rule.{Sound};
-ghost use Rattle.snap_cell.specs.Writers.{published_by, cell_written, opening_written, reader_count, SameWriter, IsReadable};
+ghost use Rattle.snap_cell.specs.Writers.{published_by, cell_written, opening_written};
+ghost use Rattle.snap_cell.specs.Writers.{reader_count, SameWriter, IsReadable};
 ghost use Rattle.snap_cell.specs.Guards.{whole_value, cell_entered};
 
 use super::Writer;
@@ -25,7 +26,8 @@ pub(crate) fn enter_whole<V: Published<O>, O: Operation, R: Wait>(
     requires cell { ForSome door (λ d. view d.reader.place ≡ Some origin.now) }
     requires list { known.now.seen.book ≡ origin.now.empty.book }
     ensures sound { Sound V.state V.applied V.fits O.caller result.reading.part.value }
-    ensures cell { (result.reading.part.value.origin ≡ origin.now) × (view result.reading.place ≡ Some origin.now) }
+    ensures cell { (result.reading.part.value.origin ≡ origin.now)
+        × (view result.reading.place ≡ Some origin.now) }
     ensures whole { result.reading.part.value.known.seen.log ≡ known.now.seen.log }
 {
     let mut door = door;
@@ -42,7 +44,8 @@ pub(crate) fn enter_whole<V: Published<O>, O: Operation, R: Wait>(
     unreachable!()
 }
 
-/// The value with all that was published, in the hands of the writer's own reader. It is not `Drop`: `Writer::put_back` ends it.
+/// The value with all that was published, in the hands of the writer's own reader. It is not
+/// `Drop`: `Writer::put_back` ends it.
 pub struct Whole<V: Published<O>, O: Operation> {
     pub(crate) reading: Reading<V, O>,
 }
@@ -57,13 +60,16 @@ impl<V: Published<O>, O: Operation> Whole<V, O> {
 }
 
 impl<V: Published<O>, O: Operation> Writer<V, O> {
-    /// The value with all that was published, read through a reader of the writer's own, which tries again until it is let in.
-    /// It takes no memory. Put it back before the next publish or value, which would wait for it for ever.
+    /// The value with all that was published, read through a reader of the writer's own, which
+    /// tries again until it is let in. It takes no memory. Put it back before the next publish or
+    /// value, which would wait for it for ever.
     pub fn value<R: Wait>(&mut self, rt: &R) -> Whole<V, O>
         ensures same { SameWriter self.old self.new }
         ensures cell { cell_entered result ≡ Some (cell_written self.old) }
-        ensures value { V.state (whole_value result) ≡ fold V.applied (V.state (opening_written self.old)) (published_by self.old) }
-        ensures legal { Legal V.applied V.fits O.caller (V.state (opening_written self.old)) (reader_count self.old) (published_by self.old) }
+        ensures value { V.state (whole_value result)
+            ≡ fold V.applied (V.state (opening_written self.old)) (published_by self.old) }
+        ensures legal { Legal V.applied V.fits O.caller (V.state (opening_written self.old))
+            (reader_count self.old) (published_by self.old) }
     {
         let door = self.door.take();
         Whole {

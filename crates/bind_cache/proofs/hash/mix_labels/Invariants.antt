@@ -1,6 +1,6 @@
-use Rattle.std.proofs.Common.{◌≡◌, ℕ, map, drop, Vec, Global}
+use Rattle.std.proofs.Common.{◌≡◌, drop}
 use Rattle.bind_cache.specs.Hash.{with_labels}
 use Rattle.bind_cache.proofs.hash.mix_labels.Given as goal
 
-abbrev pub invariant-loop-label : goal.invariant-loop-label
-invariant-loop-label l = with_labels l.all (map (λ (v : Vec ℕ Global). v.items) (drop l.label-index l.labels)) ≡ with_labels l.hash (map (λ (v : Vec ℕ Global). v.items) l.labels)
+abbrev pub invariant-loop-at : goal.invariant-loop-at
+invariant-loop-at l = with_labels l.all (drop l.at l.path) ≡ with_labels l.hash l.path
