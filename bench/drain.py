@@ -1,7 +1,7 @@
 #!/usr/bin/env python3
 """Shuts `linker serve` down under load, and looks at what its clients get.
 
-usage: bench/drain.py [PROGRAM] [--clients 50] [--calls]
+usage: bench/drain.py [PROGRAM] [--clients 50] [--calls] [--signal]
 
 50 clients keep their connections: half of them ask again as soon as they have their reply, the
 others have asked once and wait. Then the shutdown is asked for.
@@ -11,12 +11,15 @@ others have asked once and wait. Then the shutdown is asked for.
 - A client that waits is ended, and told nothing.
 - From the shutdown's `bye` to the program's end it takes at most two seconds, and the status is 0.
 
+With `--signal` the program is started with SIGTERM and SIGINT blocked, and a SIGTERM asks for the
+shutdown, which is seen within a quarter of a second.
+
 With `--calls` it counts the system calls of the workers by strace, over 2,000 requests on one
 connection, and prints those of a request.
 
 The script ends with 0 where nothing was wrong.
 """
-import argparse, os, re, socket, subprocess, sys, threading, time
+import argparse, os, re, signal, socket, subprocess, sys, threading, time
 
 sys.argv, words = [sys.argv[0]], sys.argv[1:]
 from edge import Replica, proxy, read_head, request
@@ -78,22 +81,30 @@ class Client(threading.Thread):
             self.wrong = "bytes behind the last reply"
 
 
-def drained(program, clients):
-    """What went wrong, and how long it took from `bye` to the program's end."""
+def shut_down(program):
+    """Asks for the shutdown over the interface, and says what went wrong."""
+    with socket.create_connection(("127.0.0.1", program.admin), timeout=20) as asked:
+        asked.sendall(b"POST /admin/shutdown HTTP/1.1\r\nHost: a\r\nContent-Length: 0\r\n\r\n")
+        head, body = read_head(asked)
+    return [] if body == b"bye\n" else [f"the shutdown's reply: {head!r} {body!r}"]
+
+
+def drained(program, clients, by_signal):
+    """What went wrong, and how long it took from `bye`, or the signal, to the program's end."""
     for client in clients:
         client.start()
     time.sleep(1)
-    asked = socket.create_connection(("127.0.0.1", program.admin), timeout=20)
-    asked.sendall(b"POST /admin/shutdown HTTP/1.1\r\nHost: a\r\nContent-Length: 0\r\n\r\n")
-    head, body = read_head(asked)
-    bye = time.monotonic()
+    wrong = []
+    if by_signal:
+        program.send_signal(signal.SIGTERM)
+    else:
+        wrong += shut_down(program)
+    asked = time.monotonic()
     status = program.wait(70)
-    took = time.monotonic() - bye
-    asked.close()
-    wrong = [] if body == b"bye\n" else [f"the shutdown's reply: {head!r} {body!r}"]
+    took = time.monotonic() - asked
     if status != 0:
         wrong.append(f"status {status}")
-    if took > 2:
+    if took > (2.25 if by_signal else 2):
         wrong.append(f"it took {took:.2f} s")
     for number, client in enumerate(clients):
         client.join(5)
@@ -130,6 +141,7 @@ def main():
     parser.add_argument("program", nargs="?", default=os.path.join(ROOT, "linker"))
     parser.add_argument("--clients", type=int, default=50)
     parser.add_argument("--calls", action="store_true")
+    parser.add_argument("--signal", action="store_true")
     options = parser.parse_args(words)
     import edge
     edge.PROGRAM = options.program
@@ -137,11 +149,13 @@ def main():
     if options.calls:
         with proxy({"web": replica}, 4) as program:
             print("system calls of a request:", calls(program))
-    with proxy({"web": replica}, options.clients + 6) as program:
+    before = ("env", "--block-signal=TERM,INT") if options.signal else ()
+    with proxy({"web": replica}, options.clients + 6, before=before) as program:
         clients = [Client(program.router, number % 2 == 0) for number in range(options.clients)]
-        wrong, took = drained(program, clients)
+        wrong, took = drained(program, clients, options.signal)
     replies = sum(client.replies for client in clients)
-    print(f"{options.clients} clients, {replies} replies, {took:.2f} s from `bye` to the end")
+    asked = "the signal" if options.signal else "`bye`"
+    print(f"{options.clients} clients, {replies} replies, {took:.2f} s from {asked} to the end")
     for line in wrong:
         print("wrong:", line)
     sys.exit(1 if wrong else 0)

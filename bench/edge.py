@@ -73,8 +73,9 @@ class Replica:
 
 
 @contextlib.contextmanager
-def proxy(replicas, workers, descriptors=None):
-    """A proxy whose services are these replicas, by their names; a worker has one client."""
+def proxy(replicas, workers, descriptors=None, server=None, before=()):
+    """A proxy whose services are these replicas, by their names; a worker has one client. `server`
+    has further keys of the router's server, and `before` stands before the program's words."""
     with tempfile.TemporaryDirectory() as folder:
         router, namerd, admin = free_ports(3)
         os.mkdir(os.path.join(folder, "disco"))
@@ -88,7 +89,7 @@ def proxy(replicas, workers, descriptors=None):
             "routers": [{
                 "protocol": "http",
                 "dtab": "/svc => /#/io.l5d.fs",
-                "servers": [{"port": router}],
+                "servers": [{"port": router, **(server or {})}],
             }],
             "workers": workers,
         }
@@ -100,8 +101,8 @@ def proxy(replicas, workers, descriptors=None):
                 resource.setrlimit(resource.RLIMIT_NOFILE, (descriptors, descriptors))
 
         with open(os.path.join(folder, "log"), "w+b") as log:
-            program = subprocess.Popen([PROGRAM, "serve", "c.json"], cwd=folder, preexec_fn=limit,
-                                       stdout=subprocess.PIPE, stderr=log)
+            program = subprocess.Popen([*before, PROGRAM, "serve", "c.json"], cwd=folder,
+                                       preexec_fn=limit, stdout=subprocess.PIPE, stderr=log)
             line = program.stdout.readline()
             program.router, program.admin, program.first_line = router, admin, line
             try:

@@ -1,9 +1,11 @@
 #!/usr/bin/env python3
-"""How long one pick takes `linker replay` whose request brings the worst table of its own, and how much memory: each row is one line `pick PATH 0 0 0 0 TABLE`, with a
-table of at most 65,536 bytes, as a client can send it in a field of its head. The last row is a `view`, whose table an operator configured. Each runs on a stack
-of 1 MiB, half of what a worker's thread has where the stack's size is not limited.
+"""How long one pick takes `linker replay` whose request brings the worst table of its own, and how
+much memory: each row is one line `pick PATH 0 0 0 0 TABLE`, with a table of at most 65,536 bytes, as
+a client can send it in a field of its head. The last row is a `view`, whose table an operator
+configured. Each runs on a stack of 4 MiB, half of what a worker's thread has.
 
-What a delegation costs is bounded by its lookups and the bytes of the paths that are looked up; the rows go to these bounds one by one.
+What a delegation costs is bounded by its lookups and the bytes of the paths that are looked up; the
+rows go to these bounds one by one.
 
 usage: bench/hostile.py [PROGRAM]       (crates/linker/out/linker, if left out)
 """
@@ -13,7 +15,7 @@ HERE = os.path.dirname(os.path.abspath(__file__))
 
 ROUNDS = 3
 MOST_BYTES = 65_536
-STACK_BYTES = 1 << 20
+STACK_BYTES = 4 << 20
 
 # As many branches as a union may have whose leaves are all looked up: with the lookup of the union itself there are 10,000.
 BRANCHES = 9_999
@@ -99,7 +101,7 @@ def views():
     long_rest = "/x" * 1_000
     address = "/$/inet/1.1.1.1/1"
     bound = f"/s=>{union('/b', 100)};/b=>{union(address, 98)}"
-    return [("a view of 9,901 lookups of paths of 1,000 labels", "/s" + long_rest, bound, "bound 9901")]
+    return [("a view of 9,901 lookups of paths of 1,000 labels", "/s" + long_rest, bound, '{"lookups":[{"depth":0,"outcome":"bound"')]
 
 
 def small_stack():

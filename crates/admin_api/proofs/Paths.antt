@@ -1,5 +1,5 @@
 -- Demands of the admin interface by their paths.
-use Rattle.std.proofs.Common.{◌≡◌, ℕ, false, List, Option, ap, sym, ◌∙◌}
+use Rattle.std.proofs.Common.{◌≡◌, ℕ, Bool, false, List, Option, ap, sym, ◌∙◌}
 use Rattle.std.specs.Prelude.{bytes_eq, codes}
 use Rattle.http_wire.specs.declared.head.Head.{Head}
 use Rattle.ns_api.specs.declared.verb.Verb.{Verb}
@@ -7,15 +7,25 @@ use Rattle.ns_api.specs.Request.{path_in, segment_behind}
 use Rattle.ns_api.specs.Verbs.{verb_of}
 use Rattle.admin_api.specs.Demand.{admin_demand, segment_demand}
 
-pub last_path : (head : Head) (line body : List ℕ) (verb : Option Verb) (path : List ℕ) (segment : Option (List ℕ)) → verb ≡ verb_of head.method → path ≡ path_in line
-    → bytes_eq path (codes "/admin/ping") ≡ false → bytes_eq path (codes "/admin/metrics.json") ≡ false → bytes_eq path (codes "/delegator.json") ≡ false
-    → bytes_eq path (codes "/admin/shutdown") ≡ false → segment ≡ segment_behind (codes "/api/1/addrs/") path
-    → segment_demand verb segment body ≡ admin_demand head line body
+pub last_path : (ready : Bool) (head : Head) (line body : List ℕ) (verb : Option Verb)
+    (path : List ℕ) (segment : Option (List ℕ)) → verb ≡ verb_of head.method → path ≡ path_in line
+    → bytes_eq path (codes "/admin/ping") ≡ false → bytes_eq path (codes "/admin/metrics.json")
+    ≡ false → bytes_eq path (codes "/delegator.json") ≡ false
+    → bytes_eq path (codes "/admin/shutdown") ≡ false → bytes_eq path (codes "/admin/ready") ≡ false
+    → segment ≡ segment_behind (codes "/api/1/addrs/") path
+    → segment_demand verb segment body ≡ admin_demand ready head line body
 unfolding admin_demand
-last_path head line body verb path segment v p t1 t2 t3 t4 s =
-    let e1 : bytes_eq (path_in line) (codes "/admin/ping") ≡ false = ap (λ (x : List ℕ). bytes_eq x (codes "/admin/ping")) (sym p) ∙ t1 in
-    let e2 : bytes_eq (path_in line) (codes "/admin/metrics.json") ≡ false = ap (λ (x : List ℕ). bytes_eq x (codes "/admin/metrics.json")) (sym p) ∙ t2 in
-    let e3 : bytes_eq (path_in line) (codes "/delegator.json") ≡ false = ap (λ (x : List ℕ). bytes_eq x (codes "/delegator.json")) (sym p) ∙ t3 in
-    let e4 : bytes_eq (path_in line) (codes "/admin/shutdown") ≡ false = ap (λ (x : List ℕ). bytes_eq x (codes "/admin/shutdown")) (sym p) ∙ t4 in
-    let found : segment ≡ segment_behind (codes "/api/1/addrs/") (path_in line) = s ∙ ap (segment_behind (codes "/api/1/addrs/")) p in
-    rw (e1, e2, e3, e4) (λ k. segment_demand (v k) (found k) body)
+last_path ready head line body verb path segment v p t1 t2 t3 t4 t5 s =
+    let e1 : bytes_eq (path_in line) (codes "/admin/ping") ≡ false =
+    ap (λ (x : List ℕ). bytes_eq x (codes "/admin/ping")) (sym p) ∙ t1 in
+    let e2 : bytes_eq (path_in line) (codes "/admin/metrics.json") ≡ false =
+    ap (λ (x : List ℕ). bytes_eq x (codes "/admin/metrics.json")) (sym p) ∙ t2 in
+    let e3 : bytes_eq (path_in line) (codes "/delegator.json") ≡ false =
+    ap (λ (x : List ℕ). bytes_eq x (codes "/delegator.json")) (sym p) ∙ t3 in
+    let e4 : bytes_eq (path_in line) (codes "/admin/shutdown") ≡ false =
+    ap (λ (x : List ℕ). bytes_eq x (codes "/admin/shutdown")) (sym p) ∙ t4 in
+    let e5 : bytes_eq (path_in line) (codes "/admin/ready") ≡ false =
+    ap (λ (x : List ℕ). bytes_eq x (codes "/admin/ready")) (sym p) ∙ t5 in
+    let found : segment ≡ segment_behind (codes "/api/1/addrs/") (path_in line) = s
+    ∙ ap (segment_behind (codes "/api/1/addrs/")) p in
+    rw (e1, e2, e3, e4, e5) (λ k. segment_demand (v k) (found k) body)

@@ -13,13 +13,18 @@ use Rattle.ns_api.specs.declared.verb.Verb.TheVariants.{Get, Head as HeadVerb, P
 use Rattle.ns_api.specs.Demand.{DemandValue, IsSoundDemand, answer, ask, stop, not_allowed}
 use Rattle.ns_api.specs.Request.{name_of, path_in, query_in, segment_behind}
 use Rattle.ns_api.specs.Verbs.{verb_of}
-use Rattle.admin_api.specs.Demand.{addrs_asked, addrs_of, admin_demand, bye, is_read, named_asked, pong, posted, segment_demand, service_demand, set_demand, shown, view_demand}
+use Rattle.admin_api.specs.Demand.{addrs_asked, addrs_of, admin_demand, bye, is_read, named_asked}
+use Rattle.admin_api.specs.Demand.{pong, posted, readiness, segment_demand, service_demand}
+use Rattle.admin_api.specs.Demand.{set_demand}
+use Rattle.admin_api.specs.Demand.{shown, view_demand}
 
-one_of : (b : Bool) (d e : DemandValue) → IsSoundDemand d → IsSoundDemand e → IsSoundDemand (if b then d else e)
+one_of : (b : Bool) (d e : DemandValue) → IsSoundDemand d → IsSoundDemand e
+    → IsSoundDemand (if b then d else e)
 one_of true d e h k = h
 one_of false d e h k = k
 
-shown_sound : (d : DemandValue) (verb : Option Verb) → IsSoundDemand d → IsSoundDemand (shown d verb)
+shown_sound : (d : DemandValue) (verb : Option Verb) → IsSoundDemand d
+    → IsSoundDemand (shown d verb)
 shown_sound d verb h = one_of (is_read verb) d (answer (not_allowed Reads)) h tt
 
 posted_sound : (verb : Option Verb) → IsSoundDemand (posted (stop bye) verb)
@@ -45,11 +50,13 @@ asked_sound Post name body = tt
 asked_sound Put name body = set_sound name (addrs_of body)
 asked_sound Delete name body = tt
 
-named_sound : (verb : Verb) (name : Option (List ℕ)) (body : List ℕ) → IsSoundDemand (named_asked verb name body)
+named_sound : (verb : Verb) (name : Option (List ℕ)) (body : List ℕ)
+    → IsSoundDemand (named_asked verb name body)
 named_sound verb None body = tt
 named_sound verb (Some name) body = asked_sound verb name body
 
-service_sound : (verb : Option Verb) (segment body : List ℕ) → IsSoundDemand (service_demand verb segment body)
+service_sound : (verb : Option Verb) (segment body : List ℕ)
+    → IsSoundDemand (service_demand verb segment body)
 service_sound None segment body = tt
 service_sound (Some Post) segment body = tt
 service_sound (Some Get) segment body = named_sound Get (name_of segment) body
@@ -57,16 +64,23 @@ service_sound (Some HeadVerb) segment body = named_sound HeadVerb (name_of segme
 service_sound (Some Put) segment body = named_sound Put (name_of segment) body
 service_sound (Some Delete) segment body = named_sound Delete (name_of segment) body
 
-segment_sound : (verb : Option Verb) (segment : Option (List ℕ)) (body : List ℕ) → IsSoundDemand (segment_demand verb segment body)
+segment_sound : (verb : Option Verb) (segment : Option (List ℕ)) (body : List ℕ)
+    → IsSoundDemand (segment_demand verb segment body)
 segment_sound verb None body = tt
 segment_sound verb (Some segment) body = service_sound verb segment body
 
-pub admin_sound : (head : Head) (line body : List ℕ) → IsSoundDemand (admin_demand head line body)
+pub admin_sound : (ready : Bool) (head : Head) (line body : List ℕ)
+    → IsSoundDemand (admin_demand ready head line body)
 unfolding admin_demand
-admin_sound head line body =
+admin_sound ready head line body =
     let verb = verb_of head.method in
     one_of (bytes_eq (path_in line) (codes "/admin/ping")) _ _ (shown_sound (answer pong) verb tt)
-    (one_of (bytes_eq (path_in line) (codes "/admin/metrics.json")) _ _ (shown_sound (ask count_all) verb tt)
-    (one_of (bytes_eq (path_in line) (codes "/delegator.json")) _ _ (shown_sound (view_demand (view_asked (query_in line))) verb (view_sound (view_asked (query_in line))))
+    (one_of (bytes_eq (path_in line) (codes "/admin/metrics.json")) _ _
+    (shown_sound (ask count_all) verb tt)
+    (one_of (bytes_eq (path_in line) (codes "/delegator.json")) _ _
+    (shown_sound (view_demand (view_asked (query_in line))) verb
+    (view_sound (view_asked (query_in line))))
     (one_of (bytes_eq (path_in line) (codes "/admin/shutdown")) _ _ (posted_sound verb)
-    (segment_sound verb (segment_behind (codes "/api/1/addrs/") (path_in line)) body))))
+    (one_of (bytes_eq (path_in line) (codes "/admin/ready")) _ _
+    (shown_sound (answer (readiness ready)) verb tt)
+    (segment_sound verb (segment_behind (codes "/api/1/addrs/") (path_in line)) body)))))

@@ -26,8 +26,9 @@ use Rattle.http_wire.specs.Ended.{drained}
 use Rattle.http_wire.specs.Next.{IsAsked}
 use Rattle.http_wire.proofs.Endings.{goes_on as still_open, same_end}
 use Rattle.line_base.specs.Lines.{Line, told_closing}
+use Rattle.admin_api.specs.declared.serving.Which.TheVariants as interfaces
 use Rattle.admin_api.specs.Serving.{Answers, EndsWithout, HasCauses, IsDelivered, IsServing, Serves}
-use Rattle.admin_api.specs.Serving.{Turns, end_behind, one_more}
+use Rattle.admin_api.specs.Serving.{Turns, end_behind, one_more, while_closing}
 
 pub gives_none : (a b : Option (List ℕ)) → Keeps a b → Appends a b []
 gives_none None b keeps = tt
@@ -35,7 +36,8 @@ gives_none (Some old) None keeps = absurd keeps
 gives_none (Some old) (Some new) keeps = keeps ∙ sym (append-nil old)
 
 -- behind bytes that stayed
-pub given_behind : (a b c : Option (List ℕ)) (sent : List ℕ) → Keeps a b → Appends b c sent → Appends a c sent
+pub given_behind : (a b c : Option (List ℕ)) (sent : List ℕ) → Keeps a b → Appends b c sent
+    → Appends a c sent
 given_behind a b c sent keeps gives = Appends-trans a b c [] sent (gives_none a b keeps) gives
 
 -- ---- replies
@@ -48,17 +50,23 @@ second_false : (a b : Bool) → (a || b) ≡ false → b ≡ false
 second_false true b is = absurd (cc)
 second_false false b is = is
 
-ends_behind : (head : Head) (reply : ApiReply) (sent : List ℕ) → sent ≡ reply.bytes.items → (closing : Bool) → (reply.stops || closes head false) ≡ closing → (last : Bool)
+ends_behind : (head : Head) (reply : ApiReply) (sent : List ℕ) → sent ≡ reply.bytes.items
+    → (closing : Bool) → (reply.stops || closes head false) ≡ closing → (last : Bool)
     → IsDelivered head last reply sent reply.stops (end_behind closing last)
 ends_behind head reply sent whole true is last = (is, whole, refl)
-ends_behind head reply sent whole false is true = (is, refl, whole, first_false reply.stops (closes head false) is)
-ends_behind head reply sent whole false is false = (is, whole, first_false reply.stops (closes head false) is)
+ends_behind head reply sent whole false is true =
+    (is, refl, whole, first_false reply.stops (closes head false) is)
+ends_behind head reply sent whole false is false =
+    (is, whole, first_false reply.stops (closes head false) is)
 
 -- a reply that was written whole
-pub delivered : (head : Head) (last : Bool) (reply : ApiReply) (sent : List ℕ) (result : Option Ended) → sent ≡ reply.bytes.items
-    → (closing : Bool) → closing ≡ closes head false → result ≡ end_behind (reply.stops || closing) last → IsDelivered head last reply sent reply.stops result
+pub delivered : (head : Head) (last : Bool) (reply : ApiReply) (sent : List ℕ)
+    (result : Option Ended) → sent ≡ reply.bytes.items
+    → (closing : Bool) → closing ≡ closes head false → result ≡ end_behind (reply.stops || closing)
+    last → IsDelivered head last reply sent reply.stops result
 delivered head last reply sent result whole closing closed is =
-    subst (λ (r : Option Ended). IsDelivered head last reply sent reply.stops r) (sym (is ∙ ap (λ (x : Bool). end_behind (reply.stops || x) last) closed))
+    subst (λ (r : Option Ended). IsDelivered head last reply sent reply.stops r)
+    (sym (is ∙ ap (λ (x : Bool). end_behind (reply.stops || x) last) closed))
     (ends_behind head reply sent whole (reply.stops || closes head false) refl last)
 
 -- ---- turns
@@ -77,7 +85,9 @@ module _ (bytes : List ℕ) where
   quiet_end_of ended.UpstreamCut shows = absurd shows
 
   -- or with a refusal
-  pub refusal_end : (err : OwnError) (with_body : Bool) (sent : List ℕ) (end : Ended) → IsRefusedAs bytes err with_body → IsRefusal err with_body sent end → EndsWithout bytes sent end
+  pub refusal_end : (err : OwnError) (with_body : Bool) (sent : List ℕ) (end : Ended)
+      → IsRefusedAs bytes err with_body → IsRefusal err with_body sent end
+      → EndsWithout bytes sent end
   refusal_end err with_body sent ended.Closed is written = (err, with_body, is, written)
   refusal_end err with_body sent ended.WriteFault is written = (err, with_body, is, written)
   refusal_end err with_body sent ended.OutOfMemory is written = written
@@ -97,38 +107,54 @@ last_false false true c d is = absurd (cc)
 last_false false false true d is = absurd (cc)
 last_false false false false d is = is
 
+-- while the listeners are not closing, a request finds its interface as it is
+found_same : (w : Which) → while_closing false w ≡ w
+found_same interfaces.Namerd = refl
+found_same (interfaces.Admin true) = refl
+found_same (interfaces.Admin false) = refl
+found_same (interfaces.Feed run) = refl
+
 -- a request that was read has a target that is served
-pub is_taken : (bytes kept : List ℕ) (head : Head) (body : List ℕ) → ((more : List ℕ) → IsRequest (bytes ++ more) head body (kept ++ more)) → IsTaken head
+pub is_taken : (bytes kept : List ℕ) (head : Head) (body : List ℕ)
+    → ((more : List ℕ) → IsRequest (bytes ++ more) head body (kept ++ more)) → IsTaken head
 is_taken bytes kept head body request =
     let tested = (request []).front.tested in
     record { other = tested.other; form = tested.form; served = tested.served }
 
-module _ {J : Type 0} {g : Ghosts J} (which : Which) (last : Bool) (head : Head) (body : List ℕ) (old new : Pass J g) (sent : List ℕ) where
+module _ {J : Type 0} {g : Ghosts J} (which : Which) (last : Bool) (head : Head) (body : List ℕ)
+    (old new : Pass J g) (sent : List ℕ) where
   no_want : None ≡ Some ended.OutOfMemory → ⊥
   no_want is = cc
 
-  goes_on : (stopped : Bool) → Answers which last head body old new sent stopped None → stopped ≡ false
+  goes_on : (stopped : Bool) → Answers which last head body old new sent stopped None → stopped
+      ≡ false
   goes_on stopped (inl replied) = replied.delivered.2
   goes_on stopped (inr wants) = absurd (no_want wants.is)
 
-  pub never_ends : (stopped : Bool) (result : Option Ended) (end : Ended) → ((reply : ApiReply) → IsDelivered head last reply sent stopped (Some end) → ⊥)
-      → (Some end ≡ Some ended.OutOfMemory → ⊥) → Answers which last head body old new sent stopped result → result ≡ Some end → ⊥
+  pub never_ends : (stopped : Bool) (result : Option Ended) (end : Ended)
+      → ((reply : ApiReply) → IsDelivered head last reply sent stopped (Some end) → ⊥)
+      → (Some end ≡ Some ended.OutOfMemory → ⊥) → Answers which last head body old new sent stopped
+      result → result ≡ Some end → ⊥
   never_ends stopped result end never wanted (inl replied) is =
-      never replied.reply (subst (λ (r : Option Ended). IsDelivered head last replied.reply sent stopped r) is replied.delivered)
+      never replied.reply
+      (subst (λ (r : Option Ended). IsDelivered head last replied.reply sent stopped r) is
+      replied.delivered)
   never_ends stopped result end never wanted (inr wants) is = wanted (sym is ∙ wants.is)
 
   -- behind the last request that a connection may carry, it ends
   pub not_last : Answers which last head body old new sent false None → last ≡ false
-  not_last (inl replied) = last_false replied.reply.stops (eqb head.version 0) (names_close head.fields) last replied.delivered.0
+  not_last (inl replied) = last_false replied.reply.stops (eqb head.version 0)
+      (names_close head.fields) last replied.delivered.0
   not_last (inr wants) = absurd (no_want wants.is)
 
-  -- a turn in which a request was answered
-  pub turned : (bytes kept : List ℕ) (spent closing stopped : Bool) (end result : Option Ended)
-      → last ≡ (spent || closing) → IsAsked spent closing
+  -- a turn in which a request was answered, by the interface as it found it
+  pub turned : (base : Which) (bytes kept : List ℕ) (spent closing stopped : Bool)
+      (end result : Option Ended)
+      → which ≡ while_closing closing base → last ≡ (spent || closing) → IsAsked spent closing
       → ((more : List ℕ) → IsRequest (bytes ++ more) head body (kept ++ more))
       → Answers which last head body old new sent stopped end → result ≡ drained closing end
-      → Turns which spent closing old new bytes kept sent stopped result
-  turned bytes kept spent closing stopped end None is_last asked request answers is =
+      → Turns base spent closing old new bytes kept sent stopped result
+  turned base bytes kept spent closing stopped end None is_base is_last asked request answers is =
       let answered : Answers which last head body old new sent stopped None
       = subst (λ (e : Option Ended). Answers which last head body old new sent stopped e)
       (still_open closing end is) answers in
@@ -136,32 +162,44 @@ module _ {J : Type 0} {g : Ghosts J} (which : Which) (last : Bool) (head : Head)
       let plain : Answers which last head body old new sent false None
       = subst (λ (s : Bool). Answers which last head body old new sent s None) on answered in
       let off : (spent || closing) ≡ false = sym is_last ∙ not_last plain in
-      let same : last ≡ spent = is_last ∙ (off ∙ sym (first_false spent closing off)) in (
+      let same : last ≡ spent = is_last ∙ (off ∙ sym (first_false spent closing off)) in
+      let going : closing ≡ false = second_false spent closing off in
+      let found : which ≡ base =
+      is_base ∙ (ap (λ (b : Bool). while_closing b base) going ∙ found_same base) in
+      let whole : Answers which spent head body old new sent false None
+      = subst (λ (l : Bool). Answers which l head body old new sent false None) same plain in (
         on,
-        second_false spent closing off,
+        going,
         (
           head,
           body,
           request,
-          subst (λ (l : Bool). Answers which l head body old new sent false None) same plain,
+          subst (λ (w : Which). Answers w spent head body old new sent false None) found whole,
         ),
       )
-  turned bytes kept spent closing stopped end (Some e) is_last asked request answers is = inl (record {
-    head = head;
-    body = body;
-    behind = kept ++ [];
-    request = subst (λ (b : List ℕ). IsRequest b head body (kept ++ [])) (append-nil bytes) (request []);
-    asked = asked;
-    end = end;
-    answers = subst (λ (l : Bool). Answers which l head body old new sent stopped end) is_last answers;
-    is = is;
-  })
+  turned base bytes kept spent closing stopped end (Some e) is_base is_last asked request answers is
+      = inl (record {
+        head = head;
+        body = body;
+        behind = kept ++ [];
+        request = subst (λ (b : List ℕ). IsRequest b head body (kept ++ [])) (append-nil bytes)
+            (request []);
+        asked = asked;
+        end = end;
+        answers =
+            subst (λ (w : Which). Answers w (spent || closing) head body old new sent stopped end)
+            is_base
+            (subst (λ (l : Bool). Answers which l head body old new sent stopped end) is_last answers);
+        is = is;
+      })
 
 -- ---- why a connection ended
 
-module _ (e0 e1 e2 f0 f1 f2 w0 w1 w2 : ℕ) (read : HasReadCauses e0 e1 f0 f1 None) (ends : e2 ≡ e1) (faults : f2 ≡ f1) (still : w1 ≡ w0) (later : w1 ≤ w2) where
+module _ (e0 e1 e2 f0 f1 f2 w0 w1 w2 : ℕ) (read : HasReadCauses e0 e1 f0 f1 None) (ends : e2 ≡ e1)
+    (faults : f2 ≡ f1) (still : w1 ≡ w0) (later : w1 ≤ w2) where
   -- for no end of its bytes
-  other_causes : (result : Option Ended) → (result ≡ Some ended.PeerEnded → ⊥) → (result ≡ Some ended.Cut → ⊥) → (result ≡ Some ended.ReadFault → ⊥)
+  other_causes : (result : Option Ended) → (result ≡ Some ended.PeerEnded → ⊥)
+      → (result ≡ Some ended.Cut → ⊥) → (result ≡ Some ended.ReadFault → ⊥)
       → (result ≡ Some ended.WriteFault → Rose w1 w2) → HasCauses e0 e2 f0 f2 w0 w2 result
   other_causes result no_end no_cut no_fault cause =
       let e = read.ends_later refl in
@@ -179,7 +217,8 @@ module _ (e0 e1 e2 f0 f1 f2 w0 w1 w2 : ℕ) (read : HasReadCauses e0 e1 f0 f1 No
       }
 
   -- behind an answer
-  pub replied_causes : {J : Type 0} {g : Ghosts J} (which : Which) (last : Bool) (head : Head) (body : List ℕ) (old new : Pass J g) (sent : List ℕ) (stopped : Bool) (result : Option Ended)
+  pub replied_causes : {J : Type 0} {g : Ghosts J} (which : Which) (last : Bool) (head : Head)
+      (body : List ℕ) (old new : Pass J g) (sent : List ℕ) (stopped : Bool) (result : Option Ended)
       → (closing : Bool) (end : Option Ended) → result ≡ drained closing end
       → Answers which last head body old new sent stopped end
       → (end ≡ Some ended.WriteFault → Rose w1 w2) → HasCauses e0 e2 f0 f2 w0 w2 result
@@ -193,23 +232,29 @@ module _ (e0 e1 e2 f0 f1 f2 w0 w1 w2 : ℕ) (read : HasReadCauses e0 e1 f0 f1 No
       (λ no. cc) answers (same_end closing end ended.ReadFault (λ no. cc) (sym behind ∙ is)))
       (λ is. cause (same_end closing end ended.WriteFault (λ no. cc) (sym behind ∙ is)))
 
-  refused_never : (err : OwnError) (with_body : Bool) (sent : List ℕ) (result end : Ended) → IsRefusal err with_body sent result → (IsRefusal err with_body sent end → ⊥)
+  refused_never : (err : OwnError) (with_body : Bool) (sent : List ℕ) (result end : Ended)
+      → IsRefusal err with_body sent result → (IsRefusal err with_body sent end → ⊥)
       → Some result ≡ Some end → ⊥
   refused_never err with_body sent result end written never is =
       let same : result ≡ end = cc in never (subst (IsRefusal err with_body sent) same written)
 
   -- behind a refusal
-  pub refusal_causes : (err : OwnError) (with_body : Bool) (sent : List ℕ) (result : Ended) → IsRefusal err with_body sent result → (result ≡ ended.WriteFault → Rose w1 w2)
+  pub refusal_causes : (err : OwnError) (with_body : Bool) (sent : List ℕ) (result : Ended)
+      → IsRefusal err with_body sent result → (result ≡ ended.WriteFault → Rose w1 w2)
       → HasCauses e0 e2 f0 f2 w0 w2 (Some result)
   refusal_causes err with_body sent result written cause =
-      other_causes (Some result) (refused_never err with_body sent result ended.PeerEnded written (λ d. d)) (refused_never err with_body sent result ended.Cut written (λ d. d))
+      other_causes (Some result) (refused_never err with_body sent result ended.PeerEnded written
+      (λ d. d)) (refused_never err with_body sent result ended.Cut written (λ d. d))
       (refused_never err with_body sent result ended.ReadFault written (λ d. d)) (λ is. cause cc)
 
 -- with nothing written
-pub quiet_causes : (bytes : List ℕ) (e0 e1 f0 f1 w0 w1 : ℕ) (end : Ended) → ShowsNone bytes (Ends end) → HasReadCauses e0 e1 f0 f1 (Some end) → w1 ≡ w0 → HasCauses e0 e1 f0 f1 w0 w1 (Some end)
+pub quiet_causes : (bytes : List ℕ) (e0 e1 f0 f1 w0 w1 : ℕ) (end : Ended)
+    → ShowsNone bytes (Ends end) → HasReadCauses e0 e1 f0 f1 (Some end) → w1 ≡ w0
+    → HasCauses e0 e1 f0 f1 w0 w1 (Some end)
 quiet_causes bytes e0 e1 f0 f1 w0 w1 end shows read still = record {
   reading = read;
-  write_fault = λ is. let same : end ≡ ended.WriteFault = cc in absurd (subst (λ (e : Ended). ShowsNone bytes (Ends e)) same shows);
+  write_fault = λ is. let same : end ≡ ended.WriteFault = cc in
+      absurd (subst (λ (e : Ended). ShowsNone bytes (Ends e)) same shows);
   writes_later = omega (arith, still);
 }
 
@@ -218,30 +263,47 @@ quiet_causes bytes e0 e1 f0 f1 w0 w1 end shows read still = record {
 fewer : (n : ℕ) → n < 10000 → eqb (n + 1) 10000 ≡ false → n + 1 < 10000
 fewer n less other = grind (arith, nat_tests)
 
-module _ {J : Type 0} {g : Ghosts J} (which : Which) (first : Pass J g) (n : ℕ) (p q : Pass J g) (came gave came2 gave2 kept kept2 : List ℕ)
+module _ {J : Type 0} {g : Ghosts J} (which : Which) (first : Pass J g) (n : ℕ) (p q : Pass J g)
+    (came gave came2 gave2 kept kept2 : List ℕ)
     (serves : (more : List ℕ) → Serves which first (came ++ more) n p (kept ++ more) gave) where
   -- one request more was answered
   pub serves_more : (stopped closing : Bool)
       → Turns which (eqb (n + 1) 10000) closing p q (kept ++ came2) kept2 gave2 stopped None
-      → (more : List ℕ) → Serves which first ((came ++ came2) ++ more) (n + 1) q (kept2 ++ more) (gave ++ gave2)
+      → (more : List ℕ) → Serves which first ((came ++ came2) ++ more) (n + 1) q (kept2 ++ more)
+      (gave ++ gave2)
   serves_more stopped closing (on, off, (head, body, request, answers)) more =
-      subst (λ (bytes : List ℕ). Serves which first bytes (n + 1) q (kept2 ++ more) (gave ++ gave2)) (sym (append_assoc came came2 more))
-      (one_more n p q (kept ++ (came2 ++ more)) (kept2 ++ more) gave gave2 head body (serves (came2 ++ more))
-      (subst (λ (bytes : List ℕ). IsRequest bytes head body (kept2 ++ more)) (append_assoc kept came2 more) (request more)) answers)
+      subst (λ (bytes : List ℕ). Serves which first bytes (n + 1) q (kept2 ++ more) (gave ++ gave2))
+      (sym (append_assoc came came2 more))
+      (one_more n p q (kept ++ (came2 ++ more)) (kept2 ++ more) gave gave2 head body
+      (serves (came2 ++ more))
+      (subst (λ (bytes : List ℕ). IsRequest bytes head body (kept2 ++ more))
+      (append_assoc kept came2 more) (request more)) answers)
 
   pub few_served : n < 10000 → (stopped closing : Bool)
       → Turns which (eqb (n + 1) 10000) closing p q (kept ++ came2) kept2 gave2 stopped None
       → n + 1 < 10000
-  few_served less stopped closing (on, off, (head, body, request, answers)) = fewer n less (not_last which (eqb (n + 1) 10000) head body p q gave2 answers)
+  few_served less stopped closing (on, off, (head, body, request, answers)) =
+      fewer n less (not_last which (eqb (n + 1) 10000) head body p q gave2 answers)
 
   -- and it ended
   pub serves_all : (stopped closing : Bool) (end : Ended)
       → Turns which (eqb (n + 1) 10000) closing p q (kept ++ came2) kept2 gave2 stopped (Some end)
       → IsServing which first q (came ++ came2) (gave ++ gave2) stopped closing end
-  serves_all stopped closing end ends = record { count = n; mid = p; rest = kept ++ came2; first = gave; final = gave2; serves = serves came2; ends = ends; all = refl }
+  serves_all stopped closing end ends =
+      record {
+        count = n;
+        mid = p;
+        rest = kept ++ came2;
+        first = gave;
+        final = gave2;
+        serves = serves came2;
+        ends = ends;
+        all = refl;
+      }
 
 -- behind the turns before it, why the last one ended
-pub all_causes : (e0 e1 e2 f0 f1 f2 w0 w1 w2 : ℕ) (end : Ended) → e0 ≤ e1 → f0 ≤ f1 → w0 ≤ w1 → HasCauses e1 e2 f1 f2 w1 w2 (Some end) → HasCauses e0 e2 f0 f2 w0 w2 (Some end)
+pub all_causes : (e0 e1 e2 f0 f1 f2 w0 w1 w2 : ℕ) (end : Ended) → e0 ≤ e1 → f0 ≤ f1 → w0 ≤ w1
+    → HasCauses e1 e2 f1 f2 w1 w2 (Some end) → HasCauses e0 e2 f0 f2 w0 w2 (Some end)
 all_causes e0 e1 e2 f0 f1 f2 w0 w1 w2 end e f w causes = record {
   reading = record {
     peer_ended = λ is. rose_before e0 e1 e2 e (causes.reading.peer_ended is);
@@ -256,14 +318,19 @@ all_causes e0 e1 e2 f0 f1 f2 w0 w1 w2 end e f w causes = record {
 
 -- ---- turns with no request that is answered
 
-pub quiet_turn : (bytes : List ℕ) (refused : Refused) (end same : Ended) → refused ≡ Ends end → ShowsNone bytes refused → end ≡ same → EndsWithout bytes [] same
-quiet_turn bytes refused end same is shows is_same = subst (EndsWithout bytes []) is_same (quiet_end_of bytes end (subst (ShowsNone bytes) is shows))
+pub quiet_turn : (bytes : List ℕ) (refused : Refused) (end same : Ended) → refused ≡ Ends end
+    → ShowsNone bytes refused → end ≡ same → EndsWithout bytes [] same
+quiet_turn bytes refused end same is shows is_same = subst (EndsWithout bytes []) is_same
+    (quiet_end_of bytes end (subst (ShowsNone bytes) is shows))
 
-pub refused_turn : (bytes : List ℕ) (refused : Refused) (err same_err : OwnError) (with_body same_body : Bool) (sent : List ℕ) (end : Ended) → refused ≡ Own err with_body
-    → ShowsNone bytes refused → IsRefusal same_err same_body sent end → err ≡ same_err → with_body ≡ same_body → EndsWithout bytes sent end
+pub refused_turn : (bytes : List ℕ) (refused : Refused) (err same_err : OwnError)
+    (with_body same_body : Bool) (sent : List ℕ) (end : Ended) → refused ≡ Own err with_body
+    → ShowsNone bytes refused → IsRefusal same_err same_body sent end → err ≡ same_err → with_body
+    ≡ same_body → EndsWithout bytes sent end
 refused_turn bytes refused err same_err with_body same_body sent end is shows written e w =
     refusal_end bytes err with_body sent end (subst (ShowsNone bytes) is shows)
-    (subst (λ (x : OwnError). IsRefusal x with_body sent end) (sym e) (subst (λ (b : Bool). IsRefusal same_err b sent end) (sym w) written))
+    (subst (λ (x : OwnError). IsRefusal x with_body sent end) (sym e)
+    (subst (λ (b : Bool). IsRefusal same_err b sent end) (sym w) written))
 
 -- ---- whether the listeners are closing
 

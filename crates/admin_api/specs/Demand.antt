@@ -1,5 +1,6 @@
 -- What a request of the admin interface asks for.
-use Rattle.std.specs.Prelude.{ℕ, Bool, true, false, nat_le, if◌then◌else◌, List, length, codes, bytes_eq, Option, Some, None}
+use Rattle.std.specs.Prelude.{ℕ, Bool, true, false, nat_le, if◌then◌else◌, List, length, codes}
+use Rattle.std.specs.Prelude.{bytes_eq, Option, Some, None}
 use Rattle.name_tree.specs.Path.{Labels}
 use Rattle.dtab_table.specs.Rules.{Rule}
 use Rattle.addr_book.specs.declared.addr.Weighted.{Weighted}
@@ -12,12 +13,14 @@ use Rattle.ns_api.specs.declared.response.Status.TheVariants as status
 use Rattle.ns_api.specs.declared.verb.Methods.TheVariants.{Reads, Services, Posts}
 use Rattle.ns_api.specs.declared.verb.Verb.{Verb}
 use Rattle.ns_api.specs.declared.verb.Verb.TheVariants as verbs
-use Rattle.ns_api.specs.Demand.{DemandValue, answer, stop, alter, ask, no_path, not_allowed, bad_name}
+use Rattle.ns_api.specs.Demand.{DemandValue, answer, stop, alter, ask, no_path, not_allowed}
+use Rattle.ns_api.specs.Demand.{bad_name}
 use Rattle.ns_api.specs.Request.{name_of, path_in, query_in, segment_behind}
 use Rattle.ns_api.specs.Response.{ResponseValue, plain}
 use Rattle.ns_api.specs.Verbs.{verb_of}
 
--- the addresses of a file, each once, at its first place; nothing where a line is bad or they are too many
+-- the addresses of a file, each once, at its first place; nothing where a line is bad or they are
+-- too many
 abbrev pub few_addrs : File → Option (List Weighted)
 few_addrs (bad_at line) = None
 few_addrs (addrs list) = if nat_le (length list) 1024 then Some (first_places list) else None
@@ -38,6 +41,11 @@ pong = plain status.Success None (codes "pong")
 
 abbrev pub bye : ResponseValue
 bye = plain status.Success None (codes "bye")
+
+-- whether more connections are to be sent here
+abbrev pub readiness : Bool → ResponseValue
+readiness true = plain status.Success None (codes "ready")
+readiness false = plain status.ServiceUnavailable None (codes "not-ready")
 
 -- a method that shows something
 abbrev pub is_read : Option Verb → Bool
@@ -89,11 +97,19 @@ abbrev pub segment_demand : Option Verb → Option (List ℕ) → List ℕ → D
 segment_demand verb None body = answer no_path
 segment_demand verb (Some segment) body = service_demand verb segment body
 
--- What a request of the admin interface asks for, by its head, the target that goes on, and its body. The tests come in the order path, method, name, body, and then the state
-unfoldable pub admin_demand : Head → List ℕ → List ℕ → DemandValue
-admin_demand head line body =
+-- What a request of the admin interface asks for, by whether that is ready, the request's head, the
+-- target that goes on, and its body. The tests come in the order path, method, name, body, and then
+-- the state
+unfoldable pub admin_demand : Bool → Head → List ℕ → List ℕ → DemandValue
+admin_demand ready head line body =
     if bytes_eq (path_in line) (codes "/admin/ping") then shown (answer pong) (verb_of head.method)
-    else if bytes_eq (path_in line) (codes "/admin/metrics.json") then shown (ask count_all) (verb_of head.method)
-    else if bytes_eq (path_in line) (codes "/delegator.json") then shown (view_demand (view_asked (query_in line))) (verb_of head.method)
-    else if bytes_eq (path_in line) (codes "/admin/shutdown") then posted (stop bye) (verb_of head.method)
-    else segment_demand (verb_of head.method) (segment_behind (codes "/api/1/addrs/") (path_in line)) body
+    else if bytes_eq (path_in line) (codes "/admin/metrics.json")
+    then shown (ask count_all) (verb_of head.method)
+    else if bytes_eq (path_in line) (codes "/delegator.json")
+    then shown (view_demand (view_asked (query_in line))) (verb_of head.method)
+    else if bytes_eq (path_in line) (codes "/admin/shutdown")
+    then posted (stop bye) (verb_of head.method)
+    else if bytes_eq (path_in line) (codes "/admin/ready")
+    then shown (answer (readiness ready)) (verb_of head.method)
+    else segment_demand (verb_of head.method)
+    (segment_behind (codes "/api/1/addrs/") (path_in line)) body

@@ -1,5 +1,7 @@
--- The requests that the bytes of a connection begin with, and those that are refused before they are answered.
-use Rattle.std.specs.Prelude.{◌≡◌, ◌≢◌, ◌⊎◌, ℕ, ◌≤◌, nat_lt, Bool, true, false, List, [], ◌++◌, drop, codes, Some, None, Ok, Err}
+-- The requests that the bytes of a connection begin with, and those that are refused before they
+-- are answered.
+use Rattle.std.specs.Prelude.{◌≡◌, ◌≢◌, ◌⊎◌, ℕ, ◌≤◌, nat_lt, Bool, true, false, List, [], ◌++◌}
+use Rattle.std.specs.Prelude.{drop, codes, Some, None, Ok, Err}
 use Rattle.http_wire.specs.declared.frames.Framing.{Framing}
 use Rattle.http_wire.specs.declared.frames.FramingFault.{FramingFault}
 use Rattle.http_wire.specs.declared.head.Head.{Head}
@@ -22,7 +24,8 @@ names_long_body (Framing.Length n) = nat_lt most_read n
 names_long_body Framing.Chunked = false
 names_long_body Framing.ToEnd = false
 
--- the head passes the tests of its target, its framing, its length and its host, and its body is framed so
+-- the head passes the tests of its target, its framing, its length and its host, and its body is
+-- framed so
 pub record IsTested (head : Head) (framing : Framing) : Type 0 where
   pub other : head.method ≢ codes "CONNECT"
   pub form : Form
@@ -40,19 +43,25 @@ pub data Refuses (head : Head) : OwnError → Type 0 where
       → framing_of head.version head.fields ≡ Err FramingFault.Length → Refuses head own.Length
   bad_coding : (form : Form) → head.method ≢ codes "CONNECT" → IsServed head.method head.target form
       → framing_of head.version head.fields ≡ Err FramingFault.Coding → Refuses head own.Coding
-  long_length : (form : Form) (framing : Framing) → head.method ≢ codes "CONNECT" → IsServed head.method head.target form
-      → framing_of head.version head.fields ≡ Ok framing → names_long_body framing ≡ true → Refuses head own.TooLong
-  no_host : (form : Form) (framing : Framing) → head.method ≢ codes "CONNECT" → IsServed head.method head.target form
-      → framing_of head.version head.fields ≡ Ok framing → names_long_body framing ≡ false → host_of head.version head.fields form.authority ≡ None → Refuses head own.Host
+  long_length : (form : Form) (framing : Framing) → head.method ≢ codes "CONNECT"
+      → IsServed head.method head.target form
+      → framing_of head.version head.fields ≡ Ok framing → names_long_body framing ≡ true
+      → Refuses head own.TooLong
+  no_host : (form : Form) (framing : Framing) → head.method ≢ codes "CONNECT"
+      → IsServed head.method head.target form
+      → framing_of head.version head.fields ≡ Ok framing → names_long_body framing ≡ false
+      → host_of head.version head.fields form.authority ≡ None → Refuses head own.Host
 
 -- the bytes begin with a head that passes the tests, and behind it these were taken of its body
-pub record BeginsRequest (bytes : List ℕ) (head : Head) (framing : Framing) (taken behind : List ℕ) : Type 0 where
+pub record BeginsRequest (bytes : List ℕ) (head : Head) (framing : Framing)
+    (taken behind : List ℕ) : Type 0 where
   pub len : ℕ
   pub begins : BeginsWith bytes head len
   pub tested : IsTested head framing
   pub cut : drop len bytes ≡ taken ++ behind
 
--- the bytes begin with a whole request with this body, which is no longer than is served, and these follow it
+-- the bytes begin with a whole request with this body, which is no longer than is served, and these
+-- follow it
 pub record IsRequest (bytes : List ℕ) (head : Head) (body behind : List ℕ) : Type 0 where
   pub framing : Framing
   pub taken : List ℕ
@@ -99,7 +108,8 @@ pub data IsRefusedAs (bytes : List ℕ) : OwnError → Bool → Type 0 where
   bad_head : IsBad bytes → IsRefusedAs bytes own.BadHead true
   other_version : NamesOtherVersion bytes → IsRefusedAs bytes own.Version true
   large_head : IsTooLarge bytes → IsRefusedAs bytes own.HeadTooLarge true
-  tested : (head : Head) (len : ℕ) (err : OwnError) → BeginsWith bytes head len → Refuses head err → IsRefusedAs bytes err (has_body head)
+  tested : (head : Head) (len : ℕ) (err : OwnError) → BeginsWith bytes head len → Refuses head err
+      → IsRefusedAs bytes err (has_body head)
   bad_body : (head : Head) → HasBadBody bytes head → IsRefusedAs bytes own.Body (has_body head)
   long_body : (head : Head) → HasLongBody bytes head → IsRefusedAs bytes own.TooLong (has_body head)
 

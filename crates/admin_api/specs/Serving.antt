@@ -1,7 +1,7 @@
 -- A connection of an interface: the requests that its bytes begin with, in order, what each is
 -- answered, and how it ends.
-use Rattle.std.specs.Prelude.{◌≡◌, ◌≤◌, ◌⊎◌, ℕ, ◌+◌, ◌==◌, ◌||◌, Bool, true, false, if◌then◌else◌}
-use Rattle.std.specs.Prelude.{List, [], ◌++◌, Option, Some, None}
+use Rattle.std.specs.Prelude.{◌≡◌, ◌≤◌, ◌⊎◌, ℕ, ◌+◌, ◌==◌, ◌||◌, ◌&&◌, not, Bool, true, false}
+use Rattle.std.specs.Prelude.{if◌then◌else◌, List, [], ◌++◌, Option, Some, None}
 use Rattle.line_base.specs.Counts.{Rose, raised}
 use Rattle.http_wire.specs.declared.ended.Ended.{Ended}
 use Rattle.http_wire.specs.declared.ended.Ended.TheVariants as ended
@@ -28,6 +28,13 @@ use Rattle.admin_api.specs.Reading.{HasReadCauses, is_drained}
 -- the most requests of one connection
 abbrev pub most_requests : ℕ
 most_requests = 10000
+
+-- the interface as a request finds it: once the listeners are closing, the admin interface is ready
+-- for no more connections
+abbrev pub while_closing : Bool → Which → Which
+while_closing closing Namerd = Namerd
+while_closing closing (Admin ready) = Admin (ready && not closing)
+while_closing closing (Feed run) = Feed run
 
 -- the calls of a stop: one more where the program was stopped
 abbrev pub calls_after : ℕ → Bool → ℕ
@@ -83,14 +90,15 @@ module _ {J : Type 0} {g : Ghosts J} where
   abbrev pub AnswersAs : Which → Head → Bool → List ℕ → Pass J g → Pass J g → ApiReply → Type 0
   AnswersAs Namerd head last body old new reply =
       AnswersBy head last (λ line. ns_demand head line body) old new reply
-  AnswersAs Admin head last body old new reply =
-      AnswersBy head last (λ line. admin_demand head line body) old new reply
+  AnswersAs (Admin ready) head last body old new reply =
+      AnswersBy head last (λ line. admin_demand ready head line body) old new reply
   AnswersAs (Feed run) head last body old new reply = AnswersFeed run head last old new reply
 
   -- or memory was wanting, and what it asked for was done, or nothing
   abbrev pub LeavesAs : Which → Head → List ℕ → Pass J g → Pass J g → Type 0
   LeavesAs Namerd head body old new = LeavesBy head (λ line. ns_demand head line body) old new
-  LeavesAs Admin head body old new = LeavesBy head (λ line. admin_demand head line body) old new
+  LeavesAs (Admin ready) head body old new =
+      LeavesBy head (λ line. admin_demand ready head line body) old new
   LeavesAs (Feed run) head body old new = LeavesFeed head old new
 
   -- a request has its answer, which is delivered
@@ -127,7 +135,9 @@ module _ {J : Type 0} {g : Ghosts J} where
     pub request : IsRequest bytes head body behind
     pub asked : IsAsked spent closing
     pub end : Option Ended
-    pub answers : Answers which (spent || closing) head body old new written stopped end
+    pub answers :
+        Answers (while_closing closing which) (spent || closing) head body old new written stopped
+        end
     pub is : Some result ≡ drained closing end
 
   -- or with none

@@ -6,7 +6,9 @@ ghost use Rattle.machine.specs.Values.{count_all};
 ghost use Rattle.ns_api.specs.Demand.{answer, ask, demand_value, stop};
 ghost use Rattle.ns_api.specs.Request.{name_of};
 ghost use Rattle.ns_api.specs.Response.{plain};
-ghost use Rattle.admin_api.specs.Demand.{addrs_asked, addrs_of, admin_demand, bye, is_read, named_asked, pong, posted, segment_demand, service_demand, set_demand, shown, view_demand};
+ghost use Rattle.admin_api.specs.Demand.{addrs_asked, addrs_of, admin_demand, bye, is_read};
+ghost use Rattle.admin_api.specs.Demand.{named_asked, pong, posted, readiness, segment_demand};
+ghost use Rattle.admin_api.specs.Demand.{service_demand, set_demand, shown, view_demand};
 
 use crate::Mem;
 use addr_book::{AddrFault, Name, NameFault, read_addrs};
@@ -19,10 +21,18 @@ use ns_api::{
 };
 use std::alloc::{AllocError, Global};
 
-/// What a request of the admin interface asks for, by its head, the target that goes on, and its body.
+/// What a request of the admin interface asks for, by whether that is ready, the request's head,
+/// the target that goes on, and its body.
 #[tactic(auto, unfolding(crate::specs::Demand::admin_demand))]
-pub(crate) fn admin_demand(alloc: Global, head: &Head, line: &[u8], body: &[u8]) -> Mem<Demand>
-    ensures { IfOk result (λ demand. demand_value demand ≡ admin_demand head.now line.now body.now) }
+pub(crate) fn admin_demand(
+    alloc: Global,
+    ready: bool,
+    head: &Head,
+    line: &[u8],
+    body: &[u8],
+) -> Mem<Demand>
+    ensures { IfOk result (λ demand. demand_value demand
+        ≡ admin_demand ready head.now line.now body.now) }
 {
     let path = path_in(line);
     let verb = verb_of(&head.method);
@@ -37,6 +47,9 @@ pub(crate) fn admin_demand(alloc: Global, head: &Head, line: &[u8], body: &[u8])
     }
     if is_path(path, b"/admin/shutdown") {
         return shutdown_demand(alloc, verb);
+    }
+    if is_path(path, b"/admin/ready") {
+        return ready_demand(alloc, ready, verb);
     }
     segment_demand(alloc, verb, segment_behind(b"/api/1/addrs/", path), body)
 }
@@ -73,6 +86,21 @@ fn ping_demand(alloc: Global, verb: Option<Verb>) -> Mem<Demand>
     }
 }
 
+/// What the path is asked for that says whether more connections are to be sent here.
+fn ready_demand(alloc: Global, ready: bool, verb: Option<Verb>) -> Mem<Demand>
+    ensures { IfOk result (λ demand. demand_value demand
+        ≡ shown (answer (readiness ready)) verb) }
+{
+    if !is_read(verb) {
+        return not_allowed(alloc, Methods::Reads);
+    }
+    if ready {
+        say(alloc, Status::Success, "ready")
+    } else {
+        say(alloc, Status::ServiceUnavailable, "not-ready")
+    }
+}
+
 /// What the counts are asked for.
 fn counts_demand(alloc: Global, verb: Option<Verb>) -> Mem<Demand>
     ensures { IfOk result (λ demand. demand_value demand ≡ shown (ask count_all) verb) }
@@ -86,7 +114,8 @@ fn counts_demand(alloc: Global, verb: Option<Verb>) -> Mem<Demand>
 
 /// What the delegator is asked for.
 fn delegator_demand(alloc: Global, verb: Option<Verb>, query: &[u8]) -> Mem<Demand>
-    ensures { IfOk result (λ demand. demand_value demand ≡ shown (view_demand (view_asked query.now)) verb) }
+    ensures { IfOk result (λ demand. demand_value demand
+        ≡ shown (view_demand (view_asked query.now)) verb) }
 {
     if is_read(verb) {
         view_demand(alloc, query)
@@ -127,7 +156,8 @@ fn segment_demand(
     segment: Option<&[u8]>,
     body: &[u8],
 ) -> Mem<Demand>
-    ensures { IfOk result (λ demand. demand_value demand ≡ segment_demand verb (option_copied segment.entry) body.now) }
+    ensures { IfOk result (λ demand. demand_value demand
+        ≡ segment_demand verb (option_copied segment.entry) body.now) }
 {
     match segment {
         None => no_path(alloc),
@@ -137,7 +167,8 @@ fn segment_demand(
 
 /// What the addresses of a service are asked for.
 fn service_demand(alloc: Global, verb: Option<Verb>, segment: &[u8], body: &[u8]) -> Mem<Demand>
-    ensures { IfOk result (λ demand. demand_value demand ≡ service_demand verb segment.now body.now) }
+    ensures { IfOk result (λ demand. demand_value demand
+        ≡ service_demand verb segment.now body.now) }
 {
     match verb {
         Some(Verb::Get) => named_asked(alloc, Verb::Get, segment, body),
@@ -151,7 +182,8 @@ fn service_demand(alloc: Global, verb: Option<Verb>, segment: &[u8], body: &[u8]
 
 /// The same by the name that the segment is.
 fn named_asked(alloc: Global, verb: Verb, segment: &[u8], body: &[u8]) -> Mem<Demand>
-    ensures { IfOk result (λ demand. demand_value demand ≡ named_asked verb (name_of segment.now) body.now) }
+    ensures { IfOk result (λ demand. demand_value demand ≡ named_asked verb (name_of segment.now)
+        body.now) }
 {
     match read_name(alloc, segment) {
         Ok(name) => addrs_asked(alloc, verb, name, body),

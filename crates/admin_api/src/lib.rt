@@ -7,7 +7,8 @@
 //! program behind the reply to a shutdown. `docs/API.md` has each path with its answers.
 //!
 //! # What is proved
-//! What a request asks for is a function of its head, the target that goes on, and its body:
+//! What a request asks for is a function of its head, the target that goes on, and its body, and of
+//! whether the program is ready for more connections:
 //! `admin_demand` of `specs/Demand.antt`. [`admin_answer`] makes exactly the one change or look, or
 //! none, and answers the bytes of the response to the reply that the router's state gives at that
 //! call's point; the reply says that the program is to stop exactly where the request asked for
@@ -21,7 +22,7 @@
 //! # Example
 //! ```text
 //! let head = read_request_head(alloc, &mut peer, &mut rest)?; // PUT /api/1/addrs/web
-//! let reply = admin_answer(&rt, alloc, &router, &mut pass, &head, &body, false)?;
+//! let reply = admin_answer(&rt, alloc, &router, &mut pass, true, &head, &body, false)?;
 //! // HTTP/1.1 204 No Content
 //! ```
 #![tactic(auto)]

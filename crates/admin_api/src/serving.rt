@@ -1,5 +1,6 @@
 //! One connection of an interface, request by request.
-ghost use Rattle.std.specs.Prelude.{◌≡◌, ◌≤◌, ◌++◌, ◌||◌, Bool, IfOk, OnErr, List, ℕ, Some};
+ghost use Rattle.std.specs.Prelude.{◌≡◌, ◌≤◌, ◌++◌, ◌||◌, ◌&&◌, not, Bool, IfOk, OnErr, List, ℕ};
+ghost use Rattle.std.specs.Prelude.{Some};
 ghost use Rattle.std.specs.Io.KnownBytes.{Appends, Consumes};
 ghost use Rattle.line_base.specs.Counts.{Rose};
 ghost use Rattle.line_base.specs.Lines.{IsUnread};
@@ -7,7 +8,7 @@ ghost use Rattle.router.specs.Passes.{number_in};
 ghost use Rattle.ns_api.specs.Answering.{IsTaken};
 ghost use Rattle.admin_api.specs.Reading.{raised_where};
 ghost use Rattle.admin_api.specs.Serving.{Answers, AnswersAs, HasCauses, IsDelivered, IsServing};
-ghost use Rattle.admin_api.specs.Serving.{LeavesAs, Turns, calls_after, end_behind};
+ghost use Rattle.admin_api.specs.Serving.{LeavesAs, Turns, calls_after, end_behind, while_closing};
 
 use crate::answering::admin_answer;
 use crate::request::{Refused, Request, read_request};
@@ -31,12 +32,38 @@ pub enum Which {
     /// namerd's.
     Namerd,
     /// The admin interface.
-    Admin,
+    Admin {
+        /// Whether all is listened on, so that more connections are to be sent here. A request that
+        /// is answered once the listeners are closing finds it not to be so.
+        ready: bool,
+    },
     /// The feed that followers read.
     Feed {
         /// The number of this run of the program, greater than those of its earlier runs.
         run: u64,
     },
+}
+
+impl Which {
+    /// The interface as a request finds it, by whether the listeners are closing.
+    fn while_closing(self, closing: bool) -> Which
+        ensures { result ≡ while_closing closing self }
+    {
+        match self {
+            Which::Namerd => Which::Namerd,
+            Which::Admin { ready } => Which::Admin {
+                ready: stays_ready(ready, closing),
+            },
+            Which::Feed { run } => Which::Feed { run },
+        }
+    }
+}
+
+/// Whether what was ready for more connections still is.
+fn stays_ready(ready: bool, closing: bool) -> bool
+    ensures { result ≡ (ready && not closing) }
+{
+    ready && !closing
 }
 
 /// Serves a connection: its requests, one after another, until it ends or one closes it, and at
@@ -113,7 +140,8 @@ fn serve_next<J: Naming, R: Wait, P: Peer, S: Stop>(
         Ok(request) => {
             let closing = hears_closing(spent, peer);
             let last = is_last(spent, closing);
-            let ended = reply_to(rt, alloc, router, pass, which, last, stop, peer, &request);
+            let found = which.while_closing(closing);
+            let ended = reply_to(rt, alloc, router, pass, found, last, stop, peer, &request);
             drained(closing, ended)
         }
         Err(Refused::Own(err, with_body)) => Some(refuse(alloc, peer, err, with_body)),
@@ -186,7 +214,7 @@ fn answer<J: Naming, R: Wait>(
 {
     match which {
         Which::Namerd => ns_answer(rt, alloc, router, pass, head, body, last),
-        Which::Admin => admin_answer(rt, alloc, router, pass, head, body, last),
+        Which::Admin { ready } => admin_answer(rt, alloc, router, pass, ready, head, body, last),
         Which::Feed { run } => feed_answer(rt, alloc, router, pass, run, head, last),
     }
 }

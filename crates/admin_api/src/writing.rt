@@ -13,9 +13,11 @@ use std::alloc::Global;
 
 /// Refuses a request, and closes the connection behind the reply.
 pub(crate) fn refuse<P: Peer>(alloc: Global, peer: &mut P, err: OwnError, with_body: bool) -> Ended
-    ensures bytes { (sent : List ℕ) × Appends (P.line peer.old).given (P.line peer.new).given sent × IsRefusal err with_body sent result }
+    ensures bytes { (sent : List ℕ) × Appends (P.line peer.old).given (P.line peer.new).given sent
+        × IsRefusal err with_body sent result }
     ensures others { IsUnread (P.line peer.old) (P.line peer.new) }
-    ensures cause { result ≡ Ended.WriteFault → Rose (P.line peer.old).write_faults (P.line peer.new).write_faults }
+    ensures cause { result ≡ Ended.WriteFault
+        → Rose (P.line peer.old).write_faults (P.line peer.new).write_faults }
     ensures later { (P.line peer.old).write_faults ≤ (P.line peer.new).write_faults }
 {
     let Ok(reply) = own_reply(alloc, err, true, with_body) else {

@@ -23,8 +23,8 @@ pub(crate) type Mem<T> = Result<T, AllocError>;
 /// The bytes of a text.
 pub(crate) type Bytes = Vec<u8>;
 
-/// A connection: the bytes that come on it, which of its reads and which of its writes fails, the first
-/// being 0, and from which question on it says that its listeners are closing.
+/// A connection: the bytes that come on it, which of its reads and which of its writes fails, the
+/// first being 0, and from which question on it says that its listeners are closing.
 #[derive(Drop)]
 pub(crate) struct Connection {
     pub(crate) to: Which,

@@ -1,6 +1,6 @@
 //! Connections whose listeners are closing.
 use crate::connections::{Connection, Served, run};
-use admin_api::Which::Admin;
+use crate::rows::ADMIN;
 use http_wire::Ended::{self, Drained, PeerEnded};
 use std::alloc::Global;
 use std::sync::Wait;
@@ -8,23 +8,24 @@ use std::test::Fail;
 
 /// Two requests, which come at once.
 const TWO: &str =
-    "GET /admin/ping HTTP/1.1\r\nHost: n\r\n\r\nGET /admin/ping HTTP/1.1\r\nHost: n\r\n\r\n";
+    "GET /admin/ready HTTP/1.1\r\nHost: n\r\n\r\nGET /admin/ready HTTP/1.1\r\nHost: n\r\n\r\n";
 
-const PONG: &str = "HTTP/1.1 200 OK\r\nContent-Type: text/plain\r\nContent-Length: 5\r\n\r\npong\n";
+const READY: &str =
+    "HTTP/1.1 200 OK\r\nContent-Type: text/plain\r\nContent-Length: 6\r\n\r\nready\n";
 
 /// Behind it the connection closes.
 const LAST: &str =
-    "HTTP/1.1 200 OK\r\nContent-Type: text/plain\r\nContent-Length: 5\r\nConnection: close\r\n\r\npong\n";
+    "HTTP/1.1 503 Service Unavailable\r\nContent-Type: text/plain\r\nContent-Length: 10\r\nConnection: close\r\n\r\nnot-ready\n";
 
 /// From which question on the connection says that its listeners are closing, the replies, and the
-/// end. The questions are: a wait for the first request, whether it is the last, whether the second is,
-/// and a wait for a third.
+/// end. The questions are: a wait for the first request, whether it is the last, whether the second
+/// is, and a wait for a third.
 const ROWS: [(u64, &[&str], Ended); 5] = [
     (0, &[], Drained),
     (1, &[LAST], Drained),
-    (2, &[PONG, LAST], Drained),
-    (3, &[PONG, PONG], Drained),
-    (4, &[PONG, PONG], PeerEnded),
+    (2, &[READY, LAST], Drained),
+    (3, &[READY, READY], Drained),
+    (4, &[READY, READY], PeerEnded),
 ];
 
 /// Serves a connection for each row.
@@ -33,7 +34,7 @@ fn serve_rows<R: Wait>(rt: &R, alloc: Global) -> Result<Vec<Served>, Fail> {
     for (question, _replies, _ended) in &ROWS {
         all.push(Connection {
             closing: Some(*question),
-            ..Connection::of(Admin, Vec::from_slice(alloc, TWO.as_bytes())?)
+            ..Connection::of(ADMIN, Vec::from_slice(alloc, TWO.as_bytes())?)
         })?;
     }
     run(rt, alloc, all.as_slice())

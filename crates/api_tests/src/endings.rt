@@ -1,13 +1,14 @@
 //! Connections with several requests: each has its reply, in order, and how the connection ends.
 use crate::connections::{Connection, Mem, Served, run};
-use crate::rows::said;
-use admin_api::Which::{self, Admin, Namerd};
+use crate::rows::{ADMIN, said};
+use admin_api::Which::{self, Namerd};
 use http_wire::Ended;
 use std::alloc::Global;
 use std::sync::Wait;
 use std::test::Fail;
 
-/// What comes on a connection, which of its reads and its writes fails, what is given behind `HTTP/1.1 `, how it ends, and how often the program is stopped.
+/// What comes on a connection, which of its reads and its writes fails, what is given behind
+/// `HTTP/1.1 `, how it ends, and how often the program is stopped.
 type Row = (
     Which,
     &'static str,
@@ -22,7 +23,7 @@ const PONG: &str = "200 OK\r\nContent-Type: text/plain\r\nContent-Length: 5\r\n\
 
 const ROWS: [Row; 23] = [
     (
-        Admin,
+        ADMIN,
         "\r\nGET /admin/ping HTTP/1.1\r\nHost: n\r\n\r\n\r\n",
         None,
         None,
@@ -30,7 +31,7 @@ const ROWS: [Row; 23] = [
         Ended::PeerEnded,
         0,
     ),
-    (Admin, "", None, None, "no reply", Ended::PeerEnded, 0),
+    (ADMIN, "", None, None, "no reply", Ended::PeerEnded, 0),
     // One behind the other, each with its body, and a last one that is cut.
     (
         Namerd,
@@ -42,7 +43,7 @@ const ROWS: [Row; 23] = [
         0,
     ),
     (
-        Admin,
+        ADMIN,
         "GET /admin/ping HTTP/1.1\r\nHo",
         None,
         None,
@@ -52,7 +53,7 @@ const ROWS: [Row; 23] = [
     ),
     // Nothing is answered behind a reply that closes.
     (
-        Admin,
+        ADMIN,
         "GET /admin/ping HTTP/1.1\r\nHost: n\r\nConnection: close\r\n\r\nGET /admin/ping HTTP/1.1\r\nHost: n\r\n\r\n",
         None,
         None,
@@ -61,7 +62,7 @@ const ROWS: [Row; 23] = [
         0,
     ),
     (
-        Admin,
+        ADMIN,
         "GET /admin/ping HTTP/1.0\r\n\r\n",
         None,
         None,
@@ -71,7 +72,7 @@ const ROWS: [Row; 23] = [
     ),
     // A shutdown is answered, and then done; on the other port it is no path.
     (
-        Admin,
+        ADMIN,
         "POST /admin/shutdown HTTP/1.1\r\nHost: n\r\n\r\nGET /admin/ping HTTP/1.1\r\nHost: n\r\n\r\n",
         None,
         None,
@@ -89,7 +90,7 @@ const ROWS: [Row; 23] = [
         0,
     ),
     (
-        Admin,
+        ADMIN,
         "POST /admin/shutdown HTTP/1.1\r\nHost: n\r\n\r\n",
         None,
         Some(0),
@@ -99,7 +100,7 @@ const ROWS: [Row; 23] = [
     ),
     // Heads and bodies that are refused.
     (
-        Admin,
+        ADMIN,
         "GET /admin/ping HTTP/2.0\r\n\r\n",
         None,
         None,
@@ -108,7 +109,7 @@ const ROWS: [Row; 23] = [
         0,
     ),
     (
-        Admin,
+        ADMIN,
         "HEAD /admin/ping HTTP/1.1\r\n\r\n",
         None,
         None,
@@ -117,7 +118,7 @@ const ROWS: [Row; 23] = [
         0,
     ),
     (
-        Admin,
+        ADMIN,
         "CONNECT n:1 HTTP/1.1\r\nHost: n\r\n\r\n",
         None,
         None,
@@ -154,7 +155,7 @@ const ROWS: [Row; 23] = [
         0,
     ),
     (
-        Admin,
+        ADMIN,
         "PUT /api/1/addrs/web HTTP/1.1\r\nHost: n\r\nContent-Length: 1048577\r\n\r\n",
         Some(1),
         None,
@@ -182,7 +183,7 @@ const ROWS: [Row; 23] = [
         0,
     ),
     (
-        Admin,
+        ADMIN,
         "PUT /api/1/addrs/web HTTP/1.1\r\nContent-Length: 1048577\r\n\r\n",
         Some(1),
         None,
@@ -211,7 +212,7 @@ const ROWS: [Row; 23] = [
     ),
     // A call that fails ends the connection.
     (
-        Admin,
+        ADMIN,
         "GET /admin/ping HTTP/1.1\r\nHost: n\r\n\r\n",
         Some(0),
         None,
@@ -220,7 +221,7 @@ const ROWS: [Row; 23] = [
         0,
     ),
     (
-        Admin,
+        ADMIN,
         "GET /admin/ping HTTP/1.1\r\nHost: n\r\n\r\nGET /admin/ping HTTP/1.1\r\nHost: n\r\n\r\n",
         None,
         Some(1),

@@ -1,7 +1,7 @@
 //! Bodies at their limits, and the last request of a connection.
 use crate::connections::{Bytes, Connection, Mem, run};
-use crate::rows::{request, said};
-use admin_api::Which::{self, Admin, Namerd};
+use crate::rows::{ADMIN, request, said};
+use admin_api::Which::{self, Namerd};
 use http_wire::Ended;
 use std::alloc::Global;
 use std::sync::Wait;
@@ -32,7 +32,7 @@ type Row = (
 const ROWS: [Row; 12] = [
     (Namerd, "", "(", 1_048_576, "", NO_TABLE),
     (Namerd, "", "(", 1_048_577, "", TOO_LONG),
-    (Admin, "", "10.0.0.1 1\n", 95_326, "", TOO_LONG),
+    (ADMIN, "", "10.0.0.1 1\n", 95_326, "", TOO_LONG),
     (Namerd, "/a=>/b", " ", 65_530, "", MADE),
     (Namerd, "/a=>/b", " ", 65_531, "", NO_TABLE),
     (
@@ -76,14 +76,14 @@ const ROWS: [Row; 12] = [
         NO_TABLE,
     ),
     (
-        Admin,
+        ADMIN,
         "",
         "10.0.0.1 1\n",
         1024,
         "",
         "204 No Content\r\n\r\n",
     ),
-    (Admin, "", "10.0.0.1 1\n", 1025, "", NO_ADDRS),
+    (ADMIN, "", "10.0.0.1 1\n", 1025, "", NO_ADDRS),
 ];
 
 /// So many parts between two texts.
@@ -107,7 +107,7 @@ fn request_of(alloc: Global, row: &Row) -> Mem<Bytes> {
     };
     let asks = match to {
         Namerd => "POST /api/1/dtabs/web",
-        Admin => "PUT /api/1/addrs/web",
+        Which::Admin { .. } => "PUT /api/1/addrs/web",
         Which::Feed { .. } => "GET /feed/web",
     };
     request(alloc, asks, json, body.as_slice())
@@ -146,13 +146,13 @@ const FULL: [Most; 3] = [
         "HTTP/1.1 507 Insufficient Storage\r\nContent-Type: text/plain\r\nContent-Length: 15\r\n\r\ntoo-many-names\n",
     ),
     (
-        Admin,
+        ADMIN,
         4096,
         0,
         "HTTP/1.1 507 Insufficient Storage\r\nContent-Type: text/plain\r\nContent-Length: 18\r\n\r\ntoo-many-services\n",
     ),
     (
-        Admin,
+        ADMIN,
         8,
         1024,
         "HTTP/1.1 507 Insufficient Storage\r\nContent-Type: text/plain\r\nContent-Length: 10\r\n\r\nbook-full\n",
@@ -173,7 +173,7 @@ fn addresses(alloc: Global, number: usize, count: usize) -> Mem<Bytes> {
 fn numbered(alloc: Global, to: Which, number: usize, count: usize) -> Mem<Bytes> {
     let target = match to {
         Namerd => "POST /api/1/dtabs/n",
-        Admin => "PUT /api/1/addrs/s",
+        Which::Admin { .. } => "PUT /api/1/addrs/s",
         Which::Feed { .. } => "GET /feed/n",
     };
     let asks = format!(in alloc; "{}{}", target, number)?;
@@ -205,7 +205,7 @@ fn replies_to(alloc: Global, most: &Most) -> Mem<String> {
                     number.saturating_add(1)
                 )?
             }
-            Admin | Which::Feed { .. } => {
+            Which::Admin { .. } | Which::Feed { .. } => {
                 String::from_str(alloc, "HTTP/1.1 204 No Content\r\n\r\n")?
             }
         };
@@ -247,7 +247,7 @@ fn a_connection_carries_ten_thousand_requests(rt: HostRuntime) -> Result<(), Fai
         10_001,
         "",
     )?;
-    let (_told, ended, length) = served(&rt, alloc, Admin, pings)?;
+    let (_told, ended, length) = served(&rt, alloc, ADMIN, pings)?;
     assert_eq!(rt; ended, Ended::Spent);
     // A reply has 69 bytes, and the last one says `Connection: close`, which is 19 more.
     assert_eq!(rt; length, 10_000 * 69 + 19);

@@ -33,7 +33,8 @@ const ROWS: [Row; 40] = [
         "",
         "200 OK\r\nContent-Type: application/json\r\nContent-Length: 7\r\n\r\n",
     ),
-    // The path is tested before the method, the method before the name, the name before the body, and the body before the state.
+    // The path is tested before the method, the method before the name, the name before the body,
+    // and the body before the state.
     (
         Namerd,
         "PATCH /api/1/dtab",
@@ -191,7 +192,8 @@ const ROWS: [Row; 40] = [
         "/a",
         "400 Bad Request\r\nContent-Type: text/plain\r\nContent-Length: 5\r\n\r\ndtab\n",
     ),
-    // A table with escapes, quotation marks and bytes past ASCII goes out as JSON, and comes back the same.
+    // A table with escapes, quotation marks and bytes past ASCII goes out as JSON, and comes back
+    // the same.
     (
         Namerd,
         "PUT /api/1/dtabs/web",

@@ -5,7 +5,11 @@ use std::alloc::Global;
 use std::sync::Wait;
 use std::test::Fail;
 
-/// A request: which interface it goes to, its method and target, its further fields, and its body; and the reply behind `HTTP/1.1 `.
+/// The admin interface of a program that listens.
+pub(crate) const ADMIN: Which = Which::Admin { ready: true };
+
+/// A request: which interface it goes to, its method and target, its further fields, and its body;
+/// and the reply behind `HTTP/1.1 `.
 pub(crate) type Row = (
     Which,
     &'static str,

@@ -1,4 +1,5 @@
-//! The replies of a router that has given its last version, or made its last change. No test can make so many changes, so that these replies are told directly.
+//! The replies of a router that has given its last version, or made its last change. No test can
+//! make so many changes, so that these replies are told directly.
 use crate::connections::Mem;
 use crate::rows::said;
 use machine::Reply;

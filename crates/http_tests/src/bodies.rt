@@ -1,4 +1,5 @@
-//! Bodies over peers and dialers in memory: worked rows, each cutting of the bytes, each failing call, and limits.
+//! Bodies over peers and dialers in memory: worked rows, each cutting of the bytes, each failing
+//! call, and limits.
 mod exchange;
 
 use crate::bodies::exchange::{Calls, Passed, back, onward, unsent, whole, written};
@@ -76,7 +77,8 @@ fn came_to(passed: &Passed, answer: Result<u64, BodyEnd>, went: &[u8]) -> bool {
     passed.answer == answer && passed.went.as_slice() == went
 }
 
-/// Whether a body of which these bytes come in such calls is passed on so in both directions, and read.
+/// Whether a body of which these bytes come in such calls is passed on so in both directions, and
+/// read.
 fn is_passed(
     alloc: Global,
     comes: &[u8],
@@ -198,8 +200,8 @@ fn spelled(alloc: Global, text: &str, count: usize) -> Mem<Bytes> {
     Ok(bytes)
 }
 
-/// A body up to the byte that ends it: its framing, its text and the number of bytes that `*` stands for; the texts that go on in chunks and as
-/// content alone; and the answer.
+/// A body up to the byte that ends it: its framing, its text and the number of bytes that `*`
+/// stands for; the texts that go on in chunks and as content alone; and the answer.
 type Row = (
     Framing,
     &'static str,
@@ -287,7 +289,8 @@ fn is_at_end(framing: Framing, answer: Result<u64, BodyEnd>) -> bool {
     }
 }
 
-/// What a body comes to: the answer, what goes on, and how many bytes are taken by calls of one byte.
+/// What a body comes to: the answer, what goes on, and how many bytes are taken by calls of one
+/// byte.
 #[derive(Clone, Copy)]
 struct Wanted<'a> {
     answer: Result<u64, BodyEnd>,
@@ -312,7 +315,8 @@ fn is_onward(
     Ok(is_wanted(&passed, calls, wanted))
 }
 
-/// Whether a body comes to this where it is passed back in such calls, in chunks or as content alone.
+/// Whether a body comes to this where it is passed back in such calls, in chunks or as content
+/// alone.
 fn is_back(
     alloc: Global,
     framing: Framing,
@@ -325,7 +329,8 @@ fn is_back(
     Ok(is_wanted(&returned, calls, wanted))
 }
 
-/// Whether a row's body is passed on as it says, in calls of so many bytes at most, and no byte behind it is taken by calls of one byte.
+/// Whether a row's body is passed on as it says, in calls of so many bytes at most, and no byte
+/// behind it is taken by calls of one byte.
 fn is_row_passed(
     alloc: Global,
     row: &Row,

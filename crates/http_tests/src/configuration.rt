@@ -92,6 +92,9 @@ const ROUTER: &str = r#""label":{},"httpAccessLog":null => ok
 "servers":[{"port":1}] => ok
 "servers":[{"port":0}] => routers[0].servers[0].port bad
 "servers":[{"label":""}] => routers[0].servers[0].label unknown
+"servers":[{"clearContext":true}] => ok
+"servers":[{"clearContext":"true"}] => routers[0].servers[0].clearContext bad
+"servers":[{"clearContext":1,"port":0}] => routers[0].servers[0].port bad
 "client":1 => routers[0].client bad
 "client":{} => ok
 "client":{"tls":1} => routers[0].client.tls unknown

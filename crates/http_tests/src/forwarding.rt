@@ -23,7 +23,8 @@ fn read_head(alloc: Global, request: &str) -> Result<Head, Fail> {
     }
 }
 
-/// The way of a request to the service `/svc/web` and one address, and its head as it goes on: as new bytes, and in place of others.
+/// The way of a request to the service `/svc/web` and one address, and its head as it goes on: as
+/// new bytes, and in place of others.
 fn gone(
     alloc: Global,
     head: &Head,
@@ -173,7 +174,8 @@ fn read_reply(alloc: Global, reply: &str) -> Result<ReplyHead, Fail> {
     }
 }
 
-/// A reply's head as it goes back to a request with this method, as new bytes and in place of others; chunks stay chunks to a client that keeps its connection.
+/// A reply's head as it goes back to a request with this method, as new bytes and in place of
+/// others; chunks stay chunks to a client that keeps its connection.
 fn returned(alloc: Global, method: &str, reply: &str, closing: bool) -> Result<Bytes, Fail> {
     let Ok(method) = Method::from_bytes(alloc, method.as_bytes()) else {
         return Err("no method".into());
@@ -231,7 +233,8 @@ const REPLIES: [(&str, &str, bool, &str); 7] = [
         true,
         "HTTP/1.1 200 OK\r\nVia: 1.1 linkerd\r\nConnection: close\r\n\r\n",
     ),
-    // HTTP/1.0, no reason, a code below 100, a body up to the end, and what a Connection field lists.
+    // HTTP/1.0, no reason, a code below 100, a body up to the end, and what a Connection field
+    // lists.
     (
         "GET",
         "HTTP/1.0 007\nHost: kept\nConnection: x-a,, X-B\nX-a: 1\nx-b: 2\nX-AB: 3\nL5d-Dtab: /a=>/b\n\n",

@@ -56,7 +56,8 @@ fn a_head_is_told_before_the_next_read(rt: HostRuntime) -> Result<(), Fail> {
     Ok(())
 }
 
-/// Whether a head is told of what comes in pieces of this size before the call of this number fails, and how many reads failed and gave the end.
+/// Whether a head is told of what comes in pieces of this size before the call of this number
+/// fails, and how many reads failed and gave the end.
 fn told_in_pieces(alloc: Global, text: &str, size: usize, failing: u64) -> Mem<(bool, u64, u64)> {
     let bytes = Vec::from_slice(alloc, text.as_bytes())?;
     let sizes = Vec::from_elem(alloc, size, 30)?;
@@ -203,7 +204,8 @@ fn way_of(alloc: Global, head: &Head) -> Result<Bytes, Fail> {
     Ok(way)
 }
 
-/// What a request goes on with, which has this head: its target, a blank and its host; and how its body is framed.
+/// What a request goes on with, which has this head: its target, a blank and its host; and how its
+/// body is framed.
 fn asked(alloc: Global, text: &str) -> Result<(Bytes, Result<Framing, FramingFault>), Fail> {
     let head = head_of(alloc, text)?;
     Ok((way_of(alloc, &head)?, framing(&head)))

@@ -1,4 +1,5 @@
-//! Tests of heads and bodies, of the replies that the router writes itself, and of its configuration.
+//! Tests of heads and bodies, of the replies that the router writes itself, and of its
+//! configuration.
 #![tactic(auto)]
 
 #[cfg(test)]

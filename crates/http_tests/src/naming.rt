@@ -1,7 +1,7 @@
 //! What requests are named, and the tables that they bring along.
 use dtab_table::write_dtab;
 use http_wire::{FieldName, Head, Rest, read_host, read_request_head, read_target};
-use identifier::{IdentifyFault, Kind, LocalFault, Rule, identify, local_dtab};
+use identifier::{IdentifyFault, Kind, LocalFault, Rule, hear, identify, local_dtab};
 use line_base::{MemPeer, MemSink, MemSource};
 use name_tree::{Path, read_path, write_path};
 use std::alloc::{AllocError, Global};
@@ -145,7 +145,8 @@ fn kind_of(alloc: Global, kind: &str, with: &str) -> Result<Kind, Fail> {
     })
 }
 
-/// What a request is named by a rule of this kind with the prefix `/svc`, as text; nothing where it is not.
+/// What a request is named by a rule of this kind with the prefix `/svc`, as text; nothing where it
+/// is not.
 fn named(alloc: Global, kind: Kind, request: &str) -> Result<Vec<u8>, Fail> {
     let prefix = path_of(alloc, "/svc")?;
     let head = head_of(alloc, request.as_bytes())?;
@@ -157,7 +158,12 @@ fn named(alloc: Global, kind: Kind, request: &str) -> Result<Vec<u8>, Fail> {
         Ok(host) => host,
         Err(_) => return Err("no host".into()),
     };
-    match identify(alloc, &Rule { kind, prefix }, &head, host.as_slice()) {
+    let rule = Rule {
+        kind,
+        prefix,
+        clears_context: false,
+    };
+    match identify(alloc, &rule, &head, host.as_slice()) {
         Ok(path) => Ok(write_path(alloc, &path)?),
         Err(IdentifyFault::Unidentified) => Ok(Vec::new(alloc)),
         Err(IdentifyFault::OutOfMemory) => Err("memory".into()),
@@ -231,6 +237,51 @@ fn count_of(alloc: Global, entries: usize) -> Result<usize, Fail> {
 fn a_table_has_at_most_1024_entries(rt: HostRuntime) -> Result<(), Fail> {
     for (entries, want) in [(100, 612), (187, 699), (512, 1_024), (513, 0)] {
         assert!(rt; count_of(rt.alloc(), entries)? == want, "{entries}");
+    }
+    Ok(())
+}
+
+/// Whether the context of a request is cleared, its fields, and the names of those that are heard.
+const HEARD: [(bool, &str, &str); 3] = [
+    (
+        true,
+        "A: 1\r\nL5d-Dtab: /a=>/b\r\nl5d-CTX-dtab: /c=>/d\r\nl5d-ctx-: 3\r\nB: 2\r\n",
+        "Host A B ",
+    ),
+    (
+        true,
+        "l5d-ctx: 1\r\nl5d-ctx-trace: 2\r\nl5d-dst-service: 3\r\nxl5d-ctx-a: 4\r\n",
+        "Host l5d-ctx l5d-dst-service xl5d-ctx-a ",
+    ),
+    (
+        false,
+        "l5d-dtab: /a=>/b\r\nl5d-ctx-dtab: /c=>/d\r\n",
+        "Host l5d-dtab l5d-ctx-dtab ",
+    ),
+];
+
+/// The names of the fields of a request that are heard, each with a space behind it.
+fn heard(alloc: Global, clears_context: bool, fields: &str) -> Result<Vec<u8>, Fail> {
+    let request = format!(in alloc; "GET / HTTP/1.1\r\nHost: x\r\n{fields}\r\n")?;
+    let rule = Rule {
+        kind: Kind::MethodAndHost,
+        prefix: path_of(alloc, "/svc")?,
+        clears_context,
+    };
+    let head = hear(&rule, head_of(alloc, request.as_bytes())?);
+    let mut names = Vec::new(alloc);
+    for field in head.fields.items() {
+        names.extend_from_slice(field.name.bytes())?;
+        names.push(b' ')?;
+    }
+    Ok(names)
+}
+
+#[test]
+fn the_context_is_heard_or_cleared(rt: HostRuntime) -> Result<(), Fail> {
+    for (clears, fields, names) in &HEARD {
+        let heard = heard(rt.alloc(), *clears, fields)?;
+        assert!(rt; heard.as_slice() == names.as_bytes(), "{fields:?}");
     }
     Ok(())
 }

@@ -28,8 +28,11 @@ first_value name fields = slice_get (values_of name fields) 0
 
 -- `close` stands between the commas of a value, in any case and with blanks around it
 abbrev pub says_close : List ℕ → Bool
-says_close value = list_any (λ piece. same_ignoring_case (trim_ows piece) (codes "close")) (slice_split (λ b. b == comma) value)
+says_close value =
+    list_any (λ piece. same_ignoring_case (trim_ows piece) (codes "close"))
+    (slice_split (λ b. b == comma) value)
 
 -- a Connection field names `close` (RFC 9112 section 9.6)
 abbrev pub names_close : List Field → Bool
-names_close fields = list_any (λ (f : Field). says_close f.value) (filter (is_named (codes "connection")) fields)
+names_close fields =
+    list_any (λ (f : Field). says_close f.value) (filter (is_named (codes "connection")) fields)

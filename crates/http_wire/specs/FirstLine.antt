@@ -1,5 +1,7 @@
 -- The first line of a request, as it is looked at before the head is parsed.
-use Rattle.std.specs.Prelude.{ℕ, ◌-◌, Bool, ◌&&◌, not, List, [], ◌∷◌, length, take, drop, codes, bytes_eq, slice_index, ◌==◌, position, Option, option_map, if◌then◌else◌}
+use Rattle.std.specs.Prelude.{ℕ, ◌-◌, Bool, ◌&&◌, not, List, [], ◌∷◌, length, take, drop, codes}
+use Rattle.std.specs.Prelude.{bytes_eq, slice_index, ◌==◌, position, Option, option_map}
+use Rattle.std.specs.Prelude.{if◌then◌else◌}
 use Rattle.std.specs.Char.{is_ascii_digit}
 use Rattle.httparse.specs.Ascii.{line_feed, carriage_return}
 
@@ -9,7 +11,8 @@ skip_empty_lines [] = []
 skip_empty_lines (a ∷ []) = if a == line_feed then [] else a ∷ []
 skip_empty_lines (a ∷ b ∷ bytes) =
     if a == line_feed then skip_empty_lines (b ∷ bytes)
-    else (if (a == carriage_return) && (b == line_feed) then skip_empty_lines bytes else a ∷ b ∷ bytes)
+    else (if (a == carriage_return) && (b == line_feed) then skip_empty_lines bytes
+    else a ∷ b ∷ bytes)
 
 -- the bytes before the first line feed, if there is one
 abbrev pub line_at : List ℕ → Option (List ℕ)
@@ -22,18 +25,21 @@ first_line bytes = line_at (skip_empty_lines bytes)
 -- the line without a carriage return at its end
 abbrev pub without_return : List ℕ → List ℕ
 without_return line =
-    if slice_index line (length line - 1) == carriage_return then take (length line - 1) line else line
+    if slice_index line (length line - 1) == carriage_return then take (length line - 1) line
+    else line
 
 -- a blank and a version: `HTTP/`, a digit, a point and a digit (RFC 9112 section 2.3)
 unfoldable pub is_version : List ℕ → Bool
 is_version text =
     (length text == 9) && bytes_eq (take 6 text) (codes " HTTP/")
-    && is_ascii_digit (slice_index text 6) && (slice_index text 7 == 46) && is_ascii_digit (slice_index text 8)
+    && is_ascii_digit (slice_index text 6) && (slice_index text 7 == 46)
+    && is_ascii_digit (slice_index text 8)
 
 -- a version other than 1.0 and 1.1
 abbrev pub is_other_version : List ℕ → Bool
 is_other_version text =
-    is_version text && not (bytes_eq text (codes " HTTP/1.0")) && not (bytes_eq text (codes " HTTP/1.1"))
+    is_version text && not (bytes_eq text (codes " HTTP/1.0"))
+    && not (bytes_eq text (codes " HTTP/1.1"))
 
 -- the last nine bytes
 abbrev pub last_nine : List ℕ → List ℕ

@@ -1,5 +1,7 @@
 -- The framing of a request's body (RFC 9112 section 6, RFC 9110 section 8.6).
-use Rattle.std.specs.Prelude.{ℕ, ◌^◌, Bool, ◌&&◌, ◌||◌, bytes_eq, List, [], ◌∷◌, ◌++◌, map, length, codes, ◌==◌, nat_lt, nat_eq, Option, Some, None, Result, Ok, Err, option_and_then, if◌then◌else◌}
+use Rattle.std.specs.Prelude.{ℕ, ◌^◌, Bool, ◌&&◌, ◌||◌, bytes_eq, List, [], ◌∷◌, ◌++◌, map, length}
+use Rattle.std.specs.Prelude.{codes, ◌==◌, nat_lt, nat_eq, Option, Some, None, Result, Ok, Err}
+use Rattle.std.specs.Prelude.{option_and_then, if◌then◌else◌}
 use Rattle.std.specs.List.{before_first, list_all, slice_split}
 use Rattle.std.specs.Option.{option_eq}
 use Rattle.std.specs.Char.{is_ascii_digit}
@@ -14,7 +16,8 @@ use Rattle.http_wire.specs.Fields.{values_of, same_ignoring_case}
 -- a length: one or more digits, leading zeros among them, that write a number below 2^63
 abbrev pub number_of : List ℕ → Option ℕ
 number_of digits =
-    if nat_lt 0 (length digits) && list_all is_ascii_digit digits && nat_lt (digits_value 10 digits) (2 ^ 63)
+    if nat_lt 0 (length digits) && list_all is_ascii_digit digits
+    && nat_lt (digits_value 10 digits) (2 ^ 63)
     then Some (digits_value 10 digits) else None
 
 -- the pieces of a comma separated value, without the blanks around them (RFC 9110 section 5.6.1)
@@ -34,7 +37,8 @@ says n piece = option_eq nat_eq (number_of piece) (Some n)
 abbrev pub agreed : List (List ℕ) → Option ℕ
 agreed [] = None
 agreed (piece ∷ pieces) =
-    option_and_then (λ n. if list_all (says n) (piece ∷ pieces) then Some n else None) (number_of piece)
+    option_and_then (λ n. if list_all (says n) (piece ∷ pieces) then Some n else None)
+    (number_of piece)
 
 -- the number that the first piece of the first value writes
 abbrev pub first_number : List (List ℕ) → Option ℕ
@@ -50,10 +54,12 @@ length_framing (Some n) = Ok (Framing.Length n)
 abbrev pub coding_framing : List (List ℕ) → Result Framing FramingFault
 coding_framing [] = Ok Framing.Nothing
 coding_framing (coding ∷ []) =
-    if same_ignoring_case coding (codes "chunked") then Ok Framing.Chunked else Err FramingFault.Coding
+    if same_ignoring_case coding (codes "chunked") then Ok Framing.Chunked
+    else Err FramingFault.Coding
 coding_framing (coding ∷ other ∷ codings) = Err FramingFault.Coding
 
--- the framing of a request of this minor version, by the values of its Transfer-Encoding and Content-Length fields
+-- the framing of a request of this minor version, by the values of its Transfer-Encoding and
+-- Content-Length fields
 abbrev pub framed : ℕ → List (List ℕ) → List (List ℕ) → Result Framing FramingFault
 framed minor [] [] = Ok Framing.Nothing
 framed minor [] (length ∷ lengths) = length_framing (agreed (pieces_of (length ∷ lengths)))
@@ -64,9 +70,11 @@ framed minor (coding ∷ codings) (length ∷ lengths) = Err FramingFault.Length
 -- the framing of a request with these fields
 abbrev pub framing_of : ℕ → List Field → Result Framing FramingFault
 framing_of minor fields =
-    framed minor (values_of (codes "transfer-encoding") fields) (values_of (codes "content-length") fields)
+    framed minor (values_of (codes "transfer-encoding") fields)
+    (values_of (codes "content-length") fields)
 
--- the replies of this status to this method have no body, whatever their fields say (RFC 9112 section 6.3)
+-- the replies of this status to this method have no body, whatever their fields say (RFC 9112
+-- section 6.3)
 abbrev pub has_no_body : List ℕ → ℕ → Bool
 has_no_body method status = bytes_eq method (codes "HEAD") || (status == 204) || (status == 304)
 
@@ -80,4 +88,5 @@ or_to_end Framing.ToEnd = Framing.ToEnd
 -- the framing of a reply of this status to this method, by what its fields say
 abbrev pub reply_framing_of : List ℕ → ℕ → Result Framing FramingFault → Result Framing FramingFault
 reply_framing_of method status (Err fault) = Err fault
-reply_framing_of method status (Ok framing) = Ok (if has_no_body method status then Framing.Nothing else or_to_end framing)
+reply_framing_of method status (Ok framing) =
+    Ok (if has_no_body method status then Framing.Nothing else or_to_end framing)

@@ -1,6 +1,9 @@
--- What some bytes begin with, as the head of a request (RFC 9112 sections 2 to 5). Only the first 65,536 bytes count.
-use Rattle.std.specs.Prelude.{◌≡◌, ℕ, ◌<◌, ◌≤◌, List, [], ◌++◌, length, take, drop, map, true, false, IsSomeAnd, MatchOption, ⊤}
-use Rattle.httparse.specs.Grammar.{AllPass, IsToken, is_value_byte, RequestHead, print_request, ReadsRequest, HasNoRequest, NeverHasRequest}
+-- What some bytes begin with, as the head of a request (RFC 9112 sections 2 to 5). Only the first
+-- 65,536 bytes count.
+use Rattle.std.specs.Prelude.{◌≡◌, ℕ, ◌<◌, ◌≤◌, List, [], ◌++◌, length, take, drop, map, true}
+use Rattle.std.specs.Prelude.{false, IsSomeAnd, MatchOption, ⊤}
+use Rattle.httparse.specs.Grammar.{AllPass, IsToken, is_value_byte, RequestHead, print_request}
+use Rattle.httparse.specs.Grammar.{ReadsRequest, HasNoRequest, NeverHasRequest}
 use Rattle.httparse.specs.Spans.{name_and_value}
 use Rattle.http_wire.specs.declared.head.Field.{Field}
 use Rattle.http_wire.specs.declared.head.Head.{Head}
@@ -22,14 +25,16 @@ window bytes = take most bytes
 abbrev pub HasServedLine : List ℕ → Type 0
 HasServedLine bytes = IsSomeAnd (first_line bytes) (λ line. ends_in_other_version line ≡ false)
 
--- the head has the parts of this one: names and values as received, the values without the blanks around them
+-- the head has the parts of this one: names and values as received, the values without the blanks
+-- around them
 pub record IsHeadOf (head : Head) (parts : RequestHead) : Type 0 where
   pub method : head.method ≡ parts.method
   pub target : head.target ≡ parts.target
   pub version : head.version ≡ parts.minor
   pub fields : map (λ (f : Field). (f.name, f.value)) head.fields ≡ map name_and_value parts.fields
 
--- what holds of each field that was read: its name is a token, and its value has the bytes that a value may have
+-- what holds of each field that was read: its name is a token, and its value has the bytes that a
+-- value may have
 abbrev pub IsSoundField : Field → Type 0
 IsSoundField field = IsToken field.name × AllPass is_value_byte field.value
 
@@ -43,7 +48,8 @@ pub record BeginsWith (bytes : List ℕ) (head : Head) (len : ℕ) : Type 0 wher
 
 -- the first line names another version
 abbrev pub NamesOtherVersion : List ℕ → Type 0
-NamesOtherVersion bytes = IsSomeAnd (first_line (window bytes)) (λ line. ends_in_other_version line ≡ true)
+NamesOtherVersion bytes =
+    IsSomeAnd (first_line (window bytes)) (λ line. ends_in_other_version line ≡ true)
 
 -- the first line has ended, and no continuation of the bytes is a head
 pub record IsBad (bytes : List ℕ) : Type 0 where
@@ -52,9 +58,11 @@ pub record IsBad (bytes : List ℕ) : Type 0 where
 
 -- some continuation of the bytes is a head
 abbrev pub MayBecomeHead : List ℕ → Type 0
-MayBecomeHead bytes = (more : List ℕ) × (parts : RequestHead) × ReadsRequest (bytes ++ more) parts []
+MayBecomeHead bytes =
+    (more : List ℕ) × (parts : RequestHead) × ReadsRequest (bytes ++ more) parts []
 
--- no whole head, and nothing that is refused: the first line has not ended, or a head has begun and not ended
+-- no whole head, and nothing that is refused: the first line has not ended, or a head has begun and
+-- not ended
 abbrev pub IsOpen : List ℕ → Type 0
 IsOpen bytes =
     MatchOption (first_line bytes) ⊤

@@ -8,26 +8,33 @@ use Rattle.http_wire.specs.Replies.{BeginsWithReply, IsBadReply, IsTooLargeReply
 -- some bytes begin with at most one head, of one length
 abbrev pub HeadsAreUnique : Type 0
 HeadsAreUnique =
-    (bytes : List ℕ) (one other : Head) (n m : ℕ) → BeginsWith bytes one n → BeginsWith bytes other m → (one ≡ other) × (n ≡ m)
+    (bytes : List ℕ) (one other : Head) (n m : ℕ) → BeginsWith bytes one n
+    → BeginsWith bytes other m → (one ≡ other) × (n ≡ m)
 
 -- the other readings of some bytes that begin with a head
 abbrev pub NoOtherThanHead : List ℕ → Type 0
-NoOtherThanHead bytes = (IsBad bytes → ⊥) × (NamesOtherVersion bytes → ⊥) × (IsTooLarge bytes → ⊥) × (IsUnfinished bytes → ⊥)
+NoOtherThanHead bytes =
+    (IsBad bytes → ⊥) × (NamesOtherVersion bytes → ⊥) × (IsTooLarge bytes → ⊥)
+    × (IsUnfinished bytes → ⊥)
 
--- the five readings of some bytes: a head, bad, another version, too large, unfinished. No two hold at once
+-- the five readings of some bytes: a head, bad, another version, too large, unfinished. No two hold
+-- at once
 pub record ReadingsExclude (bytes : List ℕ) : Type 0 where
   pub head : (head : Head) (n : ℕ) → BeginsWith bytes head n → NoOtherThanHead bytes
-  pub bad : IsBad bytes → (NamesOtherVersion bytes → ⊥) × (IsTooLarge bytes → ⊥) × (IsUnfinished bytes → ⊥)
+  pub bad : IsBad bytes → (NamesOtherVersion bytes → ⊥) × (IsTooLarge bytes → ⊥)
+      × (IsUnfinished bytes → ⊥)
   pub version : NamesOtherVersion bytes → (IsTooLarge bytes → ⊥) × (IsUnfinished bytes → ⊥)
   pub large : IsTooLarge bytes → IsUnfinished bytes → ⊥
 
 -- the same of the heads of replies
 abbrev pub ReplyHeadsAreUnique : Type 0
 ReplyHeadsAreUnique =
-    (bytes : List ℕ) (one other : ReplyHead) (n m : ℕ) → BeginsWithReply bytes one n → BeginsWithReply bytes other m → (one ≡ other) × (n ≡ m)
+    (bytes : List ℕ) (one other : ReplyHead) (n m : ℕ) → BeginsWithReply bytes one n
+    → BeginsWithReply bytes other m → (one ≡ other) × (n ≡ m)
 
 abbrev pub NoOtherThanReply : List ℕ → Type 0
-NoOtherThanReply bytes = (IsBadReply bytes → ⊥) × (IsTooLargeReply bytes → ⊥) × (IsUnfinishedReply bytes → ⊥)
+NoOtherThanReply bytes =
+    (IsBadReply bytes → ⊥) × (IsTooLargeReply bytes → ⊥) × (IsUnfinishedReply bytes → ⊥)
 
 -- the four readings of some bytes as the head of a reply
 pub record ReplyReadingsExclude (bytes : List ℕ) : Type 0 where

@@ -2,7 +2,8 @@
 use Rattle.std.specs.Prelude.{◌≡◌, ℕ, List, length, drop, map}
 use Rattle.httparse.specs.declared.spans.HeaderSpan.{HeaderSpan}
 use Rattle.httparse.specs.declared.spans.RequestSpans.{RequestSpans}
-use Rattle.httparse.specs.Grammar.{RequestHead, print_request, ReadsRequest, HasNoRequest, NeverHasRequest, MayBecomeRequest}
+use Rattle.httparse.specs.Grammar.{RequestHead, print_request, ReadsRequest, HasNoRequest}
+use Rattle.httparse.specs.Grammar.{NeverHasRequest, MayBecomeRequest}
 use Rattle.httparse.specs.Spans.{span_bytes, header_bytes}
 use Rattle.http_wire.specs.declared.head.Field.{Field}
 use Rattle.http_wire.specs.declared.head.Head.{Head}
@@ -15,7 +16,8 @@ abbrev pub pair_of : Field → List ℕ × List ℕ
 pair_of field = (field.name, field.value)
 
 -- the parts of the head are what the spans cover
-pub record IsHeadAt (bytes : List ℕ) (parts : RequestSpans) (spans : List HeaderSpan) (head : Head) : Type 0 where
+pub record IsHeadAt (bytes : List ℕ) (parts : RequestSpans) (spans : List HeaderSpan)
+    (head : Head) : Type 0 where
   pub method : head.method ≡ span_bytes bytes parts.method
   pub target : head.target ≡ span_bytes bytes parts.path
   pub version : head.version ≡ parts.version

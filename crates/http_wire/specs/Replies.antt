@@ -1,20 +1,27 @@
--- The head of a reply (RFC 9112 sections 2, 4 and 5): what some bytes begin with, and how far they have come. Only the first 65,536
--- bytes count.
-use Rattle.std.specs.Prelude.{◌≡◌, ◌↔◌, ◌⊎◌, ℕ, ◌+◌, ◌<◌, ◌≤◌, List, [], ◌∷◌, ◌++◌, length, drop, map, Bool, ◌||◌, false, IsTrue, ◌==◌, nat_lt, Option, codes, slice_index, if◌then◌else◌}
+-- The head of a reply (RFC 9112 sections 2, 4 and 5): what some bytes begin with, and how far they
+-- have come. Only the first 65,536 bytes count.
+use Rattle.std.specs.Prelude.{◌≡◌, ◌↔◌, ◌⊎◌, ℕ, ◌+◌, ◌<◌, ◌≤◌, List, [], ◌∷◌, ◌++◌, length, drop}
+use Rattle.std.specs.Prelude.{map, Bool, ◌||◌, false, IsTrue, ◌==◌, nat_lt, Option, codes}
+use Rattle.std.specs.Prelude.{slice_index, if◌then◌else◌}
 use Rattle.std.specs.Char.{is_ascii_digit}
 use Rattle.httparse.specs.Ascii.{line_feed}
-use Rattle.httparse.specs.Grammar.{LineEnd, print_end, AllPass, is_value_byte, ResponseHead, print_reason, print_response, reason_phrase, status_code, ReadsResponse, HasNoResponse, MayBecomeResponse, NeverHasResponse}
+use Rattle.httparse.specs.Grammar.{LineEnd, print_end, AllPass, is_value_byte, ResponseHead}
+use Rattle.httparse.specs.Grammar.{print_reason, print_response, reason_phrase, status_code}
+use Rattle.httparse.specs.Grammar.{ReadsResponse, HasNoResponse, MayBecomeResponse}
+use Rattle.httparse.specs.Grammar.{NeverHasResponse}
 use Rattle.httparse.specs.Spans.{name_and_value}
 use Rattle.http_wire.specs.declared.head.Field.{Field}
 use Rattle.http_wire.specs.declared.head.ReplyHead.{ReplyHead}
 use Rattle.http_wire.specs.declared.reply_watch.StatusPlace.{StatusPlace}
-use Rattle.http_wire.specs.declared.reply_watch.StatusPlace.TheVariants.{Before, BeforeReturn, Code, Fields}
+use Rattle.http_wire.specs.declared.reply_watch.StatusPlace.TheVariants.{Before, BeforeReturn, Code}
+use Rattle.http_wire.specs.declared.reply_watch.StatusPlace.TheVariants.{Fields}
 use Rattle.http_wire.specs.Heads.{most, window}
 use Rattle.http_wire.specs.Places.{IsSection, Completes as CompletesFields, is_over}
 
 -- ---- what some bytes begin with
 
--- the head has the parts of this one: the status is the number of the three digits, and an absent reason phrase is an empty one
+-- the head has the parts of this one: the status is the number of the three digits, and an absent
+-- reason phrase is an empty one
 pub record IsReplyOf (head : ReplyHead) (parts : ResponseHead) : Type 0 where
   pub version : head.version ≡ parts.minor
   pub status : head.status ≡ status_code parts
@@ -65,21 +72,25 @@ AllFit place (byte ∷ bytes) = IsTrue (fits place byte) × AllFit (place + 1) b
 abbrev pub IsReply : List ℕ → Type 0
 IsReply bytes = (head : ResponseHead) × ReadsResponse bytes head []
 
--- what may follow the status code: a blank and the reason phrase, or neither, and the rest of the head
+-- what may follow the status code: a blank and the reason phrase, or neither, and the rest of the
+-- head
 abbrev pub EndsLine : List ℕ → Type 0
 EndsLine bytes =
     (reason : Option (List ℕ)) × (end : LineEnd) × (rest : List ℕ)
-    × AllPass is_value_byte (reason_phrase reason) × IsSection rest × (bytes ≡ print_reason reason ++ (print_end end ++ rest))
+    × AllPass is_value_byte (reason_phrase reason) × IsSection rest
+    × (bytes ≡ print_reason reason ++ (print_end end ++ rest))
 
 -- the bytes that may follow at a place, up to the head's end
 abbrev pub Completes : StatusPlace → List ℕ → Type 0
 Completes Before bytes = IsReply bytes
 Completes BeforeReturn bytes = (rest : List ℕ) × IsReply rest × (bytes ≡ line_feed ∷ rest)
 Completes (Code count) bytes =
-    (front : List ℕ) × (rest : List ℕ) × AllFit count front × (count + length front ≡ 12) × EndsLine rest × (bytes ≡ front ++ rest)
+    (front : List ℕ) × (rest : List ℕ) × AllFit count front × (count + length front ≡ 12)
+    × EndsLine rest × (bytes ≡ front ++ rest)
 Completes (Fields place) bytes = CompletesFields place bytes
 
--- the byte leads from the one place to the other: what may follow it there is what may follow at the other
+-- the byte leads from the one place to the other: what may follow it there is what may follow at
+-- the other
 abbrev pub Leads : StatusPlace → ℕ → StatusPlace → Type 0
 Leads from byte to = (more : List ℕ) → Completes from (byte ∷ more) ↔ Completes to more
 
@@ -92,9 +103,11 @@ is_at_end (Fields place) = is_over place
 
 -- the bytes begin with what may follow at the place
 abbrev pub Begins : StatusPlace → List ℕ → Type 0
-Begins place bytes = (front : List ℕ) × (rest : List ℕ) × Completes place front × (bytes ≡ front ++ rest)
+Begins place bytes =
+    (front : List ℕ) × (rest : List ℕ) × Completes place front × (bytes ≡ front ++ rest)
 
--- bytes that have come to this place: a head ends exactly where what follows ends there; at the end any bytes stand behind them
+-- bytes that have come to this place: a head ends exactly where what follows ends there; at the end
+-- any bytes stand behind them
 pub record Tracks (bytes : List ℕ) (place : StatusPlace) : Type 0 where
   pub followed : List ℕ
   pub behind : List ℕ
@@ -105,4 +118,6 @@ pub record Tracks (bytes : List ℕ) (place : StatusPlace) : Type 0 where
 
 -- the bytes begin with a head, or no continuation of them does
 abbrev pub IsDecidedReply : List ℕ → Type 0
-IsDecidedReply bytes = ((head : ResponseHead) × (rest : List ℕ) × ReadsResponse bytes head rest) ⊎ NeverHasResponse bytes
+IsDecidedReply bytes =
+    ((head : ResponseHead) × (rest : List ℕ) × ReadsResponse bytes head rest)
+    ⊎ NeverHasResponse bytes

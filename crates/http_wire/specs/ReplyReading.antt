@@ -1,5 +1,6 @@
 -- What a call that reads the head of a reply answers, and what it leaves.
-use Rattle.std.specs.Prelude.{◌≡◌, ◌≢◌, ◌⊎◌, ℕ, ◌<◌, ◌≤◌, List, [], ◌∷◌, ◌++◌, length, drop, map, Option, Some, None, Result, Ok, Err}
+use Rattle.std.specs.Prelude.{◌≡◌, ◌≢◌, ◌⊎◌, ℕ, ◌<◌, ◌≤◌, List, [], ◌∷◌, ◌++◌, length, drop, map}
+use Rattle.std.specs.Prelude.{Option, Some, None, Result, Ok, Err}
 use Rattle.std.specs.Io.KnownBytes.{Consumes, IsAtEnd}
 use Rattle.line_base.specs.declared.dialer.DialEvent.{DialEvent}
 use Rattle.line_base.specs.declared.dialer.DialEvent.TheVariants.{Got}
@@ -16,12 +17,14 @@ use Rattle.http_wire.specs.FirstLine.{skip_empty_lines}
 use Rattle.http_wire.specs.Heads.{most_piece, window}
 use Rattle.http_wire.specs.Parsed.{pair_of}
 use Rattle.http_wire.specs.Reading.{Whatever}
-use Rattle.http_wire.specs.Replies.{IsReplyOf, BeginsWithReply, IsBadReply, IsOpenReply, IsTooLargeReply, IsUnfinishedReply}
+use Rattle.http_wire.specs.Replies.{IsReplyOf, BeginsWithReply, IsBadReply, IsOpenReply}
+use Rattle.http_wire.specs.Replies.{IsTooLargeReply, IsUnfinishedReply}
 
 -- ---- parsing
 
 -- the parts of the head are what the spans cover
-pub record IsReplyAt (bytes : List ℕ) (parts : ResponseSpans) (spans : List HeaderSpan) (head : ReplyHead) : Type 0 where
+pub record IsReplyAt (bytes : List ℕ) (parts : ResponseSpans) (spans : List HeaderSpan)
+    (head : ReplyHead) : Type 0 where
   pub version : head.version ≡ parts.version
   pub status : head.status ≡ parts.code
   pub reason : head.reason ≡ span_bytes bytes parts.reason
@@ -48,12 +51,16 @@ ShowsReply bytes Partial = IsOpenReply (window bytes)
 
 -- ---- answers
 
--- the answer to these bytes, and what is kept of them: all, but for a head that was answered. A head and a refusal are those of the
--- bytes, whatever follows them; the others say that the bytes show neither
+-- the answer to these bytes, and what is kept of them: all, but for a head that was answered. A
+-- head and a refusal are those of the bytes, whatever follows them; the others say that the bytes
+-- show neither
 abbrev pub AnswersReply : List ℕ → List ℕ → Result ReplyHead HeadEnd → Type 0
-AnswersReply bytes kept (Ok head) = (len : ℕ) × Whatever (λ all. BeginsWithReply all head len) bytes × (kept ≡ drop len bytes)
-AnswersReply bytes kept (Err HeadEnd.Ended) = IsUnfinishedReply bytes × (skip_empty_lines bytes ≡ []) × (kept ≡ bytes)
-AnswersReply bytes kept (Err HeadEnd.Cut) = IsUnfinishedReply bytes × (skip_empty_lines bytes ≢ []) × (kept ≡ bytes)
+AnswersReply bytes kept (Ok head) =
+    (len : ℕ) × Whatever (λ all. BeginsWithReply all head len) bytes × (kept ≡ drop len bytes)
+AnswersReply bytes kept (Err HeadEnd.Ended) =
+    IsUnfinishedReply bytes × (skip_empty_lines bytes ≡ []) × (kept ≡ bytes)
+AnswersReply bytes kept (Err HeadEnd.Cut) =
+    IsUnfinishedReply bytes × (skip_empty_lines bytes ≢ []) × (kept ≡ bytes)
 AnswersReply bytes kept (Err HeadEnd.Bad) = Whatever IsBadReply bytes × (kept ≡ bytes)
 AnswersReply bytes kept (Err HeadEnd.Version) = ⊥
 AnswersReply bytes kept (Err HeadEnd.TooLarge) = Whatever IsTooLargeReply bytes × (kept ≡ bytes)
@@ -84,7 +91,8 @@ LogsGot None new pieces = Unit {0}
 LogsGot (Some old) None pieces = ⊥
 LogsGot (Some old) (Some new) pieces = new ≡ old ++ map Got pieces
 
--- the last receive began while the bytes before showed no head and no refusal, and asked for at most 16,384 bytes
+-- the last receive began while the bytes before showed no head and no refusal, and asked for at
+-- most 16,384 bytes
 pub record EndsInReceive (kept : List ℕ) (pieces : List (List ℕ)) : Type 0 where
   pub earlier : List (List ℕ)
   pub piece : List ℕ
@@ -111,8 +119,8 @@ SaysEnd left pieces (Err HeadEnd.TooLarge) = Unit {0}
 SaysEnd left pieces (Err HeadEnd.ReadFault) = Unit {0}
 SaysEnd left pieces (Err HeadEnd.OutOfMemory) = Unit {0}
 
--- the pieces that a dialer gave, behind the bytes that were kept, and the answer to them all, which is given as soon as they show it.
--- The log gains these pieces alone
+-- the pieces that a dialer gave, behind the bytes that were kept, and the answer to them all, which
+-- is given as soon as they show it. The log gains these pieces alone
 pub record ReadsReply
     (left_before left_after : Option (List ℕ)) (log_before log_after : Option (List DialEvent))
     (kept_before kept_after : List ℕ) (result : Result ReplyHead HeadEnd)
@@ -126,7 +134,8 @@ pub record ReadsReply
 
 -- a piece that came
 pub record GotPiece
-    (left_before left_after : Option (List ℕ)) (log_before log_after : Option (List DialEvent)) (kept_before kept_after : List ℕ)
+    (left_before left_after : Option (List ℕ)) (log_before log_after : Option (List DialEvent))
+    (kept_before kept_after : List ℕ)
     : Type 0 where
   pub piece : List ℕ
   pub given : Consumes left_before left_after piece
@@ -136,9 +145,12 @@ pub record GotPiece
   pub short : length piece ≤ most_piece
 
 -- no piece came, and this is why
-abbrev pub StopsAt : HeadEnd → Option (List ℕ) → Option (List DialEvent) → Option (List DialEvent) → List ℕ → Type 0
-StopsAt HeadEnd.Ended left log_before log_after kept = Logs log_before log_after (Got []) × IsAtEnd left × (skip_empty_lines kept ≡ [])
-StopsAt HeadEnd.Cut left log_before log_after kept = Logs log_before log_after (Got []) × IsAtEnd left × (skip_empty_lines kept ≢ [])
+abbrev pub StopsAt : HeadEnd → Option (List ℕ) → Option (List DialEvent) → Option (List DialEvent)
+    → List ℕ → Type 0
+StopsAt HeadEnd.Ended left log_before log_after kept =
+    Logs log_before log_after (Got []) × IsAtEnd left × (skip_empty_lines kept ≡ [])
+StopsAt HeadEnd.Cut left log_before log_after kept =
+    Logs log_before log_after (Got []) × IsAtEnd left × (skip_empty_lines kept ≢ [])
 StopsAt HeadEnd.ReadFault left log_before log_after kept = KeepsLog log_before log_after
 StopsAt HeadEnd.OutOfMemory left log_before log_after kept = KeepsLog log_before log_after
 StopsAt HeadEnd.Bad left log_before log_after kept = ⊥
@@ -146,9 +158,11 @@ StopsAt HeadEnd.Version left log_before log_after kept = ⊥
 StopsAt HeadEnd.TooLarge left log_before log_after kept = ⊥
 
 -- one receive: a piece more, or why there is none
-abbrev pub ReceivesOnce : Option (List ℕ) → Option (List ℕ) → Option (List DialEvent) → Option (List DialEvent) → List ℕ → List ℕ
+abbrev pub ReceivesOnce : Option (List ℕ) → Option (List ℕ) → Option (List DialEvent)
+    → Option (List DialEvent) → List ℕ → List ℕ
     → Result (Unit {0}) HeadEnd → Type 0
 ReceivesOnce left_before left_after log_before log_after kept_before kept_after (Ok done) =
     GotPiece left_before left_after log_before log_after kept_before kept_after
 ReceivesOnce left_before left_after log_before log_after kept_before kept_after (Err end) =
-    Consumes left_before left_after [] × (kept_after ≡ kept_before) × StopsAt end left_after log_before log_after kept_before
+    Consumes left_before left_after [] × (kept_after ≡ kept_before)
+    × StopsAt end left_after log_before log_after kept_before

@@ -1,4 +1,5 @@
--- What holds of each head that was read, whatever it asks: its texts have the bytes that may stand in their places, and so may go on.
+-- What holds of each head that was read, whatever it asks: its texts have the bytes that may stand
+-- in their places, and so may go on.
 use Rattle.std.specs.Prelude.{ℕ, ◌<◌, ◌≤◌, List, length, All, IsUtf8, IfSome}
 use Rattle.httparse.specs.Grammar.{AllPass, IsToken, is_uri_byte, is_value_byte}
 use Rattle.http_wire.specs.declared.head.Head.{Head}
@@ -6,7 +7,8 @@ use Rattle.http_wire.specs.declared.head.ReplyHead.{ReplyHead}
 use Rattle.http_wire.specs.declared.target.Target.{Target}
 use Rattle.http_wire.specs.Heads.{IsSoundField}
 
--- a target that may stand in a request line: one or more visible bytes and bytes past ASCII, which are UTF-8
+-- a target that may stand in a request line: one or more visible bytes and bytes past ASCII, which
+-- are UTF-8
 pub record IsSoundTarget (text : List ℕ) : Type 0 where
   pub some : 0 < length text
   pub bytes : AllPass is_uri_byte text

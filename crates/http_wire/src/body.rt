@@ -5,7 +5,9 @@ ghost use Rattle.httparse.specs.Ascii.{comma};
 ghost use Rattle.httparse.specs.Grammar.{trim_ows};
 ghost use Rattle.http_wire.specs.declared.head.Field.{Field};
 ghost use Rattle.http_wire.specs.Fields.{is_named, values_of};
-ghost use Rattle.http_wire.specs.Framing.{agreed, coding_framing, first_number, framing_of, length_framing, has_no_body, or_to_end, pieces_of, reply_framing_of, says};
+ghost use Rattle.http_wire.specs.Framing.{agreed, coding_framing, first_number, framing_of};
+ghost use Rattle.http_wire.specs.Framing.{length_framing, has_no_body, or_to_end, pieces_of};
+ghost use Rattle.http_wire.specs.Framing.{reply_framing_of, says};
 
 use crate::frames::{Framing, FramingFault};
 use crate::head::{Field, FieldList, Head, ReplyHead};
@@ -13,14 +15,16 @@ use crate::list::{all_say, first_piece, number, trimmed};
 use crate::text::same_bytes;
 use http::Method;
 
-/// The framing of a request's body (RFC 9112 section 6.3), in time for its fields and with no memory.
+/// The framing of a request's body (RFC 9112 section 6.3), in time for its fields and with no
+/// memory.
 ///
-/// A Content-Length is a list of one or more equal decimal numbers below 2^63, over all fields of that name: RFC 9110
-/// section 8.6 leaves it to a recipient to take equal ones for one. A Transfer-Encoding beside a Content-Length is refused,
-/// where RFC 9112 section 6.1 leaves the choice between that and letting Transfer-Encoding win: two readers of one connection
-/// that choose differently can be made to split it differently (request smuggling, RFC 9112 section 11.2). A
-/// Transfer-Encoding in HTTP/1.0 is faulty framing (section 6.1), and a coding other than `chunked` alone, in one field, is
-/// one that is not known here.
+/// A Content-Length is a list of one or more equal decimal numbers below 2^63, over all fields of
+/// that name: RFC 9110 section 8.6 leaves it to a recipient to take equal ones for one. A
+/// Transfer-Encoding beside a Content-Length is refused, where RFC 9112 section 6.1 leaves the
+/// choice between that and letting Transfer-Encoding win: two readers of one connection that choose
+/// differently can be made to split it differently (request smuggling, RFC 9112 section 11.2). A
+/// Transfer-Encoding in HTTP/1.0 is faulty framing (section 6.1), and a coding other than `chunked`
+/// alone, in one field, is one that is not known here.
 ///
 /// # Errors
 /// `Length` comes before `Coding`.
@@ -30,15 +34,18 @@ pub fn framing(head: &Head) -> Result<Framing, FramingFault>
     by_fields(head.version, &head.fields)
 }
 
-/// The framing of a reply's body to a request with this method (RFC 9112 section 6.3), in time for its fields and with no memory.
+/// The framing of a reply's body to a request with this method (RFC 9112 section 6.3), in time for
+/// its fields and with no memory.
 ///
-/// Its two fields are tested as those of a request, in every reply. After them, a reply to HEAD and one of the status 204 or 304 has no
-/// body. A body that neither field frames goes up to the end of the connection.
+/// Its two fields are tested as those of a request, in every reply. After them, a reply to HEAD and
+/// one of the status 204 or 304 has no body. A body that neither field frames goes up to the end of
+/// the connection.
 ///
 /// # Errors
 /// As for [`framing`].
 pub fn reply_framing(method: &Method, head: &ReplyHead) -> Result<Framing, FramingFault>
-    ensures { result ≡ reply_framing_of method.now head.now.status (framing_of head.now.version head.now.fields) }
+    ensures { result ≡ reply_framing_of method.now head.now.status
+        (framing_of head.now.version head.now.fields) }
 {
     match by_fields(head.version, &head.fields) {
         Ok(_) if has_no_body(method, head.status) => Ok(Framing::Nothing),
@@ -47,7 +54,8 @@ pub fn reply_framing(method: &Method, head: &ReplyHead) -> Result<Framing, Frami
     }
 }
 
-/// The framing of a reply that has a body: one that no field frames goes up to the end of the connection.
+/// The framing of a reply that has a body: one that no field frames goes up to the end of the
+/// connection.
 fn or_to_end(framing: Framing) -> Framing
     ensures { result ≡ or_to_end framing }
 {
@@ -106,8 +114,8 @@ fn by_coding(fields: &FieldList) -> Result<Framing, FramingFault>
     }
 }
 
-/// The length that every piece of every Content-Length field writes, if there is one and they all write the same, in time for the
-/// fields.
+/// The length that every piece of every Content-Length field writes, if there is one and they all
+/// write the same, in time for the fields.
 pub fn content_length(fields: &FieldList) -> Option<u64>
     ensures { result ≡ agreed (pieces_of (values_of (codes "content-length") fields.now)) }
 {

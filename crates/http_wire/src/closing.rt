@@ -7,7 +7,8 @@ use crate::head::FieldList;
 use crate::list::trimmed;
 use crate::text::same_bytes;
 
-/// Whether a Connection field names `close`, in any case, among what it lists (RFC 9112 section 9.6). It takes time for the fields.
+/// Whether a Connection field names `close`, in any case, among what it lists (RFC 9112 section
+/// 9.6). It takes time for the fields.
 pub fn names_close(fields: &FieldList) -> bool
     ensures { result ≡ names_close fields.now }
 {

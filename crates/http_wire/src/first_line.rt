@@ -1,7 +1,9 @@
 //! The first line of a request.
 ghost use Rattle.std.specs.Prelude.{◌≡◌, ◌≤◌, ◌-◌, drop, length};
 ghost use Rattle.std.specs.Option.{option_copied};
-ghost use Rattle.http_wire.specs.FirstLine.{ends_in_other_version, first_line, is_other_version, is_version, last_nine, line_at, skip_empty_lines, without_return};
+ghost use Rattle.http_wire.specs.FirstLine.{ends_in_other_version, first_line, is_other_version};
+ghost use Rattle.http_wire.specs.FirstLine.{is_version, last_nine, line_at, skip_empty_lines};
+ghost use Rattle.http_wire.specs.FirstLine.{without_return};
 
 use crate::list::position_of;
 

@@ -46,6 +46,14 @@ impl FieldList {
         self.fields.as_slice()
     }
 
+    /// The fields, as a list that can be altered.
+    pub fn into_items(self) -> Vec<Field>
+        ensures { result.items ≡ self }
+    {
+        let FieldList { fields } = self;
+        fields
+    }
+
     /// How many fields have this name, in any case.
     pub fn count(&self, name: &str) -> usize
         ensures { result ≡ length (values_of name.now self.now) }

@@ -18,12 +18,13 @@ pub enum HostFault {
     OutOfMemory,
 }
 
-/// The host of a request: the authority of an absolute target, else the value of the Host field, else nothing (RFC 9112
-/// section 3.3). It takes time for the fields and memory for the host.
+/// The host of a request: the authority of an absolute target, else the value of the Host field,
+/// else nothing (RFC 9112 section 3.3). It takes time for the fields and memory for the host.
 ///
 /// # Errors
-/// `NoHost` exactly where an HTTP/1.1 request has not exactly one Host field, or an HTTP/1.0 request more than one (RFC 9112
-/// section 3.2): two of them may name one host to us and another to the next recipient.
+/// `NoHost` exactly where an HTTP/1.1 request has not exactly one Host field, or an HTTP/1.0
+/// request more than one (RFC 9112 section 3.2): two of them may name one host to us and another to
+/// the next recipient.
 pub fn read_host(alloc: Global, head: &Head, target: &Target) -> Result<Bytes, HostFault>
     ensures host { Gives (host_of head.now.version head.now.fields
         (option_map (λ v. v.items) target.now.authority)) result }

@@ -50,8 +50,8 @@ pub(crate) fn position_of(bytes: &[u8], byte: u8) -> Option<usize>
     bytes.iter().position(|b| *b == byte)
 }
 
-/// The number that decimal digits write, leading zeros among them: nothing where a byte is no digit, where there is none,
-/// or past [`MOST_LENGTH`].
+/// The number that decimal digits write, leading zeros among them: nothing where a byte is no
+/// digit, where there is none, or past [`MOST_LENGTH`].
 pub(crate) fn number(digits: &[u8]) -> Option<u64>
     ensures { result ≡ number_of digits.now }
 {

@@ -27,7 +27,8 @@ pub(crate) enum Parsed {
 /// The most fields whose spans take no memory of their own.
 pub(crate) const FEW_FIELDS: usize = 64;
 
-/// Parses the head at the front of the bytes, in time for them. The spans of a head of up to 64 fields lie on the stack.
+/// Parses the head at the front of the bytes, in time for them. The spans of a head of up to 64
+/// fields lie on the stack.
 pub(crate) fn parse(alloc: Global, bytes: &[u8]) -> Mem<Parsed>
     ensures { IfOk result (Parses bytes.now) }
 {
@@ -43,8 +44,8 @@ pub(crate) fn parse(alloc: Global, bytes: &[u8]) -> Mem<Parsed>
     }
 }
 
-/// The same, with room for as many fields as there are line feeds: a field ends in one, so that there is room for every field, and
-/// each refusal is for good.
+/// The same, with room for as many fields as there are line feeds: a field ends in one, so that
+/// there is room for every field, and each refusal is for good.
 fn parse_many(alloc: Global, bytes: &[u8]) -> Mem<Parsed>
     ensures { IfOk result (Parses bytes.now) }
 {

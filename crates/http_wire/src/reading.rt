@@ -33,19 +33,22 @@ pub enum HeadEnd {
     OutOfMemory,
 }
 
-/// Reads the head of the next request: of the bytes that are kept and those that the peer gives behind them, whatever the
-/// pieces in which they come. The bytes behind the head stay in `rest`; without a head all of them do.
+/// Reads the head of the next request: of the bytes that are kept and those that the peer gives
+/// behind them, whatever the pieces in which they come. The bytes behind the head stay in `rest`;
+/// without a head all of them do.
 ///
-/// Empty lines before the request line are skipped (RFC 9112 section 2.2), and a line may end in a line feed alone. A folded field (RFC 9112
-/// section 5.2), a control byte in a value (RFC 9110 section 5.5), and a lone carriage return and more than one blank in the request line
-/// (RFC 9112 sections 2.2 and 3), which a recipient may also mend, refuse the head: a reader that mends them and one that doesn't see two
-/// different heads (request smuggling).
+/// Empty lines before the request line are skipped (RFC 9112 section 2.2), and a line may end in a
+/// line feed alone. A folded field (RFC 9112 section 5.2), a control byte in a value (RFC 9110
+/// section 5.5), and a lone carriage return and more than one blank in the request line (RFC 9112
+/// sections 2.2 and 3), which a recipient may also mend, refuse the head: a reader that mends them
+/// and one that doesn't see two different heads (request smuggling).
 ///
-/// The bytes that are kept, or else the first piece, are parsed at once: mostly they have the whole head. Where they don't, each byte is
-/// followed once as it comes, and the bytes are parsed where the request line has ended, where the head has, at a byte that can stand in no
-/// head and at 65,536 bytes: so the time is that of the bytes, however they are cut, and of one call of [`Peer::read`] for each piece. While
-/// a head of more than 64 fields is parsed it takes 32 bytes of memory for each of the line feeds that came, beside its own bytes and those
-/// of the answer.
+/// The bytes that are kept, or else the first piece, are parsed at once: mostly they have the whole
+/// head. Where they don't, each byte is followed once as it comes, and the bytes are parsed where
+/// the request line has ended, where the head has, at a byte that can stand in no head and at
+/// 65,536 bytes: so the time is that of the bytes, however they are cut, and of one call of
+/// [`Peer::read`] for each piece. While a head of more than 64 fields is parsed it takes 32 bytes
+/// of memory for each of the line feeds that came, beside its own bytes and those of the answer.
 ///
 /// # Errors
 /// Each says what the bytes show, or which count of the peer rose: see [`HeadEnd`].
@@ -54,7 +57,8 @@ pub fn read_request_head<P: Peer>(
     peer: &mut P,
     rest: &mut Rest,
 ) -> Result<Head, HeadEnd>
-    ensures head { ReadsHead (P.line peer.old).left (P.line peer.new).left rest.old rest.new result }
+    ensures head { ReadsHead (P.line peer.old).left (P.line peer.new).left rest.old rest.new
+        result }
     ensures sound { IfOk result IsSoundHead }
     ensures causes { HasCauses (P.line peer.old).ends (P.line peer.new).ends
         (P.line peer.old).read_faults (P.line peer.new).read_faults result }
@@ -83,11 +87,12 @@ enum Turn {
     More,
 }
 
-/// Looks at the bytes that are kept, or where there are none at the first that come: mostly they have a whole head, and nothing is to be
-/// followed.
+/// Looks at the bytes that are kept, or where there are none at the first that come: mostly they
+/// have a whole head, and nothing is to be followed.
 fn first_look<P: Peer>(alloc: Global, peer: &mut P, rest: &mut Rest) -> Turn
     ensures bytes { LooksFirst (P.line peer.old).left (P.line peer.new).left rest.old rest.new
-        (P.line peer.old).ends (P.line peer.new).ends (P.line peer.old).read_faults (P.line peer.new).read_faults result }
+        (P.line peer.old).ends (P.line peer.new).ends (P.line peer.old).read_faults
+        (P.line peer.new).read_faults result }
     ensures others { IsUnwritten (P.line peer.old) (P.line peer.new) }
 {
     if !rest.kept().is_empty() {
@@ -103,7 +108,8 @@ fn first_look<P: Peer>(alloc: Global, peer: &mut P, rest: &mut Rest) -> Turn
 fn take_turn<P: Peer>(alloc: Global, peer: &mut P, rest: &mut Rest, watch: &mut Watch) -> Turn
     requires { Trusts watch.old rest.old }
     ensures bytes { Turns (P.line peer.old).left (P.line peer.new).left rest.old rest.new
-        (P.line peer.old).ends (P.line peer.new).ends (P.line peer.old).read_faults (P.line peer.new).read_faults result }
+        (P.line peer.old).ends (P.line peer.new).ends (P.line peer.old).read_faults
+        (P.line peer.new).read_faults result }
     ensures trusts { result ≡ Turn.More → Trusts watch.new rest.new }
     ensures others { IsUnwritten (P.line peer.old) (P.line peer.new) }
 {
@@ -121,7 +127,8 @@ fn read_once<P: Peer>(peer: &mut P, rest: &mut Rest, watch: &mut Watch) -> Turn
     requires stands { StandsAt watch.old.progress rest.old }
     requires unfinished { IsUnfinished rest.old }
     ensures bytes { Turns (P.line peer.old).left (P.line peer.new).left rest.old rest.new
-        (P.line peer.old).ends (P.line peer.new).ends (P.line peer.old).read_faults (P.line peer.new).read_faults result }
+        (P.line peer.old).ends (P.line peer.new).ends (P.line peer.old).read_faults
+        (P.line peer.new).read_faults result }
     ensures trusts { result ≡ Turn.More → Trusts watch.new rest.new }
     ensures others { IsUnwritten (P.line peer.old) (P.line peer.new) }
 {
@@ -139,7 +146,8 @@ fn read_once<P: Peer>(peer: &mut P, rest: &mut Rest, watch: &mut Watch) -> Turn
 fn fill_once<P: Peer>(peer: &mut P, rest: &mut Rest) -> Turn
     requires { IsUnfinished rest.old }
     ensures bytes { Turns (P.line peer.old).left (P.line peer.new).left rest.old rest.new
-        (P.line peer.old).ends (P.line peer.new).ends (P.line peer.old).read_faults (P.line peer.new).read_faults result }
+        (P.line peer.old).ends (P.line peer.new).ends (P.line peer.old).read_faults
+        (P.line peer.new).read_faults result }
     ensures others { IsUnwritten (P.line peer.old) (P.line peer.new) }
 {
     match rest.fill(peer) {

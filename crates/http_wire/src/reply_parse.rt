@@ -22,7 +22,8 @@ pub(crate) enum ParsedReply {
     Partial,
 }
 
-/// Parses the head at the front of the bytes, in time for them. The spans of a head of up to 64 fields lie on the stack.
+/// Parses the head at the front of the bytes, in time for them. The spans of a head of up to 64
+/// fields lie on the stack.
 pub(crate) fn parse_reply(alloc: Global, bytes: &[u8]) -> Mem<ParsedReply>
     ensures { IfOk result (ParsesReply bytes.now) }
 {
@@ -38,8 +39,8 @@ pub(crate) fn parse_reply(alloc: Global, bytes: &[u8]) -> Mem<ParsedReply>
     }
 }
 
-/// The same, with room for as many fields as there are line feeds: a field ends in one, so that there is room for every field, and
-/// each refusal is for good.
+/// The same, with room for as many fields as there are line feeds: a field ends in one, so that
+/// there is room for every field, and each refusal is for good.
 fn parse_many(alloc: Global, bytes: &[u8]) -> Mem<ParsedReply>
     ensures { IfOk result (ParsesReply bytes.now) }
 {

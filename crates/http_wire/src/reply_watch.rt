@@ -4,8 +4,8 @@ ghost use Rattle.http_wire.specs.Replies.{fits, is_at_end, Leads, Tracks};
 
 use crate::section::Place;
 
-/// How far the bytes of a reply's head have come. What may follow there, up to the head's end, is `Completes` of
-/// `specs/Replies.antt`.
+/// How far the bytes of a reply's head have come. What may follow there, up to the head's end, is
+/// `Completes` of `specs/Replies.antt`.
 #[derive(Clone, Copy, Debug, PartialEq, Eq)]
 pub(crate) enum StatusPlace {
     /// In the empty lines before the status line.
@@ -121,7 +121,8 @@ fn is_minor(byte: u8) -> bool
     byte == b'0' || byte == b'1'
 }
 
-/// Follows bytes as they come, each once, until they show the end of a reply's head, or that there is none.
+/// Follows bytes as they come, each once, until they show the end of a reply's head, or that there
+/// is none.
 #[derive(Debug, Drop)]
 pub(crate) struct ReplyWatch {
     place: StatusPlace,
@@ -139,7 +140,8 @@ impl ReplyWatch {
 
     /// Follows more bytes.
     pub(crate) fn follow(&mut self, bytes: &[u8])
-        ensures { (before : List ℕ) → Tracks before self.old.place → Tracks (before ++ bytes.now) self.new.place }
+        ensures { (before : List ℕ) → Tracks before self.old.place
+            → Tracks (before ++ bytes.now) self.new.place }
     {
         for byte in bytes {
             if self.place.is_at_end() {

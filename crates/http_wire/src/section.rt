@@ -4,8 +4,8 @@ ghost use Rattle.http_wire.specs.Places.{is_over, Leads};
 
 use httparse::{is_header_name_token, is_header_value_token};
 
-/// Where the next byte of the field lines stands. What may follow there, up to the head's end, is `Completes` of
-/// `specs/Places.antt`.
+/// Where the next byte of the field lines stands. What may follow there, up to the head's end, is
+/// `Completes` of `specs/Places.antt`.
 #[derive(Clone, Copy, Debug, PartialEq, Eq)]
 pub(crate) enum Place {
     /// A line's first byte.

@@ -27,9 +27,9 @@ pub(crate) enum Seen {
     NotYet,
 }
 
-/// Looks at what the bytes begin with, in time for them. The first line is looked at before anything is parsed, once it has
-/// ended: the parser tells a version that is not served from no version, and it takes a target that is no text for an open
-/// one until the target ends.
+/// Looks at what the bytes begin with, in time for them. The first line is looked at before
+/// anything is parsed, once it has ended: the parser tells a version that is not served from no
+/// version, and it takes a target that is no text for an open one until the target ends.
 pub(crate) fn look(alloc: Global, bytes: &[u8]) -> Mem<Seen>
     ensures { IfOk result (Shows bytes.now) }
 {

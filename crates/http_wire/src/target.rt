@@ -35,9 +35,10 @@ pub enum TargetFault {
 
 /// Reads the target of a request, in time and memory for its bytes.
 ///
-/// The origin form, `*` with OPTIONS, and the absolute form with the scheme `http` are served. The authority form is for
-/// CONNECT alone, and a target with user information is refused: RFC 9110 section 4.2.4 tells recipients to treat it as an
-/// error, since it serves to make one host look like another. A fragment is dropped.
+/// The origin form, `*` with OPTIONS, and the absolute form with the scheme `http` are served. The
+/// authority form is for CONNECT alone, and a target with user information is refused: RFC 9110
+/// section 4.2.4 tells recipients to treat it as an error, since it serves to make one host look
+/// like another. A fragment is dropped.
 ///
 /// # Errors
 /// `Connect` comes before `NoTarget`.

@@ -35,8 +35,8 @@ impl Text {
     }
 }
 
-/// The name of a field, as received: names are compared without case (RFC 9110 section 5.1). Contracts see it as the list
-/// of its bytes.
+/// The name of a field, as received: names are compared without case (RFC 9110 section 5.1).
+/// Contracts see it as the list of its bytes.
 #[derive(Debug, Drop)]
 pub struct FieldName {
     bytes: Vec<u8>,
@@ -80,7 +80,8 @@ impl FieldName {
     }
 }
 
-/// Whether two texts are alike but for the case of ASCII letters, as names of fields and some values are compared (RFC 9110 section 5.1).
+/// Whether two texts are alike but for the case of ASCII letters, as names of fields and some
+/// values are compared (RFC 9110 section 5.1).
 pub fn same_bytes(a: &[u8], b: &[u8]) -> bool
     ensures { result ≡ same_ignoring_case a.now b.now }
 {

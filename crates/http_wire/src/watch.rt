@@ -1,7 +1,8 @@
 //! Where bytes that come in pieces may show a head or a refusal of one.
 ghost use Rattle.std.specs.Prelude.{◌≡◌, ℕ, List, [], ◌∷◌, ◌++◌, false};
 ghost use Rattle.http_wire.specs.Heads.{IsOpen};
-ghost use Rattle.http_wire.specs.Places.{is_at_end, is_in_fields, is_news, Advances, Follows, StandsAt};
+ghost use Rattle.http_wire.specs.Places.{is_at_end, is_in_fields, is_news, Advances, Follows};
+ghost use Rattle.http_wire.specs.Places.{StandsAt};
 
 use crate::section::Place;
 
@@ -69,7 +70,8 @@ fn before(byte: u8) -> Progress
     }
 }
 
-/// The same, behind a carriage return, which is the request line's first byte where no line feed follows.
+/// The same, behind a carriage return, which is the request line's first byte where no line feed
+/// follows.
 fn before_return(byte: u8) -> Progress
     ensures { Advances Progress.BeforeReturn byte result }
 {
@@ -91,9 +93,10 @@ fn line(byte: u8) -> Progress
     }
 }
 
-/// Follows bytes as they come, each once, and says when they are to be looked at: where the request line has ended, where the
-/// head has, and at a byte that can stand in no head. So bytes that come one by one are not parsed from the front at each of
-/// them, and a head and a refusal are told at once.
+/// Follows bytes as they come, each once, and says when they are to be looked at: where the request
+/// line has ended, where the head has, and at a byte that can stand in no head. So bytes that come
+/// one by one are not parsed from the front at each of them, and a head and a refusal are told at
+/// once.
 #[derive(Debug, Drop)]
 pub(crate) struct Watch {
     progress: Progress,
@@ -128,7 +131,8 @@ impl Watch {
     /// Follows one more byte.
     fn step(&mut self, byte: u8)
         requires { is_at_end self.old.progress ≡ false }
-        ensures { (before now : List ℕ) → Follows before now self.old → Follows before (now ++ byte ∷ []) self.new }
+        ensures { (before now : List ℕ) → Follows before now self.old
+            → Follows before (now ++ byte ∷ []) self.new }
     {
         let next = self.progress.after(byte);
         self.due |= self.progress.is_news(next);

@@ -1,3 +1,4 @@
+pub mod Clearing
 pub mod Forms
 pub mod Pieces
 pub mod Sounds

@@ -1,2 +1,4 @@
+pub mod Context
+pub mod Laws
 pub mod Local
 pub mod Naming

@@ -1,5 +1,7 @@
 -- Which path a request names.
-use Rattle.std.specs.Prelude.{◌≡◌, ◌≢◌, ⊤, ℕ, Bool, true, false, ◌==◌, nat_le, if◌then◌else◌, List, [], ◌∷◌, ◌++◌, length, take, filter, codes, bytes_eq, Option, Some, None, option_map, Result, Ok, Err}
+use Rattle.std.specs.Prelude.{◌≡◌, ◌≢◌, ⊤, ℕ, Bool, true, false, ◌==◌, nat_le, if◌then◌else◌, List}
+use Rattle.std.specs.Prelude.{[], ◌∷◌, ◌++◌, length, take, filter, codes, bytes_eq, Option, Some}
+use Rattle.std.specs.Prelude.{None, option_map, Result, Ok, Err}
 use Rattle.std.specs.List.{before_first, slice_split}
 use Rattle.std.specs.Option.{option_and_then}
 use Rattle.name_tree.specs.Path.{Labels}
@@ -10,7 +12,8 @@ use Rattle.http_wire.specs.Fields.{first_value, lower, same_ignoring_case}
 use Rattle.http_wire.specs.Target.{Form, IsServed}
 use Rattle.http_uri.specs.ByteClasses.{question_mark, slash}
 use Rattle.identifier.specs.declared.rule.Kind.{Kind}
-use Rattle.identifier.specs.declared.rule.Kind.TheVariants.{Token, MethodAndHost, Segments, PathField, Static}
+use Rattle.identifier.specs.declared.rule.Kind.TheVariants.{Token, MethodAndHost, Segments}
+use Rattle.identifier.specs.declared.rule.Kind.TheVariants.{PathField, Static}
 use Rattle.identifier.specs.declared.rule.Rule.{Rule}
 use Rattle.identifier.specs.declared.fault.IdentifyFault.{IdentifyFault}
 use Rattle.identifier.specs.declared.fault.IdentifyFault.TheVariants.{Unidentified, OutOfMemory}
@@ -26,7 +29,8 @@ by_token name fields host =
     if same_ignoring_case name (codes "host") then one_label (lower host)
     else option_and_then one_label (first_value name fields)
 
--- by the version, the method and the host; an HTTP/1.0 request may have no host, and is named without it
+-- by the version, the method and the host; an HTTP/1.0 request may have no host, and is named
+-- without it
 abbrev pub by_method_and_host : ℕ → List ℕ → List ℕ → Option Labels
 by_method_and_host minor method host =
     if minor == 0 then Some (codes "1.0" ∷ method ∷ [])
@@ -58,7 +62,8 @@ named_by (Static path) head host line = Some path
 
 -- the path that a request names
 abbrev pub identified : Rule → Head → List ℕ → List ℕ → Option Labels
-identified rule head host line = option_map (λ more. rule.prefix ++ more) (named_by rule.kind head host line)
+identified rule head host line =
+    option_map (λ more. rule.prefix ++ more) (named_by rule.kind head host line)
 
 -- the target of the head is one that is served, and the method is not CONNECT
 pub record IsTaken (head : Head) : Type 0 where

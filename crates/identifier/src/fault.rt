@@ -28,7 +28,8 @@ impl From<AllocError> for IdentifyFault {
 /// Why a request's own table is refused.
 #[derive(Clone, Copy, Debug, PartialEq, Eq, Error)]
 pub enum LocalFault {
-    /// One of its values is refused as a table's text, or together they have more than 1,024 entries.
+    /// One of its values is refused as a table's text, or together they have more than 1,024
+    /// entries.
     #[error("a table of the request is refused")]
     BadDtab,
     /// There was no memory for the table.

@@ -11,15 +11,17 @@ use dtab_table::{Dtab, DtabFault, Entry, EntryList, MOST_ENTRIES, read_entries};
 use http_wire::{Field, Head};
 use std::alloc::Global;
 
-/// The table that a request brings along for itself: the entries of the tables in all its `l5d-ctx-dtab` fields, in order, and then those in
-/// all its `l5d-dtab` fields. The first are what routers before this one passed on, and the second the client's own; later entries are tried
-/// first, so that the client's own win. A request without such fields brings the table with no entry, and an empty value adds none.
+/// The table that a request brings along for itself: the entries of the tables in all its
+/// `l5d-ctx-dtab` fields, in order, and then those in all its `l5d-dtab` fields. The first are what
+/// routers before this one passed on, and the second the client's own; later entries are tried
+/// first, so that the client's own win. A request without such fields brings the table with no
+/// entry, and an empty value adds none.
 ///
 /// It takes time and memory for the texts.
 ///
 /// # Errors
-/// `BadDtab` exactly where [`read_entries`] refuses one of the values, or the whole has more than 1,024 entries. `OutOfMemory` where there was no
-/// memory for the table.
+/// `BadDtab` exactly where [`read_entries`] refuses one of the values, or the whole has more than
+/// 1,024 entries. `OutOfMemory` where there was no memory for the table.
 pub fn local_dtab(alloc: Global, head: &Head) -> Result<Dtab, LocalFault>
     ensures rules { Gives (local_rules head.now.fields) result }
     ensures sound { IfOk result (λ dtab. AreSoundRules (rules_of dtab)) }
@@ -41,7 +43,8 @@ fn add_tables(
     name: &str,
     entries: &mut Vec<Entry>,
 ) -> Result<(), LocalFault>
-    ensures { Adds entries.old.items entries.new.items (joined_rules (values_of name.now fields.now)) result }
+    ensures { Adds entries.old.items entries.new.items
+        (joined_rules (values_of name.now fields.now)) result }
 {
     for field in fields {
         if field.name.is(name) {

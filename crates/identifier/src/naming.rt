@@ -4,7 +4,8 @@ ghost use Rattle.std.specs.Option.{option_and_then};
 ghost use Rattle.name_tree.specs.Path.{Labels};
 ghost use Rattle.name_tree.specs.Computed.{path_of as path_of_text};
 ghost use Rattle.http_wire.specs.Fields.{first_value};
-ghost use Rattle.identifier.specs.Naming.{by_method_and_host, by_token, identified, Answers, AnswersBehind, AnswersBy, IsTaken};
+ghost use Rattle.identifier.specs.Naming.{by_method_and_host, by_token, identified, Answers};
+ghost use Rattle.identifier.specs.Naming.{AnswersBehind, AnswersBy, IsTaken};
 
 use crate::fault::IdentifyFault;
 use crate::labels::{copied, lowered, with_label};
@@ -14,15 +15,18 @@ use http_wire::{FieldName, Head};
 use name_tree::{Path, TextFault, read_path};
 use std::alloc::Global;
 
-/// The path that a request names by a rule: the labels of the prefix, and then those that its [`Kind`] takes from the request. The host is what
-/// [`read_host`](http_wire::read_host) gave for the request.
+/// The path that a request names by a rule: the labels of the prefix, and then those that its
+/// [`Kind`] takes from the request. The host is what [`read_host`](http_wire::read_host) gave for
+/// the request.
 ///
-/// The head has to be one that [`read_target`](http_wire::read_target) takes: `IsTaken` says that its method is not CONNECT, and its target is
-/// served in some form. It takes time and memory for the prefix and the text that it is named by; a kind other than [`Kind::Segments`] does not
-/// look at the target.
+/// The head has to be one that [`read_target`](http_wire::read_target) takes: `IsTaken` says that
+/// its method is not CONNECT, and its target is served in some form. It takes time and memory for
+/// the prefix and the text that it is named by; a kind other than [`Kind::Segments`] does not look
+/// at the target.
 ///
 /// # Errors
-/// `Unidentified` exactly where the kind gives no path. `OutOfMemory` where there was no memory for the path.
+/// `Unidentified` exactly where the kind gives no path. `OutOfMemory` where there was no memory for
+/// the path.
 pub fn identify(alloc: Global, rule: &Rule, head: &Head, host: &[u8]) -> Result<Path, IdentifyFault>
     requires { IsTaken head.now }
     ensures { AnswersBy head.now (identified rule.now head.now host.now) result }
@@ -43,7 +47,8 @@ fn behind(
     prefix: &Path,
     rest: Result<Path, IdentifyFault>,
 ) -> Result<Path, IdentifyFault>
-    ensures { (labels : Option Labels) → Answers labels rest → AnswersBehind prefix.now labels result }
+    ensures { (labels : Option Labels) → Answers labels rest
+        → AnswersBehind prefix.now labels result }
 {
     let rest = rest?;
     Ok(prefix.joined(alloc, &rest)?)
@@ -75,7 +80,8 @@ fn method_and_host(
     head: &Head,
     host: &[u8],
 ) -> Result<Path, IdentifyFault>
-    ensures { AnswersBehind prefix.now (by_method_and_host head.now.version head.now.method host.now) result }
+    ensures { AnswersBehind prefix.now
+        (by_method_and_host head.now.version head.now.method host.now) result }
 {
     let version = if head.version == 0 { "1.0" } else { "1.1" };
     let mut path = copied(alloc, prefix)?;

@@ -1,7 +1,8 @@
 //! The pieces of a target's path.
 ghost use Rattle.std.specs.Prelude.{◌≡◌, ◌≢◌, slice_index};
 ghost use Rattle.http_uri.specs.ByteClasses.{slash};
-ghost use Rattle.identifier.specs.Naming.{first_of, path_in, pieces_of, Answers, AnswersBy, IsTaken};
+ghost use Rattle.identifier.specs.Naming.{first_of, path_in, pieces_of, Answers, AnswersBy};
+ghost use Rattle.identifier.specs.Naming.{IsTaken};
 
 use crate::fault::IdentifyFault;
 use http_wire::{Head, TargetFault, before, read_target};

@@ -5,7 +5,8 @@
 //! hands the arguments on, and ends with the code that it is given. What is told to people goes to
 //! standard error: how to call the program where the words fit no command, by which configuration
 //! it serves, why it ended, that a configuration does what few want, and what else the text of a
-//! table shows.
+//! table shows. Beside a router that serves, a thread watches for a signal that asks for an end
+//! and that whoever started the program has blocked (`env --block-signal=TERM,INT`).
 //!
 //! # What is proved
 //! That the code to exit with is the status of the words is a clause of
@@ -26,13 +27,18 @@
 use announcing::{Asked, asked_of, reason};
 use linker_commands::{Status, run_arguments, tell};
 use net_edge::{FileSystem, ReaderSource, SocketNet, SystemClock, WriterSink};
+use pausing::Finish;
+use signal_watch::{StopCell, StoppableNet};
 use std::process::ExitCode;
-use std::{env, io};
+use std::{env, io, thread};
 use warning::WarningFolder;
+use watching::Watch;
 
 mod announcing;
 mod notes;
+mod pausing;
 mod warning;
+mod watching;
 
 /// What is written to standard error where the words fit no command.
 const USAGE: &str = "usage: linker replay < SCRIPT
@@ -58,9 +64,17 @@ usage: linker weave N SEED
   in a line. N is at most 1000000.
 ";
 
+/// What is told where a signal is held back, and there is no thread to watch for it.
+const UNWATCHED: &str = "linker: SIGTERM and SIGINT are blocked, and no thread could be made to \
+    watch for them";
+
 fn main(rt: HostRuntime) -> ExitCode {
     let mut out = WriterSink::of(io::writer(&rt));
-    let Ok(mut net) = SocketNet::of(&rt) else {
+    let (Ok(sockets), Ok(stops), Ok(finish)) = (
+        SocketNet::of(&rt),
+        StopCell::new(rt.alloc()),
+        Finish::awaited(rt.alloc()),
+    ) else {
         return ExitCode::from(tell(&mut out, b"error memory\n", Status::Memory).code());
     };
     let asked = asked_of(rt.alloc(), env::args(&rt));
@@ -71,6 +85,23 @@ fn main(rt: HostRuntime) -> ExitCode {
     if let Some(Asked::Serve(path)) = &asked {
         let _ = eprintln!(rt; "linker: serving by {path}");
     }
+    let serves = matches!(asked, Some(Asked::Serve(_)));
+    let watch = if serves {
+        Watch::wanted(&rt, &stops, &finish)
+    } else {
+        None
+    };
+    let watching = match watch {
+        Some(watch) => match thread::spawn(&rt, move || watch.run(&rt)) {
+            Ok(thread) => Some(thread),
+            Err(_) => {
+                let _ = eprintln!(rt; "{UNWATCHED}");
+                None
+            }
+        },
+        None => None,
+    };
+    let mut net = StoppableNet::of(&rt, sockets, stops);
     let exit = run_arguments(
         &rt,
         env::args(&rt),
@@ -80,12 +111,14 @@ fn main(rt: HostRuntime) -> ExitCode {
         &mut input,
         &mut out,
     );
+    finish.come();
+    if let Some(thread) = watching {
+        thread.join(&rt);
+    }
     if exit.tells_usage {
         let _ = eprint!(rt; "{USAGE}");
     }
-    if matches!(asked, Some(Asked::Serve(_)))
-        && let Ok(reason) = reason(rt.alloc(), exit.status, net.refused())
-    {
+    if serves && let Ok(reason) = reason(rt.alloc(), exit.status, net.net().refused()) {
         let _ = eprintln!(rt; "linker: ended: {reason}");
     }
     exit.code

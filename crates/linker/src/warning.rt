@@ -5,11 +5,14 @@ ghost use Rattle.std.specs.Prelude.{◌≡◌};
 use crate::notes::tell_notes;
 use line_base::{Folder, FolderFault, Found, NameList};
 use linker_config::read_config;
-use std::alloc::Global;
 
 /// What is told of a configuration whose table covers all that requests' paths begin with.
 const COVERED: &str = "linker: an entry of routers[0].dtab covers routers[0].dstPrefix, so it is \
     tried before every entry of the namespace";
+
+/// What is told of a configuration of which other machines may have requests sent anywhere.
+const HEARD: &str = "linker: routers[0].servers[0].clearContext is not there and its ip is not \
+    loopback, so any client may name any address in l5d-dtab (clearContext false says it is meant)";
 
 /// What a file is of which there may be something to tell.
 #[derive(Clone, Copy, Debug, PartialEq, Eq, Drop)]
@@ -30,18 +33,17 @@ pub struct WarningFolder<'a, R, F> {
     expected: Option<Expected>,
 }
 
-/// Whether a text is a right configuration whose table covers all that requests' paths begin with.
-fn is_covered(alloc: Global, text: &[u8]) -> bool {
-    match read_config(alloc, text) {
-        Ok(config) => config.table_covers_prefix(),
-        Err(_) => false,
-    }
-}
-
-/// Warns of a configuration whose table covers the prefix of requests' paths.
-fn warn_of_cover<R: Eprint + AllocGlobal>(rt: &R, text: &[u8]) {
-    if is_covered(rt.alloc(), text) {
+/// Warns of a right configuration whose table covers the prefix of requests' paths, and of one by
+/// which clients that may be anybody have requests sent anywhere.
+fn warn_of<R: Eprint + AllocGlobal>(rt: &R, text: &[u8]) {
+    let Ok(config) = read_config(rt.alloc(), text) else {
+        return;
+    };
+    if config.table_covers_prefix() {
         let _ = eprintln!(rt; "{COVERED}");
+    }
+    if config.hears_strangers() {
+        let _ = eprintln!(rt; "{HEARD}");
     }
 }
 
@@ -61,7 +63,7 @@ impl<'a, R: Eprint + AllocGlobal, F: Folder> WarningFolder<'a, R, F> {
     {
         if let Found::Bytes(text) = found {
             match self.expected {
-                Some(Expected::Config) => warn_of_cover(self.rt, text.as_slice()),
+                Some(Expected::Config) => warn_of(self.rt, text.as_slice()),
                 Some(Expected::Table) => tell_notes(self.rt, text.as_slice()),
                 None => {}
             }

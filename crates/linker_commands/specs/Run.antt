@@ -133,7 +133,8 @@ pub record Linked (P : Type 0) : Type 0 where
 abbrev pub Makes : List ℕ → Course → Type 0
 Makes line course = (course ≡ line_told true line) ⊎ (course ≡ no_memory)
 
--- the course of following a leader, over a net that tells so much: only memory may be wanting for it
+-- the course of following a leader, over a net that tells so much: only memory may be wanting for
+-- it
 abbrev pub Follows : {P : Type 0} → Option (Returns P) → Addr → List ℕ → ℕ → Course → Type 0
 Follows told leader space polls (words_refused place) = ⊥
 Follows told leader space polls read_failed = ⊥
@@ -254,8 +255,8 @@ module _ {P : Type 0} (line_of : P → Line) (moments : Option (List ℕ)) where
       course
       × Ended course old_out new_out status
 
--- so many listeners came back clean, and the numbers of stops that were handed out and of those that
--- came back rose alike
+-- so many listeners came back clean, and the numbers of stops that were handed out and of those
+-- that came back rose alike
 pub record AllBack {P : Type 0} (jobs : ℕ) (net net_after : Networking P) : Type 0 where
   pub clean : net_after.clean ≡ raised_by jobs net.clean
   pub given : net_after.stops_given ≡ raised_by jobs net.stops_given

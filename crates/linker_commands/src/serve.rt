@@ -71,8 +71,8 @@ fn main_text(alloc: Global, site: &Site) -> Mem<Bytes>
     Ok(line)
 }
 
-/// The line that tells where a router serves: its own address, those of the two interfaces, and that
-/// of the feed, if it is served.
+/// The line that tells where a router serves: its own address, those of the two interfaces, and
+/// that of the feed, if it is served.
 fn site_text(alloc: Global, site: &Site) -> Mem<Bytes>
     ensures { IfOk result (λ line. line.items ≡ site_line site.now) }
 {
@@ -274,6 +274,7 @@ where
         server,
         root,
         rule,
+        clear_context: _,
         settings,
         pool,
         retries,

@@ -3,7 +3,8 @@ use Rattle.std.specs.Prelude.{◌≡◌, ◌≢◌, ℕ, List, Result, Ok, Err, 
 use Rattle.serde_json.specs.Data.{Data}
 use Rattle.serde_json.specs.Read.{read}
 use Rattle.linker_config.specs.declared.fault.ConfigFault.{ConfigFault}
-use Rattle.linker_config.specs.declared.fault.ConfigFault.TheVariants.{BadJson, Bad, Missing, OutOfMemory, Unknown}
+use Rattle.linker_config.specs.declared.fault.ConfigFault.TheVariants.{BadJson, Bad, Missing}
+use Rattle.linker_config.specs.declared.fault.ConfigFault.TheVariants.{OutOfMemory, Unknown}
 use Rattle.linker_config.specs.declared.config.Config.{Config}
 use Rattle.linker_config.specs.Keys.{Told}
 use Rattle.linker_config.specs.Config.{config_of, said_of, Configured, IsJson}

@@ -1,5 +1,7 @@
 -- What a configuration says.
-use Rattle.std.specs.Prelude.{◌≡◌, ℕ, ◌^◌, ◌-◌, List, [], ◌∷◌, codes, Option, None, Some, Ok}
+use Rattle.std.specs.Prelude.{◌≡◌, ℕ, ◌^◌, ◌-◌, Bool, false, List, [], ◌∷◌, codes, Option, None}
+use Rattle.std.specs.Prelude.{Some}
+use Rattle.std.specs.Prelude.{unwrap_or, Ok}
 use Rattle.std.specs.Prelude.{IsUtf8}
 use Rattle.serde_json.specs.Data.{Data}
 use Rattle.serde_json.specs.Read.{read}
@@ -22,15 +24,16 @@ use Rattle.linker_config.specs.Namers.{namers_told}
 use Rattle.linker_config.specs.Router.{routers_told}
 
 -- what a configuration says: where to listen, the folder of the services, how requests are named,
--- the router's settings, which connections to replicas are kept, how often a request may be tried
--- again, the number of the workers, the seed of the choices, and where the feed of the namespaces
--- is served
+-- what is said of clearing their context, the router's settings, which connections to replicas are
+-- kept, how often a request may be tried again, the number of the workers, the seed of the choices,
+-- and where the feed of the namespaces is served
 pub record Configured : Type 0 where
   pub admin : Port
   pub namerd : Port
   pub server : Port
   pub root : Option (List ℕ)
   pub rule : Rule
+  pub clear_context : Option Bool
   pub space : List ℕ
   pub base : List TableRule
   pub limits : Limits
@@ -48,6 +51,7 @@ said_of c = record {
   server = c.server;
   root = c.root;
   rule = c.rule;
+  clear_context = c.clear_context;
   space = c.settings.space;
   base = rules_of c.settings.base;
   limits = c.settings.limits;
@@ -82,7 +86,13 @@ config_of d =
       namerd = named.port;
       server = routed.server;
       root = root;
-      rule = record { kind = routed.kind; prefix = routed.prefix };
+      rule = record {
+        kind = routed.kind;
+        prefix = routed.prefix;
+        -- a context that nothing is said of is heard
+        clears_context = unwrap_or routed.clear_context false;
+      };
+      clear_context = routed.clear_context;
       space = named.space;
       base = routed.base;
       limits = routed.limits;

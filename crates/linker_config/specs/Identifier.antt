@@ -1,5 +1,6 @@
 -- How requests are named.
-use Rattle.std.specs.Prelude.{ℕ, Bool, ◌||◌, ◌&&◌, ◌==◌, nat_le, if◌then◌else◌, List, [], ◌∷◌, length, codes, Option, Some, None, Ok, Err}
+use Rattle.std.specs.Prelude.{ℕ, Bool, ◌||◌, ◌&&◌, ◌==◌, nat_le, if◌then◌else◌, List, [], ◌∷◌}
+use Rattle.std.specs.Prelude.{length, codes, Option, Some, None, Ok, Err}
 use Rattle.std.specs.Char.{is_ascii_alphanumeric}
 use Rattle.std.specs.List.{list_all, list_any}
 use Rattle.std.specs.Str.{bytes_eq}
@@ -7,7 +8,8 @@ use Rattle.serde_json.specs.Data.{Data}
 use Rattle.name_tree.specs.Path.{Labels}
 use Rattle.name_tree.specs.Computed.{path_of}
 use Rattle.identifier.specs.declared.rule.Kind.{Kind}
-use Rattle.identifier.specs.declared.rule.Kind.TheVariants.{Token, MethodAndHost, Segments, PathField, Static}
+use Rattle.identifier.specs.declared.rule.Kind.TheVariants.{Token, MethodAndHost, Segments}
+use Rattle.identifier.specs.declared.rule.Kind.TheVariants.{PathField, Static}
 use Rattle.linker_config.specs.declared.fault.ConfigFault.TheVariants.{Bad}
 use Rattle.linker_config.specs.Keys.{Told, and_then, inside, keys_told}
 use Rattle.linker_config.specs.Values.{needed_text, number_at, text_at}
@@ -61,7 +63,8 @@ header_told d =
 -- always the same path
 unfoldable pub static_told : Data → Told Kind
 static_told d =
-    and_then (keys_told identifier_place (codes "kind" ∷ codes "path" ∷ []) (codes "path" ∷ []) d) (λ _.
+    and_then (keys_told identifier_place (codes "kind" ∷ codes "path" ∷ []) (codes "path" ∷ []) d)
+    (λ _.
     and_then (needed_text identifier_place (codes "path") static_path d) (λ path.
     Ok (Static path)))
 
@@ -78,6 +81,8 @@ kind_told d name =
 -- a key that no kind has is told before the kind, and one that the kind does not have behind it
 unfoldable pub identifier_told : Data → Told Kind
 identifier_told d =
-    and_then (keys_told identifier_place (codes "kind" ∷ codes "header" ∷ codes "segments" ∷ codes "path" ∷ []) (codes "kind" ∷ []) d) (λ _.
+    and_then (keys_told identifier_place
+    (codes "kind" ∷ codes "header" ∷ codes "segments" ∷ codes "path" ∷ []) (codes "kind" ∷ []) d)
+    (λ _.
     and_then (needed_text identifier_place (codes "kind") Some d)
     (kind_told d))

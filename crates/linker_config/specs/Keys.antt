@@ -1,5 +1,6 @@
 -- The keys of an object of the configuration, by one rule for all objects.
-use Rattle.std.specs.Prelude.{⊤, ℕ, Bool, not, List, [], ◌∷◌, ◌++◌, codes, Option, Some, None, is_none, Result, Ok, Err}
+use Rattle.std.specs.Prelude.{⊤, ℕ, Bool, not, List, [], ◌∷◌, ◌++◌, codes, Option, Some, None}
+use Rattle.std.specs.Prelude.{is_none, Result, Ok, Err}
 use Rattle.std.specs.List.{list_any, find}
 use Rattle.std.specs.Str.{bytes_eq}
 use Rattle.serde_json.specs.Data.{Data, Members, no_members, member}
@@ -52,8 +53,9 @@ abbrev pub no_key : (List ℕ → ConfigFault) → List ℕ → Option (List ℕ
 no_key fault place None = Ok tt
 no_key fault place (Some key) = Err (fault (inside place key))
 
--- the rule for what stands at a place: it has to be an object; else the first of its keys, in the order of their bytes, that is not known is
--- told; else the first that is required and missing, in the order of the required ones
+-- the rule for what stands at a place: it has to be an object; else the first of its keys, in the
+-- order of their bytes, that is not known is told; else the first that is required and missing, in
+-- the order of the required ones
 unfoldable pub keys_told : List ℕ → List (List ℕ) → List (List ℕ) → Data → Told ⊤
 keys_told place known required d =
     and_then (or_fault (Bad (key_of place)) (as_object d)) (λ members.

@@ -13,4 +13,6 @@ pub mod Namers
 pub mod Pool
 pub mod Retries
 pub mod Router
+pub mod Server
+pub mod Trusting
 pub mod Values

@@ -4,7 +4,8 @@ use Rattle.addr_book.specs.Addr.{addr_text}
 use Rattle.linker_config.specs.declared.config.Config.{Config}
 use Rattle.linker_config.specs.declared.config.Port.{Port}
 use Rattle.linker_config.specs.declared.fault.ConfigFault.{ConfigFault}
-use Rattle.linker_config.specs.declared.fault.ConfigFault.TheVariants.{BadJson, Unknown, Bad, Missing, OutOfMemory}
+use Rattle.linker_config.specs.declared.fault.ConfigFault.TheVariants.{BadJson, Unknown, Bad}
+use Rattle.linker_config.specs.declared.fault.ConfigFault.TheVariants.{Missing, OutOfMemory}
 
 -- where something listens, as four numbers with points between them, `:`, and the port
 abbrev pub port_text : Port → List ℕ
@@ -12,7 +13,9 @@ port_text p = addr_text (record { ip = p.ip; port = p.port })
 
 -- the line of a good configuration, with its line feed
 abbrev pub good_line : Config → List ℕ
-good_line c = codes "ok router " ++ port_text c.server ++ codes " namerd " ++ port_text c.namerd ++ codes " admin " ++ port_text c.admin ++ codes "\n"
+good_line c =
+    codes "ok router " ++ port_text c.server ++ codes " namerd " ++ port_text c.namerd
+    ++ codes " admin " ++ port_text c.admin ++ codes "\n"
 
 -- the line of a key and what is wrong with it, with its line feed
 abbrev pub key_line : List ℕ → List ℕ → List ℕ

@@ -8,7 +8,7 @@ use Rattle.addr_book.specs.Name.{is_name_byte}
 use Rattle.linker_config.specs.declared.config.Port.{Port}
 use Rattle.linker_config.specs.declared.listening.Named as code
 use Rattle.linker_config.specs.Keys.{Told, and_then, keys_told}
-use Rattle.linker_config.specs.Values.{element, number_at, text_at}
+use Rattle.linker_config.specs.Values.{number_at, text_at}
 
 -- an IPv4 address: four numbers from 0 to 255 without leading zeros, with points between them
 unfoldable pub ip_value : List ℕ → Option ℕ
@@ -61,16 +61,3 @@ namerd_told d =
     and_then (text_at (codes "namerd") (codes "namespace") (codes "default") name_value d)
     (λ space.
     Ok (record { port = port; space = space }))))
-
--- where nothing is said of where the router listens
-abbrev pub usual_server : Port
-usual_server = record { ip = loopback; port = 4140 }
-
-unfoldable pub server_told : Data → Told Port
-server_told d =
-    and_then (keys_told (codes "routers[0].servers[0]") (codes "ip" ∷ codes "port" ∷ []) [] d)
-    (λ _.
-    port_told (codes "routers[0].servers[0]") 4140 d)
-
-unfoldable pub servers_told : Data → Told Port
-servers_told d = and_then (element (codes "routers[0].servers") d) server_told

@@ -6,7 +6,8 @@ use Rattle.line_base.specs.Counts.{raised}
 use Rattle.line_base.specs.Files.{File}
 use Rattle.linker_config.specs.declared.loaded.LoadedItem.{LoadedItem}
 use Rattle.linker_config.specs.declared.loaded.LoadFault.{LoadFault}
-use Rattle.linker_config.specs.declared.loaded.LoadFault.TheVariants.{BadFile, FolderFault, LongFile, OutOfMemory}
+use Rattle.linker_config.specs.declared.loaded.LoadFault.TheVariants.{BadFile, FolderFault}
+use Rattle.linker_config.specs.declared.loaded.LoadFault.TheVariants.{LongFile, OutOfMemory}
 use Rattle.linker_config.specs.Folder.{Services, with_name}
 
 -- some services before others
@@ -14,11 +15,16 @@ abbrev pub behind : List LoadedItem → Services → Services
 behind done (Ok items) = Ok (done ++ items)
 behind done (Err fault) = Err fault
 
--- a name of a folder was looked at: what the folder came to is what comes behind the services so far, or it is this refusal
-abbrev pub Steps : List File → List ℕ → List ℕ → List LoadedItem → List LoadedItem → Result ⊤ LoadFault → Type 0
-Steps files root name old new (Ok done) = (others : Services) → behind old (with_name files root name others) ≡ behind new others
-Steps files root name old new (Err (LongFile n)) = (others : Services) → with_name files root name others ≡ Err (LongFile n)
-Steps files root name old new (Err (BadFile n line)) = (others : Services) → with_name files root name others ≡ Err (BadFile n line)
+-- a name of a folder was looked at: what the folder came to is what comes behind the services so
+-- far, or it is this refusal
+abbrev pub Steps : List File → List ℕ → List ℕ → List LoadedItem → List LoadedItem
+    → Result ⊤ LoadFault → Type 0
+Steps files root name old new (Ok done) =
+    (others : Services) → behind old (with_name files root name others) ≡ behind new others
+Steps files root name old new (Err (LongFile n)) =
+    (others : Services) → with_name files root name others ≡ Err (LongFile n)
+Steps files root name old new (Err (BadFile n line)) =
+    (others : Services) → with_name files root name others ≡ Err (BadFile n line)
 Steps files root name old new (Err FolderFault) = Unit {0}
 Steps files root name old new (Err OutOfMemory) = Unit {0}
 
@@ -44,7 +50,8 @@ FileSays told (Err FolderFault) = ⊥
 FileSays told (Err OutOfMemory) = Unit {0}
 
 -- the service of a file is put behind others, or its file is refused
-abbrev pub Adds : Result LoadedItem LoadFault → List LoadedItem → List LoadedItem → Result ⊤ LoadFault → Type 0
+abbrev pub Adds : Result LoadedItem LoadFault → List LoadedItem → List LoadedItem
+    → Result ⊤ LoadFault → Type 0
 Adds told old new (Ok done) = (item : LoadedItem) × (told ≡ Ok item) × (new ≡ old ++ item ∷ [])
 Adds told old new (Err (LongFile n)) = told ≡ Err (LongFile n)
 Adds told old new (Err (BadFile n line)) = told ≡ Err (BadFile n line)

@@ -1,5 +1,5 @@
 -- The router of a configuration.
-use Rattle.std.specs.Prelude.{ℕ, List, [], ◌∷◌, codes, Option, Ok}
+use Rattle.std.specs.Prelude.{ℕ, Bool, List, [], ◌∷◌, codes, Option, Ok}
 use Rattle.serde_json.specs.Data.{Data}
 use Rattle.serde_json.specs.Find.{get}
 use Rattle.name_tree.specs.Path.{Labels}
@@ -17,7 +17,7 @@ use Rattle.linker_config.specs.declared.routed.Routed as code
 use Rattle.linker_config.specs.Keys.{Told, and_then, keys_told}
 use Rattle.linker_config.specs.Values.{element, exactly, if_there, needed_text, or_default}
 use Rattle.linker_config.specs.Values.{text_at}
-use Rattle.linker_config.specs.Listening.{servers_told, usual_server}
+use Rattle.linker_config.specs.Server.{servers_told, usual_server}
 use Rattle.linker_config.specs.Identifier.{identifier_told}
 use Rattle.linker_config.specs.Client.{client_told, usual_client}
 use Rattle.linker_config.specs.Retries.{retries_told}
@@ -28,6 +28,7 @@ pub record Routed : Type 0 where
   pub prefix : Labels
   pub kind : Kind
   pub server : Port
+  pub clear_context : Option Bool
   pub limits : Limits
   pub pool : Option ConnectionPool
   pub retries : Option Tries
@@ -39,6 +40,7 @@ routed_of r =
       prefix = r.prefix;
       kind = r.kind;
       server = r.server;
+      clear_context = r.clear_context;
       limits = r.limits;
       pool = r.pool;
       retries = r.retries;
@@ -69,7 +71,8 @@ router_told d =
       base = base;
       prefix = prefix;
       kind = kind;
-      server = server;
+      server = server.port;
+      clear_context = server.clear_context;
       limits = client.limits;
       pool = client.pool;
       retries = retries;

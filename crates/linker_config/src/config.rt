@@ -70,8 +70,12 @@ pub struct Config {
     /// The folder that has the addresses of the services, if there is one: a text of one or more
     /// bytes.
     pub root: Option<Text>,
-    /// How requests are named.
+    /// How requests are named, and whether their context is cleared: it is only where the
+    /// configuration says so.
     pub rule: Rule,
+    /// What the configuration says of clearing the context of requests, if it says anything: a
+    /// router whose clients are not trusted is to say it.
+    pub clear_context: Option<bool>,
     /// The namespace whose table the router follows, its own table, and when a replica counts as
     /// dead.
     pub settings: Settings,

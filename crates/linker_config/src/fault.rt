@@ -5,7 +5,8 @@ use crate::Bytes;
 use std::alloc::AllocError;
 use std::marker::Model;
 
-/// A key of a configuration, from the top, as `routers[0].servers[0].port`; `top` is the whole. Contracts see the list of its bytes.
+/// A key of a configuration, from the top, as `routers[0].servers[0].port`; `top` is the whole.
+/// Contracts see the list of its bytes.
 #[derive(Debug, Drop)]
 pub struct Key {
     bytes: Bytes,

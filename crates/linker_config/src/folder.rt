@@ -13,15 +13,17 @@ use std::alloc::Global;
 /// The most bytes of a service's file.
 const MOST_FILE_BYTES: usize = 1_048_576;
 
-/// Loads the services of a folder: each file whose name is a service's gives the service of that name with the addresses in it
-/// ([`read_addrs`]), in the order of the names' bytes. Files with other names are passed over, and so is a file that is gone when it is read.
-/// A file is read at the text of the root, `/`, and its name.
+/// Loads the services of a folder: each file whose name is a service's gives the service of that
+/// name with the addresses in it ([`read_addrs`]), in the order of the names' bytes. Files with
+/// other names are passed over, and so is a file that is gone when it is read. A file is read at
+/// the text of the root, `/`, and its name.
 ///
 /// It reads one file at a time, and keeps the services alone.
 ///
 /// # Errors
-/// The first file that is refused, in the order of the names, decides: [`LoadFault::LongFile`] or [`LoadFault::BadFile`]. Where the folder
-/// could not be read, [`LoadFault::FolderFault`], and its count of faults rose. Nothing is loaded then.
+/// The first file that is refused, in the order of the names, decides: [`LoadFault::LongFile`] or
+/// [`LoadFault::BadFile`]. Where the folder could not be read, [`LoadFault::FolderFault`], and its
+/// count of faults rose. Nothing is loaded then.
 pub fn load_folder<F: Folder>(
     alloc: Global,
     folder: &mut F,
@@ -49,7 +51,8 @@ fn load_names<F: Folder>(
     root: &str,
     names: &[String],
 ) -> Result<Vec<LoadedItem>, LoadFault>
-    ensures comes { (files : List File) → (F.filed folder.old).files ≡ Some files → Comes (services_told files root.now (map (λ n. string_bytes n) names.now)) result }
+    ensures comes { (files : List File) → (F.filed folder.old).files ≡ Some files
+        → Comes (services_told files root.now (map (λ n. string_bytes n) names.now)) result }
     ensures files { (F.filed folder.new).files ≡ (F.filed folder.old).files }
     ensures cause { HasLoadCause (F.filed folder.old).faults (F.filed folder.new).faults result }
 {
@@ -63,7 +66,8 @@ fn load_names<F: Folder>(
     Ok(items)
 }
 
-/// Puts the service of a name of a folder behind others, if the name is a service's and its file is there.
+/// Puts the service of a name of a folder behind others, if the name is a service's and its file is
+/// there.
 fn load_name<F: Folder>(
     alloc: Global,
     folder: &mut F,
@@ -71,7 +75,8 @@ fn load_name<F: Folder>(
     name: &str,
     items: &mut Vec<LoadedItem>,
 ) -> Result<(), LoadFault>
-    ensures steps { (files : List File) → (F.filed folder.old).files ≡ Some files → Steps files root.now name.now items.old.items items.new.items result }
+    ensures steps { (files : List File) → (F.filed folder.old).files ≡ Some files
+        → Steps files root.now name.now items.old.items items.new.items result }
     ensures files { (F.filed folder.new).files ≡ (F.filed folder.old).files }
     ensures cause { HasLoadCause (F.filed folder.old).faults (F.filed folder.new).faults result }
 {

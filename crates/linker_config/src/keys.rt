@@ -6,7 +6,10 @@ ghost use Rattle.std.specs.Str.{bytes_eq};
 ghost use Rattle.std.specs.BTreeMap.{keys};
 ghost use Rattle.serde_json.specs.Find.{get};
 ghost use Rattle.serde_json.specs.View.{members_view, view};
-ghost use Rattle.linker_config.specs.Keys.{first_missing as first_missing_of, first_unknown as first_unknown_of, inside, is_among as is_among_of, key_of as key_of_place, keys_told};
+ghost use Rattle.linker_config.specs.Keys.{first_missing as first_missing_of};
+ghost use Rattle.linker_config.specs.Keys.{first_unknown as first_unknown_of, inside};
+ghost use Rattle.linker_config.specs.Keys.{is_among as is_among_of, key_of as key_of_place};
+ghost use Rattle.linker_config.specs.Keys.{keys_told};
 ghost use Rattle.linker_config.specs.Answers.{Says};
 
 use crate::Mem;
@@ -15,7 +18,8 @@ use serde_json::Value;
 use serde_json::value::Map;
 use std::alloc::Global;
 
-/// Checks the keys of what stands at a place: the keys that it may have, and those among them that it has to have.
+/// Checks the keys of what stands at a place: the keys that it may have, and those among them that
+/// it has to have.
 #[tactic(auto, unfolding(crate::specs::Keys::keys_told))]
 pub(crate) fn check_keys(
     alloc: Global,
@@ -24,7 +28,8 @@ pub(crate) fn check_keys(
     required: &[&str],
     value: &Value,
 ) -> Result<(), ConfigFault>
-    ensures { Says (keys_told place.now (map (λ k. k.now) known.now) (map (λ k. k.now) required.now) (view value.now)) result }
+    ensures { Says (keys_told place.now (map (λ k. k.now) known.now) (map (λ k. k.now) required.now)
+        (view value.now)) result }
 {
     let Some(members) = value.as_object() else {
         return Err(ConfigFault::Bad(key_of(alloc, place)?));
@@ -40,7 +45,8 @@ pub(crate) fn check_keys(
 
 /// The first key of some members that is not among the known ones.
 fn first_unknown<'v>(known: &[&str], members: &'v Map<String, Value>) -> Option<&'v str>
-    ensures { option_map (λ k. k.now) result ≡ first_unknown_of (map (λ k. k.now) known.now) (members_view members.now.entries) }
+    ensures { option_map (λ k. k.now) result
+        ≡ first_unknown_of (map (λ k. k.now) known.now) (members_view members.now.entries) }
 {
     match find_unknown(known, members) {
         Some(key) => Some(key.as_str()),
@@ -50,7 +56,9 @@ fn first_unknown<'v>(known: &[&str], members: &'v Map<String, Value>) -> Option<
 
 /// The first key of a map that is not among the known ones.
 fn find_unknown<'v>(known: &[&str], members: &'v Map<String, Value>) -> Option<&'v String>
-    ensures { option_copied result ≡ find (λ key. not (is_among_of (map (λ k. k.now) known.now) (string_bytes key))) (keys members.now) }
+    ensures { option_copied result
+        ≡ find (λ key. not (is_among_of (map (λ k. k.now) known.now) (string_bytes key)))
+        (keys members.now) }
 {
     members.keys().find(|key| !is_among(known, key.as_str()))
 }
@@ -71,7 +79,8 @@ fn is_one_of(keys: &[&str], key: &str) -> bool
 
 /// The first of some keys that an object lacks.
 fn first_missing<'k>(required: &[&'k str], object: &Value) -> Option<&'k str>
-    ensures { option_map (λ k. k.now) result ≡ first_missing_of (map (λ k. k.now) required.now) (view object.now) }
+    ensures { option_map (λ k. k.now) result
+        ≡ first_missing_of (map (λ k. k.now) required.now) (view object.now) }
 {
     match find_missing(required, object) {
         Some(key) => Some(*key),
@@ -81,7 +90,8 @@ fn first_missing<'k>(required: &[&'k str], object: &Value) -> Option<&'k str>
 
 /// Where the first of some keys stands that an object lacks.
 fn find_missing<'a, 'k>(required: &'a [&'k str], object: &Value) -> Option<&'a &'k str>
-    ensures { option_copied result ≡ find (λ key. is_none (get key.now (view object.now))) required.now }
+    ensures { option_copied result
+        ≡ find (λ key. is_none (get key.now (view object.now))) required.now }
 {
     required.iter().find(|key| object.get(**key).is_none())
 }

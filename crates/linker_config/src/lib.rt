@@ -13,9 +13,11 @@
 //! value, or exactly its first fault, which names its key from the top, and
 //! [`ConfigFault::BadJson`] exactly where the text is no JSON. [`Config::table_covers_prefix`]
 //! tells exactly whether an entry of the router's own table matches what all requests' paths begin
-//! with. [`load_folder`] gives the services of a folder in the order of their names, or the first
-//! refusal of a file, exactly as `services_told` of `specs/Folder.antt` says, where the folder
-//! tells its files; it fails for the folder only where the folder's count of faults rose. That
+//! with, and [`Config::hears_strangers`] whether it listens to other machines while nothing is said
+//! of clearing the context of requests. [`load_folder`] gives the services of a folder in the order
+//! of their names, or the first refusal of a file, exactly as `services_told` of
+//! `specs/Folder.antt` says, where the folder tells its files; it fails for the folder only where
+//! the folder's count of faults rose. That
 //! memory is there is not proved.
 //!
 //! # Example
@@ -49,6 +51,8 @@ mod reading;
 mod retries;
 mod routed;
 mod router;
+mod server;
+mod trusting;
 mod value;
 
 pub use config::{Config, FeedAt, Port, Text};

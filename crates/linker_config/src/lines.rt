@@ -1,6 +1,7 @@
 //! The lines that a program tells of a configuration.
 ghost use Rattle.std.specs.Prelude.{◌≡◌, ◌++◌, Some, IfOk, OnOk};
-ghost use Rattle.linker_config.specs.Lines.{fault_line_of, good_line, key_line as key_line_of, port_text};
+ghost use Rattle.linker_config.specs.Lines.{fault_line_of, good_line, key_line as key_line_of};
+ghost use Rattle.linker_config.specs.Lines.{port_text};
 
 use crate::config::{Config, Port};
 use crate::fault::{ConfigFault, Key};
@@ -8,7 +9,8 @@ use crate::{Bytes, Mem};
 use addr_book::{Addr, append_addr};
 use std::alloc::{AllocError, Global};
 
-/// The line that a good configuration is answered with: `ok router A namerd B admin C` and a line feed, with the addresses as `a.b.c.d:port`.
+/// The line that a good configuration is answered with: `ok router A namerd B admin C` and a line
+/// feed, with the addresses as `a.b.c.d:port`.
 pub fn check_line(alloc: Global, config: &Config) -> Mem<Bytes>
     ensures { IfOk result (λ line. line.items ≡ good_line config.now) }
 {
@@ -33,8 +35,9 @@ pub fn append_port(port: Port, out: &mut Bytes) -> Mem<()>
     append_addr(addr, out)
 }
 
-/// The line that a refused configuration is answered with: `error config json`, or `error config KEY` and `unknown`, `bad` or `missing`, and a
-/// line feed. [`ConfigFault::OutOfMemory`] is no fault of the configuration: it has no line, and is answered with want of memory.
+/// The line that a refused configuration is answered with: `error config json`, or `error config
+/// KEY` and `unknown`, `bad` or `missing`, and a line feed. [`ConfigFault::OutOfMemory`] is no
+/// fault of the configuration: it has no line, and is answered with want of memory.
 pub fn fault_line(alloc: Global, fault: &ConfigFault) -> Mem<Bytes>
     ensures { IfOk result (λ line. fault_line_of fault.now ≡ Some line.items) }
 {

@@ -2,8 +2,7 @@
 ghost use Rattle.std.specs.Prelude.{◌≡◌, ◌≤◌, codes, Ok};
 ghost use Rattle.serde_json.specs.View.{view};
 ghost use Rattle.linker_config.specs.Listening.{admin_told, ip_value, name_value, named_of};
-ghost use Rattle.linker_config.specs.Listening.{namerd_told, port_told, server_told, servers_told};
-ghost use Rattle.linker_config.specs.Listening.{usual_named};
+ghost use Rattle.linker_config.specs.Listening.{namerd_told, port_told, usual_named};
 ghost use Rattle.linker_config.specs.Values.{text_at, text_by};
 ghost use Rattle.linker_config.specs.Keys.{or_fault};
 ghost use Rattle.linker_config.specs.Listening.{loopback as loopback_ip};
@@ -12,7 +11,7 @@ ghost use Rattle.linker_config.specs.Answers.{Says, SaysBy};
 use crate::config::Port;
 use crate::fault::ConfigFault;
 use crate::keys::check_keys;
-use crate::value::{bad, bad_key, number_at, only_element};
+use crate::value::{bad, number_at};
 use addr_book::{Name, NameFault, read_ip};
 use serde_json::Value;
 use std::alloc::Global;
@@ -99,26 +98,6 @@ fn name(alloc: Global, text: &str) -> Result<Name, ConfigFault>
         Err(NameFault::NotName) => Err(bad(alloc, "namerd", "namespace")),
         Err(NameFault::OutOfMemory) => Err(ConfigFault::OutOfMemory),
     }
-}
-
-/// Where the router listens: the one server of the list.
-#[tactic(auto, unfolding(crate::specs::Listening::servers_told))]
-pub(crate) fn servers(alloc: Global, value: &Value) -> Result<Port, ConfigFault>
-    ensures { Says (servers_told (view value.now)) result }
-{
-    match only_element(value) {
-        Some(one) => server(alloc, one),
-        None => Err(bad_key(alloc, "routers[0].servers")),
-    }
-}
-
-/// Where a server listens.
-#[tactic(auto, unfolding(crate::specs::Listening::server_told))]
-fn server(alloc: Global, value: &Value) -> Result<Port, ConfigFault>
-    ensures { Says (server_told (view value.now)) result }
-{
-    check_keys(alloc, "routers[0].servers[0]", &["ip", "port"], &[], value)?;
-    port(alloc, "routers[0].servers[0]", value, 4140)
 }
 
 /// The address and the port of the object at a place.

@@ -56,7 +56,8 @@ impl Loaded {
 /// Why the services of a folder were not loaded: the first cause in the order of the files' names.
 #[derive(Debug, Drop)]
 pub enum LoadFault {
-    /// The file of this service has more than 1,048,576 bytes, or it has no bad line and more than 1,024 lines with an address.
+    /// The file of this service has more than 1,048,576 bytes, or it has no bad line and more than
+    /// 1,024 lines with an address.
     LongFile {
         /// The service, whose name is the file's.
         name: Name,

@@ -5,7 +5,12 @@ ghost use Rattle.std.specs.List.{list_all, list_any};
 ghost use Rattle.serde_json.specs.View.{view};
 ghost use Rattle.linker_config.specs.Keys.{or_fault, inside};
 ghost use Rattle.linker_config.specs.Values.{text_at, text_by, needed_text};
-ghost use Rattle.linker_config.specs.Identifier.{field_name, header_told, identifier_place, identifier_told, is_token_byte as is_token_byte_of, kind_told, method_told, segments_told, static_path as static_path_of, static_told, token_told};
+ghost use Rattle.linker_config.specs.Identifier.{field_name, header_told, identifier_place};
+ghost use Rattle.linker_config.specs.Identifier.{identifier_told};
+ghost use Rattle.linker_config.specs.Identifier.{is_token_byte as is_token_byte_of, kind_told};
+ghost use Rattle.linker_config.specs.Identifier.{method_told, segments_told};
+ghost use Rattle.linker_config.specs.Identifier.{static_path as static_path_of, static_told};
+ghost use Rattle.linker_config.specs.Identifier.{token_told};
 ghost use Rattle.linker_config.specs.Answers.{Says};
 
 use crate::fault::ConfigFault;
@@ -108,7 +113,8 @@ fn static_path(alloc: Global, value: &Value) -> Result<Kind, ConfigFault>
 /// The path that has to be there.
 #[tactic(auto, unfolding(crate::specs::Values::needed_text))]
 fn needed_path(alloc: Global, object: &Value) -> Result<Path, ConfigFault>
-    ensures { Says (needed_text identifier_place (codes "path") static_path_of (view object.now)) result }
+    ensures { Says (needed_text identifier_place (codes "path") static_path_of (view object.now))
+        result }
 {
     match object.get("path") {
         Some(value) => path_in(alloc, value),
@@ -118,7 +124,8 @@ fn needed_path(alloc: Global, object: &Value) -> Result<Path, ConfigFault>
 
 /// The path of a value.
 fn path_in(alloc: Global, value: &Value) -> Result<Path, ConfigFault>
-    ensures { Says (or_fault (ConfigFault.Bad (inside identifier_place (codes "path"))) (text_by static_path_of (view value.now))) result }
+    ensures { Says (or_fault (ConfigFault.Bad (inside identifier_place (codes "path")))
+        (text_by static_path_of (view value.now))) result }
 {
     match value.as_str() {
         Some(text) => path_of(alloc, text.as_bytes()),
@@ -129,7 +136,8 @@ fn path_in(alloc: Global, value: &Value) -> Result<Path, ConfigFault>
 /// The path of a text, or of the text behind a slash.
 #[tactic(auto, unfolding(crate::specs::Identifier::static_path))]
 fn path_of(alloc: Global, text: &[u8]) -> Result<Path, ConfigFault>
-    ensures { Says (or_fault (ConfigFault.Bad (inside identifier_place (codes "path"))) (static_path_of text.now)) result }
+    ensures { Says (or_fault (ConfigFault.Bad (inside identifier_place (codes "path")))
+        (static_path_of text.now)) result }
 {
     match read_path(alloc, text) {
         Ok(path) => Ok(path),
@@ -140,7 +148,8 @@ fn path_of(alloc: Global, text: &[u8]) -> Result<Path, ConfigFault>
 
 /// The path of a text behind a slash.
 fn path_behind_slash(alloc: Global, text: &[u8]) -> Result<Path, ConfigFault>
-    ensures { Says (or_fault (ConfigFault.Bad (inside identifier_place (codes "path"))) (path_of_text (47 ∷ text.now))) result }
+    ensures { Says (or_fault (ConfigFault.Bad (inside identifier_place (codes "path")))
+        (path_of_text (47 ∷ text.now))) result }
 {
     let mut whole = Vec::from_slice(alloc, b"/")?;
     whole.extend_from_slice(text)?;
@@ -154,7 +163,8 @@ fn path_behind_slash(alloc: Global, text: &[u8]) -> Result<Path, ConfigFault>
 /// The name of a field under `header`.
 #[tactic(auto, unfolding(crate::specs::Values::text_at, crate::specs::Identifier::field_name))]
 fn header(alloc: Global, object: &Value, default: &str) -> Result<FieldName, ConfigFault>
-    ensures { Says (text_at identifier_place (codes "header") default.now field_name (view object.now)) result }
+    ensures { Says (text_at identifier_place (codes "header") default.now field_name
+        (view object.now)) result }
 {
     let Some(value) = object.get("header") else {
         return field(alloc, default);

@@ -67,6 +67,7 @@ fn config(alloc: Global, tree: &Value) -> Result<Config, ConfigFault>
     let named = namerd_or_usual(alloc, tree)?;
     let root = root_or_none(alloc, tree)?;
     let routed = needed_routers(alloc, tree)?;
+    let clears_context = routed.clear_context.unwrap_or(false);
     let workers = number_at(alloc, "", tree, "workers", 16, 1, 256)?;
     let seed = number_at(alloc, "", tree, "seed", 0, 0, u64::MAX)?;
     let feed = feed_or_none(alloc, tree)?;
@@ -78,7 +79,9 @@ fn config(alloc: Global, tree: &Value) -> Result<Config, ConfigFault>
         rule: Rule {
             kind: routed.kind,
             prefix: routed.prefix,
+            clears_context,
         },
+        clear_context: routed.clear_context,
         settings: Settings {
             space: named.space,
             base: routed.base,

@@ -25,6 +25,8 @@ pub(crate) struct Routed {
     pub(crate) kind: Kind,
     /// Where it listens.
     pub(crate) server: Port,
+    /// Whether it clears the context of requests, if that is said.
+    pub(crate) clear_context: Option<bool>,
     /// When a replica counts as dead.
     pub(crate) limits: Limits,
     /// Which connections to replicas are kept, if any are.

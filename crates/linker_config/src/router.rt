@@ -10,7 +10,7 @@ ghost use Rattle.linker_config.specs.Keys.{inside, keys_told, or_fault};
 ghost use Rattle.std.specs.Option.{ForSome};
 ghost use Rattle.retry_budget.specs.Budget.{AreAllowed};
 ghost use Rattle.linker_config.specs.Values.{if_there, or_default, text_at};
-ghost use Rattle.linker_config.specs.Listening.{servers_told, usual_server};
+ghost use Rattle.linker_config.specs.Server.{servers_told, usual_server};
 ghost use Rattle.linker_config.specs.Retries.{retries_told};
 ghost use Rattle.linker_config.specs.Identifier.{identifier_told};
 ghost use Rattle.linker_config.specs.Client.{client_told, usual_client};
@@ -19,13 +19,12 @@ ghost use Rattle.linker_config.specs.Router.{routers_told, routed_of};
 ghost use Rattle.linker_config.specs.Answers.{Says, SaysBy};
 
 use crate::client::{ClientSettings, USUAL_CLIENT, client};
-use crate::config::Port;
 use crate::fault::ConfigFault;
 use crate::keys::check_keys;
-use crate::listening::{LOOPBACK, servers};
 use crate::naming::identifier;
 use crate::retries::retries;
 use crate::routed::Routed;
+use crate::server::{ServerSettings, USUAL_SERVER, servers};
 use crate::value::{bad, bad_key, needed_word, only_element};
 use dtab_table::{Dtab, DtabFault, read_dtab};
 use http_wire::FieldName;
@@ -66,7 +65,8 @@ fn router(alloc: Global, value: &Value) -> Result<Routed, ConfigFault>
         base,
         prefix,
         kind,
-        server,
+        server: server.port,
+        clear_context: server.clear_context,
         limits: client.limits,
         pool: client.pool,
         retries,
@@ -168,17 +168,14 @@ fn kind_or_usual(alloc: Global, object: &Value) -> Result<Kind, ConfigFault>
     }
 }
 
-/// Where the router listens.
-fn server_or_usual(alloc: Global, object: &Value) -> Result<Port, ConfigFault>
+/// Where the router listens, and what it takes of its clients.
+fn server_or_usual(alloc: Global, object: &Value) -> Result<ServerSettings, ConfigFault>
     ensures { Says (or_default usual_server servers_told
         (get (codes "servers") (view object.now))) result }
 {
     match object.get("servers") {
         Some(value) => servers(alloc, value),
-        None => Ok(Port {
-            ip: LOOPBACK,
-            port: 4140,
-        }),
+        None => Ok(USUAL_SERVER),
     }
 }
 

@@ -88,7 +88,8 @@ fn configurations(rt: HostRuntime) -> Result<(), Fail> {
     Ok(())
 }
 
-/// A configuration that is not there, the longest one and one that is longer, and a folder that fails.
+/// A configuration that is not there, the longest one and one that is longer, and a folder that
+/// fails.
 #[test]
 fn configurations_that_are_not_read(rt: HostRuntime) -> Result<(), Fail> {
     let alloc = rt.alloc();

@@ -13,8 +13,8 @@ const REPLY: &str =
 /// A reply that tells that the namespace is gone.
 const GONE: &str = "HTTP/1.1 200 OK\r\nContent-Length: 19\r\n\r\n{\"place\":2,\"run\":7}";
 
-/// What `follow` writes for two polls, and its status, where a leader gives these replies, and these
-/// calls of the dialer and of the sink fail.
+/// What `follow` writes for two polls, and its status, where a leader gives these replies, and
+/// these calls of the dialer and of the sink fail.
 fn followed<R: AllocGlobal + Threads + Wait + Sync>(
     rt: &R,
     replies: &[&str],
@@ -46,8 +46,8 @@ fn followed<R: AllocGlobal + Threads + Wait + Sync>(
     Ok((text, status))
 }
 
-/// What is written where the second poll tells the table, where both do, where the second tells that
-/// it is gone, and where that comes first.
+/// What is written where the second poll tells the table, where both do, where the second tells
+/// that it is gone, and where that comes first.
 const LOST_FIRST: &str =
     "run 7 place 1 version 1 dtab /svc=>/#/io.l5d.fs\npolls 2 newer 1 lost 1\n";
 
@@ -58,8 +58,8 @@ const GONE_LAST: &str =
 
 const GONE_FIRST: &str = "run 7 place 2 gone\npolls 2 newer 1 lost 0\n";
 
-/// A table that comes at the second poll, one that comes twice, one that is gone, one that comes late,
-/// a reply that is none, and a write that fails.
+/// A table that comes at the second poll, one that comes twice, one that is gone, one that comes
+/// late, a reply that is none, and a write that fails.
 #[test]
 fn leaders_that_are_followed(rt: HostRuntime) -> Result<(), Fail> {
     let strange = "HTTP/1.1 404 Not Found\r\n\r\n";

@@ -24,8 +24,8 @@ pub(crate) fn file(
     ))
 }
 
-/// What comes to a listener of a port: a connection that gives these bytes, and none where there are
-/// no bytes.
+/// What comes to a listener of a port: a connection that gives these bytes, and none where there
+/// are no bytes.
 fn visit(alloc: Global, port: u16, bytes: &str) -> Result<MemAddress<MemPeer>, AllocError> {
     let mut peers = Vec::new(alloc);
     if !bytes.is_empty() {
@@ -34,8 +34,8 @@ fn visit(alloc: Global, port: u16, bytes: &str) -> Result<MemAddress<MemPeer>, A
     visits(alloc, port, peers, Vec::new(alloc))
 }
 
-/// What comes to a listener of a port: these connections. The accepts whose numbers are in `failing`
-/// fail.
+/// What comes to a listener of a port: these connections. The accepts whose numbers are in
+/// `failing` fail.
 pub(crate) fn visits<P: Drop>(
     alloc: Global,
     port: u16,
@@ -123,8 +123,8 @@ fn given<P: Peer + Drop + Answered>(alloc: Global, net: &MemNet<P>) -> Result<St
     Ok(text)
 }
 
-/// Puts what a dialer did behind a text: a line where it opened a connection and where it ended one,
-/// and the bytes that it sent.
+/// Puts what a dialer did behind a text: a line where it opened a connection and where it ended
+/// one, and the bytes that it sent.
 fn append_event(text: &mut String, event: &DialEvent) -> Result<(), AllocError> {
     match event {
         DialEvent::Dialed(ip, port) => write!(text, "dial {ip:x} {port}\n")?,

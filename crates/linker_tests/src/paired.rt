@@ -11,7 +11,8 @@ const LOOKS: u32 = 100_000_000;
 /// How many looks there are from one that lets other threads go on to the next.
 const LOOKS_A_YIELD: u32 = 16;
 
-/// A client that asks only once another one is being read too. Where that one does not come, its reads fail.
+/// A client that asks only once another one is being read too. Where that one does not come, its
+/// reads fail.
 ///
 /// It tells no content.
 #[derive(Drop)]

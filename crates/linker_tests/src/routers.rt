@@ -18,7 +18,8 @@ const WITHOUT_TABLE: &str = "{\"routers\":[{\"protocol\":\"http\"}],\"workers\":
 
 const FOR_WEB: &str = "GET / HTTP/1.1\r\nHost: web\r\n\r\n";
 
-/// A request that is routed twice, an edit and a shutdown. Where nothing more comes, a listener counts as closed.
+/// A request that is routed twice, an edit and a shutdown. Where nothing more comes, a listener
+/// counts as closed.
 #[test]
 fn a_router_that_serves(rt: HostRuntime) -> Result<(), Fail> {
     let alloc = rt.alloc();
@@ -47,7 +48,35 @@ fn a_router_that_serves(rt: HostRuntime) -> Result<(), Fail> {
     Ok(())
 }
 
-/// A net in which each of the router's first two listeners gets one client, and these ask only once both are read.
+/// A router with services whose clients are not trusted.
+const CLEARING: &str = "{\"namers\":[{\"kind\":\"io.l5d.fs\",\"rootDir\":\"disco\"}],\
+    \"routers\":[{\"protocol\":\"http\",\"dtab\":\"/svc => /#/io.l5d.fs\",\
+    \"servers\":[{\"clearContext\":true}]}]}";
+
+/// A request with fields of a context, which say that it is to fail.
+const WITH_CONTEXT: &str = "GET / HTTP/1.1\r\nHost: web\r\nl5d-dtab: /svc => !\r\n\
+    L5D-Ctx-Dtab: /svc => !\r\nl5d-ctx-trace: 1\r\nl5d-ctx: 2\r\n\r\n";
+
+/// What goes on of it where its context is cleared.
+const WITHOUT_CONTEXT: &str = "dial 7f000001 9001\n\
+    GET / HTTP/1.1\r\nHost: web\r\nl5d-ctx: 2\r\nVia: 1.1 linkerd\r\nl5d-dst-service: /svc/web\r\n\
+    l5d-dst-client: /#/io.l5d.fs/web\r\nConnection: close\r\n\r\nhang\n";
+
+/// Where the context of requests is cleared, none of it is read, and none goes on.
+#[test]
+fn a_context_that_is_cleared(rt: HostRuntime) -> Result<(), Fail> {
+    let alloc = rt.alloc();
+    let folder = folder_of(alloc, CLEARING, "127.0.0.1 9001\n", 1, &[])?;
+    let served = served(&rt, folder, net_of(alloc, WITH_CONTEXT, "", "", "")?)?;
+    assert_eq!(rt;
+        (served.dialed.as_str(), served.status),
+        (WITHOUT_CONTEXT, 0)
+    );
+    Ok(())
+}
+
+/// A net in which each of the router's first two listeners gets one client, and these ask only once
+/// both are read.
 fn net_of_pair<'a>(
     alloc: Global,
     first: &'a AtomicBool,
@@ -62,7 +91,8 @@ fn net_of_pair<'a>(
     Ok(MemNet::of(alloc, addresses, Vec::new(alloc), Vec::new(alloc)))
 }
 
-/// Two requests that no table routes, each to a listener of its own. Each is asked only once the other's connection is read too, so both are served at once.
+/// Two requests that no table routes, each to a listener of its own. Each is asked only once the
+/// other's connection is read too, so both are served at once.
 #[test]
 fn two_clients_at_once(rt: HostRuntime) -> Result<(), Fail> {
     let alloc = rt.alloc();
@@ -84,8 +114,9 @@ fn two_clients_at_once(rt: HostRuntime) -> Result<(), Fail> {
     Ok(())
 }
 
-/// What `serve` writes, and its status, where these calls of the folder and of `listen` fail, and so many accepts of the router's first listener; and where the
-/// file of the service `web` has one line so many times.
+/// What `serve` writes, and its status, where these calls of the folder and of `listen` fail, and
+/// so many accepts of the router's first listener; and where the file of the service `web` has one
+/// line so many times.
 fn served_amiss<R: AllocGlobal + Threads + Wait + Sync>(
     rt: &R,
     reads: &[u64],
@@ -111,7 +142,8 @@ fn served_amiss<R: AllocGlobal + Threads + Wait + Sync>(
     Ok((served.written, served.status))
 }
 
-/// A folder that can't be read, files that are refused, addresses that can't be listened on, and accepts that fail.
+/// A folder that can't be read, files that are refused, addresses that can't be listened on, and
+/// accepts that fail.
 #[test]
 fn routers_that_do_not_serve(rt: HostRuntime) -> Result<(), Fail> {
     let line = "127.0.0.1 9001\n";
@@ -246,7 +278,8 @@ fn requests_that_are_tried_again(rt: HostRuntime) -> Result<(), Fail> {
     Ok(())
 }
 
-/// A folder with the configuration `conf/c.json`, and nine services at `disco` with a thousand addresses each, all of them different.
+/// A folder with the configuration `conf/c.json`, and nine services at `disco` with a thousand
+/// addresses each, all of them different.
 fn folder_of_many(alloc: Global) -> Result<MemFolder, AllocError> {
     let mut files = vec![in alloc; file(alloc, "conf", "c.json", WITH_SERVICES)?]?;
     for service in 1..10 {

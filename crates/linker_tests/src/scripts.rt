@@ -47,7 +47,8 @@ fn scripts_and_replies(rt: HostRuntime) -> Result<(), Fail> {
             "ok\nok\nnegative\nempty\nok\nnegative\n",
             0,
         ),
-        // Blank lines count, a CR before an LF is dropped, and words may have spaces and tabs round them.
+        // Blank lines count, a CR before an LF is dropped, and words may have spaces and tabs round
+        // them.
         (
             "\n \t\r\n\r\n\tpick  /a \r\n  dtab \t/a=>!;\r\npick\t/a\t\nx",
             "negative\nok\nfailing\nerror line 7\n",
@@ -83,7 +84,8 @@ fn scripts_and_replies(rt: HostRuntime) -> Result<(), Fail> {
 #[test]
 fn state_and_replies(rt: HostRuntime) -> Result<(), Fail> {
     let rows = [
-        // An address with five failures is left out until its moment, and its mark stays at the limit then.
+        // An address with five failures is left out until its moment, and its mark stays at the
+        // limit then.
         (
             "addrs web 127.0.0.1:1 127.0.0.1:2 127.0.0.1:3\ndtab /svc => /#/io.l5d.fs\nfail 127.0.0.1:2 0\nfail 127.0.0.1:2 0\nfail 127.0.0.1:2 0\nfail 127.0.0.1:2 0\nfail 127.0.0.1:2 0\npick /svc/web 0 0 0 0\npick /svc/web 0 0 9223372036854775808 0\npick /svc/web 4999 0 6148914691236517206 0\npick /svc/web 5000 0 6148914691236517206 0",
             "ok 3\nok\nmark 1 0\nmark 2 0\nmark 3 0\nmark 4 0\nmark 5 5000\n127.0.0.1:1 /#/io.l5d.fs/web /\n127.0.0.1:3 /#/io.l5d.fs/web /\n127.0.0.1:1 /#/io.l5d.fs/web /\n127.0.0.1:2 /#/io.l5d.fs/web /\n",
@@ -116,7 +118,8 @@ fn state_and_replies(rt: HostRuntime) -> Result<(), Fail> {
             "addrs web 127.0.0.1:1*3 127.0.0.1:2\ndtab /svc => /#/io.l5d.fs\npick /svc/web 0 0 13835058055282163711 0\npick /svc/web 0 0 13835058055282163712 0",
             "ok 2\nok\n127.0.0.1:1 /#/io.l5d.fs/web /\n127.0.0.1:2 /#/io.l5d.fs/web /\n",
         ),
-        // The weight of a branch without addresses does not count, and a table of a pick's own wins.
+        // The weight of a branch without addresses does not count, and a table of a pick's own
+        // wins.
         (
             "addrs gone\ndtab /s => 9 * /#/io.l5d.fs/gone & /$/inet/127.0.0.1/1 & /$/inet/127.0.0.1/2\npick /s 0 9223372036854775807 0 0\npick /s 0 9223372036854775808 0 0\npick /s 0 0 0 0 /s => /$/inet/127.0.0.1/3",
             "ok 0\nok\n127.0.0.1:1 /$/inet/127.0.0.1/1 /\n127.0.0.1:2 /$/inet/127.0.0.1/2 /\n127.0.0.1:3 /$/inet/127.0.0.1/3 /\n",

@@ -47,7 +47,8 @@ no_path = plain status.NotFound None (codes "path")
 
 -- the path does not answer the method: it answers these
 abbrev pub not_allowed : Methods → ResponseValue
-not_allowed methods = record (plain status.MethodNotAllowed None (codes "method")) { allow = Some methods }
+not_allowed methods =
+    record (plain status.MethodNotAllowed None (codes "method")) { allow = Some methods }
 
 -- a name in the path is none
 abbrev pub bad_name : ResponseValue
@@ -68,12 +69,14 @@ abbrev pub with_table : (List Rule → ChangeValue) → Option (List Rule) → D
 with_table change None = answer bad_table
 with_table change (Some rules) = alter (change rules)
 
--- what a table is asked for. The body is looked at where a table is to be put, and there before the state is
+-- what a table is asked for. The body is looked at where a table is to be put, and there before the
+-- state is
 abbrev pub table_asked : Verb → List ℕ → List Field → List ℕ → DemandValue
 table_asked verbs.Get name fields body = ask (get_table name)
 table_asked verbs.Head name fields body = ask (get_table name)
 table_asked verbs.Post name fields body = with_table (create name) (body_rules fields body)
-table_asked verbs.Put name fields body = with_table (put name (version_asked fields)) (body_rules fields body)
+table_asked verbs.Put name fields body =
+    with_table (put name (version_asked fields)) (body_rules fields body)
 table_asked verbs.Delete name fields body = alter (delete name (version_asked fields))
 
 abbrev pub named_asked : Verb → Option (List ℕ) → List Field → List ℕ → DemandValue
@@ -89,9 +92,11 @@ abbrev pub segment_demand : Option Verb → Option (List ℕ) → List Field →
 segment_demand verb None fields body = answer no_path
 segment_demand verb (Some segment) fields body = table_demand verb segment fields body
 
--- What a request of namerd's interface asks for, by its head, the target that goes on, and its body: the names of all namespaces, or something of the table of one.
--- The tests come in the order path, method, name, body, and then the state
+-- What a request of namerd's interface asks for, by its head, the target that goes on, and its
+-- body: the names of all namespaces, or something of the table of one. The tests come in the order
+-- path, method, name, body, and then the state
 unfoldable pub ns_demand : Head → List ℕ → List ℕ → DemandValue
 ns_demand head line body =
     if bytes_eq (path_in line) (codes "/api/1/dtabs") then names_demand (verb_of head.method)
-    else segment_demand (verb_of head.method) (segment_behind (codes "/api/1/dtabs/") (path_in line)) head.fields body
+    else segment_demand (verb_of head.method)
+    (segment_behind (codes "/api/1/dtabs/") (path_in line)) head.fields body

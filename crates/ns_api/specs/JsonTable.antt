@@ -1,5 +1,6 @@
 -- Tables that are written as JSON: an array of objects, each with the texts of a tree and a prefix.
-use Rattle.std.specs.Prelude.{ℕ, ◌+◌, ◌==◌, ◌&&◌, Bool, nat_le, if◌then◌else◌, List, [], ◌∷◌, length, sum_by, codes, Option, Some, None, option_map}
+use Rattle.std.specs.Prelude.{ℕ, ◌+◌, ◌==◌, ◌&&◌, Bool, nat_le, if◌then◌else◌, List, [], ◌∷◌}
+use Rattle.std.specs.Prelude.{length, sum_by, codes, Option, Some, None, option_map}
 use Rattle.std.specs.Option.{option_and_then, unwrap_or}
 use Rattle.std.specs.Str.{is_utf8}
 use Rattle.serde_json.specs.Data.{Data, Items, no_items, item, Members, no_members, member}
@@ -49,7 +50,8 @@ rule_in _ _ = None
 
 -- the rule of an object with just the members `dst` and `prefix`
 abbrev pub row_rule : Data → Option Rule
-row_rule d = if is_pair d then rule_in (text_at (codes "dst") d) (text_at (codes "prefix") d) else None
+row_rule d =
+    if is_pair d then rule_in (text_at (codes "dst") d) (text_at (codes "prefix") d) else None
 
 abbrev pub text_size : Option (List ℕ) → ℕ
 text_size None = 0
@@ -83,6 +85,8 @@ few_rules ds = if are_few ds then row_rules ds else None
 unfoldable pub json_rules : Data → Option (List Rule)
 json_rules d = option_and_then (λ items. few_rules (list_of items)) (as_array d)
 
--- the rules that a body stands for: as JSON where the head says that it is, and else as the text of a table
+-- the rules that a body stands for: as JSON where the head says that it is, and else as the text of
+-- a table
 unfoldable pub body_rules : List Field → List ℕ → Option (List Rule)
-body_rules fields body = if is_json fields then option_and_then json_rules (json_of body) else table_of body
+body_rules fields body =
+    if is_json fields then option_and_then json_rules (json_of body) else table_of body

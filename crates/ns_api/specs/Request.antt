@@ -1,5 +1,7 @@
 -- The parts of a request that the interfaces look at.
-use Rattle.std.specs.Prelude.{ℕ, ◌+◌, ◌-◌, ◌^◌, ◌==◌, ◌&&◌, ◌||◌, Bool, not, nat_le, if◌then◌else◌, List, [], ◌∷◌, length, take, drop, codes, slice_index, slice_range, bytes_eq, Option, Some, None}
+use Rattle.std.specs.Prelude.{ℕ, ◌+◌, ◌-◌, ◌^◌, ◌==◌, ◌&&◌, ◌||◌, Bool, not, nat_le, if◌then◌else◌}
+use Rattle.std.specs.Prelude.{List, [], ◌∷◌, length, take, drop, codes, slice_index, slice_range}
+use Rattle.std.specs.Prelude.{bytes_eq, Option, Some, None}
 use Rattle.std.specs.Option.{unwrap_or}
 use Rattle.std.specs.List.{before_first, after_first, list_any, list_all}
 use Rattle.http_uri.specs.ByteClasses.{question_mark, slash}
@@ -23,11 +25,15 @@ one_segment rest = if list_any (λ b. b == slash) rest then None else Some rest
 
 -- what a path has behind a front, where that is one segment, be it empty
 unfoldable pub segment_behind : List ℕ → List ℕ → Option (List ℕ)
-segment_behind front path = if bytes_eq (take (length front) path) front then one_segment (drop (length front) path) else None
+segment_behind front path =
+    if bytes_eq (take (length front) path) front then one_segment (drop (length front) path)
+    else None
 
 -- the name that a segment is: 1 to 255 bytes of letters, digits and `_ : . -`
 abbrev pub name_of : List ℕ → Option (List ℕ)
-name_of segment = if (nat_le 1 (length segment) && nat_le (length segment) 255) && list_all is_name_byte segment then Some segment else None
+name_of segment =
+    if (nat_le 1 (length segment) && nat_le (length segment) 255) && list_all is_name_byte segment
+    then Some segment else None
 
 -- a number of 64 bits: decimal digits without leading zeros
 abbrev pub number_of : List ℕ → Option ℕ
@@ -36,13 +42,17 @@ number_of text = at_most (2 ^ 64 - 1) (number_value text)
 -- a text without the quotation marks that it stands between
 abbrev pub unquoted : List ℕ → List ℕ
 unquoted text =
-    if nat_le 2 (length text) && ((slice_index text 0 == 34) && (slice_index text (length text - 1) == 34)) then slice_range text 1 (length text - 1) else text
+    if nat_le 2 (length text)
+    && ((slice_index text 0 == 34) && (slice_index text (length text - 1) == 34))
+    then slice_range text 1 (length text - 1) else text
 
--- the version that a table must have, by the value of If-Match (RFC 9110 section 13.1.1): a version in quotes or not; any, where there is no such field
--- or it is `*`; and by any other value 0, which no table has
+-- the version that a table must have, by the value of If-Match (RFC 9110 section 13.1.1): a version
+-- in quotes or not; any, where there is no such field or it is `*`; and by any other value 0, which
+-- no table has
 abbrev pub version_for : Option (List ℕ) → Option ℕ
 version_for None = None
-version_for (Some value) = if bytes_eq value (codes "*") then None else Some (unwrap_or (number_of (unquoted value)) 0)
+version_for (Some value) =
+    if bytes_eq value (codes "*") then None else Some (unwrap_or (number_of (unquoted value)) 0)
 
 abbrev pub version_asked : List Field → Option ℕ
 version_asked fields = version_for (first_value (codes "if-match") fields)
@@ -58,7 +68,9 @@ has_in_it word (b ∷ bs) = begins_with word (b ∷ bs) || has_in_it word bs
 
 -- the client takes the text of a table
 abbrev pub accepts_dtab : List Field → Bool
-accepts_dtab fields = list_any (λ field. is_named (codes "accept") field && has_in_it (codes "application/dtab") field.value) fields
+accepts_dtab fields =
+    list_any (λ field. is_named (codes "accept") field
+    && has_in_it (codes "application/dtab") field.value) fields
 
 abbrev pub value_begins : List ℕ → Option (List ℕ) → Bool
 value_begins word value = begins_with word (unwrap_or value [])
@@ -67,7 +79,8 @@ value_begins word value = begins_with word (unwrap_or value [])
 abbrev pub is_json : List Field → Bool
 is_json fields = value_begins (codes "application/json") (first_value (codes "content-type") fields)
 
--- the connection closes behind the response: the request is HTTP/1.0, or a Connection field of it names `close`, or it is the last that its connection carries
+-- the connection closes behind the response: the request is HTTP/1.0, or a Connection field of it
+-- names `close`, or it is the last that its connection carries
 abbrev pub closes : Head → Bool → Bool
 closes head last = (head.version == 0) || (names_close head.fields || last)
 

@@ -1,5 +1,6 @@
 -- Responses of the interfaces, and their bytes.
-use Rattle.std.specs.Prelude.{ℕ, Bool, if◌then◌else◌, List, [], ◌∷◌, ◌++◌, length, codes, Option, Some, None, option_map}
+use Rattle.std.specs.Prelude.{ℕ, Bool, if◌then◌else◌, List, [], ◌∷◌, ◌++◌, length, codes, Option}
+use Rattle.std.specs.Prelude.{Some, None, option_map}
 use Rattle.std.specs.Fmt.{decimal}
 use Rattle.httparse.specs.Ascii.{crlf_bytes}
 use Rattle.http_wire.specs.Lines.{ended, line_of}
@@ -11,7 +12,8 @@ use Rattle.ns_api.specs.declared.response.Media.TheVariants as media
 use Rattle.ns_api.specs.declared.response.Response.{Response}
 use Rattle.ns_api.specs.Verbs.{methods_text}
 
--- a response: its status, the version of a table, the methods of the path, and the body with its media type. Those that are not there are left out
+-- a response: its status, the version of a table, the methods of the path, and the body with its
+-- media type. Those that are not there are left out
 pub record ResponseValue : Type 0 where
   pub status : Status
   pub version : Option ℕ
@@ -20,7 +22,12 @@ pub record ResponseValue : Type 0 where
 
 -- what the code's responses say
 abbrev pub response_value : Response → ResponseValue
-response_value r = record { status = r.status; version = r.version; allow = r.allow; content = option_map (λ c. (c.media, c.body.items)) r.content }
+response_value r = record {
+  status = r.status;
+  version = r.version;
+  allow = r.allow;
+  content = option_map (λ c. (c.media, c.body.items)) r.content;
+}
 
 -- without a body
 abbrev pub empty : Status → Option ℕ → ResponseValue
@@ -28,7 +35,8 @@ empty s version = record { status = s; version = version; allow = None; content 
 
 -- with a body
 abbrev pub filled : Status → Option ℕ → Media → List ℕ → ResponseValue
-filled s version m body = record { status = s; version = version; allow = None; content = Some (m, body) }
+filled s version m body =
+    record { status = s; version = version; allow = None; content = Some (m, body) }
 
 -- a word and a line feed
 abbrev pub plain : Status → Option ℕ → List ℕ → ResponseValue
@@ -43,6 +51,7 @@ status_code status.NotFound = 404
 status_code status.MethodNotAllowed = 405
 status_code status.Conflict = 409
 status_code status.PreconditionFailed = 412
+status_code status.ServiceUnavailable = 503
 status_code status.InsufficientStorage = 507
 
 -- and their reason phrases
@@ -54,6 +63,7 @@ reason_of status.NotFound = codes "Not Found"
 reason_of status.MethodNotAllowed = codes "Method Not Allowed"
 reason_of status.Conflict = codes "Conflict"
 reason_of status.PreconditionFailed = codes "Precondition Failed"
+reason_of status.ServiceUnavailable = codes "Service Unavailable"
 reason_of status.InsufficientStorage = codes "Insufficient Storage"
 
 abbrev pub media_text : Media → List ℕ
@@ -68,7 +78,8 @@ status_line s = codes "HTTP/1.1 " ++ decimal (status_code s) ++ codes " " ++ rea
 -- the version of a table is an entity tag (RFC 9110 section 8.8.3)
 abbrev pub version_lines : Option ℕ → List (List ℕ)
 version_lines None = []
-version_lines (Some version) = line_of (codes "ETag") (codes "\"" ++ decimal version ++ codes "\"") ∷ []
+version_lines (Some version) = line_of (codes "ETag") (codes "\"" ++ decimal version ++ codes "\"")
+    ∷ []
 
 abbrev pub allow_lines : Option Methods → List (List ℕ)
 allow_lines None = []
@@ -76,7 +87,8 @@ allow_lines (Some methods) = line_of (codes "Allow") (methods_text methods) ∷ 
 
 abbrev pub content_lines : Option (Media × List ℕ) → List (List ℕ)
 content_lines None = []
-content_lines (Some content) = line_of (codes "Content-Type") (media_text content.0) ∷ line_of (codes "Content-Length") (decimal (length content.1)) ∷ []
+content_lines (Some content) = line_of (codes "Content-Type") (media_text content.0) ∷ line_of
+    (codes "Content-Length") (decimal (length content.1)) ∷ []
 
 abbrev pub connection_lines : Bool → List (List ℕ)
 connection_lines closing = if closing then line_of (codes "Connection") (codes "close") ∷ [] else []
@@ -88,5 +100,7 @@ content_bytes (Some content) = content.1
 -- the status line, the fields that are there, an empty line, and the body where it is written
 abbrev pub bytes_of : ResponseValue → Bool → Bool → List ℕ
 bytes_of r closing with_body =
-    ended (status_line r.status ∷ []) ++ ended (version_lines r.version) ++ ended (allow_lines r.allow) ++ ended (content_lines r.content)
-    ++ ended (connection_lines closing) ++ crlf_bytes ++ (if with_body then content_bytes r.content else [])
+    ended (status_line r.status ∷ []) ++ ended (version_lines r.version)
+    ++ ended (allow_lines r.allow) ++ ended (content_lines r.content)
+    ++ ended (connection_lines closing) ++ crlf_bytes ++ (if with_body then content_bytes r.content
+    else [])

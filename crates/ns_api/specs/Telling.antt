@@ -4,7 +4,10 @@ use Rattle.name_tree.specs.Path.{Labels}
 use Rattle.dtab_table.specs.Rules.{Rule}
 use Rattle.dtab_table.specs.TableCanon.{canon_table}
 use Rattle.delegate_view.specs.View.{view_of}
-use Rattle.machine.specs.Values.{ReplyValue, version, exists_at, too_many_names, versions_spent, missing, stale_at, deleted, set_to, book_full, too_many_services, dropped, marked_as, not_kept, history_spent, table, namespaces, addrs, counts, viewed}
+use Rattle.machine.specs.Values.{ReplyValue, version, exists_at, too_many_names, versions_spent}
+use Rattle.machine.specs.Values.{missing, stale_at, deleted, set_to, book_full, too_many_services}
+use Rattle.machine.specs.Values.{dropped, marked_as, not_kept, history_spent, table, namespaces}
+use Rattle.machine.specs.Values.{addrs, counts, viewed}
 use Rattle.ns_api.specs.declared.response.Status.TheVariants as status
 use Rattle.ns_api.specs.declared.response.Media.TheVariants as media
 use Rattle.ns_api.specs.Response.{ResponseValue, empty, filled, plain}
@@ -15,7 +18,8 @@ abbrev pub table_response : Bool → ℕ → List Rule → ResponseValue
 table_response true n rules = filled status.Success (Some n) media.Dtab (canon_table rules)
 table_response false n rules = filled status.Success (Some n) media.Json (table_text rules)
 
--- The replies to changes and looks: what was done has no body, what was refused says why in a word, with the version that stands where that is why
+-- The replies to changes and looks: what was done has no body, what was refused says why in a word,
+-- with the version that stands where that is why
 abbrev pub response_to : Bool → ReplyValue → ResponseValue
 response_to as_dtab (version n) = empty status.NoContent (Some n)
 response_to as_dtab (exists_at n) = plain status.Conflict (Some n) (codes "exists")
@@ -26,7 +30,8 @@ response_to as_dtab (stale_at n) = plain status.PreconditionFailed (Some n) (cod
 response_to as_dtab deleted = empty status.NoContent None
 response_to as_dtab (set_to n) = empty status.NoContent None
 response_to as_dtab (book_full n) = plain status.InsufficientStorage None (codes "book-full")
-response_to as_dtab too_many_services = plain status.InsufficientStorage None (codes "too-many-services")
+response_to as_dtab too_many_services =
+    plain status.InsufficientStorage None (codes "too-many-services")
 response_to as_dtab dropped = empty status.NoContent None
 response_to as_dtab (marked_as mark) = empty status.NoContent None
 response_to as_dtab not_kept = plain status.NotFound None (codes "not-kept")
@@ -34,5 +39,7 @@ response_to as_dtab history_spent = plain status.InsufficientStorage None (codes
 response_to as_dtab (table n rules) = table_response as_dtab n rules
 response_to as_dtab (namespaces names) = filled status.Success None media.Json (names_text names)
 response_to as_dtab (addrs items) = filled status.Success None media.Plain (addrs_text items)
-response_to as_dtab (counts changes marks spaces services) = filled status.Success None media.Json (counts_text changes marks spaces services)
-response_to as_dtab (viewed ending items) = filled status.Success None media.Json (view_of ending items)
+response_to as_dtab (counts changes marks spaces services) =
+    filled status.Success None media.Json (counts_text changes marks spaces services)
+response_to as_dtab (viewed ending items) =
+    filled status.Success None media.Json (view_of ending items)

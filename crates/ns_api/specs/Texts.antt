@@ -9,14 +9,16 @@ use Rattle.dtab_table.specs.TableCanon.{canon_prefix}
 use Rattle.addr_book.specs.declared.addr.Weighted.{Weighted}
 use Rattle.delegate_view.specs.View.{json_byte}
 
--- A text as a JSON string. The texts here are names and canonical ones, which have visible ASCII bytes and blanks, and no quotation mark: of these JSON escapes the
--- backslash alone, by another
+-- A text as a JSON string. The texts here are names and canonical ones, which have visible ASCII
+-- bytes and blanks, and no quotation mark: of these JSON escapes the backslash alone, by another
 abbrev pub json_string : List ℕ → List ℕ
 json_string text = codes "\"" ++ flat_map json_byte text ++ codes "\""
 
 -- a rule as a JSON object
 abbrev pub rule_text : Rule → List ℕ
-rule_text r = codes "{\"dst\":" ++ json_string (canon r.tree) ++ codes ",\"prefix\":" ++ json_string (canon_prefix r.prefix) ++ codes "}"
+rule_text r =
+    codes "{\"dst\":" ++ json_string (canon r.tree) ++ codes ",\"prefix\":"
+    ++ json_string (canon_prefix r.prefix) ++ codes "}"
 
 abbrev pub more_rules : List Rule → List ℕ
 more_rules rules = flat_map (λ r. 44 ∷ rule_text r) rules
@@ -46,11 +48,15 @@ weight_part weight = if weight == one_whole then [] else codes " * " ++ canon_we
 
 -- an IPv4 address: four numbers with points between them
 abbrev pub ip_text : ℕ → List ℕ
-ip_text ip = decimal (ip / 16777216) ++ codes "." ++ decimal (ip / 65536 % 256) ++ codes "." ++ decimal (ip / 256 % 256) ++ codes "." ++ decimal (ip % 256)
+ip_text ip =
+    decimal (ip / 16777216) ++ codes "." ++ decimal (ip / 65536 % 256) ++ codes "."
+    ++ decimal (ip / 256 % 256) ++ codes "." ++ decimal (ip % 256)
 
 -- a line of an address file
 abbrev pub addr_line : Weighted → List ℕ
-addr_line item = ip_text item.addr.ip ++ codes " " ++ decimal item.addr.port ++ weight_part item.weight ++ 10 ∷ []
+addr_line item =
+    ip_text item.addr.ip ++ codes " " ++ decimal item.addr.port ++ weight_part item.weight ++ 10
+    ∷ []
 
 -- addresses as the lines of an address file
 abbrev pub addrs_text : List Weighted → List ℕ
@@ -59,4 +65,6 @@ addrs_text items = flat_map addr_line items
 -- how much there is of each thing, as a JSON object
 abbrev pub counts_text : ℕ → ℕ → ℕ → ℕ → List ℕ
 counts_text changes marks spaces services =
-    codes "{\"changes\":" ++ decimal changes ++ codes ",\"marks\":" ++ decimal marks ++ codes ",\"namespaces\":" ++ decimal spaces ++ codes ",\"services\":" ++ decimal services ++ codes "}"
+    codes "{\"changes\":" ++ decimal changes ++ codes ",\"marks\":" ++ decimal marks
+    ++ codes ",\"namespaces\":" ++ decimal spaces ++ codes ",\"services\":" ++ decimal services
+    ++ codes "}"

@@ -3,7 +3,9 @@ ghost use Rattle.std.specs.Prelude.{◌≡◌, ◌<◌, IfOk, OnErr, false, true
 ghost use Rattle.machine.specs.Code.{change_of, look_value, reply_value};
 ghost use Rattle.machine.specs.State.{IsSoundChange};
 ghost use Rattle.router.specs.Passes.{number_in};
-ghost use Rattle.ns_api.specs.Answering.{delivery_of, AnswersBy, IsAltered, IsAsked, IsCarriedOut, IsSaid, IsTaken, IsWritten, Leaves, LeavesBy, MayHaveChanged, MayHaveLooked};
+ghost use Rattle.ns_api.specs.Answering.{delivery_of, AnswersBy, IsAltered, IsAsked, IsCarriedOut};
+ghost use Rattle.ns_api.specs.Answering.{IsSaid, IsTaken, IsWritten, Leaves, LeavesBy};
+ghost use Rattle.ns_api.specs.Answering.{MayHaveChanged, MayHaveLooked};
 ghost use Rattle.ns_api.specs.Demand.{demand_value, ns_demand, IsSoundDemand};
 ghost use Rattle.ns_api.specs.Response.{response_value};
 ghost use Rattle.ns_api.specs.Telling.{response_to};
@@ -56,7 +58,8 @@ fn write_last(alloc: Global, response: &Response, delivery: Delivery) -> Mem<Api
 
 /// The reply that tells what the state replied.
 fn tell(alloc: Global, said: &Reply, delivery: Delivery) -> Mem<ApiReply>
-    ensures { IfOk result (IsWritten (response_to delivery.as_dtab (reply_value said.now)) delivery false) }
+    ensures { IfOk result (IsWritten (response_to delivery.as_dtab (reply_value said.now)) delivery
+        false) }
 {
     let response = response_to(alloc, said, delivery.as_dtab)?;
     write(alloc, &response, delivery)
@@ -179,7 +182,9 @@ fn answer_at<J: Naming, R: Wait>(
     last: bool,
 ) -> Mem<ApiReply>
     ensures number { number_in pass.new ≡ number_in pass.old }
-    ensures done { IfOk result (IsCarriedOut (ns_demand head.now line.now body.now) (delivery_of head.now last) pass.old pass.new) }
+    ensures done { IfOk result
+        (IsCarriedOut (ns_demand head.now line.now body.now) (delivery_of head.now last) pass.old
+        pass.new) }
     ensures want { OnErr result (Leaves (ns_demand head.now line.now body.now) pass.old pass.new) }
 {
     match ns_demand(alloc, head, line, body) {
@@ -188,10 +193,12 @@ fn answer_at<J: Naming, R: Wait>(
     }
 }
 
-/// Answers a request of namerd's interface, with this body. It makes one change or one look, at one point of the history, or nothing where the request is
-/// refused before. Where it is the `last` that its connection carries, the response closes that.
+/// Answers a request of namerd's interface, with this body. It makes one change or one look, at one
+/// point of the history, or nothing where the request is refused before. Where it is the `last`
+/// that its connection carries, the response closes that.
 ///
-/// The head has to be one that [`read_target`] takes: `IsTaken` says that its method is not CONNECT, and its target is served in some form.
+/// The head has to be one that [`read_target`] takes: `IsTaken` says that its method is not
+/// CONNECT, and its target is served in some form.
 ///
 /// # Errors
 /// Want of memory. What was asked for was done then, or nothing was.
@@ -206,8 +213,11 @@ pub fn ns_answer<J: Naming, R: Wait>(
 ) -> Mem<ApiReply>
     requires { IsTaken head.now }
     ensures number { number_in pass.new ≡ number_in pass.old }
-    ensures answered { IfOk result (AnswersBy head.now last (λ line. ns_demand head.now line body.now.items) pass.old pass.new) }
-    ensures want { OnErr result (LeavesBy head.now (λ line. ns_demand head.now line body.now.items) pass.old pass.new) }
+    ensures answered { IfOk result
+        (AnswersBy head.now last (λ line. ns_demand head.now line body.now.items) pass.old
+        pass.new) }
+    ensures want { OnErr result
+        (LeavesBy head.now (λ line. ns_demand head.now line body.now.items) pass.old pass.new) }
 {
     match read_target(alloc, head) {
         Ok(target) => answer_at(

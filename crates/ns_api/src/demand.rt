@@ -1,7 +1,9 @@
 //! What requests ask for.
 ghost use Rattle.std.specs.Prelude.{◌≡◌, IfOk};
 ghost use Rattle.std.specs.Option.{option_copied};
-ghost use Rattle.ns_api.specs.Demand.{answer, bad_name, bad_table, demand_value, names_demand, no_path, not_allowed, ns_demand, segment_demand, table_asked, table_demand};
+ghost use Rattle.ns_api.specs.Demand.{answer, bad_name, bad_table, demand_value, names_demand};
+ghost use Rattle.ns_api.specs.Demand.{no_path, not_allowed, ns_demand, segment_demand, table_asked};
+ghost use Rattle.ns_api.specs.Demand.{table_demand};
 
 use crate::Mem;
 use crate::json_table::{TableFault, read_body_table};
@@ -63,7 +65,8 @@ fn bad_table(alloc: Global) -> Mem<Demand>
     Ok(Demand::Answer(Response::word(alloc, Status::BadRequest, None, "dtab")?))
 }
 
-/// What a request of namerd's interface asks for, by its head, the target that goes on, and its body.
+/// What a request of namerd's interface asks for, by its head, the target that goes on, and its
+/// body.
 #[tactic(auto, unfolding(crate::specs::Demand::ns_demand))]
 pub(crate) fn ns_demand(alloc: Global, head: &Head, line: &[u8], body: &[u8]) -> Mem<Demand>
     ensures { IfOk result (λ demand. demand_value demand ≡ ns_demand head.now line.now body.now) }
@@ -104,7 +107,9 @@ fn segment_demand(
     fields: &FieldList,
     body: &[u8],
 ) -> Mem<Demand>
-    ensures { IfOk result (λ demand. demand_value demand ≡ segment_demand verb (option_copied segment.entry) fields.now body.now) }
+    ensures { IfOk result
+        (λ demand. demand_value demand
+        ≡ segment_demand verb (option_copied segment.entry) fields.now body.now) }
 {
     match segment {
         None => no_path(alloc),
@@ -120,7 +125,8 @@ fn table_demand(
     fields: &FieldList,
     body: &[u8],
 ) -> Mem<Demand>
-    ensures { IfOk result (λ demand. demand_value demand ≡ table_demand verb segment.now fields.now body.now) }
+    ensures { IfOk result
+        (λ demand. demand_value demand ≡ table_demand verb segment.now fields.now body.now) }
 {
     let Some(verb) = verb else {
         return not_allowed(alloc, Methods::Tables);
@@ -140,7 +146,8 @@ fn table_asked(
     fields: &FieldList,
     body: &[u8],
 ) -> Mem<Demand>
-    ensures { IfOk result (λ demand. demand_value demand ≡ table_asked verb name fields.now body.now) }
+    ensures { IfOk result
+        (λ demand. demand_value demand ≡ table_asked verb name fields.now body.now) }
 {
     match verb {
         Verb::Get => Ok(Demand::Look(Look::Get { name })),

@@ -1,5 +1,6 @@
 //! Tables in the bodies of requests.
-ghost use Rattle.std.specs.Prelude.{◌≡◌, ◌≤◌, ◌-◌, ◌<◌, nat_le, if◌then◌else◌, length, map, sum_by, MatchResult, IfOk, None, Some, option_map};
+ghost use Rattle.std.specs.Prelude.{◌≡◌, ◌≤◌, ◌-◌, ◌<◌, nat_le, if◌then◌else◌, length, map, sum_by};
+ghost use Rattle.std.specs.Prelude.{MatchResult, IfOk, None, Some, option_map};
 ghost use Rattle.std.specs.Option.{option_and_then};
 ghost use Rattle.serde_json.specs.Find.{as_array, get};
 ghost use Rattle.serde_json.specs.View.{items_view, members_view, view};
@@ -8,7 +9,9 @@ ghost use Rattle.name_tree.specs.Tree.{value_of};
 ghost use Rattle.dtab_table.specs.Computed.{table_of};
 ghost use Rattle.dtab_table.specs.Dtab.{rules_of};
 ghost use Rattle.dtab_table.specs.Rules.{rule_of};
-ghost use Rattle.ns_api.specs.JsonTable.{are_few, body_rules, few_rules, is_pair, json_of, json_rules, list_of, prefix_of, row_rule, row_rules, row_size, rule_in, text_at, text_size};
+ghost use Rattle.ns_api.specs.JsonTable.{are_few, body_rules, few_rules, is_pair, json_of};
+ghost use Rattle.ns_api.specs.JsonTable.{json_rules, list_of, prefix_of, row_rule, row_rules};
+ghost use Rattle.ns_api.specs.JsonTable.{row_size, rule_in, text_at, text_size};
 
 use crate::Mem;
 use crate::request::is_json;
@@ -49,13 +52,16 @@ impl<T: Drop> From<AllocFailed<T>> for TableFault {
     }
 }
 
-/// The table that a body stands for: as JSON where its Content-Type says so, and else as the text of a table.
+/// The table that a body stands for: as JSON where its Content-Type says so, and else as the text
+/// of a table.
 ///
-/// As JSON it is an array of at most 1,024 objects, each with just the members `dst` and `prefix`. These are the texts of a tree and of a prefix, and have at most 65,536
-/// bytes together, their escapes in JSON undone.
+/// As JSON it is an array of at most 1,024 objects, each with just the members `dst` and `prefix`.
+/// These are the texts of a tree and of a prefix, and have at most 65,536 bytes together, their
+/// escapes in JSON undone.
 #[tactic(auto, unfolding(crate::specs::JsonTable::body_rules))]
 pub fn read_body_table(alloc: Global, fields: &FieldList, body: &[u8]) -> Result<Dtab, TableFault>
-    ensures { MatchResult result (λ dtab. body_rules fields.now body.now ≡ Some (rules_of dtab)) (λ fault. fault ≡ TableFault.NoTable → body_rules fields.now body.now ≡ None) }
+    ensures { MatchResult result (λ dtab. body_rules fields.now body.now ≡ Some (rules_of dtab))
+        (λ fault. fault ≡ TableFault.NoTable → body_rules fields.now body.now ≡ None) }
 {
     if is_json(fields) {
         return read_json(alloc, body);
@@ -69,8 +75,10 @@ pub fn read_body_table(alloc: Global, fields: &FieldList, body: &[u8]) -> Result
 
 /// The table of a JSON text.
 fn read_json(alloc: Global, text: &[u8]) -> Result<Dtab, TableFault>
-    ensures { MatchResult result (λ dtab. option_and_then json_rules (json_of text.now) ≡ Some (rules_of dtab))
-        (λ fault. fault ≡ TableFault.NoTable → option_and_then json_rules (json_of text.now) ≡ None) }
+    ensures { MatchResult result
+        (λ dtab. option_and_then json_rules (json_of text.now) ≡ Some (rules_of dtab))
+        (λ fault. fault ≡ TableFault.NoTable
+        → option_and_then json_rules (json_of text.now) ≡ None) }
 {
     let tree = parse(alloc, text)?;
     table_of_tree(alloc, &tree)
@@ -78,7 +86,8 @@ fn read_json(alloc: Global, text: &[u8]) -> Result<Dtab, TableFault>
 
 /// The value of a JSON text.
 fn parse(alloc: Global, text: &[u8]) -> Result<Value, TableFault>
-    ensures { MatchResult result (λ tree. json_of text.now ≡ Some (view tree)) (λ fault. fault ≡ TableFault.NoTable → json_of text.now ≡ None) }
+    ensures { MatchResult result (λ tree. json_of text.now ≡ Some (view tree))
+        (λ fault. fault ≡ TableFault.NoTable → json_of text.now ≡ None) }
 {
     match Value::from_slice(alloc, text) {
         Ok(tree) => Ok(tree),
@@ -94,7 +103,8 @@ fn parse(alloc: Global, text: &[u8]) -> Result<Value, TableFault>
 
 /// The table of a JSON value.
 fn table_of_tree(alloc: Global, tree: &Value) -> Result<Dtab, TableFault>
-    ensures { MatchResult result (λ dtab. json_rules (view tree.now) ≡ Some (rules_of dtab)) (λ fault. fault ≡ TableFault.NoTable → json_rules (view tree.now) ≡ None) }
+    ensures { MatchResult result (λ dtab. json_rules (view tree.now) ≡ Some (rules_of dtab))
+        (λ fault. fault ≡ TableFault.NoTable → json_rules (view tree.now) ≡ None) }
 {
     match tree.as_array() {
         Some(rows) => table_of_rows(alloc, rows.as_slice()),
@@ -104,7 +114,8 @@ fn table_of_tree(alloc: Global, tree: &Value) -> Result<Dtab, TableFault>
 
 /// The table of some rows.
 fn table_of_rows(alloc: Global, rows: &[Value]) -> Result<Dtab, TableFault>
-    ensures { MatchResult result (λ dtab. few_rules (map view rows.now) ≡ Some (rules_of dtab)) (λ fault. fault ≡ TableFault.NoTable → few_rules (map view rows.now) ≡ None) }
+    ensures { MatchResult result (λ dtab. few_rules (map view rows.now) ≡ Some (rules_of dtab))
+        (λ fault. fault ≡ TableFault.NoTable → few_rules (map view rows.now) ≡ None) }
 {
     if rows.len() > MOST_ENTRIES {
         return Err(TableFault::NoTable);
@@ -143,7 +154,8 @@ fn are_short(rows: &[Value]) -> bool
 
 /// What is left of so many bytes without those of the text under a key.
 fn without_text(left: usize, row: &Value, key: &str) -> Option<usize>
-    ensures { let size = text_size (text_at key.now (view row.now)) in result ≡ (if nat_le size left then Some (left - size) else None) }
+    ensures { let size = text_size (text_at key.now (view row.now))
+        in result ≡ (if nat_le size left then Some (left - size) else None) }
 {
     match text_at(row, key) {
         Some(text) => left.checked_sub(text.len()),
@@ -163,7 +175,8 @@ fn text_at<'v>(row: &'v Value, key: &str) -> Option<&'v str>
 
 /// The entries of some rows.
 fn read_rows(alloc: Global, rows: &[Value]) -> Result<Vec<Entry>, TableFault>
-    ensures rules { MatchResult result (λ entries. row_rules (map view rows.now) ≡ Some (map rule_of entries.items))
+    ensures rules { MatchResult result
+        (λ entries. row_rules (map view rows.now) ≡ Some (map rule_of entries.items))
         (λ fault. fault ≡ TableFault.NoTable → row_rules (map view rows.now) ≡ None) }
     ensures count { IfOk result (λ entries. length entries.items ≡ length rows.now) }
 {
@@ -176,7 +189,8 @@ fn read_rows(alloc: Global, rows: &[Value]) -> Result<Vec<Entry>, TableFault>
 
 /// The entry of a row.
 fn read_row(alloc: Global, row: &Value) -> Result<Entry, TableFault>
-    ensures { MatchResult result (λ entry. row_rule (view row.now) ≡ Some (rule_of entry)) (λ fault. fault ≡ TableFault.NoTable → row_rule (view row.now) ≡ None) }
+    ensures { MatchResult result (λ entry. row_rule (view row.now) ≡ Some (rule_of entry))
+        (λ fault. fault ≡ TableFault.NoTable → row_rule (view row.now) ≡ None) }
 {
     if !is_pair(row) {
         return Err(TableFault::NoTable);
@@ -199,7 +213,8 @@ fn is_pair(row: &Value) -> bool
 
 /// The entry of the texts of a tree and a prefix.
 fn read_entry(alloc: Global, dst: &str, prefix: &str) -> Result<Entry, TableFault>
-    ensures { MatchResult result (λ entry. rule_in (Some dst.now) (Some prefix.now) ≡ Some (rule_of entry))
+    ensures { MatchResult result
+        (λ entry. rule_in (Some dst.now) (Some prefix.now) ≡ Some (rule_of entry))
         (λ fault. fault ≡ TableFault.NoTable → rule_in (Some dst.now) (Some prefix.now) ≡ None) }
 {
     let tree = tree_in(alloc, dst.as_bytes())?;
@@ -209,7 +224,8 @@ fn read_entry(alloc: Global, dst: &str, prefix: &str) -> Result<Entry, TableFaul
 
 /// The tree of a text.
 fn tree_in(alloc: Global, text: &[u8]) -> Result<Tree, TableFault>
-    ensures { MatchResult result (λ tree. tree_of text.now ≡ Some (value_of tree)) (λ fault. fault ≡ TableFault.NoTable → tree_of text.now ≡ None) }
+    ensures { MatchResult result (λ tree. tree_of text.now ≡ Some (value_of tree))
+        (λ fault. fault ≡ TableFault.NoTable → tree_of text.now ≡ None) }
 {
     match read_tree(alloc, text) {
         Ok(tree) => Ok(tree),
@@ -220,7 +236,8 @@ fn tree_in(alloc: Global, text: &[u8]) -> Result<Tree, TableFault>
 
 /// The prefix of a text.
 fn prefix_in(alloc: Global, text: &[u8]) -> Result<Prefix, TableFault>
-    ensures { MatchResult result (λ prefix. prefix_of text.now ≡ Some prefix) (λ fault. fault ≡ TableFault.NoTable → prefix_of text.now ≡ None) }
+    ensures { MatchResult result (λ prefix. prefix_of text.now ≡ Some prefix)
+        (λ fault. fault ≡ TableFault.NoTable → prefix_of text.now ≡ None) }
 {
     match read_prefix(alloc, text) {
         Ok(prefix) => Ok(prefix),

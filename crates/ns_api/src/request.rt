@@ -1,10 +1,14 @@
 //! The parts of a request that the interfaces look at.
-ghost use Rattle.std.specs.Prelude.{◌≡◌, ◌==◌, ◌-◌, ◌^◌, bytes_eq, codes, position, MatchResult, None, Some, option_map};
+ghost use Rattle.std.specs.Prelude.{◌≡◌, ◌==◌, ◌-◌, ◌^◌, bytes_eq, codes, position, MatchResult};
+ghost use Rattle.std.specs.Prelude.{None, Some, option_map};
 ghost use Rattle.std.specs.Option.{option_copied};
 ghost use Rattle.std.specs.List.{list_any};
 ghost use Rattle.http_uri.specs.ByteClasses.{slash};
 ghost use Rattle.addr_book.specs.Addr.{at_most, digits_behind};
-ghost use Rattle.ns_api.specs.Request.{accepts_dtab, begins_with, closes, has_body, has_in_it, is_json, name_of, number_of, one_segment, path_in, query_in, segment_behind, unquoted, value_begins, version_asked, version_for};
+ghost use Rattle.ns_api.specs.Request.{accepts_dtab, begins_with, closes, has_body, has_in_it};
+ghost use Rattle.ns_api.specs.Request.{is_json, name_of, number_of, one_segment, path_in, query_in};
+ghost use Rattle.ns_api.specs.Request.{segment_behind, unquoted, value_begins, version_asked};
+ghost use Rattle.ns_api.specs.Request.{version_for};
 
 use addr_book::{Name, NameFault};
 use http_wire::{FieldList, Head, names_close, same_bytes};
@@ -70,7 +74,8 @@ fn has_slash(bytes: &[u8]) -> bool
 
 /// The name that a segment is.
 pub fn read_name(alloc: Global, segment: &[u8]) -> Result<Name, NameFault>
-    ensures { MatchResult result (λ name. name_of segment.now ≡ Some name) (λ fault. fault ≡ NameFault.NotName → name_of segment.now ≡ None) }
+    ensures { MatchResult result (λ name. name_of segment.now ≡ Some name)
+        (λ fault. fault ≡ NameFault.NotName → name_of segment.now ≡ None) }
 {
     match Name::of(alloc, segment) {
         Ok(name) => Ok(name),
@@ -178,7 +183,8 @@ pub fn is_json(fields: &FieldList) -> bool
     )
 }
 
-/// Whether the connection closes behind the response to this request, which may be the last that its connection carries.
+/// Whether the connection closes behind the response to this request, which may be the last that
+/// its connection carries.
 pub fn closes(head: &Head, last: bool) -> bool
     ensures { result ≡ closes head.now last }
 {

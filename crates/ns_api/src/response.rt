@@ -1,8 +1,11 @@
 //! Responses of the interfaces, and their bytes.
-ghost use Rattle.std.specs.Prelude.{◌≡◌, ◌++◌, if◌then◌else◌, [], ◌∷◌, codes, length, IfOk, OnOk, None, Some, option_map, string_bytes};
+ghost use Rattle.std.specs.Prelude.{◌≡◌, ◌++◌, if◌then◌else◌, [], ◌∷◌, codes, length, IfOk, OnOk};
+ghost use Rattle.std.specs.Prelude.{None, Some, option_map, string_bytes};
 ghost use Rattle.std.specs.Fmt.{decimal};
 ghost use Rattle.http_wire.specs.Lines.{ended, line_of};
-ghost use Rattle.ns_api.specs.Response.{allow_lines, bytes_of, connection_lines, content_bytes, content_lines, media_text, plain, reason_of, response_value, status_code, status_line, version_lines};
+ghost use Rattle.ns_api.specs.Response.{allow_lines, bytes_of, connection_lines, content_bytes};
+ghost use Rattle.ns_api.specs.Response.{content_lines, media_text, plain, reason_of};
+ghost use Rattle.ns_api.specs.Response.{response_value, status_code, status_line, version_lines};
 
 use crate::verb::Methods;
 use crate::{Bytes, Mem};
@@ -26,6 +29,8 @@ pub enum Status {
     Conflict,
     /// 412.
     PreconditionFailed,
+    /// 503.
+    ServiceUnavailable,
     /// 507.
     InsufficientStorage,
 }
@@ -43,6 +48,7 @@ impl Status {
             Status::MethodNotAllowed => 405,
             Status::Conflict => 409,
             Status::PreconditionFailed => 412,
+            Status::ServiceUnavailable => 503,
             Status::InsufficientStorage => 507,
         }
     }
@@ -59,6 +65,7 @@ impl Status {
             Status::MethodNotAllowed => "Method Not Allowed",
             Status::Conflict => "Conflict",
             Status::PreconditionFailed => "Precondition Failed",
+            Status::ServiceUnavailable => "Service Unavailable",
             Status::InsufficientStorage => "Insufficient Storage",
         }
     }
@@ -113,7 +120,12 @@ pub struct Response {
 impl Response {
     /// A response without a body.
     pub fn empty(status: Status, version: Option<u64>) -> Response
-        ensures { response_value result ≡ record { status = status; version = version; allow = None; content = None } }
+        ensures { response_value result ≡ record {
+          status = status;
+          version = version;
+          allow = None;
+          content = None;
+        } }
     {
         Response {
             status,
@@ -125,7 +137,12 @@ impl Response {
 
     /// A response with this body.
     pub fn of(status: Status, version: Option<u64>, media: Media, body: Bytes) -> Response
-        ensures { response_value result ≡ record { status = status; version = version; allow = None; content = Some (media, body.items) } }
+        ensures { response_value result ≡ record {
+          status = status;
+          version = version;
+          allow = None;
+          content = Some (media, body.items);
+        } }
     {
         Response {
             status,
@@ -137,17 +154,20 @@ impl Response {
 
     /// A response that says a word.
     pub fn word(alloc: Global, status: Status, version: Option<u64>, word: &str) -> Mem<Response>
-        ensures { IfOk result (λ response. response_value response ≡ plain status version word.now) }
+        ensures { IfOk result (λ response. response_value response
+            ≡ plain status version word.now) }
     {
         let mut body = Vec::from_slice(alloc, word.as_bytes())?;
         body.push(b'\n')?;
         Ok(Response::of(status, version, Media::Plain, body))
     }
 
-    /// The whole response. It says `Connection: close` where it is `closing`. Its body is left out where not `with_body`, as for a HEAD request, and the fields
-    /// are then the same (RFC 9110 section 9.3.2).
+    /// The whole response. It says `Connection: close` where it is `closing`. Its body is left out
+    /// where not `with_body`, as for a HEAD request, and the fields are then the same (RFC 9110
+    /// section 9.3.2).
     pub fn bytes(&self, alloc: Global, closing: bool, with_body: bool) -> Mem<Bytes>
-        ensures { IfOk result (λ bytes. bytes.items ≡ bytes_of (response_value self.now) closing with_body) }
+        ensures { IfOk result (λ bytes. bytes.items ≡ bytes_of (response_value self.now) closing
+            with_body) }
     {
         let mut out = Vec::new(alloc);
         put_status_line(self.status, &mut out)?;
@@ -199,7 +219,9 @@ fn put_allow(allow: Option<Methods>, out: &mut Bytes) -> Mem<()>
 
 /// The fields that tell of the body, where there is one.
 fn put_content_fields(content: &Option<Content>, out: &mut Bytes) -> Mem<()>
-    ensures { OnOk result (out.new.items ≡ out.old.items ++ ended (content_lines (option_map (λ c. (c.media, c.body.items)) content.now))) }
+    ensures { OnOk result
+        (out.new.items ≡ out.old.items
+        ++ ended (content_lines (option_map (λ c. (c.media, c.body.items)) content.now))) }
 {
     match content {
         None => Ok(()),
@@ -209,7 +231,9 @@ fn put_content_fields(content: &Option<Content>, out: &mut Bytes) -> Mem<()>
 
 /// The fields that tell of a body.
 fn put_fields_of(content: &Content, out: &mut Bytes) -> Mem<()>
-    ensures { OnOk result (out.new.items ≡ out.old.items ++ ended (content_lines (Some (content.now.media, content.now.body.items)))) }
+    ensures { OnOk result
+        (out.new.items ≡ out.old.items
+        ++ ended (content_lines (Some (content.now.media, content.now.body.items)))) }
 {
     push_line(out, "Content-Type", content.media.text().as_bytes())?;
     put_length(content.body.as_slice(), out)
@@ -217,7 +241,9 @@ fn put_fields_of(content: &Content, out: &mut Bytes) -> Mem<()>
 
 /// The field that tells how long a body is.
 fn put_length(body: &[u8], out: &mut Bytes) -> Mem<()>
-    ensures { OnOk result (out.new.items ≡ out.old.items ++ ended (line_of (codes "Content-Length") (decimal (length body.now)) ∷ [])) }
+    ensures { OnOk result
+        (out.new.items ≡ out.old.items
+        ++ ended (line_of (codes "Content-Length") (decimal (length body.now)) ∷ [])) }
 {
     let length = body.len();
     let digits = format!(in *out.allocator(); "{length}")?;
@@ -236,7 +262,9 @@ fn put_connection(closing: bool, out: &mut Bytes) -> Mem<()>
 
 /// The body, where there is one.
 fn put_content(content: &Option<Content>, out: &mut Bytes) -> Mem<()>
-    ensures { OnOk result (out.new.items ≡ out.old.items ++ content_bytes (option_map (λ c. (c.media, c.body.items)) content.now)) }
+    ensures { OnOk result
+        (out.new.items ≡ out.old.items
+        ++ content_bytes (option_map (λ c. (c.media, c.body.items)) content.now)) }
 {
     match content {
         None => Ok(()),

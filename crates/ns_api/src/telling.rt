@@ -13,9 +13,11 @@ use dtab_table::{Dtab, write_dtab};
 use machine::Reply;
 use std::alloc::Global;
 
-/// The response that tells a reply. A table is told as its canonical text where `as_dtab`, and else as JSON.
+/// The response that tells a reply. A table is told as its canonical text where `as_dtab`, and else
+/// as JSON.
 pub fn response_to(alloc: Global, reply: &Reply, as_dtab: bool) -> Mem<Response>
-    ensures { IfOk result (λ response. response_value response ≡ response_to as_dtab (reply_value reply.now)) }
+    ensures { IfOk result
+        (λ response. response_value response ≡ response_to as_dtab (reply_value reply.now)) }
 {
     match reply {
         Reply::Version(version) => Ok(Response::empty(Status::NoContent, Some(*version))),
@@ -54,7 +56,8 @@ pub fn response_to(alloc: Global, reply: &Reply, as_dtab: bool) -> Mem<Response>
 
 /// A response that says what is full.
 fn full(alloc: Global, word: &str) -> Mem<Response>
-    ensures { IfOk result (λ response. response_value response ≡ plain Status.InsufficientStorage None word.now) }
+    ensures { IfOk result
+        (λ response. response_value response ≡ plain Status.InsufficientStorage None word.now) }
 {
     Response::word(alloc, Status::InsufficientStorage, None, word)
 }
@@ -68,7 +71,8 @@ fn json(text: Bytes) -> Response
 
 /// A response with a table and its version.
 fn table_response(alloc: Global, version: u64, dtab: &Dtab, as_dtab: bool) -> Mem<Response>
-    ensures { IfOk result (λ response. response_value response ≡ table_response as_dtab version (rules_of dtab.now)) }
+    ensures { IfOk result
+        (λ response. response_value response ≡ table_response as_dtab version (rules_of dtab.now)) }
 {
     if as_dtab {
         let text = write_dtab(alloc, dtab)?;

@@ -8,7 +8,9 @@ ghost use Rattle.dtab_table.specs.Dtab.{rules_of};
 ghost use Rattle.dtab_table.specs.Rules.{rule_of};
 ghost use Rattle.dtab_table.specs.TableCanon.{canon_prefix};
 ghost use Rattle.delegate_view.specs.View.{json_byte};
-ghost use Rattle.ns_api.specs.Texts.{addr_line, addrs_text, counts_text, ip_text, json_string, listed_names, more_names, more_rules, names_text, rule_text, rules_text, table_text, weight_part};
+ghost use Rattle.ns_api.specs.Texts.{addr_line, addrs_text, counts_text, ip_text, json_string};
+ghost use Rattle.ns_api.specs.Texts.{listed_names, more_names, more_rules, names_text, rule_text};
+ghost use Rattle.ns_api.specs.Texts.{rules_text, table_text, weight_part};
 
 use crate::{Bytes, Mem};
 use addr_book::{Name, ONE_WEIGHT, Weighted};

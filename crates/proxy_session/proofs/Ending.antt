@@ -100,7 +100,7 @@ module _ (settings : SettingsValue) (rule : Rule) where
   serves_last : (last : Bool) (n : ℕ) (before behind : Option BudgetValue) (old new : Standing)
       (r : Option Ended) → Serves settings rule last n before behind old new r → Lasts old new
   serves_last last n before behind old new r (closing, x) =
-      lasts_on old x.mid new (reads_last old x.mid (Ok x.head) x.reads)
+      lasts_on old x.mid new (reads_last old x.mid (Ok x.received) x.reads)
       (lasts_on x.mid (having_told closing x.mid) new (told_last closing x.mid)
       (request_lasts x.head (last || closing) n before behind (having_told closing x.mid) new x.end
       x.request))
@@ -110,7 +110,7 @@ module _ (settings : SettingsValue) (rule : Rule) where
       → CauseOf e old.line new.line
   serves_cause last n before behind old new e (true, x) =
       let to_told = lasts_on old x.mid (having_told true x.mid)
-      (reads_last old x.mid (Ok x.head) x.reads) (told_last true x.mid) in
+      (reads_last old x.mid (Ok x.received) x.reads) (told_last true x.mid) in
       drained_cause true x.end e old.line new.line
       (λ so. rose_by old.line.closings new.line.closings
       (serves_rose settings rule last n before behind old new (Some e) x))
@@ -120,7 +120,7 @@ module _ (settings : SettingsValue) (rule : Rule) where
       x.is
   serves_cause last n before behind old new e (false, x) =
       let to_told = lasts_on old x.mid (having_told false x.mid)
-      (reads_last old x.mid (Ok x.head) x.reads) (told_last false x.mid) in
+      (reads_last old x.mid (Ok x.received) x.reads) (told_last false x.mid) in
       drained_cause false x.end e old.line new.line (λ so. absurd (cc))
       (cause_on old.line (having_told false x.mid).line new.line x.end to_told.fell
       (request_cause settings rule x.head (last || false) n before behind (having_told false x.mid)

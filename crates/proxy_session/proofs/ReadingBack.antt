@@ -4,6 +4,7 @@ use Rattle.std.proofs.Common.{false, not, cond, List, [], ◌∷◌, ◌++◌, l
 use Rattle.std.proofs.Common.{subst, ◌∙◌, inl, inr, IsUtf8, append-nil, Option, Some, None, Result}
 use Rattle.std.proofs.Common.{Ok, Err}
 use Rattle.std.specs.List.{concat}
+use Rattle.std.proofs.lemmas.List.Elements.{All-filter}
 use Rattle.httparse.specs.Grammar.{AllPass, is_uri_byte, is_value_byte, trim_ows}
 use Rattle.name_tree.specs.Canon.{AreByteLabels}
 use Rattle.name_tree.specs.Path.{Labels}
@@ -14,14 +15,16 @@ use Rattle.addr_book.specs.declared.addr.Addr.{Addr}
 use Rattle.http_wire.specs.declared.ended.Ended.{Ended}
 use Rattle.http_wire.specs.declared.frames.Framing.{Framing}
 use Rattle.http_wire.specs.declared.frames.FramingFault.{FramingFault}
+use Rattle.http_wire.specs.declared.head.Field.{Field}
 use Rattle.http_wire.specs.declared.head.Head.{Head}
 use Rattle.http_wire.specs.declared.head.ReplyHead.{ReplyHead}
 use Rattle.http_wire.specs.Fields.{names_close}
 use Rattle.http_wire.specs.Framing.{framing_of}
-use Rattle.http_wire.specs.Heads.{most, BeginsWith}
+use Rattle.http_wire.specs.Heads.{most, BeginsWith, IsSoundField}
 use Rattle.http_wire.specs.Host.{host_of}
 use Rattle.http_wire.specs.Target.{Form, IsServed}
 use Rattle.identifier.specs.declared.rule.Rule.{Rule}
+use Rattle.identifier.specs.Context.{heard_by, is_context}
 use Rattle.identifier.specs.Local.{local_rules}
 use Rattle.identifier.specs.Naming.{identified}
 use Rattle.identifier.proofs.Sounds.{sound_local}
@@ -68,7 +71,7 @@ use Rattle.proxy_session.proofs.FieldTexts.{are_bytes, both_pass, is_byte, uri_b
 use Rattle.proxy_session.proofs.FieldTexts.{IsFieldText}
 use Rattle.proxy_session.proofs.Framed.{request_framing}
 use Rattle.proxy_session.proofs.Named.{named_labels}
-use Rattle.proxy_session.proofs.Received.{received, IsReceived}
+use Rattle.proxy_session.proofs.Received.{received, HasText, IsReceived}
 use Rattle.replica_try.proofs.BothHold.{and_left, and_right}
 use Rattle.replica_try.proofs.Silent.{silent_got, silent_hung}
 use Rattle.proxy_session.proofs.Untouched.{nothing_of, zero_of}
@@ -217,10 +220,29 @@ reads_back head sought closes to bytes received well replica goes short =
           goes.host_is goes.rules_are found.1,
     )
 
--- a head that was read
+-- a head that was read is one as it was received, also without its context
+heard_so : (clears : Bool) (head : Head) → IsReceived head → IsReceived (heard_by clears head)
+heard_so false head was = was
+heard_so true head was = record {
+  sound = record {
+    method = was.sound.method;
+    target = was.sound.target;
+    version = was.sound.version;
+    fields =
+        All-filter (λ (field : Field). not (is_context field)) IsSoundField head.fields
+        was.sound.fields;
+  };
+  method = was.method;
+  target = was.target;
+  fields =
+      All-filter (λ (field : Field). not (is_context field)) HasText head.fields was.fields;
+}
+
 pub was_received : (head : Head) → WasRead head → IsReceived head
 was_received head was =
-    received was.received head was.len (are_bytes was.received was.bytes) was.begins
+    subst IsReceived (sym was.heard)
+    (heard_so was.clears was.read
+    (received was.received was.read was.len (are_bytes was.received was.bytes) was.begins))
 
 pub heads_read_back : HeadsReadBack
 heads_read_back rule head sought closes to bytes of_bytes was seeks replica goes short =

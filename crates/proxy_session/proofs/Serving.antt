@@ -1,16 +1,19 @@
 -- The requests of a connection, one behind the other.
-use Rattle.std.proofs.Common.{◌≡◌, ℕ, suc, ◌+◌, ◌<◌, ◌||◌, eqb, Bool, false, refl, sym, subst, inl, inr, Option, Some, None, Ok, add-one, arith}
+use Rattle.std.proofs.Common.{◌≡◌, ℕ, suc, ◌+◌, ◌<◌, ◌||◌, eqb, Bool, false, refl, sym, subst, inl}
+use Rattle.std.proofs.Common.{inr, Option, Some, None, Ok, add-one, arith}
 use Rattle.std.proofs.lemmas.Bool.Decides.{nat_tests}
 use Rattle.http_wire.specs.declared.ended.Ended.{Ended}
 use Rattle.http_wire.specs.Ended.{drained}
 use Rattle.http_wire.specs.Next.{IsAsked}
 use Rattle.http_wire.specs.declared.head.Head.{Head}
 use Rattle.identifier.specs.declared.rule.Rule.{Rule}
+use Rattle.identifier.specs.Context.{heard_by}
 use Rattle.machine.specs.Values.{SettingsValue}
 use Rattle.retry_budget.specs.Budget.{BudgetValue}
 use Rattle.proxy_session.specs.Exchange.{Standing}
 use Rattle.proxy_session.specs.Requests.{Requests}
-use Rattle.proxy_session.specs.Session.{Reads, Served, Serves, ServesNext, ServesSo, Sessions, SessionsTo, begun, having_told}
+use Rattle.proxy_session.specs.Session.{Reads, Served, Serves, ServesNext, ServesSo, Sessions}
+use Rattle.proxy_session.specs.Session.{SessionsTo, begun, having_told}
 use Rattle.proxy_session.proofs.Bounding.{session_bounded}
 use Rattle.proxy_session.proofs.Draining.{not_spent}
 
@@ -59,21 +62,24 @@ serves_next settings rule last retries before behind old new (Some e) serves = i
 
 -- a request whose head was read is served, the last one by what the connection has carried and said
 pub head_served : (settings : SettingsValue) (rule : Rule) (n m : ℕ)
-    (budget before behind : Option BudgetValue) (old mid asked new : Standing) (head : Head)
-    (closing last : Bool) (end r : Option Ended) → m ≡ n → before ≡ budget
-    → Reads old mid (Ok head) → IsAsked (eqb (m + 1) 10000) closing
+    (budget before behind : Option BudgetValue) (old mid asked new : Standing)
+    (received head : Head) (closing last : Bool) (end r : Option Ended) → m ≡ n → before ≡ budget
+    → Reads old mid (Ok received) → head ≡ heard_by rule.clears_context received
+    → IsAsked (eqb (m + 1) 10000) closing
     → asked ≡ having_told closing mid → last ≡ (eqb (m + 1) 10000 || closing)
     → ((retries : ℕ) × Requests settings rule head last retries before behind asked new end)
     → r ≡ drained closing end → (retries : ℕ)
     × ServesNext settings rule (eqb (n + 1) 10000) retries budget behind old new r
-head_served settings rule n m budget before behind old mid asked new head closing last end r count
-    same reads is_asked told is_last (retries, request) is =
+head_served settings rule n m budget before behind old mid asked new received head closing last end
+    r count same reads heard is_asked told is_last (retries, request) is =
     let served_so : ServesSo settings rule (eqb (m + 1) 10000) closing retries before behind old new
     r
     = record {
       mid = mid;
-      head = head;
+      received = received;
       reads = reads;
+      head = head;
+      heard = heard;
       asked = is_asked;
       end = end;
       request =

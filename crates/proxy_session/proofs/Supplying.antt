@@ -1,6 +1,6 @@
 -- What is left of a client's bytes, while its requests are served.
-use Rattle.std.proofs.Common.{◌≡◌, ◌<◌, ℕ, Bool, true, false, List, [], ◌++◌, sym, subst, inl, inr}
-use Rattle.std.proofs.Common.{All, Option, Some, None, IsSomeAnd, Result, Ok, Err}
+use Rattle.std.proofs.Common.{◌≡◌, ◌<◌, ℕ, Bool, true, false, List, [], ◌++◌, refl, sym, subst}
+use Rattle.std.proofs.Common.{inl, inr, All, Option, Some, None, IsSomeAnd, Result, Ok, Err}
 use Rattle.std.specs.List.{concat}
 use Rattle.std.specs.Io.KnownBytes.{Consumes, Keeps}
 use Rattle.std.proofs.lemmas.List.Elements.{All-append, All-drop, All-nil}
@@ -11,6 +11,7 @@ use Rattle.http_wire.specs.declared.ended.Ended.TheVariants as ended
 use Rattle.http_wire.specs.declared.frames.Framing.{Framing}
 use Rattle.http_wire.specs.declared.head.Head.{Head}
 use Rattle.identifier.specs.declared.rule.Rule.{Rule}
+use Rattle.identifier.specs.Context.{heard_by}
 use Rattle.machine.specs.Values.{SettingsValue}
 use Rattle.own_reply.specs.declared.error.OwnError.{OwnError}
 use Rattle.replica_try.specs.declared.tried.Tried.{Tried}
@@ -87,7 +88,8 @@ ends tried.BodyFault head last old new result all done = rests old new all done.
 ends tried.ReplyCut head last old new result all done = rests old new all done.0
 ends tried.WrittenShort head last old new result all done = rests old new all done.0
 ends tried.OutOfMemory head last old new result all done = rests old new all done.0
-ends (tried.Whole status closes reusable) head last old new result all done = rests old new all done.0
+ends (tried.Whole status closes reusable) head last old new result all done =
+    rests old new all done.0
 
 settles : (settings : SettingsValue) (head : Head) (last : Bool) (addr : Addr) (how : Tried)
     (c d : Caller) (m n : Option (List ℕ)) (old new : Line) (result : Option Ended)
@@ -115,7 +117,8 @@ replies : (head : Head) (last : Bool) (old new : Line) (faults faults_now : ℕ)
     → Replies head last old new faults faults_now got how → HasBytes new.left
 replies head last old new faults faults_now got how all (inl (fault, kept, hears, same, is)) =
     rests old new all same
-replies head last old new faults faults_now got how all (inr (reply, framing, kept, between, before, behind, hears, inl stops, is)) =
+replies head last old new faults faults_now got how all
+    (inr (reply, framing, kept, between, before, behind, hears, inl stops, is)) =
     rests old new all stops.0
 replies head last old new faults faults_now got how all
     (inr (
@@ -220,9 +223,9 @@ request_supplies settings rule head last n before behind old new result gives re
 
 -- ---- heads
 
-pub head_supplies : (old new : Standing) (head : Head) → GivesBytes old → Reads old new (Ok head)
-    → GivesBytes new × WasRead head
-head_supplies old new head gives reads =
+pub head_supplies : (old new : Standing) (head : Head) (clears : Bool) → GivesBytes old
+    → Reads old new (Ok head) → GivesBytes new × WasRead (heard_by clears head)
+head_supplies old new head clears gives reads =
     let cut = left_behind old.line.left new.line.left reads.head.taken gives.left reads.head.given
     in
     let whole : All IsByte (old.kept ++ reads.head.taken) = All-append IsByte old.kept
@@ -238,8 +241,10 @@ head_supplies old new head gives reads =
         bytes = All-append IsByte
             (old.kept ++ reads.head.taken) [] whole (All-nil IsByte);
         len = len;
-        begins =
-            reads.head.answers.1 [];
+        read = head;
+        begins = reads.head.answers.1 [];
+        clears = clears;
+        heard = refl;
       },
     )
 

@@ -180,14 +180,15 @@ module _ (settings : SettingsValue) (rule : Rule) (of_bytes : IsByteRule rule) w
       → Serves settings rule last n before behind old new result
       → GivesBytes new × SendsHeads rule (suc n) old.upstream new.upstream
   serves last n before behind old new result gives (closing, x) =
-      let supplied = head_supplies old x.mid x.head gives x.reads in
+      let supplied = head_supplies old x.mid x.received rule.clears_context gives x.reads in
+      let was : WasRead x.head = subst WasRead (sym x.heard) supplied.1 in
       let asked = having_told closing x.mid in (
         request_supplies settings rule x.head (last || closing) n before behind asked new x.end
             (told_supplies closing x.mid supplied.0) x.request,
         sends_behind (suc n) old.upstream x.mid.upstream new.upstream x.reads.upstream.log
-            (with_heads (suc n) x.head x.mid.upstream new.upstream supplied.1
+            (with_heads (suc n) x.head x.mid.upstream new.upstream was
             (requests_read_back settings rule x.head (last || closing) n before behind asked new
-            x.end of_bytes supplied.1 x.request)),
+            x.end of_bytes was x.request)),
       )
 
   served : (n retries : ℕ) (before behind : Option BudgetValue) (old new : Standing)

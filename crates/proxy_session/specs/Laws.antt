@@ -18,6 +18,7 @@ use Rattle.identifier.specs.declared.rule.Kind.{Kind}
 use Rattle.identifier.specs.declared.rule.Kind.TheVariants.{Token, MethodAndHost, Segments}
 use Rattle.identifier.specs.declared.rule.Kind.TheVariants.{PathField, Static}
 use Rattle.identifier.specs.declared.rule.Rule.{Rule}
+use Rattle.identifier.specs.Context.{heard_by}
 use Rattle.machine.specs.Values.{SettingsValue, Replica}
 use Rattle.body_wire.specs.Bodies.{IsFrontBody, IsWholeBody}
 use Rattle.body_wire.specs.Passing.{IsFrontOf, form_of, most_passed}
@@ -32,12 +33,15 @@ use Rattle.proxy_session.specs.Session.{Sessions}
 use Rattle.replica_try.specs.Trying.{is_repeatable, is_reusable}
 use Rattle.retry_budget.specs.Budget.{BudgetValue}
 
--- a head that was read off some bytes
+-- a head that was read off some bytes, as it was heard: with its context or without
 pub record WasRead (head : Head) : Type 0 where
   pub received : List ℕ
   pub bytes : All (λ b. b < 256) received
   pub len : ℕ
-  pub begins : BeginsWith received head len
+  pub read : Head
+  pub begins : BeginsWith received read len
+  pub clears : Bool
+  pub heard : head ≡ heard_by clears read
 
 -- a rule whose paths are of bytes
 abbrev pub HasByteLabels : Kind → Type 0

@@ -1,5 +1,6 @@
 -- The requests of a connection, one after another.
-use Rattle.std.specs.Prelude.{◌≡◌, ◌≢◌, ◌⊎◌, ℕ, zero, suc, ◌+◌, ◌*◌, ◌/◌, ◌≤◌, ◌==◌, ◌||◌, Bool, true, [], Option, Some, None, Result, Ok, Err}
+use Rattle.std.specs.Prelude.{◌≡◌, ◌≢◌, ◌⊎◌, ℕ, zero, suc, ◌+◌, ◌*◌, ◌/◌, ◌≤◌, ◌==◌, ◌||◌, Bool}
+use Rattle.std.specs.Prelude.{true, [], Option, Some, None, Result, Ok, Err}
 use Rattle.std.specs.Io.KnownBytes.{Keeps}
 use Rattle.http_wire.specs.declared.ended.Ended.{Ended}
 use Rattle.http_wire.specs.declared.ended.Ended.TheVariants as ended
@@ -11,6 +12,7 @@ use Rattle.http_wire.specs.Ended.{drained}
 use Rattle.http_wire.specs.Next.{IsAsked}
 use Rattle.http_wire.specs.Reading.{HasCauses, ReadsHead}
 use Rattle.identifier.specs.declared.rule.Rule.{Rule}
+use Rattle.identifier.specs.Context.{heard_by}
 use Rattle.machine.specs.Values.{SettingsValue}
 use Rattle.own_reply.specs.declared.error.OwnError.{OwnError}
 use Rattle.own_reply.specs.declared.error.OwnError.TheVariants as own
@@ -63,22 +65,25 @@ having_told closing s = record {
   words = s.words;
 }
 
--- a further request was waited for, and its head was read; or it was seen that there is none; or the
--- listeners are closing, and no byte of one has come
+-- a further request was waited for, and its head was read; or it was seen that there is none; or
+-- the listeners are closing, and no byte of one has come
 abbrev pub ReadsNext : Standing → Standing → NextHead → Type 0
 ReadsNext old new (next.Head head) = Reads old new (Ok head)
 ReadsNext old new (next.Ended end) = Reads old new (Err end)
 ReadsNext old new next.Closing = (old.kept ≡ []) × (new ≡ having_told true old)
 
--- A request: its head was read, and then it was served, with so many retries. It is the connection's
--- last where that is spent by it, or where the listeners are closing
+-- A request: its head was read, and then it was served as it was heard, with so many retries: where
+-- the rule clears the context, what the client says of that is no part of the request. It is the
+-- connection's last where that is spent by it, or where the listeners are closing
 pub record ServesSo
     (settings : SettingsValue) (rule : Rule) (spent closing : Bool) (retries : ℕ)
     (before behind : Option BudgetValue) (old new : Standing) (result : Option Ended)
     : Type 0 where
   pub mid : Standing
+  pub received : Head
+  pub reads : Reads old mid (Ok received)
   pub head : Head
-  pub reads : Reads old mid (Ok head)
+  pub heard : head ≡ heard_by rule.clears_context received
   pub asked : IsAsked spent closing
   pub end : Option Ended
   pub request :
@@ -190,8 +195,8 @@ Spends settings rule before behind old new =
     (n : ℕ) × (retries : ℕ) × (n ≡ most_requests)
     × Served settings rule n retries before behind (begun old) new (Some ended.Spent)
 
--- the listeners' closing was told once, behind all requests but one at most: where a further one was
--- waited for, or of the last one, when its head was read
+-- the listeners' closing was told once, behind all requests but one at most: where a further one
+-- was waited for, or of the last one, when its head was read
 pub record Drains
     (settings : SettingsValue) (rule : Rule) (before behind : Option BudgetValue)
     (old new : Standing) (result : Ended)
@@ -209,8 +214,8 @@ pub record Drains
       ⊎ ServesSo settings rule (requests + 1 == most_requests) true more between behind mid new
       (Some result)
 
--- how a session heard that the listeners are closing: not at all, and then it did not end by that; or
--- once, and then it ended there
+-- how a session heard that the listeners are closing: not at all, and then it did not end by that;
+-- or once, and then it ended there
 abbrev pub HearsClosing : SettingsValue → Rule → Option BudgetValue → Option BudgetValue → Standing
     → Standing → Ended → Type 0
 HearsClosing settings rule before behind old new result =

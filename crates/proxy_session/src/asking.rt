@@ -8,9 +8,11 @@ ghost use Rattle.machine.specs.Values.{PickValue};
 ghost use Rattle.name_tree.specs.Path.{canon_path};
 ghost use Rattle.router.specs.declared.names.Names.{Names as NamesOf};
 ghost use Rattle.router.specs.Changing.{WasWorkedOut};
-ghost use Rattle.proxy_session.specs.Asking.{Finding, FindingAnew, StopsAnew, StopsAsking, behind_draw, drawn};
+ghost use Rattle.proxy_session.specs.Asking.{Finding, FindingAnew, StopsAnew, StopsAsking};
+ghost use Rattle.proxy_session.specs.Asking.{behind_draw, drawn};
 ghost use Rattle.proxy_session.specs.Callers.{SeesMore, caller_of};
-ghost use Rattle.proxy_session.specs.Found.{Picks, PicksOnce, ReturnsSome, Says, Sees, StopsPick, client_in, fresh_in, picked_of, residual_in, said_in};
+ghost use Rattle.proxy_session.specs.Found.{Picks, PicksOnce, ReturnsSome, Says, Sees, StopsPick};
+ghost use Rattle.proxy_session.specs.Found.{client_in, fresh_in, picked_of, residual_in, said_in};
 
 use crate::context::Context;
 use crate::{Bytes, Mem};
@@ -243,7 +245,8 @@ fn pick<J: Naming, R: Wait>(
 ) -> Mem<Picked>
     ensures said { IfOk result (Picks J.settings (caller_of pass.old) (caller_of pass.new)
         (ask_of ask.now)) }
-    ensures fresh { IfOk result (λ a. IfSome (fresh_in a) (λ b. WasWorkedOut pass.new (kept_of b))) }
+    ensures fresh { IfOk result
+        (λ a. IfSome (fresh_in a) (λ b. WasWorkedOut pass.new (kept_of b))) }
     ensures want { OnErr result (StopsPick J.settings (caller_of pass.old) (caller_of pass.new)
         (ask_of ask.now)) }
 {

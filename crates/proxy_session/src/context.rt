@@ -14,6 +14,6 @@ pub struct Context<'a, J: Naming, R> {
     pub alloc: Global,
     /// The router, which all servers share.
     pub router: &'a Router<J>,
-    /// How a request names a path.
+    /// How a request names a path, and whether what it says of its context is heard.
     pub rule: &'a Rule,
 }

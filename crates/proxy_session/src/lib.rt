@@ -42,7 +42,11 @@
 //!
 //! # Example
 //! ```text
-//! let rule = Rule { kind: Kind::Token(FieldName::of(..)), prefix: read_path(alloc, b"/svc")? };
+//! let rule = Rule {
+//!     kind: Kind::Token(FieldName::of(..)),
+//!     prefix: read_path(alloc, b"/svc")?,
+//!     clears_context: false,
+//! };
 //! let context = Context { rt, alloc, router: &router, rule: &rule };
 //! let mut server = Server::of(Room::new(alloc)?, Parts { pass, dialer, clock, words });
 //! let mut connection = Connection::of(peer);

@@ -3,7 +3,9 @@ ghost use Rattle.std.specs.Prelude.{◌≡◌, ◌+◌, ◌<◌, ◌==◌, ◌||
 ghost use Rattle.router.specs.Passes.{number_in, slot_in};
 ghost use Rattle.proxy_session.specs.Causes.{CauseOf, IsNoFault, NoneFailed};
 ghost use Rattle.proxy_session.specs.Idle.{EndsIdle};
-ghost use Rattle.proxy_session.specs.Session.{AnswersEnd, HearsClosing, ReadsNext, ServesNext, SessionsTo, Spends, ended_of_end, most_requests, own_of_end};
+ghost use Rattle.proxy_session.specs.Session.{AnswersEnd, HearsClosing, ReadsNext, ServesNext};
+ghost use Rattle.proxy_session.specs.Session.{SessionsTo, Spends, ended_of_end, most_requests};
+ghost use Rattle.proxy_session.specs.Session.{own_of_end};
 ghost use Rattle.proxy_session.specs.Standing.{standing};
 
 use crate::connection::Connection;
@@ -11,6 +13,7 @@ use crate::context::Context;
 use crate::refusing::write_own;
 use crate::server::Server;
 use http_wire::{Ended, HeadEnd, NextHead, drained, hears_closing, read_next_head};
+use identifier::hear;
 use line_base::{Clock, Dialer, Gate, Peer};
 use own_reply::OwnError;
 use router::Naming;
@@ -24,9 +27,12 @@ impl<J: Naming, D: Dialer, C: Clock> Server<J, D, C> {
     /// Serves a connection: its requests, one after another, until it ends or one closes it, and at
     /// most 10,000 of them. The gate is told when each begins and when it is answered.
     ///
+    /// Where the rule clears the context of requests, each is served without the fields by which
+    /// its client says how it is to be routed: they are neither read nor passed on.
+    ///
     /// Once the listeners are closing, the request that is served is the connection's last, and its
-    /// reply says so by `Connection: close`; a connection that waits for its next request ends. So a
-    /// shutdown loses no request that was begun.
+    /// reply says so by `Connection: close`; a connection that waits for its next request ends. So
+    /// a shutdown loses no request that was begun.
     ///
     /// Where the connection has a budget of retries, it is that of all its requests: over the whole
     /// session the attempts behind the first of each request are at most
@@ -122,8 +128,9 @@ impl<J: Naming, D: Dialer, C: Clock> Server<J, D, C> {
                 connection.served += 1;
                 let spent = connection.served == MOST_REQUESTS;
                 let closing = hears_closing(spent, &mut connection.peer);
+                let heard = hear(context.rule, head);
                 gate.begin(worker);
-                let ended = self.proxy_once(context, connection, &head, is_last(spent, closing));
+                let ended = self.proxy_once(context, connection, &heard, is_last(spent, closing));
                 gate.done(worker);
                 drained(closing, ended)
             }

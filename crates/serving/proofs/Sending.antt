@@ -46,7 +46,7 @@ module _ (a : NamedLft) (J L D C S : RattleType) (n : naming.Ghosts J.Denot) (l 
     (
       shared_send a (Router.the_row J n l) tt (router_sync J n l j),
       (
-        variants_send Which.enum (tt, (tt, ((search sendable, tt), tt))),
+        variants_send Which.enum (tt, ((search sendable, tt), ((search sendable, tt), tt))),
         (
           pass_send J n l j,
           (own_send S s, (search sendable, tt)),

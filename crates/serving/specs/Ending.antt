@@ -16,10 +16,13 @@ use Rattle.serving.specs.Posts.{jobs_of}
 use Rattle.serving.specs.Running.{HasRun}
 
 module _ {J P : Type 0} {g : Ghosts J} where
-  -- Its passes were apart, and had seen the loaded services. A job ran for each listener, with one of the passes; and all passes, as they were then, ended with one history, of
-  -- as many changes as it tells. So each listener came back clean, as many stops came back as were handed out, what came back is told in order where the net tells it, and each
-  -- loaded service is a change
-  pub record HasServed (line_of : P → Line) (site : Site) (moments : Option (List ℕ)) (loaded : List LoadedItem) (passes : List (Pass J g)) (net net_after : Networking P) (served : Served) : Type 0 where
+  -- Its passes were apart, and had seen the loaded services. A job ran for each listener, with one
+  -- of the passes; and all passes, as they were then, ended with one history, of as many changes as
+  -- it tells. So each listener came back clean, as many stops came back as were handed out, what
+  -- came back is told in order where the net tells it, and each loaded service is a change
+  pub record HasServed (line_of : P → Line) (site : Site) (moments : Option (List ℕ))
+      (loaded : List LoadedItem) (passes : List (Pass J g)) (net net_after : Networking P)
+      (served : Served) : Type 0 where
     pub apart : Distinct (numbers_of passes)
     pub seen : HaveSeen loaded passes
     pub last : List (Pass J g)

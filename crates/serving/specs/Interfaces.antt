@@ -16,8 +16,10 @@ pub record Standing : Type 0 where
   pub lacked_memory : Bool
 
 module _ {J : Type 0} {g : Ghosts J} where
-  -- one connection: its requests are answered with the pass, one after another, and the stop is called where one of them asks for it
-  pub record Answers (which : Which) (line line_after : Line) (old new : Pass J g) (before now : Standing) : Type 0 where
+  -- one connection: its requests are answered with the pass, one after another, and the stop is
+  -- called where one of them asks for it
+  pub record Answers (which : Which) (line line_after : Line) (old new : Pass J g)
+      (before now : Standing) : Type 0 where
     pub came : List ℕ
     pub gave : List ℕ
     pub stopped : Bool
@@ -28,12 +30,14 @@ module _ {J : Type 0} {g : Ghosts J} where
     pub closing : Bool
     pub closings : line_after.closings ≡ raised_where closing line.closings
     pub serves : IsServing which old new came gave stopped closing end
-    pub causes : HasCauses line.ends line_after.ends line.read_faults line_after.read_faults line.write_faults line_after.write_faults (Some end)
+    pub causes : HasCauses line.ends line_after.ends line.read_faults line_after.read_faults
+        line.write_faults line_after.write_faults (Some end)
     pub lacked : now.lacked_memory ≡ lacked_behind before.lacked_memory end
 
   -- the pass, how often the stop was called, and whether memory was wanting
   abbrev pub standing_of : Pass J g → ℕ → Bool → Pass J g × Standing
-  standing_of pass stops lacked_memory = (pass, record { stops = stops; lacked_memory = lacked_memory })
+  standing_of pass stops lacked_memory =
+      (pass, record { stops = stops; lacked_memory = lacked_memory })
 
   -- one connection, with the pass and the standing that the one before it left
   abbrev pub AnswersNext : Which → Pass J g × Standing → Line → Line → Pass J g × Standing → Type 0

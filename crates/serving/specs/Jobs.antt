@@ -43,33 +43,43 @@ module _ {J L D C S : Type 0} {g : Ghosts J} where
   lacked_of (job.Api j) = j.server.lacked_memory
 
 -- what goes back to the net from a job
-module _ {J L D C S P : Type 0} {g : Ghosts J} (state : L → Listening P) (upstream : D → Upstream) (calls : S → ℕ) where
+module _ {J L D C S P : Type 0} {g : Ghosts J} (state : L → Listening P) (upstream : D → Upstream)
+    (calls : S → ℕ) where
   abbrev pub ended_of : ServingJob J L D C S g → Ended P
-  ended_of (job.Proxy j) = record { listener = state j.listener; log = (upstream j.server.server.way.dialer).log; stops = calls j.stop }
-  ended_of (job.Api j) = record { listener = state j.listener; log = None; stops = calls j.server.stop }
+  ended_of (job.Proxy j) =
+      record {
+        listener = state j.listener;
+        log = (upstream j.server.server.way.dialer).log;
+        stops = calls j.stop;
+      }
+  ended_of (job.Api j) =
+      record { listener = state j.listener; log = None; stops = calls j.server.stop }
 
 -- a new job for the connections of an interface
-module _ {J L S P : Type 0} {g : Ghosts J} (state : L → Listening P) (calls : S → ℕ) (told : Option (Returns P)) where
+module _ {J L S P : Type 0} {g : Ghosts J} (state : L → Listening P) (calls : S → ℕ)
+    (told : Option (Returns P)) where
   pub record IsApiPosted (which : Which) (endpoint : Endpoint) (j : ApiJob J L S g) : Type 0 where
     pub listener : IsNew told endpoint (state j.listener)
     pub which_is : j.server.which ≡ which
     pub lacked : j.server.lacked_memory ≡ false
     pub stops : calls j.server.stop ≡ 0
 
-module _ {J L D C S P : Type 0} {g : Ghosts J} (state : L → Listening P) (upstream : D → Upstream) (to_come : C → Option (List ℕ)) (calls : S → ℕ) (policy : Policy) (moments : Option (List ℕ))
+module _ {J L D C S P : Type 0} {g : Ghosts J} (state : L → Listening P) (upstream : D → Upstream)
+    (to_come : C → Option (List ℕ)) (calls : S → ℕ) (policy : Policy) (moments : Option (List ℕ))
     (told : Option (Returns P)) where
   -- a new job for the connections of clients
-  pub record IsProxyPosted (endpoint : Endpoint) (seed : ℕ) (j : ProxyJob J L D C S g) : Type 0 where
-    pub listener : IsNew told endpoint (state j.listener)
-    pub log : IsNewLog told (upstream j.server.server.way.dialer).log
-    pub hung : (upstream j.server.server.way.dialer).open_to ≡ None
-    pub none_kept : (upstream j.server.server.way.dialer).kept ≡ []
-    pub keeps : (upstream j.server.server.way.dialer).keeps ≡ nat_lt 0 (most_kept policy.pool)
-    pub clock : Begins moments (to_come j.server.server.clock)
-    pub words : j.server.server.words ≡ pcg64_of_seed (pcg32_seed 32 seed)
-    pub policy_is : j.server.policy.now ≡ policy
-    pub lacked : j.server.lacked_memory ≡ false
-    pub stops : calls j.stop ≡ 0
+  pub record IsProxyPosted (endpoint : Endpoint) (seed : ℕ) (j : ProxyJob J L D C S g) : Type 0
+    where
+      pub listener : IsNew told endpoint (state j.listener)
+      pub log : IsNewLog told (upstream j.server.server.way.dialer).log
+      pub hung : (upstream j.server.server.way.dialer).open_to ≡ None
+      pub none_kept : (upstream j.server.server.way.dialer).kept ≡ []
+      pub keeps : (upstream j.server.server.way.dialer).keeps ≡ nat_lt 0 (most_kept policy.pool)
+      pub clock : Begins moments (to_come j.server.server.clock)
+      pub words : j.server.server.words ≡ pcg64_of_seed (pcg32_seed 32 seed)
+      pub policy_is : j.server.policy.now ≡ policy
+      pub lacked : j.server.lacked_memory ≡ false
+      pub stops : calls j.stop ≡ 0
 
   abbrev pub IsPosted : Post → ServingJob J L D C S g → Type 0
   IsPosted (clients endpoint seed) (job.Proxy j) = IsProxyPosted endpoint seed j
@@ -78,33 +88,43 @@ module _ {J L D C S P : Type 0} {g : Ghosts J} (state : L → Listening P) (upst
   IsPosted (interface which endpoint) (job.Api j) = IsApiPosted state calls told which endpoint j
 
 -- what goes on from one session of a job to the next
-module _ {J D C : Type 0} {g : Ghosts J} (upstream : D → Upstream) (to_come : C → Option (List ℕ)) where
-  abbrev pub going_of : ProxyServer J D C g → Going
-  going_of s = going_by upstream to_come s.server s.lacked_memory
+module _ {J D C : Type 0} {g : Ghosts J} (upstream : D → Upstream) (to_come : C → Option (List ℕ))
+  where
+    abbrev pub going_of : ProxyServer J D C g → Going
+    going_of s = going_by upstream to_come s.server s.lacked_memory
 
--- how often a job's stop was called behind a run that ended so: once more where its listener broke, so that the others close too
+-- how often a job's stop was called behind a run that ended so: once more where its listener broke,
+-- so that the others close too
 abbrev pub stops_behind : Accepting → ℕ → ℕ
 stops_behind Closed calls = calls
 stops_behind Failing calls = raised calls
 
--- a job ran that serves an interface: its listener handed these peers out, each of which was answered and given back, until the listener was closed or broke. Its stop is the one
--- that they call
-module _ {J L S P : Type 0} {g : Ghosts J} (line_of : P → Line) (state : L → Listening P) (calls : S → ℕ) where
+-- a job ran that serves an interface: its listener handed these peers out, each of which was
+-- answered and given back, until the listener was closed or broke. Its stop is the one that they
+-- call
+module _ {J L S P : Type 0} {g : Ghosts J} (line_of : P → Line) (state : L → Listening P)
+    (calls : S → ℕ) where
   pub record RunsApi (old new : ApiJob J L S g) (end : Accepting) : Type 0 where
     pub served : List (P × P)
     pub stopped : ℕ
-    pub connections : ServesEach (λ s p q t. AnswersNext old.server.which s (line_of p) (line_of q) t)
-        (standing_of old.server.pass (calls old.server.stop) old.server.lacked_memory) served (standing_of new.server.pass stopped new.server.lacked_memory)
+    pub connections : ServesEach
+        (λ s p q t. AnswersNext old.server.which s (line_of p) (line_of q) t)
+        (standing_of old.server.pass (calls old.server.stop) old.server.lacked_memory) served
+        (standing_of new.server.pass stopped new.server.lacked_memory)
     pub lends : Lends served (state old.listener) (state new.listener)
     pub ends : Ends end (state old.listener) (state new.listener)
     pub stops : calls new.server.stop ≡ stops_behind end stopped
     pub number : number_in new.server.pass ≡ number_in old.server.pass
 
-module _ {J L D C S P : Type 0} {g : Ghosts J} (line_of : P → Line) (state : L → Listening P) (upstream : D → Upstream) (to_come : C → Option (List ℕ)) (calls : S → ℕ) where
-  -- a job ran that serves clients: each peer that its listener handed out had its session, and was given back, until the listener was closed or broke
+module _ {J L D C S P : Type 0} {g : Ghosts J} (line_of : P → Line) (state : L → Listening P)
+    (upstream : D → Upstream) (to_come : C → Option (List ℕ)) (calls : S → ℕ) where
+  -- a job ran that serves clients: each peer that its listener handed out had its session, and was
+  -- given back, until the listener was closed or broke
   pub record RunsProxy (old new : ProxyJob J L D C S g) (end : Accepting) : Type 0 where
     pub served : List (P × P)
-    pub sessions : ServesEach (λ s p q t. Attends g.settings old.server.policy.now s (line_of p) (line_of q) t) (going_of upstream to_come old.server) served (going_of upstream to_come new.server)
+    pub sessions : ServesEach
+        (λ s p q t. Attends g.settings old.server.policy.now s (line_of p) (line_of q) t)
+        (going_of upstream to_come old.server) served (going_of upstream to_come new.server)
     pub lends : Lends served (state old.listener) (state new.listener)
     pub ends : Ends end (state old.listener) (state new.listener)
     pub stops : calls new.stop ≡ stops_behind end (calls old.stop)
@@ -116,10 +136,14 @@ module _ {J L D C S P : Type 0} {g : Ghosts J} (line_of : P → Line) (state : L
   Runs (job.Api old) (job.Proxy new) end = ⊥
   Runs (job.Api old) (job.Api new) end = RunsApi line_of state calls old new end
 
-module _ {J L D C S P : Type 0} {g : Ghosts J} (runs : ServingJob J L D C S g → ServingJob J L D C S g → Accepting → Type 0) (state : L → Listening P) (upstream : D → Upstream)
+module _ {J L D C S P : Type 0} {g : Ghosts J}
+    (runs : ServingJob J L D C S g → ServingJob J L D C S g → Accepting → Type 0)
+    (state : L → Listening P) (upstream : D → Upstream)
     (calls : S → ℕ) where
-  -- jobs ran and were taken back: their passes stand behind these, all that belongs to the net is there, and it is known whether a listener broke and whether memory was wanting
-  pub record ComeBack (jobs : List (ServingJob J L D C S g)) (passes passes_after : List (Pass J g)) (net net_after : Networking P) (failed lacked : Bool) : Type 0 where
+  -- jobs ran and were taken back: their passes stand behind these, all that belongs to the net is
+  -- there, and it is known whether a listener broke and whether memory was wanting
+  pub record ComeBack (jobs : List (ServingJob J L D C S g)) (passes passes_after : List (Pass J g))
+      (net net_after : Networking P) (failed lacked : Bool) : Type 0 where
     pub back : List (ServingJob J L D C S g × Accepting)
     pub ran : AllZip (ComesBack runs) jobs back
     pub passes_are : passes_after ≡ passes ++ map (λ b. pass_of b.0) back

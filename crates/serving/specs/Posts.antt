@@ -1,5 +1,6 @@
 -- Where the listeners of a router are, and what serves at each.
-use Rattle.std.specs.Prelude.{ℕ, zero, suc, ◌+◌, ◌%◌, ◌^◌, List, [], ◌∷◌, ◌++◌, Option, None, Some}
+use Rattle.std.specs.Prelude.{ℕ, zero, suc, ◌+◌, ◌%◌, ◌^◌, true, List, [], ◌∷◌, ◌++◌, Option, None}
+use Rattle.std.specs.Prelude.{Some}
 use Rattle.line_base.specs.declared.listener.Endpoint.{Endpoint}
 use Rattle.linker_config.specs.declared.config.Port.{Port}
 use Rattle.admin_api.specs.declared.serving.Which.{Which}
@@ -34,7 +35,7 @@ posts_at post (suc n) = posts_at post n ++ post n ∷ []
 abbrev pub main_posts : Site → List Post
 main_posts site =
     posts_at (client_post site) site.workers ++ posts_at (interface_post Namerd site.namerd) 2
-    ++ posts_at (interface_post Admin site.admin) 2
+    ++ posts_at (interface_post (Admin true) site.admin) 2
 
 -- how many listeners the feed has, where it is served
 abbrev pub feed_jobs : Option Feeding → ℕ

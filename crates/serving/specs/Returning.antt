@@ -1,10 +1,17 @@
 -- What a net comes to where listeners are made, stops are handed out, and all of them come back.
-use Rattle.std.specs.Prelude.{ℕ, zero, suc, ◌-◌, nat_le, Bool, List, [], ◌∷◌, ◌++◌, length, option_map}
+use Rattle.std.specs.Prelude.{ℕ, zero, suc, ◌-◌, nat_le, Bool, List, [], ◌∷◌, ◌++◌, length}
+use Rattle.std.specs.Prelude.{option_map}
 use Rattle.line_base.specs.Nets.{Ended, Networking, Returns, after_end, after_stopper, with_room}
 
 -- so many listeners were made
 abbrev pub listened : {P : Type 0} → ℕ → Networking P → Networking P
-listened copies n = record { told = option_map (with_room copies) n.told; clean = n.clean; stops_given = n.stops_given; stops_returned = n.stops_returned }
+listened copies n =
+    record {
+      told = option_map (with_room copies) n.told;
+      clean = n.clean;
+      stops_given = n.stops_given;
+      stops_returned = n.stops_returned;
+    }
 
 -- so many stops were handed out
 abbrev pub with_stops : {P : Type 0} → ℕ → Networking P → Networking P

@@ -1,5 +1,6 @@
 -- A router that is ready to serve, and how it ends.
-use Rattle.std.specs.Prelude.{◌≡◌, ℕ, suc, ◌≤◌, ◌<◌, ◌^◌, Bool, List, [], ◌∷◌, ◌++◌, length, map, Option, None, Some, IfSome}
+use Rattle.std.specs.Prelude.{◌≡◌, ℕ, suc, ◌≤◌, ◌<◌, ◌^◌, Bool, List, [], ◌∷◌, ◌++◌, length, map}
+use Rattle.std.specs.Prelude.{Option, None, Some, IfSome}
 use Rattle.std.specs.List.{AllZip, list_any}
 use Rattle.one_history.specs.Order.{Distinct}
 use Rattle.line_base.specs.Accepts.{Listening}
@@ -56,9 +57,11 @@ module _ {J L : Type 0} {g : Ghosts J} where
     pub free : AreFree s.passes.items
 
 module _ {J P : Type 0} {g : Ghosts J} where
-  -- a job ran for each listener of a site, with a pass of its own, and one pass served nobody; then the listeners came back to the net, in their order, with the stops that it
-  -- had handed out
-  pub record HasRun (line_of : P → Line) (site : Site) (moments : Option (List ℕ)) (passes passes_after : List (Pass J g)) (net net_after : Networking P) (lacked_memory : Bool) : Type 0 where
+  -- a job ran for each listener of a site, with a pass of its own, and one pass served nobody; then
+  -- the listeners came back to the net, in their order, with the stops that it had handed out
+  pub record HasRun (line_of : P → Line) (site : Site) (moments : Option (List ℕ))
+      (passes passes_after : List (Pass J g)) (net net_after : Networking P)
+      (lacked_memory : Bool) : Type 0 where
     pub shifts : List (Shift J P g)
     pub rest : Pass J g
     pub before : passes ≡ map (λ s. s.before) shifts ++ rest ∷ []

@@ -1,5 +1,7 @@
--- The services with which a router begins: what passes have seen of them, and where the book has no room for one.
-use Rattle.std.specs.Prelude.{◌≡◌, ◌⊎◌, ℕ, ◌+◌, ◌<◌, ◌^◌, true, List, [], ◌∷◌, ◌++◌, length, map, fold, sum_by, IsSome}
+-- The services with which a router begins: what passes have seen of them, and where the book has no
+-- room for one.
+use Rattle.std.specs.Prelude.{◌≡◌, ◌⊎◌, ℕ, ◌+◌, ◌<◌, ◌^◌, true, List, [], ◌∷◌, ◌++◌, length, map}
+use Rattle.std.specs.Prelude.{fold, sum_by, IsSome}
 use Rattle.std.specs.List.{AllByRecursion}
 use mathlib.Core.List.{IsPrefix}
 use Rattle.addr_book.specs.BookFault.{set_refusal}
@@ -15,11 +17,15 @@ use Rattle.router.specs.Passes.{made_in, seen_in}
 -- these changes stand in a list of operations, in this order
 abbrev pub StandIn : List Operation → List ChangeValue → Type 0
 StandIn ops [] = Unit {0}
-StandIn ops (c ∷ cs) = (before : List Operation) × (caller : ℕ) × (serial : ℕ) × (behind : List Operation) × (ops ≡ before ++ changed caller serial c ∷ behind) × StandIn behind cs
+StandIn ops (c ∷ cs) =
+    (before : List Operation) × (caller : ℕ) × (serial : ℕ) × (behind : List Operation)
+    × (ops ≡ before ++ changed caller serial c ∷ behind) × StandIn behind cs
 
 -- a change was added to a list, behind what else was added before it
 abbrev pub IsAdded : List Operation → List Operation → ChangeValue → Type 0
-IsAdded old new change = (before : List Operation) × (caller : ℕ) × (serial : ℕ) × IsPrefix old before × (new ≡ before ++ changed caller serial change ∷ [])
+IsAdded old new change =
+    (before : List Operation) × (caller : ℕ) × (serial : ℕ) × IsPrefix old before
+    × (new ≡ before ++ changed caller serial change ∷ [])
 
 -- the change that sets a service
 abbrev pub setting : LoadedItem → ChangeValue
@@ -28,13 +34,15 @@ setting item = set_addrs item.service item.list
 -- each of these changes is accepted, in the state behind those before it
 abbrev pub AreAccepted : SettingsValue → StateValue → List ChangeValue → Type 0
 AreAccepted settings state [] = Unit {0}
-AreAccepted settings state (c ∷ cs) = (is_accepted state c ≡ true) × AreAccepted settings (after settings state c) cs
+AreAccepted settings state (c ∷ cs) =
+    (is_accepted state c ≡ true) × AreAccepted settings (after settings state c) cs
 
 -- the state behind services that were set one after another, from the beginning
 abbrev pub state_behind : SettingsValue → List LoadedItem → StateValue
 state_behind settings done = fold (after settings) opening (map setting done)
 
--- the book has no room for a service: there are too many others, or there would be too many addresses
+-- the book has no room for a service: there are too many others, or there would be too many
+-- addresses
 abbrev pub HasNoRoom : StateValue → LoadedItem → Type 0
 HasNoRoom state item = IsSome (set_refusal state.book item.service item.list)
 
@@ -51,8 +59,10 @@ pub record BookRefuses (settings : SettingsValue) (loaded : List LoadedItem) : T
 abbrev pub IsTurnedAway : StateValue → LoadedItem → Type 0
 IsTurnedAway state item = HasNoRoom state item ⊎ (state.place ≡ last_place)
 
--- Services were set in their order until one was refused, in the state that this list comes to. Those before it stand there, and so many changes more were made
-pub record StopsAt (settings : SettingsValue) (loaded : List LoadedItem) (ops : List Operation) (made made_then : ℕ) : Type 0 where
+-- Services were set in their order until one was refused, in the state that this list comes to.
+-- Those before it stand there, and so many changes more were made
+pub record StopsAt (settings : SettingsValue) (loaded : List LoadedItem) (ops : List Operation)
+    (made made_then : ℕ) : Type 0 where
   pub done : List LoadedItem
   pub refused : LoadedItem
   pub rest : List LoadedItem

@@ -16,8 +16,8 @@ use Rattle.line_base.specs.Lines.{Line}
 use Rattle.proxy_session.specs.Idle.{EndsIdle}
 use Rattle.proxy_session.specs.Session.{SessionsTo}
 
--- what goes on from one connection to the next: the dialer, the pass, the clock's moments to come and
--- the generator of words; and whether memory was wanting in a session
+-- what goes on from one connection to the next: the dialer, the pass, the clock's moments to come
+-- and the generator of words; and whether memory was wanting in a session
 pub record Going : Type 0 where
   pub upstream : Upstream
   pub caller : Caller
@@ -37,7 +37,8 @@ lacked_behind before ended.ReadFault = before
 lacked_behind before ended.WriteFault = before
 lacked_behind before ended.UpstreamCut = before
 
--- a server, and whether memory was wanting so far, by what its dialer and its clock tell of themselves
+-- a server, and whether memory was wanting so far, by what its dialer and its clock tell of
+-- themselves
 module _ {J D C : Type 0} {g : Ghosts J} (upstream_of : D → Upstream)
     (moments_of : C → Option (List ℕ)) where
   abbrev pub going_by : Server J D C g → Bool → Going
@@ -76,8 +77,8 @@ with_upstream upstream s = record {
 }
 
 -- one connection: a session with what the one before it left, and with a budget of its own. What of
--- its bytes was read and not used is dropped, and connections to replicas that were kept for too long
--- are ended
+-- its bytes was read and not used is dropped, and connections to replicas that were kept for too
+-- long are ended
 abbrev pub Attends : SettingsValue → Policy → Going → Line → Line → Going → Type 0
 Attends settings policy old line line_after new =
     (end : Ended) × (rest : List ℕ) × (left : Option BudgetValue) × (dialer : Upstream)

@@ -1,5 +1,6 @@
 //! A job for each listener.
-ghost use Rattle.std.specs.Prelude.{◌≡◌, ℕ, ◌+◌, ◌≤◌, ◌<◌, ◌^◌, ◌++◌, [], List, Option, length, vec_len, vec_capacity, IfOk};
+ghost use Rattle.std.specs.Prelude.{◌≡◌, ℕ, ◌+◌, ◌≤◌, ◌<◌, ◌^◌, ◌++◌, [], List, Option, length};
+ghost use Rattle.std.specs.Prelude.{vec_len, vec_capacity, IfOk};
 ghost use Rattle.std.specs.List.{AllZip};
 ghost use Rattle.std.specs.Vec.Iter.{into_iter_items};
 ghost use Rattle.serving.specs.declared.policy.Policy.{Policy};
@@ -50,7 +51,8 @@ pub(crate) fn make_rooms(alloc: Global, count: usize) -> Mem<Vec<Room>>
     Ok(rooms)
 }
 
-/// A proxy job for each listener of the router, numbered from 0. Each has the next pass and the next room.
+/// A proxy job for each listener of the router, numbered from 0. Each has the next pass and the
+/// next room.
 fn add_proxy_jobs<'a, J: Naming, N: Net, C: Clock>(
     setup: &Setup<'a, J>,
     net: &mut N,
@@ -64,18 +66,24 @@ fn add_proxy_jobs<'a, J: Naming, N: Net, C: Clock>(
     requires rooms { length listeners.items ≤ length rooms.items }
     requires room { vec_len jobs.old + length listeners.items ≤ vec_capacity jobs.old }
     requires free { AreFree (into_iter_items passes.old) }
-    requires new { AreNewFrom N.L.state (N.state net.old).told setup.now.site.now.server 0 listeners.items }
+    requires new { AreNewFrom N.L.state (N.state net.old).told setup.now.site.now.server 0
+        listeners.items }
     requires few { length listeners.items < 2 ^ 32 }
-    ensures passes { passes_of_jobs jobs.new.items ++ into_iter_items passes.new ≡ passes_of_jobs jobs.old.items ++ into_iter_items passes.old }
+    ensures passes { passes_of_jobs jobs.new.items ++ into_iter_items passes.new
+        ≡ passes_of_jobs jobs.old.items ++ into_iter_items passes.old }
     ensures count { vec_len jobs.new ≡ vec_len jobs.old + length listeners.items }
-    ensures rest { length (into_iter_items passes.new) + length listeners.items ≡ length (into_iter_items passes.old) }
+    ensures rest { length (into_iter_items passes.new) + length listeners.items
+        ≡ length (into_iter_items passes.old) }
     ensures room { vec_capacity jobs.new ≡ vec_capacity jobs.old }
     ensures free { AreFree (into_iter_items passes.new) }
     ensures posted { (posts : List Post)
-        → AllZip (IsPosted N.L.state N.D.upstream C.to_come N.S.calls setup.now.site.now.policy (C.of_fork clock.now)
+        → AllZip (IsPosted N.L.state N.D.upstream C.to_come N.S.calls setup.now.site.now.policy
+        (C.of_fork clock.now)
         (N.state net.old).told) posts jobs.old.items
-        → AllZip (IsPosted N.L.state N.D.upstream C.to_come N.S.calls setup.now.site.now.policy (C.of_fork clock.now) (N.state net.old).told)
-        (posts ++ posts_at (client_post setup.now.site.now) (length listeners.items)) jobs.new.items }
+        → AllZip (IsPosted N.L.state N.D.upstream C.to_come N.S.calls setup.now.site.now.policy
+        (C.of_fork clock.now) (N.state net.old).told)
+        (posts ++ posts_at (client_post setup.now.site.now) (length listeners.items))
+        jobs.new.items }
     ensures stops { N.state net.new ≡ with_stops (length listeners.items) (N.state net.old) }
     ensures kept { N.faults net.new ≡ N.faults net.old }
 {
@@ -125,15 +133,20 @@ fn add_api_jobs<'a, J: Naming, N: Net, C: Clock>(
     requires enough { length listeners.items ≤ length (into_iter_items passes.old) }
     requires room { vec_len jobs.old + length listeners.items ≤ vec_capacity jobs.old }
     requires free { AreFree (into_iter_items passes.old) }
-    ensures passes { passes_of_jobs jobs.new.items ++ into_iter_items passes.new ≡ passes_of_jobs jobs.old.items ++ into_iter_items passes.old }
+    ensures passes { passes_of_jobs jobs.new.items ++ into_iter_items passes.new
+        ≡ passes_of_jobs jobs.old.items ++ into_iter_items passes.old }
     ensures count { vec_len jobs.new ≡ vec_len jobs.old + length listeners.items }
-    ensures rest { length (into_iter_items passes.new) + length listeners.items ≡ length (into_iter_items passes.old) }
+    ensures rest { length (into_iter_items passes.new) + length listeners.items
+        ≡ length (into_iter_items passes.old) }
     ensures room { vec_capacity jobs.new ≡ vec_capacity jobs.old }
     ensures free { AreFree (into_iter_items passes.new) }
-    ensures posted { (port : Port) → AreNewFrom N.L.state (N.state net.old).told port 0 listeners.items → (policy : Policy) → (moments : Option (List ℕ))
+    ensures posted { (port : Port) → AreNewFrom N.L.state (N.state net.old).told port 0
+        listeners.items → (policy : Policy) → (moments : Option (List ℕ))
         → (posts : List Post) → AllZip
-        (IsPosted N.L.state N.D.upstream C.to_come N.S.calls policy moments (N.state net.old).told) posts jobs.old.items
-        → AllZip (IsPosted N.L.state N.D.upstream C.to_come N.S.calls policy moments (N.state net.old).told)
+        (IsPosted N.L.state N.D.upstream C.to_come N.S.calls policy moments (N.state net.old).told)
+        posts jobs.old.items
+        → AllZip (IsPosted N.L.state N.D.upstream C.to_come N.S.calls policy moments
+        (N.state net.old).told)
         (posts ++ posts_at (interface_post which port) (length listeners.items)) jobs.new.items }
     ensures stops { N.state net.new ≡ with_stops (length listeners.items) (N.state net.old) }
     ensures kept { N.faults net.new ≡ N.faults net.old }
@@ -216,14 +229,16 @@ pub(crate) fn add_jobs<'a, J: Naming, N: Net, C: Clock>(
     requires rooms { setup.now.site.now.workers ≤ length rooms.items }
     requires none_yet { jobs.old.items ≡ [] }
     requires listens { Listens N.L.state (N.state net.old).told setup.now.site.now bound }
-    ensures passes { passes_of_jobs jobs.new.items ++ into_iter_items passes.new ≡ into_iter_items passes.old }
+    ensures passes { passes_of_jobs jobs.new.items ++ into_iter_items passes.new
+        ≡ into_iter_items passes.old }
     ensures rest { length (into_iter_items passes.new) + jobs_of setup.now.site.now
         ≡ length (into_iter_items passes.old) }
     ensures count { vec_len jobs.new ≡ jobs_of setup.now.site.now }
     ensures room { vec_capacity jobs.new ≡ vec_capacity jobs.old }
     ensures free { AreFree (into_iter_items passes.new) }
     ensures posted { AllZip
-        (IsPosted N.L.state N.D.upstream C.to_come N.S.calls setup.now.site.now.policy (C.of_fork clock.now)
+        (IsPosted N.L.state N.D.upstream C.to_come N.S.calls setup.now.site.now.policy
+        (C.of_fork clock.now)
         (N.state net.old).told) (posts_of setup.now.site.now) jobs.new.items }
     ensures stops { N.state net.new ≡ with_stops (jobs_of setup.now.site.now)
         (N.state net.old) }
@@ -239,6 +254,14 @@ pub(crate) fn add_jobs<'a, J: Naming, N: Net, C: Clock>(
     add_proxy_jobs(setup, net, clock, server, rooms, passes, jobs);
     add_api_jobs(setup, Which::Namerd, workers, net, namerd, passes, jobs);
     let number = workers.wrapping_add(2);
-    add_api_jobs(setup, Which::Admin, number, net, admin, passes, jobs);
+    add_api_jobs(
+        setup,
+        Which::Admin { ready: true },
+        number,
+        net,
+        admin,
+        passes,
+        jobs,
+    );
     add_feed_jobs(setup, workers.wrapping_add(4), net, feed, passes, jobs);
 }

@@ -1,11 +1,13 @@
 //! The services with which a router begins.
-ghost use Rattle.std.specs.Prelude.{◌≡◌, ℕ, ◌+◌, ◌≤◌, ◌<◌, Err, true, false, length, map, sum_by, OnOk, vec_len, vec_capacity};
+ghost use Rattle.std.specs.Prelude.{◌≡◌, ℕ, ◌+◌, ◌≤◌, ◌<◌, Err, true, false, length, map, sum_by};
+ghost use Rattle.std.specs.Prelude.{OnOk, vec_len, vec_capacity};
 ghost use Rattle.std.specs.List.{AllByRecursion};
 ghost use mathlib.Core.List.{IsPrefix};
 ghost use Rattle.router.specs.Closing.{numbers_of};
 ghost use Rattle.router.specs.Passes.{made_in, number_in, seen_in, slot_in};
 ghost use Rattle.router_log.specs.Value.{value_of};
-ghost use Rattle.serving.specs.Services.{HaveSeen, IsAdded, IsTurnedAway, StandIn, StopsAmong, StopsAt, setting};
+ghost use Rattle.serving.specs.Services.{HaveSeen, IsAdded, IsTurnedAway, StandIn, StopsAmong};
+ghost use Rattle.serving.specs.Services.{StopsAt, setting};
 ghost use Rattle.serving.specs.Passes.{AreFree};
 
 use linker_config::LoadedItem;
@@ -47,7 +49,8 @@ fn set_service<J: Naming, R: Wait>(
     ensures seen { IsPrefix (seen_in pass.old) (seen_in pass.new) }
     ensures set { OnOk result (IsAdded (seen_in pass.old) (seen_in pass.new) (setting item)) }
     ensures made { OnOk result (made_in pass.new ≡ made_in pass.old + 1) }
-    ensures refused { result ≡ Err SetFault.Book → (made_in pass.new ≡ made_in pass.old) × IsTurnedAway (value_of J.settings (seen_in pass.new)).state item }
+    ensures refused { result ≡ Err SetFault.Book → (made_in pass.new ≡ made_in pass.old)
+        × IsTurnedAway (value_of J.settings (seen_in pass.new)).state item }
 {
     let LoadedItem { service, list } = item;
     let change = Change::SetAddrs { service, list };
@@ -75,7 +78,8 @@ fn set_each<J: Naming, R: Wait>(
     ensures slot { slot_in pass.new ≡ slot_in pass.old }
     ensures seen { IsPrefix (seen_in pass.old) (seen_in pass.new) }
     ensures set { OnOk result (StandIn (seen_in pass.new) (map setting items.items)) }
-    ensures refused { result ≡ Err SetFault.Book → StopsAt J.settings items.items (seen_in pass.new) (made_in pass.old) (made_in pass.new) }
+    ensures refused { result ≡ Err SetFault.Book
+        → StopsAt J.settings items.items (seen_in pass.new) (made_in pass.old) (made_in pass.new) }
 {
     for item in items {
         match set_service(rt, alloc, router, pass, item) {
@@ -102,7 +106,8 @@ fn meet_each<J: Naming, R: Wait>(
     ensures number { number_in pass.new ≡ number_in pass.old }
     ensures slot { slot_in pass.new ≡ slot_in pass.old }
     ensures seen { IsPrefix (seen_in pass.old) (seen_in pass.new) }
-    ensures made { (made_in pass.new ≡ made_in pass.old) × (sum_by made_in met.new.items ≡ sum_by made_in others.items) }
+    ensures made { (made_in pass.new ≡ made_in pass.old)
+        × (sum_by made_in met.new.items ≡ sum_by made_in others.items) }
     ensures met { AllByRecursion (λ p. IsPrefix (seen_in pass.old) (seen_in p)) met.new.items }
 {
     for other in others {
@@ -112,7 +117,8 @@ fn meet_each<J: Naming, R: Wait>(
     }
 }
 
-/// Sets these services by changes of the last pass, which then meets each of the others. The passes come back in `met`, in their order.
+/// Sets these services by changes of the last pass, which then meets each of the others. The passes
+/// come back in `met`, in their order.
 pub(crate) fn set_services<J: Naming, R: Wait>(
     rt: &R,
     alloc: Global,
@@ -127,7 +133,8 @@ pub(crate) fn set_services<J: Naming, R: Wait>(
     ensures numbers { numbers_of met.new.items ≡ numbers_of passes.items }
     ensures free { AreFree met.new.items }
     ensures seen { OnOk result (HaveSeen items.items met.new.items) }
-    ensures refused { result ≡ Err SetFault.Book → StopsAmong items.items passes.items met.new.items }
+    ensures refused { result ≡ Err SetFault.Book
+        → StopsAmong items.items passes.items met.new.items }
 {
     let Some(mut last) = passes.pop() else {
         unreachable!()

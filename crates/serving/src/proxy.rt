@@ -63,7 +63,8 @@ impl<P: Peer, J: Naming, D: Dialer, C: Clock> Serve<P> for ProxyServer<'_, J, D,
     ghost serves = { λ old peer peer_after new.
         Attends J.settings old.policy.now
         (going_by D.upstream C.to_come old.server old.lacked_memory)
-        (P.line peer) (P.line peer_after) (going_by D.upstream C.to_come new.server new.lacked_memory)
+        (P.line peer) (P.line peer_after)
+        (going_by D.upstream C.to_come new.server new.lacked_memory)
         × (new.policy ≡ old.policy) × (number_in new.server.pass ≡ number_in old.server.pass) };
 
     fn serve<R: Wait, G: Gate>(&mut self, rt: &R, peer: P, gate: &G, worker: u32) -> P {

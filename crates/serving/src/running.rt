@@ -1,5 +1,6 @@
 //! From a router that was opened to its end.
-ghost use Rattle.std.specs.Prelude.{◌≡◌, ◌+◌, ◌≤◌, ◌++◌, [], List, Some, Err, true, false, length, IfOk, vec_len, vec_capacity};
+ghost use Rattle.std.specs.Prelude.{◌≡◌, ◌+◌, ◌≤◌, ◌++◌, [], List, Some, Err, true, false, length};
+ghost use Rattle.std.specs.Prelude.{IfOk, vec_len, vec_capacity};
 ghost use Rattle.line_base.specs.Counts.{Rose};
 ghost use Rattle.linker_config.specs.declared.loaded.LoadedItem.{LoadedItem};
 ghost use Rattle.load_words.specs.Seats.{words_of};
@@ -97,12 +98,14 @@ pub fn start<J: Naming, R: Wait, N: Net>(
     requires parts { (opened.blank.parts ≡ J.parts) × (J.parts ≡ J.seats) }
     requires seats { (opened.seats ≡ J.seats) × (opened.seats ≡ jobs_of site.now + 1) }
     ensures ready { IfOk result (λ s. IsReady s) }
-    ensures listens { IfOk result (λ s. Listens N.L.state (N.state net.new).told site.now (bound_of s)) }
+    ensures listens { IfOk result
+        (λ s. Listens N.L.state (N.state net.new).told site.now (bound_of s)) }
     ensures seats { IfOk result (λ s. length (passes_of s) ≡ jobs_of site.now + 1) }
     ensures seen { IfOk result (λ s. HaveSeen loaded (passes_of s)) }
     ensures net { IfOk result (λ _. N.state net.new ≡ listened (jobs_of site.now)
         (N.state net.old)) }
-    ensures refused { result ≡ Err StartFault.Book → BookRefuses J.settings loaded × (N.state net.new ≡ N.state net.old) }
+    ensures refused { result ≡ Err StartFault.Book → BookRefuses J.settings loaded
+        × (N.state net.new ≡ N.state net.old) }
     ensures broken { result ≡ Err StartFault.Net → Rose (N.faults net.old) (N.faults net.new) }
     ensures kept { (result ≡ Err StartFault.Net → ⊥) → N.faults net.new ≡ N.faults net.old }
 {
@@ -162,7 +165,8 @@ struct Returned<J: Naming> {
     passes: Vec<Pass<J>>,
 }
 
-/// Runs these jobs and takes them back: whether there was memory to run them, and what is known then.
+/// Runs these jobs and takes them back: whether there was memory to run them, and what is known
+/// then.
 fn run_all<
     J: Naming + Send + Sync,
     R: Threads + Wait + Sync,
@@ -172,13 +176,16 @@ fn run_all<
 where
     <N::L as Listener>::P: Send,
     requires room { vec_len back.old + length jobs.items ≤ vec_capacity back.old }
-    ensures numbers { numbers_of back.new.items ≡ numbers_of back.old.items ++ numbers_of (passes_of_jobs jobs.entry.items) }
-    ensures room { (vec_len back.new ≡ vec_len back.old + length jobs.entry.items) × (vec_capacity back.new ≡ vec_capacity back.old) }
+    ensures numbers { numbers_of back.new.items
+        ≡ numbers_of back.old.items ++ numbers_of (passes_of_jobs jobs.entry.items) }
+    ensures room { (vec_len back.new ≡ vec_len back.old + length jobs.entry.items)
+        × (vec_capacity back.new ≡ vec_capacity back.old) }
     ensures faults { TellsFaults (N.faults net.old) (N.faults net.new) result.1.failed }
     ensures came { result.0 ≡ true
         → ComeBack (Runs N.L.P.line N.L.state
         N.D.upstream C.to_come N.S.calls) N.L.state N.D.upstream N.S.calls
-        jobs.entry.items back.old.items back.new.items (N.state net.old) (N.state net.new) result.1.failed result.1.lacked_memory }
+        jobs.entry.items back.old.items back.new.items (N.state net.old) (N.state net.new)
+        result.1.failed result.1.lacked_memory }
 {
     match run_workers(rt, jobs, &NoGate) {
         Ok(ended) => (true, take_all_back(net, ended, back)),
@@ -220,7 +227,8 @@ where
     ensures faults { TellsFaults (N.faults net.old) (N.faults net.new) result.tally.failed }
     ensures served { result.ran ≡ true → result.tally.failed ≡ false
         → HasRun N.L.P.line setup.now.site.now (C.of_fork clock.now)
-        passes.items result.passes.items (N.state net.old) (N.state net.new) result.tally.lacked_memory }
+        passes.items result.passes.items (N.state net.old) (N.state net.new)
+        result.tally.lacked_memory }
 {
     let count = passes.len();
     let (Ok(mut jobs), Ok(mut back)) = (
@@ -244,7 +252,8 @@ where
 }
 
 impl<J: Naming + Send + Sync, L: Listener> Serving<J, L> {
-    /// Serves until it is stopped, and ends the router: how many changes there were in all, those that set the services among them, and whether memory was wanting in a session.
+    /// Serves until it is stopped, and ends the router: how many changes there were in all, those
+    /// that set the services among them, and whether memory was wanting in a session.
     pub fn run<R: Threads + Wait + Sync, N: Net<L = L> + Send, C: Clock + Drop + Send>(
         self,
         rt: &R,
@@ -261,7 +270,8 @@ impl<J: Naming + Send + Sync, L: Listener> Serving<J, L> {
         requires parts { J.parts ≡ J.seats }
         ensures broken { result ≡ Err RunFault.Net → Rose (N.faults net.old) (N.faults net.new) }
         ensures kept { (result ≡ Err RunFault.Net → ⊥) → N.faults net.new ≡ N.faults net.old }
-        ensures served { IfOk result (λ served. (loaded : List LoadedItem) → HaveSeen loaded (passes_of self)
+        ensures served { IfOk result
+            (λ served. (loaded : List LoadedItem) → HaveSeen loaded (passes_of self)
             → HasServed L.P.line site.now (C.of_fork clock.now) loaded
             (passes_of self) (N.state net.old) (N.state net.new) served) }
     {

@@ -42,7 +42,8 @@ pub struct Site {
 }
 
 impl Site {
-    /// How many jobs there are: those for clients, those of the two interfaces, and that of the feed.
+    /// How many jobs there are: those for clients, those of the two interfaces, and that of the
+    /// feed.
     fn jobs(&self) -> u32
         requires few { self.now.workers ≤ 256 }
         ensures { result ≡ jobs_of self.now }

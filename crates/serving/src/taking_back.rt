@@ -1,5 +1,6 @@
 //! What comes back from the jobs.
-ghost use Rattle.std.specs.Prelude.{◌≡◌, ◌+◌, ◌≤◌, ◌<◌, ◌||◌, ◌++◌, ◌∷◌, [], ℕ, false, nat_le, map, length, vec_len, vec_capacity};
+ghost use Rattle.std.specs.Prelude.{◌≡◌, ◌+◌, ◌≤◌, ◌<◌, ◌||◌, ◌++◌, ◌∷◌, [], ℕ, false, nat_le, map};
+ghost use Rattle.std.specs.Prelude.{length, vec_len, vec_capacity};
 ghost use Rattle.std.specs.List.{list_any};
 ghost use Rattle.line_base.specs.Nets.{after_end, log_of};
 ghost use Rattle.serving.specs.Faults.{TellsFaults};
@@ -34,7 +35,8 @@ impl Tally {
         }
     }
 
-    /// One more is back: whether the net failed to take its listener back, and whether memory was wanting in one of its sessions.
+    /// One more is back: whether the net failed to take its listener back, and whether memory was
+    /// wanting in one of its sessions.
     fn add(&mut self, failed: bool, lacked_memory: bool)
         ensures failed { self.new.failed ≡ (self.old.failed || failed) }
         ensures lacked { self.new.lacked_memory ≡ (self.old.lacked_memory || lacked_memory) }
@@ -46,7 +48,13 @@ impl Tally {
 
 /// Gives a listener back to the net, with what came with it: whether the net fails to take it.
 fn end<N: Net>(net: &mut N, listener: N::L, dialer: Option<N::D>, stop: N::S) -> bool
-    ensures state { N.state net.new ≡ after_end (N.state net.old) (record { listener = N.L.state listener; log = log_of N.D.upstream dialer; stops = N.S.calls stop }) }
+    ensures state { N.state net.new
+        ≡ after_end (N.state net.old)
+        (record {
+          listener = N.L.state listener;
+          log = log_of N.D.upstream dialer;
+          stops = N.S.calls stop;
+        }) }
     ensures broken { result ≡ nat_le 100 (N.L.state listener).run }
     ensures faults { TellsFaults (N.faults net.old) (N.faults net.new) result }
 {
@@ -65,10 +73,14 @@ fn take_back<J: Naming, N: Net, C: Drop>(
 )
     requires room { vec_len passes.old < vec_capacity passes.old }
     ensures passes { passes.new.items ≡ passes.old.items ++ pass_of job.entry ∷ [] }
-    ensures room { (vec_len passes.new ≡ vec_len passes.old + 1) × (vec_capacity passes.new ≡ vec_capacity passes.old) }
-    ensures faults { (start : ℕ) → TellsFaults start (N.faults net.old) tally.old.failed → TellsFaults start (N.faults net.new) tally.new.failed }
-    ensures state { N.state net.new ≡ after_end (N.state net.old) (ended_of N.L.state N.D.upstream N.S.calls job.entry) }
-    ensures failed { tally.new.failed ≡ (tally.old.failed || is_broken (ended_of N.L.state N.D.upstream N.S.calls job.entry)) }
+    ensures room { (vec_len passes.new ≡ vec_len passes.old + 1)
+        × (vec_capacity passes.new ≡ vec_capacity passes.old) }
+    ensures faults { (start : ℕ) → TellsFaults start (N.faults net.old) tally.old.failed
+        → TellsFaults start (N.faults net.new) tally.new.failed }
+    ensures state { N.state net.new
+        ≡ after_end (N.state net.old) (ended_of N.L.state N.D.upstream N.S.calls job.entry) }
+    ensures failed { tally.new.failed
+        ≡ (tally.old.failed || is_broken (ended_of N.L.state N.D.upstream N.S.calls job.entry)) }
     ensures lacked { tally.new.lacked_memory ≡ (tally.old.lacked_memory || lacked_of job.entry) }
 {
     match job {
@@ -124,11 +136,17 @@ pub(crate) fn take_all_back<J: Naming, N: Net, C: Drop>(
     passes: &mut Vec<Pass<J>>,
 ) -> Tally
     requires room { vec_len passes.old + length back.items ≤ vec_capacity passes.old }
-    ensures passes { passes.new.items ≡ passes.old.items ++ map (λ b. pass_of b.0) back.entry.items }
-    ensures room { (vec_len passes.new ≡ vec_len passes.old + length back.entry.items) × (vec_capacity passes.new ≡ vec_capacity passes.old) }
+    ensures passes { passes.new.items
+        ≡ passes.old.items ++ map (λ b. pass_of b.0) back.entry.items }
+    ensures room { (vec_len passes.new ≡ vec_len passes.old + length back.entry.items)
+        × (vec_capacity passes.new ≡ vec_capacity passes.old) }
     ensures faults { TellsFaults (N.faults net.old) (N.faults net.new) result.failed }
-    ensures state { N.state net.new ≡ all_ended (map (λ b. ended_of N.L.state N.D.upstream N.S.calls b.0) back.entry.items) (N.state net.old) }
-    ensures failed { result.failed ≡ list_any (λ b. is_broken (ended_of N.L.state N.D.upstream N.S.calls b.0)) back.entry.items }
+    ensures state { N.state net.new
+        ≡ all_ended (map (λ b. ended_of N.L.state N.D.upstream N.S.calls b.0) back.entry.items)
+        (N.state net.old) }
+    ensures failed { result.failed
+        ≡ list_any (λ b. is_broken (ended_of N.L.state N.D.upstream N.S.calls b.0))
+        back.entry.items }
     ensures lacked { result.lacked_memory ≡ list_any (λ b. lacked_of b.0) back.entry.items }
 {
     let mut tally = Tally::begin();
@@ -147,7 +165,8 @@ pub(crate) fn take_unrun_back<J: Naming, N: Net, C: Drop>(
 ) -> Tally
     requires room { vec_len passes.old + length jobs.items ≤ vec_capacity passes.old }
     ensures passes { passes.new.items ≡ passes.old.items ++ passes_of_jobs jobs.entry.items }
-    ensures room { (vec_len passes.new ≡ vec_len passes.old + length jobs.entry.items) × (vec_capacity passes.new ≡ vec_capacity passes.old) }
+    ensures room { (vec_len passes.new ≡ vec_len passes.old + length jobs.entry.items)
+        × (vec_capacity passes.new ≡ vec_capacity passes.old) }
     ensures faults { TellsFaults (N.faults net.old) (N.faults net.new) result.failed }
 {
     let mut tally = Tally::begin();

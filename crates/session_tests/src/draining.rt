@@ -16,9 +16,9 @@ const REFUSAL: &str =
 const LAST: &str =
     "HTTP/1.1 502 Bad Gateway|Content-Type: text/plain|l5d-err: negative|Content-Length: 9|Connection: close||negative~";
 
-/// What the client gives, from which question on its connection says that the listeners are closing,
-/// the replies, and the end. The questions are: a wait for the first request, whether it is the last,
-/// whether the second is, and a wait for a third.
+/// What the client gives, from which question on its connection says that the listeners are
+/// closing, the replies, and the end. The questions are: a wait for the first request, whether it
+/// is the last, whether the second is, and a wait for a third.
 const ROWS: [(&str, u64, &[&str], Ended); 7] = [
     (TWO, 0, &[], Drained),
     (TWO, 1, &[LAST], Drained),

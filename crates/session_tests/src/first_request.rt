@@ -12,7 +12,8 @@ const REQUEST: &str = "GET / HTTP/1.1|Host: web||";
 const REFUSAL: &str =
     "HTTP/1.1 502 Bad Gateway|Content-Type: text/plain|l5d-err: dial|Content-Length: 5||dial~";
 
-/// The one call that fails is the dial, so nothing is sent. The failure is reported, the slot is given back, and the connection goes on.
+/// The one call that fails is the dial, so nothing is sent. The failure is reported, the slot is
+/// given back, and the connection goes on.
 #[test]
 fn a_request_whose_dial_fails_is_refused(rt: HostRuntime) -> Result<(), Fail> {
     let alloc = rt.alloc();

@@ -41,7 +41,8 @@ fn a_connection_is_spent(rt: HostRuntime) -> Result<(), Fail> {
     Ok(())
 }
 
-/// What was worked out is kept, no slot is held, and the upstream is hung up as soon as the reply's length has come.
+/// What was worked out is kept, no slot is held, and the upstream is hung up as soon as the reply's
+/// length has come.
 #[test]
 fn a_request_leaves_nothing_behind(rt: HostRuntime) -> Result<(), Fail> {
     let alloc = rt.alloc();

@@ -163,6 +163,7 @@ pub(crate) fn by_host(alloc: Global) -> Result<Rule, Fail> {
     Ok(Rule {
         kind: Kind::Token(name),
         prefix: read_path(alloc, b"/svc")?,
+        clears_context: false,
     })
 }
 

@@ -23,7 +23,8 @@ const REPLY: &str =
 const WRITTEN: &str =
     "HTTP/1.1 200 OK|Content-Length: 50|Via: 1.1 linkerd||01234567890123456789012345678901234567890123456789";
 
-/// What comes of the request, in calls of at most 40 bytes: how the session ended, what was written and what was sent.
+/// What comes of the request, in calls of at most 40 bytes: how the session ended, what was written
+/// and what was sent.
 fn served<R: Wait>(
     rt: &R,
     alloc: Global,
@@ -64,8 +65,9 @@ fn a_request_that_is_cut_is_not_sent(rt: HostRuntime) -> Result<(), Fail> {
     Ok(())
 }
 
-/// Of 5 reads the request comes, and one gives the end. The reply goes in 4 writes, of 40, 18, 40 and 9 bytes: its head leaves together with the first piece of
-/// the body, which came with it in one receive.
+/// Of 5 reads the request comes, and one gives the end. The reply goes in 4 writes, of 40, 18, 40
+/// and 9 bytes: its head leaves together with the first piece of the body, which came with it in
+/// one receive.
 #[test]
 fn each_call_of_the_client_fails(rt: HostRuntime) -> Result<(), Fail> {
     let alloc = rt.alloc();
@@ -96,7 +98,8 @@ fn each_call_of_the_client_fails(rt: HostRuntime) -> Result<(), Fail> {
     Ok(())
 }
 
-/// How the first of two requests is answered where a call of the dialer fails, and how the session ends.
+/// How the first of two requests is answered where a call of the dialer fails, and how the session
+/// ends.
 fn broken(call: u64) -> (&'static str, Ended) {
     match call {
         0 => (
@@ -114,7 +117,8 @@ fn broken(call: u64) -> (&'static str, Ended) {
     }
 }
 
-/// The dial is one call, the request goes in 6 sends, and of 3 receives the first 1 have the reply's head.
+/// The dial is one call, the request goes in 6 sends, and of 3 receives the first 1 have the
+/// reply's head.
 #[test]
 fn each_call_of_the_dialer_fails(rt: HostRuntime) -> Result<(), Fail> {
     let alloc = rt.alloc();

@@ -66,7 +66,8 @@ pub(super) struct Passed {
     pub(super) got: usize,
 }
 
-/// A peer that gives these bytes in calls such as the one, and takes bytes in calls such as the other.
+/// A peer that gives these bytes in calls such as the one, and takes bytes in calls such as the
+/// other.
 fn peer_of(alloc: Global, bytes: &[u8], gives: Calls, takes: Calls) -> Mem<MemPeer> {
     let source = MemSource::of(
         Vec::from_slice(alloc, bytes)?,
@@ -151,7 +152,8 @@ fn ends_of(alloc: Global, peer: MemPeer, dialer: MemDialer, kept: &[u8]) -> Mem<
     })
 }
 
-/// Passes a request's body on behind the head `H`, with these bytes kept, and those that come read and sent in such calls.
+/// Passes a request's body on behind the head `H`, with these bytes kept, and those that come read
+/// and sent in such calls.
 pub(super) fn onward(
     alloc: Global,
     framing: Framing,
@@ -179,7 +181,8 @@ pub(super) fn onward(
     })
 }
 
-/// Passes a reply's body back behind the head `H`, with the bytes that come received and written in such calls.
+/// Passes a reply's body back behind the head `H`, with the bytes that come received and written in
+/// such calls.
 pub(super) fn back(
     alloc: Global,
     framing: Framing,
@@ -221,7 +224,8 @@ pub(super) fn whole(
     Ok(read_body(alloc, &mut peer, &mut rest, framing))
 }
 
-/// What comes of a request's body that is kept, with what lies behind it, where its first send fails; and what stays kept.
+/// What comes of a request's body that is kept, with what lies behind it, where its first send
+/// fails; and what stays kept.
 pub(super) fn unsent(
     alloc: Global,
     framing: Framing,

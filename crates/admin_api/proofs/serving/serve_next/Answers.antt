@@ -12,7 +12,8 @@ use Rattle.admin_api.proofs.serving.serve_next.Goals as goal
 
 pub reply_to-ended-requires : goal.reply_to-ended-requires
 reply_to-ended-requires g c =
-    let r = c.in-Ok.ensures.bytes in is_taken (c.args.rest.now ++ r.0) c.read_request.new.rest c.in-Ok.request.head c.in-Ok.request.body.items r.2
+    let r = c.in-Ok.ensures.bytes in is_taken (c.args.rest.now ++ r.0) c.read_request.new.rest
+    c.in-Ok.request.head c.in-Ok.request.body.items r.2
 
 pub returns-in-Ok-clause-turn : goal.returns-in-Ok-clause-turn
 returns-in-Ok-clause-turn g c =
@@ -37,9 +38,10 @@ returns-in-Ok-clause-turn g c =
       a.3,
       c.reply_to-ended.ensures.others.closings
           ∙ (w.closings ∙ ap (raised_where closing) c.in-Ok.ensures.closings),
-      turned c.args.which c.is_last-last.result c.in-Ok.request.head c.in-Ok.request.body.items
-          c.args.pass.now c.reply_to-ended.new.pass a.0 (c.args.rest.now ++ r.0)
-          c.read_request.new.rest c.args.spent closing a.1 c.reply_to-ended.result c.drained.result
+      turned c.while_closing-found.result c.is_last-last.result c.in-Ok.request.head
+          c.in-Ok.request.body.items c.args.pass.now c.reply_to-ended.new.pass a.0 c.args.which
+          (c.args.rest.now ++ r.0) c.read_request.new.rest c.args.spent closing a.1
+          c.reply_to-ended.result c.drained.result c.while_closing-found.ensures
           c.is_last-last.ensures c.hears_closing-closing.ensures.asked r.2 a.4 c.drained.ensures,
     )
 
@@ -56,8 +58,9 @@ returns-in-Ok-clause-causes g c =
     replied_causes old.ends read.ends new.ends old.read_faults read.read_faults new.read_faults
     old.write_faults told.write_faults new.write_faults c.in-Ok.ensures.causes (o.ends ∙ w.ends)
     (o.read_faults ∙ w.reads) (w.writes ∙ c.in-Ok.ensures.writes) c.reply_to-ended.ensures.later
-    c.args.which c.is_last-last.result c.in-Ok.request.head c.in-Ok.request.body.items
-    c.args.pass.now c.reply_to-ended.new.pass a.0 a.1 c.drained.result closing
+    c.while_closing-found.result c.is_last-last.result c.in-Ok.request.head
+    c.in-Ok.request.body.items c.args.pass.now c.reply_to-ended.new.pass a.0 a.1 c.drained.result
+    closing
     c.reply_to-ended.result c.drained.ensures a.4 c.reply_to-ended.ensures.cause
 
 pub returns-in-Err-Own-clause-turn : goal.returns-in-Err-Own-clause-turn
@@ -82,7 +85,8 @@ returns-in-Err-Own-clause-turn g c =
         refl,
         refusal_open _ _ r.0 c.refuse.result r.2,
         refused_turn (c.args.rest.now ++ b.0) c.in-Err-Own.field-0 _ _ _ _ r.0 c.refuse.result
-            c.in-Err-Own.field-0-is b.2 r.2 (sym c.in-Err-Own.err-is) (sym c.in-Err-Own.with_body-is),
+            c.in-Err-Own.field-0-is b.2 r.2 (sym c.in-Err-Own.err-is)
+            (sym c.in-Err-Own.with_body-is),
       ),
     )
 

@@ -6,44 +6,87 @@ use Rattle.linker_config.proofs.reading.config.Goals as goal
 pub returns-in_err-check_top_keys-clause-told : goal.returns-in_err-check_top_keys-clause-told
 unfolding config_of
 returns-in_err-check_top_keys-clause-told c =
-    told_on_by said_of (config_of (view c.args.tree.now)) c.in_err-check_top_keys.field-0.0 c.from_residual.result c.from_residual.ensures.1 c.in_err-check_top_keys.ensures.0
+    told_on_by said_of (config_of (view c.args.tree.now)) c.in_err-check_top_keys.field-0.0
+    c.from_residual.result c.from_residual.ensures.1 c.in_err-check_top_keys.ensures.0
     (λ some. rw (c.in_err-check_top_keys.ensures.1 some))
 
 pub returns-in_err-admin-clause-told : goal.returns-in_err-admin-clause-told
 unfolding config_of
 returns-in_err-admin-clause-told c =
-    told_on_by said_of (config_of (view c.args.tree.now)) c.in_err-admin.field-0.0 c.from_residual-in_err-admin.result c.from_residual-in_err-admin.ensures.1 c.in_err-admin.ensures.0
+    told_on_by said_of (config_of (view c.args.tree.now)) c.in_err-admin.field-0.0
+    c.from_residual-in_err-admin.result c.from_residual-in_err-admin.ensures.1
+    c.in_err-admin.ensures.0
     (λ some. rw (c.in_ok-check_top_keys.ensures, c.in_err-admin.ensures.1 some))
 
 pub returns-in_err-named-clause-told : goal.returns-in_err-named-clause-told
 unfolding config_of
 returns-in_err-named-clause-told c =
-    told_on_by said_of (config_of (view c.args.tree.now)) c.in_err-named.field-0.0 c.from_residual-in_err-named.result c.from_residual-in_err-named.ensures.1 c.in_err-named.ensures.0
-    (λ some. rw (c.in_ok-check_top_keys.ensures, c.in_ok-admin.ensures, c.in_err-named.ensures.1 some))
+    told_on_by said_of (config_of (view c.args.tree.now)) c.in_err-named.field-0.0
+    c.from_residual-in_err-named.result c.from_residual-in_err-named.ensures.1
+    c.in_err-named.ensures.0
+    (λ some. rw (
+      c.in_ok-check_top_keys.ensures,
+      c.in_ok-admin.ensures,
+      c.in_err-named.ensures.1 some,
+    ))
 
 pub returns-in_err-root-clause-told : goal.returns-in_err-root-clause-told
 unfolding config_of
 returns-in_err-root-clause-told c =
-    told_on_by said_of (config_of (view c.args.tree.now)) c.in_err-root.field-0.0 c.from_residual-in_err-root.result c.from_residual-in_err-root.ensures.1 c.in_err-root.ensures.0
-    (λ some. rw (c.in_ok-check_top_keys.ensures, c.in_ok-admin.ensures, c.in_ok-named.ensures, c.in_err-root.ensures.1 some))
+    told_on_by said_of (config_of (view c.args.tree.now)) c.in_err-root.field-0.0
+    c.from_residual-in_err-root.result c.from_residual-in_err-root.ensures.1
+    c.in_err-root.ensures.0
+    (λ some. rw (
+      c.in_ok-check_top_keys.ensures,
+      c.in_ok-admin.ensures,
+      c.in_ok-named.ensures,
+      c.in_err-root.ensures.1 some,
+    ))
 
 pub returns-in_err-routed-clause-told : goal.returns-in_err-routed-clause-told
 unfolding config_of
 returns-in_err-routed-clause-told c =
-    told_on_by said_of (config_of (view c.args.tree.now)) c.in_err-routed.field-0.0 c.from_residual-in_err-routed.result c.from_residual-in_err-routed.ensures.1 c.in_err-routed.ensures.0
-    (λ some. rw (c.in_ok-check_top_keys.ensures, c.in_ok-admin.ensures, c.in_ok-named.ensures, c.in_ok-root.ensures, c.in_err-routed.ensures.1 some))
+    told_on_by said_of (config_of (view c.args.tree.now)) c.in_err-routed.field-0.0
+    c.from_residual-in_err-routed.result c.from_residual-in_err-routed.ensures.1
+    c.in_err-routed.ensures.0
+    (λ some. rw (
+      c.in_ok-check_top_keys.ensures,
+      c.in_ok-admin.ensures,
+      c.in_ok-named.ensures,
+      c.in_ok-root.ensures,
+      c.in_err-routed.ensures.1 some,
+    ))
 
 pub returns-in_err-workers-clause-told : goal.returns-in_err-workers-clause-told
 unfolding config_of
 returns-in_err-workers-clause-told c =
-    told_on_by said_of (config_of (view c.args.tree.now)) c.in_err-workers.field-0.0 c.from_residual-in_err-workers.result c.from_residual-in_err-workers.ensures.1 c.in_err-workers.ensures.number.0
-    (λ some. rw (c.in_ok-check_top_keys.ensures, c.in_ok-admin.ensures, c.in_ok-named.ensures, c.in_ok-root.ensures, c.in_ok-routed.ensures, c.in_err-workers.ensures.number.1 some))
+    told_on_by said_of (config_of (view c.args.tree.now)) c.in_err-workers.field-0.0
+    c.from_residual-in_err-workers.result c.from_residual-in_err-workers.ensures.1
+    c.in_err-workers.ensures.number.0
+    (λ some. rw (
+      c.in_ok-check_top_keys.ensures,
+      c.in_ok-admin.ensures,
+      c.in_ok-named.ensures,
+      c.in_ok-root.ensures,
+      c.in_ok-routed.ensures,
+      c.in_err-workers.ensures.number.1 some,
+    ))
 
 pub returns-in_err-seed-clause-told : goal.returns-in_err-seed-clause-told
 unfolding config_of
 returns-in_err-seed-clause-told c =
-    told_on_by said_of (config_of (view c.args.tree.now)) c.in_err-seed.field-0.0 c.from_residual-in_err-seed.result c.from_residual-in_err-seed.ensures.1 c.in_err-seed.ensures.number.0
-    (λ some. rw (c.in_ok-check_top_keys.ensures, c.in_ok-admin.ensures, c.in_ok-named.ensures, c.in_ok-root.ensures, c.in_ok-routed.ensures, c.in_ok-workers.ensures.number, c.in_err-seed.ensures.number.1 some))
+    told_on_by said_of (config_of (view c.args.tree.now)) c.in_err-seed.field-0.0
+    c.from_residual-in_err-seed.result c.from_residual-in_err-seed.ensures.1
+    c.in_err-seed.ensures.number.0
+    (λ some. rw (
+      c.in_ok-check_top_keys.ensures,
+      c.in_ok-admin.ensures,
+      c.in_ok-named.ensures,
+      c.in_ok-root.ensures,
+      c.in_ok-routed.ensures,
+      c.in_ok-workers.ensures.number,
+      c.in_err-seed.ensures.number.1 some,
+    ))
 
 pub returns-in_err-feed-clause-told : goal.returns-in_err-feed-clause-told
 unfolding config_of
@@ -74,4 +117,5 @@ returns-clause-told c =
       c.in_ok-workers.ensures.number,
       c.in_ok-seed.ensures.number,
       c.in_ok-feed.ensures,
+      c.unwrap_or-clears_context.ensures,
     )

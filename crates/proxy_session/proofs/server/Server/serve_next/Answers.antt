@@ -17,9 +17,10 @@ returns-in-Head-clause-serves g c =
     c.next_head.new.connection.budget c.proxy_once-ended.new.connection.budget
     old mid (having_read mid (g.P.Peer.line c.hears_closing-closing.new.peer) mid.kept)
     (at c.proxy_once-ended.new.connection c.proxy_once-ended.new.self) c.in-Head.head
+    c.hear-heard.result
     c.hears_closing-closing.result c.is_last.result c.proxy_once-ended.result c.drained.result
     c.in-Head.ensures.served c.in-Head.ensures.budget
-    c.in-Head.ensures.reads
+    c.in-Head.ensures.reads c.hear-heard.ensures
     c.hears_closing-closing.ensures.asked
     (ap (λ (l : Line). having_read mid l mid.kept) c.hears_closing-closing.ensures.told)
     c.is_last.ensures c.proxy_once-ended.ensures.exchange c.drained.ensures

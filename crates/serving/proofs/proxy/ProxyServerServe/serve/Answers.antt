@@ -1,5 +1,4 @@
-use Rattle.std.proofs.Common.{refl, sym, ap, ◌∙◌}
-use Rattle.router.specs.Passes.{number_in}
+use Rattle.std.proofs.Common.{refl, sym}
 use Rattle.serving.proofs.proxy.ProxyServerServe.serve.Goals as goal
 
 pub returns : goal.returns

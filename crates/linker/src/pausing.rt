@@ -1,0 +1,87 @@
+//! The time between two looks for a signal, and what ends the looks.
+use signal_watch::Pause;
+use std::alloc::{AllocError, Global};
+use std::sync::atomic::{AtomicBool, Ordering};
+use std::sync::{Arc, Wait};
+use std::thread::Parker;
+use std::time::Duration;
+
+/// How long a pause is, in milliseconds: four looks a second.
+const PAUSE_MILLISECONDS: u64 = 250;
+
+/// Whether the program has served to its end. A pause that waits meanwhile ends at once.
+#[derive(Drop)]
+pub struct Finish {
+    state: Arc<FinishState>,
+}
+
+/// What the holders of a finish share.
+#[derive(Drop)]
+struct FinishState {
+    is_over: AtomicBool,
+    parker: Parker,
+}
+
+impl Finish {
+    /// It serves still.
+    pub fn awaited(alloc: Global) -> Result<Finish, AllocError> {
+        let state = FinishState {
+            is_over: AtomicBool::new(false),
+            parker: Parker::new(),
+        };
+        Ok(Finish {
+            state: Arc::new(alloc, state)?,
+        })
+    }
+
+    /// The same one, for another holder.
+    pub fn share(&self) -> Result<Finish, AllocError> {
+        Ok(Finish {
+            state: Arc::try_clone(&self.state)?,
+        })
+    }
+
+    /// It has served to its end.
+    pub fn come(&self) {
+        self.state.is_over.store(true, Ordering::SeqCst);
+        self.state.parker.unpark();
+    }
+
+    /// Waits for it, for this long at most, and says whether it has come.
+    fn wait_for<R: Wait>(&self, rt: &R, most: Duration) -> bool {
+        self.state.parker.park_timeout(rt, most);
+        self.state.is_over.load(Ordering::SeqCst)
+    }
+}
+
+/// A pause of the machine, which ends at the program's finish.
+#[derive(Drop)]
+pub struct SystemPause<'a, R> {
+    rt: &'a R,
+    finish: Finish,
+    heard: u64,
+}
+
+impl<'a, R> SystemPause<'a, R> {
+    /// A pause that ends at this finish.
+    pub fn of(rt: &'a R, finish: Finish) -> SystemPause<'a, R> {
+        SystemPause {
+            rt,
+            finish,
+            heard: 0,
+        }
+    }
+}
+
+impl<R: Wait> Pause for SystemPause<'_, R> {
+    ghost heard = { λ p. p.heard };
+
+    fn pause(&mut self) -> bool {
+        let most = Duration::from_millis(PAUSE_MILLISECONDS);
+        let is_over = self.finish.wait_for(self.rt, most);
+        if is_over {
+            self.heard = self.heard.saturating_add(1);
+        }
+        is_over
+    }
+}

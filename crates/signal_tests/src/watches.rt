@@ -1,0 +1,69 @@
+//! Watches over a folder in memory.
+use line_base::{MemFile, MemFolder, MemStop};
+use signal_watch::{Pause, Watched, watch};
+use std::alloc::{AllocGlobal, Global};
+use std::sync::Wait;
+use std::test::Fail;
+
+/// A pause that takes no time, and says at the last of so many that nothing is left to stop.
+#[derive(Drop)]
+struct Counted {
+    left: u64,
+    heard: u64,
+}
+
+impl Pause for Counted {
+    ghost heard = { λ p. p.heard };
+
+    fn pause(&mut self) -> bool {
+        self.left = self.left.saturating_sub(1);
+        if self.left > 0 {
+            return false;
+        }
+        self.heard = self.heard.saturating_add(1);
+        true
+    }
+}
+
+/// The status file, if there is one, the reads that fail, what the watch comes to, and how often
+/// the stop is called. The first pause is the last.
+const ROWS: [(Option<&str>, &[u64], Watched, u64); 4] = [
+    (Some("ShdPnd:\t0000000000004000\n"), &[], Watched::Asked, 1),
+    (Some("ShdPnd:\t0000000000000000\n"), &[], Watched::Over, 0),
+    (Some("ShdPnd:\t0000000000004000\n"), &[0], Watched::Blind, 0),
+    (None, &[], Watched::Blind, 0),
+];
+
+/// The folder with this status file.
+fn folder(alloc: Global, status: Option<&str>, failing: &[u64]) -> Result<MemFolder, Fail> {
+    let mut files = Vec::new(alloc);
+    if let Some(status) = status {
+        files.push(MemFile::of(
+            String::from_str(alloc, "/proc/self")?,
+            String::from_str(alloc, "status")?,
+            Vec::from_slice(alloc, status.as_bytes())?,
+        ))?;
+    }
+    Ok(MemFolder::of(alloc, files, Vec::from_slice(alloc, failing)?))
+}
+
+/// What a watch comes to, and how often it calls its stop.
+fn watched<R: AllocGlobal + Wait>(
+    rt: &R,
+    status: Option<&str>,
+    failing: &[u64],
+) -> Result<(Watched, u64), Fail> {
+    let mut folder = folder(rt.alloc(), status, failing)?;
+    let mut pause = Counted { left: 1, heard: 0 };
+    let mut stop = MemStop::new();
+    let watched = watch(rt, &mut folder, &mut pause, &mut stop);
+    Ok((watched, stop.calls()))
+}
+
+#[test]
+fn a_watch_stops_where_it_is_asked(rt: HostRuntime) -> Result<(), Fail> {
+    for (status, failing, came_to, calls) in ROWS {
+        assert_eq!(rt; watched(&rt, status, failing)?, (came_to, calls));
+    }
+    Ok(())
+}

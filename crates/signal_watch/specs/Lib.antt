@@ -1,0 +1,4 @@
+pub mod Counting
+pub mod Seen
+pub mod Status
+pub mod Watching

@@ -1,0 +1,52 @@
+//! A signal that asks the program to stop, seen without a handler.
+//!
+//! A process that is started with signals blocked, as by `env --block-signal=TERM,INT`, is not
+//! ended by them: they wait for it, and its status file (`/proc/self/status`, proc_pid_status(5))
+//! says so in the line `ShdPnd`. [`watch`] looks there, again and again with a [`Pause`] in
+//! between, and calls a [`Stop`](line_base::Stop) once one of them waits. So a container's stop
+//! ends the connections at their next border, as the administrator's request to stop does. Where
+//! none of them is blocked, which [`is_watchable`] tells from the line `SigBlk`, there is nothing
+//! to watch for: a signal ends the program as it ends any other.
+//!
+//! A stop belongs to the job of a listener, and comes back with it. The watch has no listener: it
+//! calls a [`RemoteStop`], which finds the stop that a [`StoppableNet`] leaves in a [`StopCell`].
+//! [`run_beside_watch`] runs what serves, and the watch beside it.
+//!
+//! # What is proved
+//! [`asks_to_stop`] and [`holds_stop`] say exactly by `specs/Status.antt` whether a signal that
+//! asks for an end waits, and whether it would: the bits of SIGTERM and SIGINT in the numbers of
+//! the lines `ShdPnd` and `SigBlk`. [`watch`] calls the stop exactly where its answer says that it
+//! was asked, and that only where the status file asks for it, where the folder tells its files. A
+//! [`StoppableNet`] is the net below it in all that a net tells, but for the stops in its cell.
+//! What stands in the cell is shared, and no clause speaks of it: that a remote stop closes the
+//! listeners is tested.
+//!
+//! # Example
+//! ```
+//! let cell = StopCell::new(alloc)?;
+//! let mut stop = RemoteStop::of(&rt, cell.share()?);
+//! let mut net = StoppableNet::of(&rt, net, cell);
+//! let (watched, end) = run_beside_watch(&rt, &mut folder, &mut pause, &mut stop, || serve(&mut net));
+//! match watched {
+//!     Watched::Asked => {}  // a signal waited, and the stop was called
+//!     Watched::Over => {}   // nothing is left to stop: it ended for another reason
+//!     Watched::Blind => {}  // there is no status file to look at
+//! }
+//! ```
+#![tactic(auto)]
+
+mod beside;
+mod pause;
+mod remote_stop;
+mod status;
+mod stop_cell;
+mod stoppable_net;
+mod watching;
+
+pub use beside::run_beside_watch;
+pub use pause::Pause;
+pub use remote_stop::RemoteStop;
+pub use status::{asks_to_stop, holds_stop};
+pub use stop_cell::StopCell;
+pub use stoppable_net::StoppableNet;
+pub use watching::{Watched, is_watchable, watch};

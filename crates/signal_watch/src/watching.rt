@@ -1,0 +1,112 @@
+//! Watching for a signal that asks for an end.
+ghost use Rattle.std.specs.Prelude.{◌≡◌, ◌≤◌, true};
+ghost use Rattle.line_base.specs.Counts.{Rose};
+ghost use Rattle.signal_watch.specs.Status.{asks_to_stop};
+ghost use Rattle.signal_watch.specs.Seen.{seen_of};
+ghost use Rattle.signal_watch.specs.Watching.{Asks, Holds, SeesNothing, calls_after};
+
+use crate::pause::Pause;
+use crate::status::{asks_to_stop, holds_stop};
+use line_base::{Folder, FolderFault, Found, Stop};
+use std::sync::Wait;
+
+/// Where the status file of a process is, for the process itself.
+const STATUS: &str = "/proc/self/status";
+
+/// A status file has fewer bytes.
+const MOST_BYTES: usize = 65_536;
+
+/// What a watch came to.
+#[derive(Clone, Copy, Debug, PartialEq, Eq)]
+pub enum Watched {
+    /// A signal asked for an end, and the stop was called.
+    Asked,
+    /// Nothing is left to stop, as the pause said.
+    Over,
+    /// There is no status file, or it can't be read. Signals end the program as any other.
+    Blind,
+}
+
+/// What one look found.
+#[derive(Clone, Copy, Debug, PartialEq, Eq)]
+enum Seen {
+    /// A signal that asks for an end waits.
+    Asked,
+    /// None does.
+    Quiet,
+    /// The status file can't be read.
+    Nothing,
+}
+
+/// Whether whoever started the process has blocked a signal that asks for an end, so that a watch
+/// would see it. Where none is blocked, or this can't be told, signals end the process as any
+/// other.
+pub fn is_watchable<F: Folder>(folder: &mut F) -> bool
+    ensures { result ≡ true → Holds (F.filed folder.old).files }
+{
+    match folder.read(STATUS, MOST_BYTES) {
+        Ok(Found::Bytes(status)) => holds_stop(status.as_slice()),
+        Ok(Found::Absent) => false,
+        Ok(Found::Longer) => false,
+        Err(_) => false,
+    }
+}
+
+/// Looks at the status file of the process until a signal asks for an end, and then calls the stop;
+/// or until the pause between two looks says that nothing is left to stop, or the file can't be
+/// read. A look for which memory was wanting is made again behind the next pause.
+pub fn watch<R: Wait, F: Folder, P: Pause, S: Stop>(
+    rt: &R,
+    folder: &mut F,
+    pause: &mut P,
+    stop: &mut S,
+) -> Watched
+    ensures asked { result ≡ Watched.Asked → Asks (F.filed folder.old).files }
+    ensures over { result ≡ Watched.Over → Rose (P.heard pause.old) (P.heard pause.new) }
+    ensures blind { result ≡ Watched.Blind → SeesNothing (F.filed folder.old).files
+        (F.filed folder.old).faults (F.filed folder.new).faults }
+    ensures stopped { S.calls stop.new ≡ calls_after (S.calls stop.old) result }
+{
+    'looks: for _ in rt.forever() {
+        match look(folder) {
+            Seen::Asked => {
+                stop.stop();
+                return Watched::Asked;
+            }
+            Seen::Nothing => return Watched::Blind,
+            Seen::Quiet => {}
+        }
+        if pause.pause() {
+            return Watched::Over;
+        }
+    }
+    unreachable!()
+}
+
+/// Looks once.
+fn look<F: Folder>(folder: &mut F) -> Seen
+    ensures asked { result ≡ Seen.Asked → Asks (F.filed folder.old).files }
+    ensures nothing { result ≡ Seen.Nothing → SeesNothing (F.filed folder.old).files
+        (F.filed folder.old).faults (F.filed folder.new).faults }
+    ensures same { (F.filed folder.new).files ≡ (F.filed folder.old).files }
+    ensures later { (F.filed folder.old).faults ≤ (F.filed folder.new).faults }
+{
+    match folder.read(STATUS, MOST_BYTES) {
+        Ok(Found::Bytes(status)) => seen_in(status.as_slice()),
+        Ok(Found::Absent) => Seen::Nothing,
+        Ok(Found::Longer) => Seen::Nothing,
+        Err(FolderFault::Failed) => Seen::Nothing,
+        Err(FolderFault::OutOfMemory) => Seen::Quiet,
+    }
+}
+
+/// What a status file says.
+fn seen_in(status: &[u8]) -> Seen
+    ensures { result ≡ seen_of (asks_to_stop status.now) }
+{
+    if asks_to_stop(status) {
+        Seen::Asked
+    } else {
+        Seen::Quiet
+    }
+}
