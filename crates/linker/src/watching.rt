@@ -21,7 +21,7 @@ impl<S: Stop + Drop> Watch<S> {
         stops: &StopCell<S>,
         finish: &Finish,
     ) -> Option<Watch<S>> {
-        if !is_watchable(&mut FileSystem::of(rt)) {
+        if !is_watchable(&mut FileSystem::of(rt)).unwrap_or(false) {
             return None;
         }
         Some(Watch {

@@ -1,6 +1,6 @@
 //! A watch beside what serves.
 use line_base::{MemFile, MemFolder, MemNet, MemPeer, MemStop, Net};
-use signal_watch::{Pause, RemoteStop, StopCell, StoppableNet, Watched, run_beside_watch};
+use signal_watch::{Pause, RemoteStop, StopCell, StoppableNet, Watched, watch};
 use std::alloc::Global;
 use std::sync::Arc;
 use std::sync::atomic::{AtomicBool, Ordering};
@@ -57,11 +57,15 @@ fn a_watch_ends_with_what_serves(rt: HostRuntime) -> Result<(), Fail> {
         is_over: Arc::try_clone(&is_over)?,
         heard: 0,
     };
-    let (watched, calls) = run_beside_watch(&rt, &mut folder, &mut pause, &mut remote, || {
-        let calls = MemStop::calls(&net.stopper());
-        is_over.store(true, Ordering::SeqCst);
-        calls
-    });
+    let (watched, calls) = thread::join(
+        &rt,
+        || watch(&rt, &mut folder, &mut pause, &mut remote),
+        || {
+            let calls = MemStop::calls(&net.stopper());
+            is_over.store(true, Ordering::SeqCst);
+            calls
+        },
+    );
     assert_eq!(rt;
         (watched, calls, net.net().stops()),
         (Watched::Over, 0, (2, 0))

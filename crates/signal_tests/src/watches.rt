@@ -1,6 +1,6 @@
 //! Watches over a folder in memory.
 use line_base::{MemFile, MemFolder, MemStop};
-use signal_watch::{Pause, Watched, watch};
+use signal_watch::{Pause, Watched, is_watchable, watch};
 use std::alloc::{AllocGlobal, Global};
 use std::sync::Wait;
 use std::test::Fail;
@@ -64,6 +64,28 @@ fn watched<R: AllocGlobal + Wait>(
 fn a_watch_stops_where_it_is_asked(rt: HostRuntime) -> Result<(), Fail> {
     for (status, failing, came_to, calls) in ROWS {
         assert_eq!(rt; watched(&rt, status, failing)?, (came_to, calls));
+    }
+    Ok(())
+}
+
+/// The status file, if there is one, the reads that fail, and whether a watch would see a signal.
+const HELD: [(Option<&str>, &[u64], bool); 4] = [
+    (Some("SigBlk:\t0000000000004002\n"), &[], true),
+    (Some("SigBlk:\t0000000000000001\n"), &[], false),
+    (Some("SigBlk:\t0000000000004002\n"), &[0], false),
+    (None, &[], false),
+];
+
+/// Whether a watch would see a signal.
+fn held(alloc: Global, status: Option<&str>, failing: &[u64]) -> Result<bool, Fail> {
+    let mut folder = folder(alloc, status, failing)?;
+    Ok(is_watchable(&mut folder)?)
+}
+
+#[test]
+fn signals_that_are_blocked_can_be_watched(rt: HostRuntime) -> Result<(), Fail> {
+    for (status, failing, expected) in HELD {
+        assert_eq!(rt; held(rt.alloc(), status, failing)?, expected);
     }
     Ok(())
 }

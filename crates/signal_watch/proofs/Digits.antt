@@ -1,5 +1,5 @@
 -- The number of some digits, one digit after the other.
-use Rattle.std.proofs.Common.{◌≡◌, ℕ, ◌+◌, ◌*◌, ◌%◌, ◌^◌, List, [], ◌∷◌, refl, sym, ap, Option}
+use Rattle.std.proofs.Common.{◌≡◌, ℕ, ◌+◌, ◌*◌, ◌%◌, ◌^◌, List, [], ◌∷◌, refl, ap, Option}
 use Rattle.std.proofs.Common.{Some, None, length, arith}
 use Rattle.signal_watch.specs.Status.{behind_digit, digit_of, hex_number}
 

@@ -1,6 +1,6 @@
 -- What a watch for signals found, and what it did.
-use Rattle.std.specs.Prelude.{◌≡◌, ◌<◌, ◌⊎◌, ℕ, Bool, true, if◌then◌else◌, List, length, codes}
-use Rattle.std.specs.Prelude.{IfSome, IsSomeAnd, Option, Some, None}
+use Rattle.std.specs.Prelude.{◌≡◌, ◌<◌, ◌⊎◌, ℕ, Bool, true, false, if◌then◌else◌, List, length}
+use Rattle.std.specs.Prelude.{codes, IfSome, IsSomeAnd, Option, Some, None}
 use Rattle.line_base.specs.Counts.{Rose, raised}
 use Rattle.line_base.specs.Files.{File, file_at}
 use Rattle.signal_watch.specs.declared.watching.Watched.{Watched}
@@ -26,16 +26,29 @@ abbrev pub Asks : Option (List File) → Type 0
 Asks None = Unit {0}
 Asks (Some files) = IsSomeAnd (file_at files status_path) (λ status. asks_to_stop status ≡ true)
 
+-- the status file is there, and asks for none; where the files are told
+abbrev pub AsksNothing : Option (List File) → Type 0
+AsksNothing None = Unit {0}
+AsksNothing (Some files) =
+    IsSomeAnd (file_at files status_path) (λ status. asks_to_stop status ≡ false)
+
 -- the status file is there, and says that a signal which asks for an end would wait; where the
 -- files are told
 abbrev pub Holds : Option (List File) → Type 0
 Holds None = Unit {0}
 Holds (Some files) = IsSomeAnd (file_at files status_path) (λ status. holds_stop status ≡ true)
 
--- there is no status file of a length that one has; where the files are told
+-- the status file is there, and says that none would wait; where the files are told
+abbrev pub HoldsNone : Option (List File) → Type 0
+HoldsNone None = Unit {0}
+HoldsNone (Some files) =
+    IsSomeAnd (file_at files status_path) (λ status. holds_stop status ≡ false)
+
+-- a status file has no more bytes
 abbrev pub most_bytes : ℕ
 most_bytes = 65536
 
+-- there is no status file of a length that one has; where the files are told
 abbrev pub IsAbsent : Option (List File) → Type 0
 IsAbsent None = Unit {0}
 IsAbsent (Some files) = IfSome (file_at files status_path) (λ status. most_bytes < length status)

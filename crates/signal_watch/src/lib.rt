@@ -10,24 +10,26 @@
 //!
 //! A stop belongs to the job of a listener, and comes back with it. The watch has no listener: it
 //! calls a [`RemoteStop`], which finds the stop that a [`StoppableNet`] leaves in a [`StopCell`].
-//! [`run_beside_watch`] runs what serves, and the watch beside it.
+//! It runs in a thread beside what serves, and ends with it by its pause.
 //!
 //! # What is proved
 //! [`asks_to_stop`] and [`holds_stop`] say exactly by `specs/Status.antt` whether a signal that
 //! asks for an end waits, and whether it would: the bits of SIGTERM and SIGINT in the numbers of
-//! the lines `ShdPnd` and `SigBlk`. [`watch`] calls the stop exactly where its answer says that it
-//! was asked, and that only where the status file asks for it, where the folder tells its files. A
-//! [`StoppableNet`] is the net below it in all that a net tells, but for the stops in its cell.
-//! What stands in the cell is shared, and no clause speaks of it: that a remote stop closes the
-//! listeners is tested.
+//! the lines `ShdPnd` and `SigBlk`. Where the folder tells its files, [`is_watchable`] answers by
+//! the status file, and [`watch`] says that it was asked only where that file asks for an end; a
+//! look that finds no signal is one at a file that asks for none. The stop is called exactly where
+//! the answer says that it was asked. A [`StoppableNet`] is the net below it in all that a net
+//! tells, but for the stops in its cell. What stands in the cell is shared, and no clause speaks of
+//! it: that a remote stop closes the listeners is tested.
 //!
 //! # Example
 //! ```
 //! let cell = StopCell::new(alloc)?;
 //! let mut stop = RemoteStop::of(&rt, cell.share()?);
 //! let mut net = StoppableNet::of(&rt, net, cell);
-//! let (watched, end) = run_beside_watch(&rt, &mut folder, &mut pause, &mut stop, || serve(&mut net));
-//! match watched {
+//! let watching = thread::spawn(&rt, move || watch(&rt, &mut folder, &mut pause, &mut stop))?;
+//! serve(&mut net);
+//! match watching.join(&rt) {
 //!     Watched::Asked => {}  // a signal waited, and the stop was called
 //!     Watched::Over => {}   // nothing is left to stop: it ended for another reason
 //!     Watched::Blind => {}  // there is no status file to look at
@@ -35,7 +37,6 @@
 //! ```
 #![tactic(auto)]
 
-mod beside;
 mod pause;
 mod remote_stop;
 mod status;
@@ -43,7 +44,6 @@ mod stop_cell;
 mod stoppable_net;
 mod watching;
 
-pub use beside::run_beside_watch;
 pub use pause::Pause;
 pub use remote_stop::RemoteStop;
 pub use status::{asks_to_stop, holds_stop};

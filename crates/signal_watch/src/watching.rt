@@ -1,13 +1,15 @@
 //! Watching for a signal that asks for an end.
-ghost use Rattle.std.specs.Prelude.{◌≡◌, ◌≤◌, true};
+ghost use Rattle.std.specs.Prelude.{◌≡◌, ◌≤◌, ◌⊎◌, true, false, Ok};
 ghost use Rattle.line_base.specs.Counts.{Rose};
 ghost use Rattle.signal_watch.specs.Status.{asks_to_stop};
 ghost use Rattle.signal_watch.specs.Seen.{seen_of};
-ghost use Rattle.signal_watch.specs.Watching.{Asks, Holds, SeesNothing, calls_after};
+ghost use Rattle.signal_watch.specs.Watching.{Asks, AsksNothing, Holds, HoldsNone, SeesNothing};
+ghost use Rattle.signal_watch.specs.Watching.{calls_after};
 
 use crate::pause::Pause;
 use crate::status::{asks_to_stop, holds_stop};
-use line_base::{Folder, FolderFault, Found, Stop};
+use line_base::{Folder, FolderFault, Found, Mem, Stop};
+use std::alloc::AllocError;
 use std::sync::Wait;
 
 /// Where the status file of a process is, for the process itself.
@@ -36,19 +38,25 @@ enum Seen {
     Quiet,
     /// The status file can't be read.
     Nothing,
+    /// There was no memory to read it.
+    NoMemory,
 }
 
 /// Whether whoever started the process has blocked a signal that asks for an end, so that a watch
-/// would see it. Where none is blocked, or this can't be told, signals end the process as any
-/// other.
-pub fn is_watchable<F: Folder>(folder: &mut F) -> bool
-    ensures { result ≡ true → Holds (F.filed folder.old).files }
+/// would see it. Where none is blocked, or there is no status file that tells, signals end the
+/// process as any other.
+pub fn is_watchable<F: Folder>(folder: &mut F) -> Mem<bool>
+    ensures held { result ≡ Ok true → Holds (F.filed folder.old).files }
+    ensures free { result ≡ Ok false → HoldsNone (F.filed folder.old).files
+        ⊎ SeesNothing (F.filed folder.old).files (F.filed folder.old).faults
+        (F.filed folder.new).faults }
 {
     match folder.read(STATUS, MOST_BYTES) {
-        Ok(Found::Bytes(status)) => holds_stop(status.as_slice()),
-        Ok(Found::Absent) => false,
-        Ok(Found::Longer) => false,
-        Err(_) => false,
+        Ok(Found::Bytes(status)) => Ok(holds_stop(status.as_slice())),
+        Ok(Found::Absent) => Ok(false),
+        Ok(Found::Longer) => Ok(false),
+        Err(FolderFault::Failed) => Ok(false),
+        Err(FolderFault::OutOfMemory) => Err(AllocError),
     }
 }
 
@@ -74,7 +82,7 @@ pub fn watch<R: Wait, F: Folder, P: Pause, S: Stop>(
                 return Watched::Asked;
             }
             Seen::Nothing => return Watched::Blind,
-            Seen::Quiet => {}
+            Seen::Quiet | Seen::NoMemory => {}
         }
         if pause.pause() {
             return Watched::Over;
@@ -86,6 +94,7 @@ pub fn watch<R: Wait, F: Folder, P: Pause, S: Stop>(
 /// Looks once.
 fn look<F: Folder>(folder: &mut F) -> Seen
     ensures asked { result ≡ Seen.Asked → Asks (F.filed folder.old).files }
+    ensures quiet { result ≡ Seen.Quiet → AsksNothing (F.filed folder.old).files }
     ensures nothing { result ≡ Seen.Nothing → SeesNothing (F.filed folder.old).files
         (F.filed folder.old).faults (F.filed folder.new).faults }
     ensures same { (F.filed folder.new).files ≡ (F.filed folder.old).files }
@@ -96,7 +105,7 @@ fn look<F: Folder>(folder: &mut F) -> Seen
         Ok(Found::Absent) => Seen::Nothing,
         Ok(Found::Longer) => Seen::Nothing,
         Err(FolderFault::Failed) => Seen::Nothing,
-        Err(FolderFault::OutOfMemory) => Seen::Quiet,
+        Err(FolderFault::OutOfMemory) => Seen::NoMemory,
     }
 }
 

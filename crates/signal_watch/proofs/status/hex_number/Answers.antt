@@ -1,4 +1,4 @@
-use Rattle.std.proofs.Common.{◌≡◌, sym, ◌∙◌}
+use Rattle.std.proofs.Common.{sym, ◌∙◌}
 use Rattle.signal_watch.proofs.Digits.{at_end}
 use Rattle.signal_watch.proofs.status.hex_number.Goals as goal
 

@@ -1,4 +1,4 @@
-use Rattle.std.proofs.Common.{rules, nat_eq, ◌==◌, ◌≡◌, List, ℕ, tests}
+use Rattle.std.proofs.Common.{rules, nat_eq, ◌==◌, tests}
 use Rattle.std.specs.List.{starts_with}
 use Rattle.std.proofs.lemmas.Iterator.Search.{find_from_yields_List}
 use Rattle.std.proofs.lemmas.Iterator.Splits.{YieldsList-from_slice_split}

@@ -1,6 +1,5 @@
-use Rattle.std.proofs.Common.{◌≡◌, ◌<◌, length, List, ℕ, [], drop, sym, arith}
+use Rattle.std.proofs.Common.{sym, arith}
 use Rattle.std.proofs.lemmas.List.{drop_all}
-use Rattle.signal_watch.specs.Status.{hex_number}
 use Rattle.signal_watch.proofs.Digits.{no_more}
 use Rattle.signal_watch.proofs.status.number_in.Goals as goal
 
