@@ -10,7 +10,7 @@ usage: bench/build.py              the program
 import contextlib, fcntl, functools, hashlib, os, shutil, signal, subprocess, sys, threading, time
 
 from over_crates import ROOT, at_or_below, listed_crates
-from side_by_side import Commands, Task, discard, in_lanes, lay_out, lines_of, link_tree, processors
+from side_by_side import Commands, Task, discard, in_lanes, lay_out, link_tree, processors, work_of
 
 PROGRAM = "linker"
 
@@ -99,21 +99,22 @@ class Build:
         tasks = {}
         for crate in self.crates:
             waits_for = [below for below in self.listed[crate].libraries if below in self.listed]
-            tasks[crate] = Task(waits_for, lines_of(ROOT, crate), functools.partial(self.build, crate))
+            tasks[crate] = Task(waits_for, work_of(ROOT, crate), functools.partial(self.build, crate))
         in_lanes(tasks, processors(), self.commands)
 
     def build(self, crate, jobs, niceness):
         """Builds a crate, unless its library is there."""
-        start = time.monotonic()
+        start, used = time.monotonic(), 0
         room = os.path.join(self.rooms, crate)
         if not self.sums.is_beside(out_of(ROOT, crate), crate):
             self.furnish(room, crate)
-            self.prove(room, crate, jobs, niceness)
+            used = self.prove(room, crate, jobs, niceness)
             self.put_back(room, crate)
         shutil.rmtree(room, ignore_errors=True)
         with self.counting:
             self.done += 1
-            tell(f"{self.done} of {len(self.crates)} crates: {crate}, {in_minutes(time.monotonic() - start)}")
+            took = in_minutes(time.monotonic() - start)
+            tell(f"{self.done} of {len(self.crates)} crates: {crate}, {took} ({in_minutes(used)} of processors)")
         return True
 
     def furnish(self, room, crate):
@@ -128,15 +129,16 @@ class Build:
                     copy(os.path.join(kept, part), os.path.join(own, part))
 
     def prove(self, room, crate, jobs, niceness):
-        """Has `rt` prove the crate, and make the library or the program of it."""
+        """Has `rt` prove the crate, and make the library or the program of it. Gives the processor seconds that it took."""
         words = ["run", "--jobs", str(jobs), "--", "replay"] if crate == PROGRAM else ["lib", "--jobs", str(jobs)]
         with open(os.path.join(room, "log"), "w+", errors="replace") as log:
-            status = self.commands.status_of(["rt", *words], os.path.join(room, "crates", crate), log, niceness)
-            if status != 0:
+            command = self.commands.done(["rt", *words], os.path.join(room, "crates", crate), log, niceness)
+            if command.returncode != 0:
                 log.seek(0)
                 raise NotBuilt(f"{log.read()}linker: {crate} was not built")
         if crate != PROGRAM:
             self.sums.put_beside(out_of(room, crate), crate)
+        return command.processor_seconds
 
     def put_back(self, room, crate):
         """Moves what was made of the crate to its place."""
@@ -171,7 +173,7 @@ def main():
     with alone_with(os.path.join(ROOT, "crates.txt")):
         if names == [PROGRAM] and subprocess.run([os.path.join(ROOT, "bench", "is_built")]).returncode == 0:
             return
-        tell("proving and building what is not built yet; all of it takes about half an hour on four processors")
+        tell("proving and building what is not built yet; all of it takes some forty minutes on four processors")
         try:
             build(names)
         except NotBuilt as error:

@@ -11,7 +11,7 @@ they say little.
 import argparse, functools, os, re, shutil, signal, subprocess, sys, tempfile, threading, time
 
 from over_crates import ROOT, at_or_below, listed_crates
-from side_by_side import Commands, Task, in_lanes, lay_out, lines_of, processors
+from side_by_side import Commands, Task, in_lanes, lay_out, lines_of, processors, work_of
 
 # The steps of a crate: its proof, its tests, its must-fail edits, and the runs of a program.
 STEPS = ("proof", "tests", "edits", "runs")
@@ -42,7 +42,7 @@ class Gate:
     def tasks(self):
         tasks = {}
         for crate in self.names:
-            size = lines_of(self.root, crate)
+            size = work_of(ROOT, crate)
             for step in self.steps_of(crate):
                 waits_for = [(crate, "proof")]
                 if step == "proof":

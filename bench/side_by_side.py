@@ -15,6 +15,9 @@ Task = collections.namedtuple("Task", "waits_for size call")
 # How a task of the longest chain is run, and how those beside it are, by `nice`.
 FIRST, BESIDE = 0, 10
 
+# How many lines of code of a crate are proved in a second, where nothing better is known.
+LINES_A_SECOND = 10
+
 # The memory that a check may take, in bytes. A few take more, and `rt` makes a check again that was killed for it.
 MEMORY_OF_A_CHECK = 3_000_000_000
 
@@ -63,6 +66,13 @@ def lines_of(root, crate):
     return count
 
 
+def work_of(root, crate):
+    """How much there is to do for a crate: about the seconds that its first proof takes on one processor."""
+    with open(os.path.join(root, "bench", "proof_seconds.txt")) as file:
+        listed = dict(line.split() for line in file if not line.startswith("#"))
+    return int(listed.get(crate, 0)) or lines_of(root, crate) // LINES_A_SECOND
+
+
 def checks_in_memory():
     """For how many checks at once there is memory."""
     with open("/proc/meminfo") as file:
@@ -93,16 +103,26 @@ class Commands:
             self.running.add(command)
         try:
             yield command
+            command.processor_seconds = 0
+            # `end` may have been told already that the command ended, and then nobody is told again
+            with contextlib.suppress(ChildProcessError):
+                _, status, used = os.wait4(command.pid, 0)
+                command.returncode = os.waitstatus_to_exitcode(status)
+                command.processor_seconds = used.ru_utime + used.ru_stime
             command.wait()
         finally:
             with self.changing:
                 self.running.discard(command)
 
-    def status_of(self, words, folder, output, niceness=FIRST):
-        """Runs a command to its end, and gives its status."""
+    def done(self, words, folder, output, niceness=FIRST):
+        """Runs a command to its end: its `returncode`, and the `processor_seconds` that it took."""
         with self.started(words, folder, output, niceness) as command:
             pass
-        return command.returncode
+        return command
+
+    def status_of(self, words, folder, output):
+        """Runs a command to its end, and gives its status."""
+        return self.done(words, folder, output).returncode
 
     def end(self):
         """Ends those that run, and lets no other begin."""

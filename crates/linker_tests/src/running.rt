@@ -67,6 +67,7 @@ pub(crate) fn run_over<R: AllocGlobal + Threads + Wait + Sync>(
     Ok((sink, status))
 }
 
+/// A script on standard input, of which no read fails.
 pub(crate) fn source(alloc: Global, script: &str) -> Result<MemSource, AllocError> {
     Ok(MemSource::of(
         Vec::from_slice(alloc, script.as_bytes())?,
@@ -75,6 +76,7 @@ pub(crate) fn source(alloc: Global, script: &str) -> Result<MemSource, AllocErro
     ))
 }
 
+/// A standard output of which no write fails.
 pub(crate) fn sink(alloc: Global) -> MemSink {
     MemSink::of(alloc, Vec::new(alloc), Vec::new(alloc))
 }

@@ -90,6 +90,7 @@ fn reply_text(alloc: Global, reply: &Reply) -> Option<String> {
     }
 }
 
+/// What comes of the creation of a namespace with this table, as text.
 pub fn created<J: Naming, R: Wait>(
     rt: &R,
     alloc: Global,
@@ -103,6 +104,7 @@ pub fn created<J: Naming, R: Wait>(
     reply_text(alloc, &reply)
 }
 
+/// What comes of a table that takes the place of a namespace's, whichever that was, as text.
 pub fn put<J: Naming, R: Wait>(
     rt: &R,
     alloc: Global,
@@ -116,6 +118,7 @@ pub fn put<J: Naming, R: Wait>(
     reply_text(alloc, &reply)
 }
 
+/// What comes of a service's new addresses, as text.
 pub fn set<J: Naming, R: Wait>(
     rt: &R,
     alloc: Global,
