@@ -10,6 +10,10 @@ usage: bench/edge.py [PROGRAM] [--slow]
   its reply.
 - 40 descriptors for 16 workers: the program ends with `error net`, and says how many it wants. With
   so many, 24 requests at once are all answered.
+- 200 clients that keep their connections, on 4 workers and with 100 descriptors: each is answered,
+  and those that have waited longest are ended.
+- More connections to the interfaces than these have workers, which are kept: each is answered, more
+  than once, and the shutdown doesn't wait for them.
 - With `--slow`, for a minute: a client that asks for nothing, one that does not read its reply, and
   a replica that neither reads nor answers. Each is given up after 60 seconds and a few more.
 
@@ -74,8 +78,8 @@ class Replica:
 
 @contextlib.contextmanager
 def proxy(replicas, workers, descriptors=None, server=None, before=()):
-    """A proxy whose services are these replicas, by their names; a worker has one client. `server`
-    has further keys of the router's server, and `before` stands before the program's words."""
+    """A proxy whose services are these replicas, by their names. `server` has further keys of the
+    router's server, and `before` stands before the program's words."""
     with tempfile.TemporaryDirectory() as folder:
         router, namerd, admin = free_ports(3)
         os.mkdir(os.path.join(folder, "disco"))
@@ -104,7 +108,8 @@ def proxy(replicas, workers, descriptors=None, server=None, before=()):
             program = subprocess.Popen([*before, PROGRAM, "serve", "c.json"], cwd=folder,
                                        preexec_fn=limit, stdout=subprocess.PIPE, stderr=log)
             line = program.stdout.readline()
-            program.router, program.admin, program.first_line = router, admin, line
+            program.router, program.namerd, program.admin = router, namerd, admin
+            program.first_line = line
             try:
                 yield program
             finally:
@@ -262,6 +267,64 @@ def few_descriptors():
           good == 240 and program.returncode == 0)
 
 
+def more_clients_than_descriptors():
+    """Clients that keep their connections are all answered, and the oldest ones are ended."""
+    def serve(connection):
+        read_head(connection)
+        connection.sendall(HEAD_OF_202)
+
+    answered, clients = 0, []
+    with proxy({"web": Replica(serve)}, 4, 100) as program:
+        for _ in range(200):
+            client = connect(program)
+            client.sendall(request("web", close=False))
+            answered += read_head(client)[0].startswith(b"HTTP/1.1 202")
+            clients.append(client)
+        time.sleep(0.5)
+        are_open = [is_open(client) for client in clients]
+        for client in clients:
+            client.close()
+    check(f"200 clients with 100 descriptors: {answered} answered, {are_open.count(True)} are open",
+          answered == 200 and not any(are_open[:100]) and all(are_open[-16:])
+          and program.returncode == 0)
+
+
+def is_open(client):
+    """Whether the other end has not ended this connection, over which nothing is to come."""
+    client.setblocking(False)
+    try:
+        client.recv(1)
+    except BlockingIOError:
+        return True
+    except OSError:
+        pass
+    return False
+
+
+def kept_connections_to_interfaces():
+    """More kept connections than an interface has workers hold nobody up."""
+    statuses, kept = [], []
+    with proxy({}, 2) as program:
+        targets = [(program.admin, "/admin/ping"), (program.namerd, "/api/1/dtabs")] * 4
+        for port, _ in targets:
+            kept.append(http.client.HTTPConnection("127.0.0.1", port, timeout=10))
+        for _ in range(2):
+            for client, (_, target) in zip(kept, targets):
+                client.request("GET", target)
+                reply = client.getresponse()
+                reply.read()
+                statuses.append(reply.status)
+        begin = time.monotonic()
+        shut_down(program)
+        status = program.wait(30)
+        took = time.monotonic() - begin
+        for client in kept:
+            client.close()
+    check(f"8 kept connections to the interfaces: {statuses.count(200)} of 16 answered, "
+          f"a stop took {took:.2f} s, status {status}",
+          statuses == [200] * 16 and status == 0 and took < 3)
+
+
 def waits():
     """Each wait on a socket ends after 60 seconds."""
     ended = {}
@@ -321,6 +384,8 @@ def main():
     waiting_at_the_stop()
     stop_of_idle_workers()
     few_descriptors()
+    more_clients_than_descriptors()
+    kept_connections_to_interfaces()
     if SLOW:
         waits()
     sys.exit(f"wrong: {faults}" if faults else 0)

@@ -2,14 +2,17 @@
 """Runs `linker serve` under load and counts wrong answers: `bench/faults.py [PROGRAM] [--slow]`.
 
 - 1,000 connections at once on 16 workers, a request on each.
-- Eight kept connections for five seconds, while a table is put 200 times a second. Each table sends its requests on with its own number, so each reply shows the table that it was
-  answered by: on one connection the numbers never fall, and a table that was put is the next one's by its version.
+- Eight kept connections for five seconds, while a table is put 200 times a second. Each table sends
+  its requests on with its own number, so each reply shows the table that it was answered by: on one
+  connection the numbers never fall, and a table that was put is the next one's by its version.
 - Upstreams that close without a reply, that send no HTTP, and that end in the middle of a body.
 - A client that sends a byte at a time, and one that leaves in the middle of a reply.
-- With `--slow`, for a minute and more: an upstream that never answers, a client that never reads and one that never asks, each of which is given up after 60 seconds, and a program
-  that is stopped and goes on meanwhile. Then every worker serves again.
+- With `--slow`, for a minute and more: an upstream that never answers, a client that never reads,
+  and one that never asks, each of which is given up after 60 seconds, and a program that is stopped
+  and goes on meanwhile. Then as many requests are under way at once as there are workers.
 
-Then the proxy is shut down, and has to end with status 0. The script ends with 0 where nothing was wrong.
+Then the proxy is shut down, and has to end with status 0. The script ends with 0 where nothing was
+wrong.
 """
 import asyncio, contextlib, json, os, signal, socket, sys, tempfile
 
@@ -32,7 +35,8 @@ def free_ports(count):
 async def read_reply(reader):
     """The status, the fields and the body of a reply with a Content-Length."""
     head = (await reader.readuntil(b"\r\n\r\n")).decode("latin-1").split("\r\n")
-    fields = {name.lower(): value.strip() for name, _, value in (line.partition(":") for line in head[1:] if line)}
+    parted = (line.partition(":") for line in head[1:] if line)
+    fields = {name.lower(): value.strip() for name, _, value in parted}
     body = await reader.readexactly(int(fields.get("content-length", "0")))
     return int(head[0].split(" ")[1]), fields, body
 
@@ -56,10 +60,12 @@ async def ask(port, method, target, fields=(), body=b"", reader=None, writer=Non
 
 
 async def echo_number(reader, writer):
-    """An upstream: its reply's body is the residual path of the request, which the table gave it."""
+    """An upstream: its reply's body is the residual path of the request, by the table."""
     with contextlib.suppress(asyncio.IncompleteReadError, ConnectionError):
         head = (await reader.readuntil(b"\r\n\r\n")).decode("latin-1").lower()
-        number = next((line.split(":", 1)[1].strip() for line in head.split("\r\n") if line.startswith("l5d-dst-residual:")), "?")
+        residuals = [line.partition(":")[2].strip() for line in head.split("\r\n")
+                     if line.startswith("l5d-dst-residual:")]
+        number = residuals[0] if residuals else "?"
         body = number.encode()
         writer.write(b"HTTP/1.1 200 OK\r\nContent-Length: %d\r\n\r\n" % len(body) + body)
         await writer.drain()
@@ -93,6 +99,24 @@ async def never_ends(reader, writer):
     writer.close()
 
 
+class Meeting:
+    """An upstream that answers once as many requests are with it as there are workers."""
+
+    def __init__(self):
+        self.count, self.is_full = 0, asyncio.Event()
+
+    async def serve(self, reader, writer):
+        with contextlib.suppress(asyncio.IncompleteReadError, ConnectionError):
+            await reader.readuntil(b"\r\n\r\n")
+            self.count += 1
+            if self.count == WORKERS:
+                self.is_full.set()
+            await self.is_full.wait()
+            writer.write(b"HTTP/1.1 200 OK\r\nContent-Length: 0\r\n\r\n")
+            await writer.drain()
+        writer.close()
+
+
 class Counts:
     def __init__(self):
         self.wrong = []
@@ -111,8 +135,10 @@ async def all_at_once(router, counts):
     async def one(number):
         nonlocal good
         try:
-            status, _, body = await asyncio.wait_for(ask(router, "GET", "/", [("Host", "web")]), 120)
-            counts.expect(f"connection {number}: {status} {body!r}", status == 200 and body == b"/0")
+            asking = ask(router, "GET", "/", [("Host", "web")])
+            status, _, body = await asyncio.wait_for(asking, 120)
+            is_right = status == 200 and body == b"/0"
+            counts.expect(f"connection {number}: {status} {body!r}", is_right)
             good += 1
         except (OSError, asyncio.TimeoutError, asyncio.IncompleteReadError) as fault:
             counts.expect(f"connection {number}: {fault!r}", False)
@@ -132,7 +158,8 @@ async def swaps_during_load(router, namerd, upstream, counts):
         reader, writer = await asyncio.open_connection("127.0.0.1", router)
         seen = 0
         while loop.time() < end or not ready.is_set():
-            status, _, body = await ask(router, "GET", "/", [("Host", "web")], reader=reader, writer=writer)
+            status, _, body = await ask(
+                router, "GET", "/", [("Host", "web")], reader=reader, writer=writer)
             now = int(body[1:]) if status == 200 and body[:1] == b"/" and body[1:].isdigit() else -1
             counts.expect(f"connection {number}: {status} {body!r} behind /{seen}", now >= seen)
             seen = max(seen, now)
@@ -148,8 +175,10 @@ async def swaps_during_load(router, namerd, upstream, counts):
             number += 1
             table = f"/svc/web => /$/inet/127.0.0.1/{upstream}/{number}".encode()
             status, fields, _ = await ask(
-                namerd, "PUT", "/api/1/dtabs/default", [("Host", "n"), ("If-Match", f'"{version}"')], table, reader, writer)
-            counts.expect(f"put {number}: {status} {fields.get('etag')}", status == 204 and fields.get("etag") == f'"{version + 1}"')
+                namerd, "PUT", "/api/1/dtabs/default",
+                [("Host", "n"), ("If-Match", f'"{version}"')], table, reader, writer)
+            is_right = status == 204 and fields.get("etag") == f'"{version + 1}"'
+            counts.expect(f"put {number}: {status} {fields.get('etag')}", is_right)
             version += 1
             await asyncio.sleep(max(0, began + number / SWAPS - loop.time()))
         writer.close()
@@ -157,10 +186,13 @@ async def swaps_during_load(router, namerd, upstream, counts):
         return number
 
     *seen, swapped = await asyncio.gather(*(load(number) for number in range(KEPT)), swap())
-    counts.section(f"{requests} requests during {swapped} swaps in {SECONDS} s, the last seen {max(seen)}", before)
-    status, fields, body = await ask(namerd, "GET", "/api/1/dtabs/default", [("Host", "n"), ("Accept", "application/dtab")])
+    counts.section(f"{requests} requests during {swapped} swaps in {SECONDS} s, "
+                   f"the last seen {max(seen)}", before)
+    status, fields, body = await ask(namerd, "GET", "/api/1/dtabs/default",
+                                     [("Host", "n"), ("Accept", "application/dtab")])
     counts.expect(f"last table: {status} {fields.get('etag')} {body!r}",
-                  status == 200 and fields.get("etag") == f'"{version}"' and body.rstrip().endswith(f"/{swapped}".encode()))
+                  status == 200 and fields.get("etag") == f'"{version}"'
+                  and body.rstrip().endswith(f"/{swapped}".encode()))
     status, _, body = await ask(router, "GET", "/", [("Host", "web")])
     return swapped
 
@@ -173,9 +205,11 @@ async def bad_upstreams(router, counts):
     reader, writer = await asyncio.open_connection("127.0.0.1", router)
     writer.write(b"GET / HTTP/1.1\r\nHost: short\r\n\r\n")
     whole = await asyncio.wait_for(reader.read(), 30)
-    counts.expect(f"short: {whole!r}", whole.startswith(b"HTTP/1.1 200 OK\r\n") and whole.endswith(b"\r\n\r\nhalf"))
+    is_right = whole.startswith(b"HTTP/1.1 200 OK\r\n") and whole.endswith(b"\r\n\r\nhalf")
+    counts.expect(f"short: {whole!r}", is_right)
     writer.close()
-    counts.section("upstreams that close early, send no HTTP, end in a body or are not there", before)
+    counts.section("upstreams that close early, send no HTTP, end in a body or are not there",
+                   before)
 
 
 async def bad_clients(router, counts):
@@ -206,7 +240,9 @@ async def slow_ends(router, counts, process):
         began = loop.time()
         try:
             good = await asyncio.wait_for(ends, LIMIT + 30)
-            counts.expect(f"{what}: ended after {loop.time() - began:.1f} s, {good}", good is True and LIMIT - 2 < loop.time() - began < LIMIT + 10)
+            took = loop.time() - began
+            counts.expect(f"{what}: ended after {took:.1f} s, {good}",
+                          good is True and LIMIT - 2 < took < LIMIT + 10)
         except (OSError, asyncio.TimeoutError, asyncio.IncompleteReadError) as fault:
             counts.expect(f"{what}: {fault!r} after {loop.time() - began:.1f} s", False)
 
@@ -226,40 +262,44 @@ async def slow_ends(router, counts, process):
         await asyncio.sleep(0.5)
         process.send_signal(signal.SIGCONT)
 
-    async def served(number):
-        reader, writer = await asyncio.open_connection("127.0.0.1", router)
-        status, _, _ = await ask(router, "GET", "/", [("Host", "web")], reader=reader, writer=writer)
-        return status, writer
+    async def status_of_one():
+        status, _, _ = await ask(router, "GET", "/", [("Host", "meets")])
+        return status
 
-    # This client never reads, so its kernel never learns that it was given up: that every worker has a connection again shows it. Its last write may have been taken in part, and
-    # then the next one waits as long again.
+    # This client never reads, so its kernel never learns that it was given up: that as many
+    # requests are under way again as there are workers shows it. Its last write may have been taken
+    # in part, and then the next one waits as long again.
     unread = socket.create_connection(("127.0.0.1", router))
     unread.sendall(b"GET / HTTP/1.1\r\nHost: endless\r\n\r\n")
-    await asyncio.gather(timed("no answer", unanswered()), timed("no request", unasked()), stopped())
+    await asyncio.gather(
+        timed("no answer", unanswered()), timed("no request", unasked()), stopped())
     try:
-        at_once = await asyncio.wait_for(asyncio.gather(*(served(number) for number in range(WORKERS))), LIMIT + 15)
-        counts.expect(f"workers behind them: {[status for status, _ in at_once]}", all(status == 200 for status, _ in at_once))
-        for _, writer in at_once:
-            writer.close()
+        at_once = asyncio.gather(*(status_of_one() for _ in range(WORKERS)))
+        statuses = await asyncio.wait_for(at_once, LIMIT + 15)
+        counts.expect(f"workers behind them: {statuses}", statuses == [200] * WORKERS)
     except asyncio.TimeoutError:
         counts.expect("workers behind them: not all serve", False)
     unread.close()
-    counts.section("an upstream that never answers, clients that never read or ask, and a program that is stopped for a moment", before)
+    counts.section("an upstream that never answers, clients that never read or ask, and a program "
+                   "that is stopped for a moment", before)
 
 
 async def main():
     counts = Counts()
-    router, namerd, admin, number_port, early_port, garbage_port, short_port, hangs_port, endless_port, closed_port = free_ports(10)
+    half = b"HTTP/1.1 200 OK\r\nContent-Length: 10\r\n\r\nhalf"
+    upstreams = {
+        "early": answers(b""), "garbage": answers(b"garbage\r\n\r\n"), "short": answers(half),
+        "hangs": never_answers, "endless": never_ends, "meets": Meeting().serve,
+    }
+    router, namerd, admin, number_port, closed_port, *others = free_ports(5 + len(upstreams))
+    ports = {"closed": closed_port, **dict(zip(upstreams, others))}
     servers = [
-        await asyncio.start_server(echo_number, "127.0.0.1", number_port, backlog=2048),
-        await asyncio.start_server(answers(b""), "127.0.0.1", early_port),
-        await asyncio.start_server(answers(b"garbage\r\n\r\n"), "127.0.0.1", garbage_port),
-        await asyncio.start_server(answers(b"HTTP/1.1 200 OK\r\nContent-Length: 10\r\n\r\nhalf"), "127.0.0.1", short_port),
-        await asyncio.start_server(never_answers, "127.0.0.1", hangs_port),
-        await asyncio.start_server(never_ends, "127.0.0.1", endless_port),
+        await asyncio.start_server(serve, "127.0.0.1", ports[name])
+        for name, serve in upstreams.items()
     ]
+    servers.append(
+        await asyncio.start_server(echo_number, "127.0.0.1", number_port, backlog=2048))
     inet = "/$/inet/127.0.0.1"
-    ports = {"early": early_port, "garbage": garbage_port, "short": short_port, "hangs": hangs_port, "endless": endless_port, "closed": closed_port}
     table = "; ".join(f"/svc/{name} => {inet}/{port}" for name, port in ports.items())
     config = {
         "admin": {"port": admin}, "namerd": {"port": namerd}, "workers": WORKERS,
@@ -269,9 +309,12 @@ async def main():
         path = os.path.join(work, "c.json")
         with open(path, "w") as file:
             json.dump(config, file)
-        linker = await asyncio.create_subprocess_exec(PROGRAM, "serve", path, stdout=asyncio.subprocess.PIPE, stderr=asyncio.subprocess.DEVNULL)
+        linker = await asyncio.create_subprocess_exec(
+            PROGRAM, "serve", path,
+            stdout=asyncio.subprocess.PIPE, stderr=asyncio.subprocess.DEVNULL)
         print((await linker.stdout.readline()).decode().rstrip(), flush=True)
-        status, fields, _ = await ask(namerd, "POST", "/api/1/dtabs/default", [("Host", "n")], f"/svc/web => {inet}/{number_port}/0".encode())
+        status, fields, _ = await ask(namerd, "POST", "/api/1/dtabs/default", [("Host", "n")],
+                                      f"/svc/web => {inet}/{number_port}/0".encode())
         counts.expect(f"create: {status}", status == 204 and fields.get("etag") == '"1"')
         await all_at_once(router, counts)
         await bad_upstreams(router, counts)
@@ -285,7 +328,8 @@ async def main():
         ended = await linker.wait()
         print(f"{rest.rstrip()}, status {ended}")
         words = rest.split()
-        counts.expect(f"end: {rest!r} {ended}", ended == 0 and words[:1] == ["closed"] and words[1:] and int(words[1]) == swapped + 1)
+        counts.expect(f"end: {rest!r} {ended}", ended == 0 and words[:1] == ["closed"]
+                      and words[1:] and int(words[1]) == swapped + 1)
     for server in servers:
         server.close()
     for wrong in counts.wrong[:20]:

@@ -289,7 +289,7 @@ fn time<J: Naming, R: Runtime + Wait>(
     let mut server = Server::of(Room::new(alloc)?, parts);
     let mut connection = Connection::of(case.client(alloc)?);
     let start = Instant::now(rt)?;
-    let ended = server.serve_session(context, &mut connection, &Free, 0);
+    let paused = server.serve_stay(context, &mut connection, &Free, 0);
     let took = start.elapsed(rt)?.as_nanos() / u128::from(case.requests().max(1));
     let name = case.name();
     let Parts {
@@ -299,7 +299,7 @@ fn time<J: Naming, R: Runtime + Wait>(
         words: _,
     } = server.into_parts();
     let seen = connection.into_peer().seen;
-    println!(rt; "session,{name},{took},{ended:?},{seen},{}", dialer.seen)?;
+    println!(rt; "session,{name},{took},{paused:?},{seen},{}", dialer.seen)?;
     Ok(pass)
 }
 
@@ -431,7 +431,7 @@ def main():
     for line in output_of("session", PROGRAM, LIBRARIES.split(), PROOFS).splitlines():
         if line.startswith("session,"):
             _, case, nanoseconds, ended, _, _ = line.split(",")
-            if ended != "PeerEnded":
+            if ended != "Ended(PeerEnded)":
                 raise SystemExit(f"session: {case} ended with {ended}")
             least[case] = min(int(nanoseconds), least.get(case, int(nanoseconds)))
         elif line.startswith("room ") and "VmRSS:" in line:
@@ -440,7 +440,7 @@ def main():
     for case, what in CASES.items():
         print(f"{what}: {least[case] / 1000:.1f} us, the least of five rounds")
     bytes_each = (resident["after"] - resident["before"]) * 1024 // CONNECTIONS
-    print(f"memory of a connection that waits: {bytes_each} bytes")
+    print(f"memory of a worker's room: {bytes_each} bytes")
 
 
 main()

@@ -1,5 +1,8 @@
 pub mod Addrs
+pub mod Crossing
 pub mod Paths
 pub mod Requesting
-pub mod Turning
+pub mod Seeing
 pub mod Sounds
+pub mod Staying
+pub mod Turning

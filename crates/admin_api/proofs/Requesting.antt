@@ -23,7 +23,7 @@ use Rattle.body_wire.specs.Bodies.{IsWholeBody}
 use Rattle.body_wire.specs.Passing.{CountsEnd, Ends as EndsBody, RaisedAt, ReadsBody, form_of, most_read, runs_to_end}
 use Rattle.ns_api.specs.Request.{has_body}
 use Rattle.admin_api.specs.declared.request.Refused.{Refused}
-use Rattle.admin_api.specs.declared.request.Refused.TheVariants.{Own, Ends}
+use Rattle.admin_api.specs.declared.request.Refused.TheVariants.{Own, Ends, Waits}
 use Rattle.admin_api.specs.Reading.{HasReadCauses, ShowsNone, TellsTests, of_body, of_head, quiet_end}
 use Rattle.admin_api.specs.Requests.{BeginsRequest, IsRefusedAs, IsRequest, IsTested, bad_body, bad_head, large_head, long_body, other_version, tested}
 
@@ -52,6 +52,7 @@ no_head l0 l1 k0 k1 end refused is reads = (
 shows_refusal : (head : Head) (len : ℕ) (bytes : List ℕ) → BeginsWith bytes head len → (refused : Refused) → TellsTests head (Err refused) → ShowsNone bytes refused
 shows_refusal head len bytes begins (Own err with_body) tells = subst (IsRefusedAs bytes err) (sym tells.1) (tested head len err begins tells.0)
 shows_refusal head len bytes begins (Ends end) tells = subst (λ (e : Ended). ShowsNone bytes (Ends e)) (sym tells) tt
+shows_refusal head len bytes begins Waits tells = absurd tells
 
 -- with a head that a test refuses
 pub bad_test : (l0 l1 : Option (List ℕ)) (k0 k1 : List ℕ) (head : Head) (refused : Refused) → ReadsHead l0 l1 k0 k1 (Ok head) → TellsTests head (Err refused)

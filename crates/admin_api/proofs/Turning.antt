@@ -5,7 +5,7 @@ use Rattle.std.proofs.Common.{Some, None, Err, inl, inr}
 use Rattle.std.proofs.lemmas.Bool.Decides.{nat_tests}
 use Rattle.std.specs.Io.KnownBytes.{Appends, Keeps}
 use Rattle.std.proofs.KnownBytes.{Appends-trans}
-use Rattle.line_base.specs.Counts.{Rose}
+use Rattle.line_base.specs.Counts.{Rose, raised}
 use Rattle.http_wire.specs.declared.ended.Ended.{Ended}
 use Rattle.http_wire.specs.declared.ended.Ended.TheVariants as ended
 use Rattle.http_wire.specs.declared.head.Head.{Head}
@@ -17,18 +17,20 @@ use Rattle.ns_api.specs.Answering.{IsTaken}
 use Rattle.http_wire.specs.Fields.{names_close}
 use Rattle.ns_api.specs.Request.{closes}
 use Rattle.admin_api.specs.declared.request.Refused.{Refused}
-use Rattle.admin_api.specs.declared.request.Refused.TheVariants.{Ends, Own}
+use Rattle.admin_api.specs.declared.request.Refused.TheVariants.{Ends, Own, Waits}
 use Rattle.admin_api.specs.declared.serving.Which.{Which}
 use Rattle.admin_api.specs.Reading.{HasReadCauses, IsRefusal, ShowsNone, is_drained, quiet_end}
-use Rattle.admin_api.specs.Reading.{raised_where}
+use Rattle.admin_api.specs.Reading.{is_waiting, raised_where}
 use Rattle.admin_api.specs.Requests.{IsRefusedAs, IsRequest}
+use Rattle.http_wire.specs.declared.paused.Paused.{Paused}
 use Rattle.http_wire.specs.Ended.{drained}
+use Rattle.http_wire.specs.Paused.{paused_by, quiets_behind}
 use Rattle.http_wire.specs.Next.{IsAsked}
 use Rattle.http_wire.proofs.Endings.{goes_on as still_open, same_end}
 use Rattle.line_base.specs.Lines.{Line, told_closing}
 use Rattle.admin_api.specs.declared.serving.Which.TheVariants as interfaces
 use Rattle.admin_api.specs.Serving.{Answers, EndsWithout, HasCauses, IsDelivered, IsServing, Serves}
-use Rattle.admin_api.specs.Serving.{Turns, end_behind, one_more, while_closing}
+use Rattle.admin_api.specs.Serving.{IsQuiet, Turns, end_behind, ended_in, one_more, while_closing}
 
 pub gives_none : (a b : Option (List ℕ)) → Keeps a b → Appends a b []
 gives_none None b keeps = tt
@@ -153,7 +155,7 @@ module _ {J : Type 0} {g : Ghosts J} (which : Which) (last : Bool) (head : Head)
       → which ≡ while_closing closing base → last ≡ (spent || closing) → IsAsked spent closing
       → ((more : List ℕ) → IsRequest (bytes ++ more) head body (kept ++ more))
       → Answers which last head body old new sent stopped end → result ≡ drained closing end
-      → Turns base spent closing old new bytes kept sent stopped result
+      → Turns base spent closing old new bytes kept sent stopped (paused_by result)
   turned base bytes kept spent closing stopped end None is_base is_last asked request answers is =
       let answered : Answers which last head body old new sent stopped None
       = subst (λ (e : Option Ended). Answers which last head body old new sent stopped e)
@@ -189,7 +191,8 @@ module _ {J : Type 0} {g : Ghosts J} (which : Which) (last : Bool) (head : Head)
         answers =
             subst (λ (w : Which). Answers w (spent || closing) head body old new sent stopped end)
             is_base
-            (subst (λ (l : Bool). Answers which l head body old new sent stopped end) is_last answers);
+            (subst (λ (l : Bool). Answers which l head body old new sent stopped end) is_last
+            answers);
         is = is;
       })
 
@@ -260,19 +263,22 @@ quiet_causes bytes e0 e1 f0 f1 w0 w1 end shows read still = record {
 
 -- ---- a connection
 
-fewer : (n : ℕ) → n < 10000 → eqb (n + 1) 10000 ≡ false → n + 1 < 10000
+pub fewer : (n : ℕ) → n < 10000 → eqb (n + 1) 10000 ≡ false → n + 1 < 10000
 fewer n less other = grind (arith, nat_tests)
 
-module _ {J : Type 0} {g : Ghosts J} (which : Which) (first : Pass J g) (n : ℕ) (p q : Pass J g)
-    (came gave came2 gave2 kept kept2 : List ℕ)
-    (serves : (more : List ℕ) → Serves which first (came ++ more) n p (kept ++ more) gave) where
+module _ {J : Type 0} {g : Ghosts J} (which : Which) (from : ℕ) (first : Pass J g) (n : ℕ)
+    (p q : Pass J g) (came gave came2 gave2 kept kept2 : List ℕ)
+    (serves : (more : List ℕ)
+    → Serves which from first (came ++ more) n p (kept ++ more) gave) where
   -- one request more was answered
   pub serves_more : (stopped closing : Bool)
       → Turns which (eqb (n + 1) 10000) closing p q (kept ++ came2) kept2 gave2 stopped None
-      → (more : List ℕ) → Serves which first ((came ++ came2) ++ more) (n + 1) q (kept2 ++ more)
+      → (more : List ℕ)
+      → Serves which from first ((came ++ came2) ++ more) (n + 1) q (kept2 ++ more)
       (gave ++ gave2)
   serves_more stopped closing (on, off, (head, body, request, answers)) more =
-      subst (λ (bytes : List ℕ). Serves which first bytes (n + 1) q (kept2 ++ more) (gave ++ gave2))
+      subst
+      (λ (bytes : List ℕ). Serves which from first bytes (n + 1) q (kept2 ++ more) (gave ++ gave2))
       (sym (append_assoc came came2 more))
       (one_more n p q (kept ++ (came2 ++ more)) (kept2 ++ more) gave gave2 head body
       (serves (came2 ++ more))
@@ -285,36 +291,55 @@ module _ {J : Type 0} {g : Ghosts J} (which : Which) (first : Pass J g) (n : ℕ
   few_served less stopped closing (on, off, (head, body, request, answers)) =
       fewer n less (not_last which (eqb (n + 1) 10000) head body p q gave2 answers)
 
-  -- and it ended
-  pub serves_all : (stopped closing : Bool) (end : Ended)
-      → Turns which (eqb (n + 1) 10000) closing p q (kept ++ came2) kept2 gave2 stopped (Some end)
-      → IsServing which first q (came ++ came2) (gave ++ gave2) stopped closing end
-  serves_all stopped closing end ends =
+  -- and it waits, or ended
+  pub serves_all : (stopped closing : Bool) (result : Paused)
+      → Turns which (eqb (n + 1) 10000) closing p q (kept ++ came2) kept2 gave2 stopped
+      (Some result)
+      → IsServing which from n first q (came ++ came2) (gave ++ gave2) stopped closing result
+  serves_all stopped closing result pauses =
       record {
-        count = n;
         mid = p;
         rest = kept ++ came2;
         first = gave;
         final = gave2;
         serves = serves came2;
-        ends = ends;
+        pauses = pauses;
         all = refl;
       }
 
--- behind the turns before it, why the last one ended
-pub all_causes : (e0 e1 e2 f0 f1 f2 w0 w1 w2 : ℕ) (end : Ended) → e0 ≤ e1 → f0 ≤ f1 → w0 ≤ w1
-    → HasCauses e1 e2 f1 f2 w1 w2 (Some end) → HasCauses e0 e2 f0 f2 w0 w2 (Some end)
+-- behind the turns before it, why the last one ended, if it did
+pub all_causes : (e0 e1 e2 f0 f1 f2 w0 w1 w2 : ℕ) (end : Option Ended) → e0 ≤ e1 → f0 ≤ f1
+    → w0 ≤ w1 → HasCauses e1 e2 f1 f2 w1 w2 end → HasCauses e0 e2 f0 f2 w0 w2 end
 all_causes e0 e1 e2 f0 f1 f2 w0 w1 w2 end e f w causes = record {
   reading = record {
     peer_ended = λ is. rose_before e0 e1 e2 e (causes.reading.peer_ended is);
     cut = λ is. rose_before e0 e1 e2 e (causes.reading.cut is);
     read_fault = λ is. rose_before f0 f1 f2 f (causes.reading.read_fault is);
-    ends_later = λ is. absurd (cc);
-    faults_later = λ is. absurd (cc);
+    ends_later = λ is. let h = causes.reading.ends_later is in omega (arith, e, h);
+    faults_later = λ is. let h = causes.reading.faults_later is in omega (arith, f, h);
   };
   write_fault = λ is. rose_before w0 w1 w2 w (causes.write_fault is);
   writes_later = let h = causes.writes_later in omega (arith, w, h);
 }
+
+-- where there was no memory, nothing was read or written
+pub want_causes : (e f w : ℕ) → HasCauses e e f f w w (Some ended.OutOfMemory)
+want_causes e f w = record {
+  reading = record {
+    peer_ended = λ is. absurd (cc);
+    cut = λ is. absurd (cc);
+    read_fault = λ is. absurd (cc);
+    ends_later = λ is. omega arith;
+    faults_later = λ is. omega arith;
+  };
+  write_fault = λ is. absurd (cc);
+  writes_later = omega arith;
+}
+
+-- how a connection stands behind a request says how it ended, if it did
+pub ended_same : (end : Option Ended) → ended_in (paused_by end) ≡ end
+ended_same None = refl
+ended_same (Some end) = refl
 
 -- ---- turns with no request that is answered
 
@@ -331,6 +356,28 @@ refused_turn bytes refused err same_err with_body same_body sent end is shows wr
     refusal_end bytes err with_body sent end (subst (ShowsNone bytes) is shows)
     (subst (λ (x : OwnError). IsRefusal x with_body sent end) (sym e)
     (subst (λ (b : Bool). IsRefusal same_err b sent end) (sym w) written))
+
+-- a wait for a request of which nothing came
+pub quiet_wait : {J : Type 0} {g : Ghosts J} (bytes : List ℕ) (refused : Refused) (pass : Pass J g)
+    → refused ≡ Waits → ShowsNone bytes refused → IsQuiet bytes pass pass [] false false
+quiet_wait bytes refused pass is shows = record {
+  none = subst (ShowsNone bytes) is shows;
+  still = refl;
+  nothing = refl;
+  goes_on = refl;
+  open_ = refl;
+}
+
+-- in which no count fell
+pub wait_causes : (T : Type 0) (e0 e1 f0 f1 w0 w1 : ℕ) (refused : Refused) → refused ≡ Waits
+    → HasReadCauses e0 e1 f0 f1 (quiet_end {T = T} (Err refused)) → w1 ≡ w0
+    → HasCauses e0 e1 f0 f1 w0 w1 None
+wait_causes T e0 e1 f0 f1 w0 w1 refused is read still = record {
+  reading =
+      subst (λ (r : Refused). HasReadCauses e0 e1 f0 f1 (quiet_end {T = T} (Err r))) is read;
+  write_fault = λ no. absurd (cc);
+  writes_later = omega (arith, still);
+}
 
 -- ---- whether the listeners are closing
 
@@ -355,11 +402,35 @@ module _ (T : Type 0) (before now : ℕ) (refused : Refused)
   pub own_told : (err : OwnError) (with_body : Bool) → refused ≡ Own err with_body → now ≡ before
   own_told err with_body is = subst Told is told
 
+  pub wait_told : refused ≡ Waits → now ≡ before
+  wait_told is = subst Told is told
+
   pub ends_told : (end same : Ended) → refused ≡ Ends end → end ≡ same
       → now ≡ raised_where (is_drained (Some same)) before
   ends_told end same is is_same =
       subst (λ (e : Ended). now ≡ raised_where (is_drained (Some e)) before) is_same
       (subst Told is told)
+
+-- ---- whether nothing came for a while
+
+-- no request ends by that
+pub request_quiets : (end : Option Ended) (count : ℕ) → quiets_behind (paused_by end) count ≡ count
+request_quiets None count = refl
+request_quiets (Some end) count = refl
+
+module _ (T : Type 0) (before now : ℕ) (refused : Refused)
+    (told : now ≡ raised_where (is_waiting {T = T} (Err refused)) before) where
+  abbrev Waited : Refused → Type 0
+  Waited x = now ≡ raised_where (is_waiting {T = T} (Err x)) before
+
+  pub own_waits : (err : OwnError) (with_body : Bool) → refused ≡ Own err with_body → now ≡ before
+  own_waits err with_body is = subst Waited is told
+
+  pub ends_waits : (end : Ended) → refused ≡ Ends end → now ≡ before
+  ends_waits end is = subst Waited is told
+
+  pub wait_waits : refused ≡ Waits → now ≡ raised before
+  wait_waits is = subst Waited is told
 
 -- a connection that was asked
 pub record WasAsked (closing : Bool) (old new : Line) : Type 0 where
@@ -369,6 +440,7 @@ pub record WasAsked (closing : Bool) (old new : Line) : Type 0 where
   pub writes : new.write_faults ≡ old.write_faults
   pub ends : new.ends ≡ old.ends
   pub closings : new.closings ≡ raised_where closing old.closings
+  pub quiets : new.quiets ≡ old.quiets
 
 pub was_asked : (closing : Bool) (old new : Line) → new ≡ told_closing closing old
     → WasAsked closing old new
@@ -379,6 +451,7 @@ was_asked false old new is = record {
   writes = ap (λ (l : Line). l.write_faults) is;
   ends = ap (λ (l : Line). l.ends) is;
   closings = ap (λ (l : Line). l.closings) is;
+  quiets = ap (λ (l : Line). l.quiets) is;
 }
 was_asked true old new is = record {
   left = ap (λ (l : Line). l.left) is;
@@ -387,4 +460,5 @@ was_asked true old new is = record {
   writes = ap (λ (l : Line). l.write_faults) is;
   ends = ap (λ (l : Line). l.ends) is;
   closings = ap (λ (l : Line). l.closings) is;
+  quiets = ap (λ (l : Line). l.quiets) is;
 }

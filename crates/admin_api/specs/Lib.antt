@@ -1,4 +1,8 @@
+pub mod Codes
 pub mod Demand
-pub mod Requests
+pub mod Laws
 pub mod Reading
+pub mod Requests
 pub mod Serving
+pub mod Stays
+pub mod Workers

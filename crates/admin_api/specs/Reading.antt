@@ -15,7 +15,7 @@ use Rattle.own_reply.specs.declared.error.OwnError.TheVariants as own
 use Rattle.own_reply.specs.Reply.{reply_of}
 use Rattle.ns_api.specs.Request.{has_body}
 use Rattle.admin_api.specs.declared.request.Refused.{Refused}
-use Rattle.admin_api.specs.declared.request.Refused.TheVariants.{Own, Ends}
+use Rattle.admin_api.specs.declared.request.Refused.TheVariants.{Own, Ends, Waits}
 use Rattle.admin_api.specs.declared.request.Request.{Request}
 use Rattle.admin_api.specs.Requests.{IsTested, Refuses, IsRequest, HasOpenBody, IsRefusedAs}
 use Rattle.admin_api.specs.Requests.{IsBetween, IsInside}
@@ -46,8 +46,9 @@ abbrev pub TellsTests : Head → Result Framing Refused → Type 0
 TellsTests head (Ok framing) = IsTested head framing
 TellsTests head (Err (Own err with_body)) = Refuses head err × (with_body ≡ has_body head)
 TellsTests head (Err (Ends end)) = end ≡ ended.OutOfMemory
+TellsTests head (Err Waits) = ⊥
 
--- the bytes show that there is no request, or memory was wanting
+-- the bytes show that there is no request, or none yet, or memory was wanting
 abbrev pub ShowsNone : List ℕ → Refused → Type 0
 ShowsNone bytes (Own err with_body) = IsRefusedAs bytes err with_body
 ShowsNone bytes (Ends ended.PeerEnded) = IsBetween bytes
@@ -59,6 +60,7 @@ ShowsNone bytes (Ends ended.Spent) = ⊥
 ShowsNone bytes (Ends ended.Drained) = bytes ≡ []
 ShowsNone bytes (Ends ended.WriteFault) = ⊥
 ShowsNone bytes (Ends ended.UpstreamCut) = ⊥
+ShowsNone bytes Waits = bytes ≡ []
 
 -- the bytes that were kept and those that came begin with the request, whatever follows them, or
 -- show that there is none
@@ -73,6 +75,7 @@ abbrev pub quiet_end : {T : Type 0} → Result T Refused → Option Ended
 quiet_end (Ok x) = None
 quiet_end (Err (Own err with_body)) = None
 quiet_end (Err (Ends end)) = Some end
+quiet_end (Err Waits) = None
 
 -- the connection ends since the listeners are closing, and no byte of a next request has come
 abbrev pub is_drained : Option Ended → Bool
@@ -87,9 +90,16 @@ is_drained (Some ended.WriteFault) = false
 is_drained (Some ended.UpstreamCut) = false
 is_drained (Some ended.OutOfMemory) = false
 
--- a count that rises exactly where that is so
+-- no byte of a next request has come for a while
+abbrev pub is_waiting : {T : Type 0} → Result T Refused → Bool
+is_waiting (Ok x) = false
+is_waiting (Err (Own err with_body)) = false
+is_waiting (Err (Ends end)) = false
+is_waiting (Err Waits) = true
+
+-- a count that rises exactly where such a thing is so
 abbrev pub raised_where : Bool → ℕ → ℕ
-raised_where closing count = if closing then raised count else count
+raised_where is_so count = if is_so then raised count else count
 
 -- the counts of a peer that tell why a connection ended where nothing was written. Where it goes
 -- on, none of them fell

@@ -1,11 +1,13 @@
--- A connection of an interface: the requests that its bytes begin with, in order, what each is
--- answered, and how it ends.
+-- A stay of a connection of an interface: the requests that its bytes begin with, in order, what
+-- each is answered, and how the connection stands behind them.
 use Rattle.std.specs.Prelude.{◌≡◌, ◌≤◌, ◌⊎◌, ℕ, ◌+◌, ◌==◌, ◌||◌, ◌&&◌, not, Bool, true, false}
 use Rattle.std.specs.Prelude.{if◌then◌else◌, List, [], ◌++◌, Option, Some, None}
 use Rattle.line_base.specs.Counts.{Rose, raised}
 use Rattle.http_wire.specs.declared.ended.Ended.{Ended}
 use Rattle.http_wire.specs.declared.ended.Ended.TheVariants as ended
 use Rattle.http_wire.specs.declared.head.Head.{Head}
+use Rattle.http_wire.specs.declared.paused.Paused.{Paused}
+use Rattle.http_wire.specs.declared.paused.Paused.TheVariants as paused
 use Rattle.http_wire.specs.Ended.{drained}
 use Rattle.http_wire.specs.Heads.{IsUnfinished}
 use Rattle.http_wire.specs.Next.{IsAsked}
@@ -25,7 +27,7 @@ use Rattle.admin_api.specs.Demand.{admin_demand}
 use Rattle.admin_api.specs.Requests.{IsRequest, HasOpenBody, IsRefusedAs, IsBetween, IsInside}
 use Rattle.admin_api.specs.Reading.{HasReadCauses, is_drained}
 
--- the most requests of one connection
+-- the most requests of one connection, over all its stays
 abbrev pub most_requests : ℕ
 most_requests = 10000
 
@@ -148,45 +150,68 @@ module _ {J : Type 0} {g : Ghosts J} where
       ⊎ ((new ≡ old) × (stopped ≡ false) × (closing ≡ is_drained (Some result))
       × EndsWithout bytes written result)
 
-  -- Requests are answered, one after the other, and the connection goes on behind each: so many,
-  -- with the pass, the bytes that are left, and those that were written. The connection never goes
-  -- on behind its last request
-  pub data Serves (which : Which) (old : Pass J g) (bytes : List ℕ) : ℕ → Pass J g → List ℕ → List ℕ
-      → Type 0 where
-    begun : Serves which old bytes 0 old bytes []
+  -- no byte of a next request was kept or came, and nothing was done
+  pub record IsQuiet (bytes : List ℕ) (old new : Pass J g) (written : List ℕ)
+      (stopped closing : Bool) : Type 0 where
+    pub none : bytes ≡ []
+    pub still : new ≡ old
+    pub nothing : written ≡ []
+    pub goes_on : stopped ≡ false
+    pub open_ : closing ≡ false
+
+  -- the connection waits, or it ends
+  abbrev pub PausesWith : Which → Bool → Bool → List ℕ → Pass J g → Pass J g → List ℕ → Bool
+      → Paused → Type 0
+  PausesWith which spent closing bytes old new written stopped paused.Quiet =
+      IsQuiet bytes old new written stopped closing
+  PausesWith which spent closing bytes old new written stopped (paused.Ended result) =
+      EndsWith which spent closing bytes old new written stopped result
+
+  -- Requests of a connection that had had `from` of them are answered, one after the other, and it
+  -- goes on behind each: so many it has had then, with the pass, the bytes that are left, and those
+  -- that were written. The connection never goes on behind its last request
+  pub data Serves (which : Which) (from : ℕ) (old : Pass J g) (bytes : List ℕ) : ℕ → Pass J g
+      → List ℕ → List ℕ → Type 0 where
+    begun : Serves which from old bytes from old bytes []
     one_more : (count : ℕ) (mid new : Pass J g) (rest behind written sent : List ℕ) (head : Head)
-        (body : List ℕ) → Serves which old bytes count mid rest written
+        (body : List ℕ) → Serves which from old bytes count mid rest written
         → IsRequest rest head body behind
         → Answers which (count + 1 == most_requests) head body mid new sent false None
-        → Serves which old bytes (count + 1) new behind (written ++ sent)
+        → Serves which from old bytes (count + 1) new behind (written ++ sent)
 
-  -- A connection is served: some requests are answered, and then it ends. `bytes` are those that
-  -- came, and `written` those that it was given; `closing` says that its end is one of those that
-  -- come since the listeners are closing
+  -- A connection is served for a stay: some requests are answered, behind which it has had `upto`;
+  -- and then it waits, or ends. `bytes` are those that came, and `written` those that it was given;
+  -- `closing` says that its end is one of those that come since the listeners are closing
   pub record IsServing
-      (which : Which) (old new : Pass J g) (bytes written : List ℕ) (stopped closing : Bool)
-      (result : Ended)
+      (which : Which) (from upto : ℕ) (old new : Pass J g) (bytes written : List ℕ)
+      (stopped closing : Bool) (result : Paused)
       : Type 0 where
-    pub count : ℕ
     pub mid : Pass J g
     pub rest : List ℕ
     pub first : List ℕ
     pub final : List ℕ
-    pub serves : Serves which old bytes count mid rest first
-    pub ends : EndsWith which (count + 1 == most_requests) closing rest mid new final stopped result
+    pub serves : Serves which from old bytes upto mid rest first
+    pub pauses :
+        PausesWith which (upto + 1 == most_requests) closing rest mid new final stopped result
     pub all : written ≡ first ++ final
 
   -- one turn: a request is answered and the connection goes on, whatever bytes follow it; or it
-  -- ends
+  -- waits, or ends
   abbrev pub Turns : Which → Bool → Bool → Pass J g → Pass J g → List ℕ → List ℕ → List ℕ → Bool
-      → Option Ended → Type 0
+      → Option Paused → Type 0
   Turns which spent closing old new bytes kept written stopped None =
       (stopped ≡ false) × (closing ≡ false)
       × ((head : Head) × (body : List ℕ)
       × ((more : List ℕ) → IsRequest (bytes ++ more) head body (kept ++ more))
       × Answers which spent head body old new written false None)
   Turns which spent closing old new bytes kept written stopped (Some result) =
-      EndsWith which spent closing bytes old new written stopped result
+      PausesWith which spent closing bytes old new written stopped result
+
+-- how the connection ended, if it did
+abbrev pub ended_in : Option Paused → Option Ended
+ended_in None = None
+ended_in (Some paused.Quiet) = None
+ended_in (Some (paused.Ended end)) = Some end
 
 -- the counts of a peer that tell why a connection ended: they never fall
 pub record HasCauses (ends_before ends_now reads_before reads_now writes_before writes_now : ℕ)

@@ -5,19 +5,18 @@ ghost use Rattle.ns_api.specs.Answering.{delivery_of, AnswersBy, IsCarriedOut, I
 ghost use Rattle.ns_api.specs.Answering.{LeavesBy};
 ghost use Rattle.admin_api.specs.Demand.{admin_demand};
 
+use crate::context::Context;
 use crate::demand::admin_demand;
 use crate::{Bytes, Mem};
 use http_wire::{Head, TargetFault, read_target};
 use ns_api::{ApiReply, carry_out, delivery_of};
-use router::{Naming, Pass, Router};
-use std::alloc::{AllocError, Global};
+use router::{Naming, Pass};
+use std::alloc::AllocError;
 use std::sync::Wait;
 
 /// Answers a request whose target goes on as this line.
 fn answer_at<J: Naming, R: Wait>(
-    rt: &R,
-    alloc: Global,
-    router: &Router<J>,
+    context: &Context<'_, J, R>,
     pass: &mut Pass<J>,
     ready: bool,
     head: &Head,
@@ -31,8 +30,15 @@ fn answer_at<J: Naming, R: Wait>(
     ensures want { OnErr result (Leaves (admin_demand ready head.now line.now body.now)
         pass.old pass.new) }
 {
-    match admin_demand(alloc, ready, head, line, body) {
-        Ok(demand) => carry_out(rt, alloc, router, pass, demand, delivery_of(head, last)),
+    match admin_demand(context.alloc, ready, head, line, body) {
+        Ok(demand) => carry_out(
+            context.rt,
+            context.alloc,
+            context.router,
+            pass,
+            demand,
+            delivery_of(head, last),
+        ),
         Err(want) => Err(want),
     }
 }
@@ -47,9 +53,7 @@ fn answer_at<J: Naming, R: Wait>(
 /// # Errors
 /// Want of memory. What was asked for was done then, or nothing was.
 pub fn admin_answer<J: Naming, R: Wait>(
-    rt: &R,
-    alloc: Global,
-    router: &Router<J>,
+    context: &Context<'_, J, R>,
     pass: &mut Pass<J>,
     ready: bool,
     head: &Head,
@@ -63,11 +67,9 @@ pub fn admin_answer<J: Naming, R: Wait>(
     ensures want { OnErr result (LeavesBy head.now
         (λ line. admin_demand ready head.now line body.now.items) pass.old pass.new) }
 {
-    match read_target(alloc, head) {
+    match read_target(context.alloc, head) {
         Ok(target) => answer_at(
-            rt,
-            alloc,
-            router,
+            context,
             pass,
             ready,
             head,

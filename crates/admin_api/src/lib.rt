@@ -2,9 +2,14 @@
 //! program, over HTTP; and the connections of all interfaces.
 //!
 //! [`admin_answer`] answers a request, in the way of [`ns_answer`](ns_api::ns_answer).
-//! [`serve_admin`] serves a connection of an interface ([`Which`]): it reads its requests, answers
-//! each by `ns_answer`, `admin_answer` or [`feed_answer`](follow_feed::feed_answer), and stops the
-//! program behind the reply to a shutdown. `docs/API.md` has each path with its answers.
+//!
+//! A worker serves a connection of an interface ([`Which`]) while it has something to say
+//! ([`IdleCaller::serve`]): it reads its requests, answers each by `ns_answer`, `admin_answer` or
+//! [`feed_answer`](follow_feed::feed_answer), and stops the program behind the reply to a shutdown.
+//! Where no byte of a next request comes for a while, it leaves the connection to wait: as a value,
+//! with a [`Ticket`](router::Ticket) of what its pass had seen. Any other worker of the interfaces
+//! goes on with it. So a caller that keeps its connection, as a scraper of metrics does, holds no
+//! worker. `docs/API.md` has each path with its answers.
 //!
 //! # What is proved
 //! What a request asks for is a function of its head, the target that goes on, and its body, and of
@@ -12,31 +17,50 @@
 //! `admin_demand` of `specs/Demand.antt`. [`admin_answer`] makes exactly the one change or look, or
 //! none, and answers the bytes of the response to the reply that the router's state gives at that
 //! call's point; the reply says that the program is to stop exactly where the request asked for
-//! that. After want of memory what was asked for was done, or nothing was.
+//! that. Where there was no memory, what was asked for was done, or nothing was.
 //!
-//! A connection is served as `specs/Serving.antt` says, over any cutting of its bytes and every
-//! failing call: the requests that its bytes begin with have their replies, in order, up to the one
-//! that closes; then it ends by what the bytes show, or where a count of the peer rose. The stop
-//! was called exactly where all of a shutdown's reply was written.
+//! A connection is served for a stay as `specs/Serving.antt` says, over any cutting of its bytes
+//! and every failing call: the requests that its bytes begin with have their replies, in order, up
+//! to the one that closes; then it ends by what the bytes show, or where a count of the peer rose;
+//! or it waits, and nothing of a further request was read. The stop was called exactly where all of
+//! a shutdown's reply was written.
+//!
+//! The type of an [`IdleCaller`] keeps that some stays led to it from a caller that came
+//! (`specs/Stays.antt`): each went on from the line and the number of requests that the one before
+//! it left, with a worker that had seen all that had been seen for it. Over such stays a connection
+//! reads its own writes, and has at most 10,000 requests ([`callers_forget_nothing`]).
 //!
 //! # Example
 //! ```text
-//! let head = read_request_head(alloc, &mut peer, &mut rest)?; // PUT /api/1/addrs/web
-//! let reply = admin_answer(&rt, alloc, &router, &mut pass, true, &head, &body, false)?;
-//! // HTTP/1.1 204 No Content
+//! let context = Context { rt, alloc, router: &router };
+//! let caller = IdleCaller::came(peer, Which::Admin { ready: true }, &worker);
+//! match caller.serve(&context, &mut worker) {
+//!     Stayed::Waits(caller) => { /* it waits: another worker may go on with it */ }
+//!     Stayed::Ends(peer, ended) => { /* the connection is done */ }
+//! }
 //! ```
 #![tactic(auto)]
 
 use std::alloc::AllocError;
 
 mod answering;
+mod context;
 mod demand;
+mod idle;
+mod laws;
 mod request;
 mod serving;
+mod stayed;
+mod worker;
 mod writing;
 
 pub use answering::admin_answer;
-pub use serving::{Which, serve_admin};
+pub use context::Context;
+pub use idle::IdleCaller;
+pub use laws::callers_forget_nothing;
+pub use serving::Which;
+pub use stayed::Stayed;
+pub use worker::ApiWorker;
 
 /// A value, unless there was no memory for it.
 pub type Mem<T> = Result<T, AllocError>;

@@ -3,7 +3,8 @@ ghost use Rattle.std.specs.Prelude.{◌≡◌, ◌++◌, List, ℕ, IfOk};
 ghost use Rattle.std.specs.Io.KnownBytes.{Consumes, Keeps};
 ghost use Rattle.admin_api.specs.Requests.{names_long_body};
 ghost use Rattle.admin_api.specs.Reading.{HasReadCauses, ShowsRequest, TellsTests, is_drained};
-ghost use Rattle.admin_api.specs.Reading.{of_body, of_head, quiet_end, raised_where};
+ghost use Rattle.admin_api.specs.Reading.{is_waiting, of_body, of_head, quiet_end};
+ghost use Rattle.admin_api.specs.Reading.{raised_where};
 
 use crate::Bytes;
 use body_wire::{BodyEnd, read_body};
@@ -30,6 +31,8 @@ pub(crate) enum Refused {
     Own(OwnError, bool),
     /// The connection ends so, with no reply.
     Ends(Ended),
+    /// No byte of one has come for a while, and none is kept.
+    Waits,
 }
 
 impl Refused {
@@ -109,7 +112,8 @@ fn tested(alloc: Global, head: &Head) -> Result<Framing, Refused>
 
 /// Waits for the next request of a connection, and reads it, whole, of the bytes that are kept and
 /// those that the peer gives behind them. The bytes behind it stay in `rest`. The connection ends
-/// with `Drained` where the listeners are closing and no byte of it has come.
+/// with `Drained` where the listeners are closing and no byte of it has come, and waits where none
+/// has come for a while.
 pub(crate) fn read_request<P: Peer>(
     alloc: Global,
     peer: &mut P,
@@ -123,11 +127,14 @@ pub(crate) fn read_request<P: Peer>(
     ensures writes { (P.line peer.new).write_faults ≡ (P.line peer.old).write_faults }
     ensures closings { (P.line peer.new).closings
         ≡ raised_where (is_drained (quiet_end result)) (P.line peer.old).closings }
+    ensures quiets { (P.line peer.new).quiets
+        ≡ raised_where (is_waiting result) (P.line peer.old).quiets }
 {
     let head = match read_next_head(alloc, peer, rest) {
         NextHead::Head(head) => head,
         NextHead::Ended(end) => return Err(Refused::of_head(end)),
         NextHead::Closing => return Err(Refused::Ends(Ended::Drained)),
+        NextHead::Quiet => return Err(Refused::Waits),
     };
     let framing = match tested(alloc, &head) {
         Ok(framing) => framing,

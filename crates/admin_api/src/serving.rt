@@ -1,29 +1,32 @@
-//! One connection of an interface, request by request.
-ghost use Rattle.std.specs.Prelude.{◌≡◌, ◌≤◌, ◌++◌, ◌||◌, ◌&&◌, not, Bool, IfOk, OnErr, List, ℕ};
-ghost use Rattle.std.specs.Prelude.{Some};
+//! A stay of a caller's connection, request by request.
+ghost use Rattle.std.specs.Prelude.{◌≡◌, ◌≤◌, ◌<◌, ◌++◌, ◌||◌, ◌&&◌, not, Bool, IfOk, OnErr, List};
+ghost use Rattle.std.specs.Prelude.{Some, ℕ};
 ghost use Rattle.std.specs.Io.KnownBytes.{Appends, Consumes};
 ghost use Rattle.line_base.specs.Counts.{Rose};
 ghost use Rattle.line_base.specs.Lines.{IsUnread};
+ghost use Rattle.http_wire.specs.Paused.{quiets_behind};
 ghost use Rattle.router.specs.Passes.{number_in};
 ghost use Rattle.ns_api.specs.Answering.{IsTaken};
 ghost use Rattle.admin_api.specs.Reading.{raised_where};
-ghost use Rattle.admin_api.specs.Serving.{Answers, AnswersAs, HasCauses, IsDelivered, IsServing};
-ghost use Rattle.admin_api.specs.Serving.{LeavesAs, Turns, calls_after, end_behind, while_closing};
+ghost use Rattle.admin_api.specs.Serving.{Answers, AnswersAs, HasCauses, IsDelivered, LeavesAs};
+ghost use Rattle.admin_api.specs.Serving.{Turns, calls_after, end_behind, ended_in, while_closing};
+ghost use Rattle.admin_api.specs.Stays.{StaysTo, standing_by};
 
 use crate::answering::admin_answer;
+use crate::context::Context;
 use crate::request::{Refused, Request, read_request};
+use crate::worker::ApiWorker;
 use crate::writing::refuse;
 use crate::{Bytes, Mem};
 use body_wire::write_all;
 use follow_feed::feed_answer;
-use http_wire::{Ended, Head, Rest, drained, hears_closing};
+use http_wire::{Ended, Head, Paused, Rest, drained, hears_closing, paused_by};
 use line_base::{Peer, Stop};
 use ns_api::{ApiReply, closes, ns_answer};
-use router::{Naming, Pass, Router};
-use std::alloc::Global;
+use router::{Naming, Pass};
 use std::sync::Wait;
 
-/// The most requests of one connection.
+/// The most requests of one connection, over all its stays.
 const MOST_REQUESTS: u32 = 10_000;
 
 /// Which of the interfaces.
@@ -66,86 +69,70 @@ fn stays_ready(ready: bool, closing: bool) -> bool
     ready && !closing
 }
 
-/// Serves a connection: its requests, one after another, until it ends or one closes it, and at
-/// most 10,000 of them. Behind the reply to a request that the program stop, it stops it. Once the
-/// listeners are closing, the request that is served is the connection's last, and a connection
-/// that waits for its next request ends: both with `Drained`.
-pub fn serve_admin<J: Naming, R: Wait, P: Peer, S: Stop>(
-    rt: &R,
-    alloc: Global,
-    router: &Router<J>,
-    pass: &mut Pass<J>,
+/// Serves a connection that has had so many requests for a stay: its next requests, one after
+/// another, until it ends, one closes it, or no byte of a next one has come for a while. Gives how
+/// many it has had then, but for one that ended it, and how it stands.
+pub(crate) fn serve_stay<J: Naming, R: Wait, P: Peer, S: Stop>(
+    context: &Context<'_, J, R>,
+    worker: &mut ApiWorker<J, S>,
     which: Which,
-    stop: &mut S,
+    served: u32,
     peer: &mut P,
-) -> Ended
-    ensures number { number_in pass.new ≡ number_in pass.old }
-    ensures serves { (came : List ℕ) × (gave : List ℕ) × (stopped : Bool) × (closing : Bool)
-        × Consumes (P.line peer.old).left (P.line peer.new).left came
-        × Appends (P.line peer.old).given (P.line peer.new).given gave
-        × (S.calls stop.new ≡ calls_after (S.calls stop.old) stopped)
-        × ((P.line peer.new).closings ≡ raised_where closing (P.line peer.old).closings)
-        × IsServing which pass.old pass.new came gave stopped closing result }
-    ensures causes { HasCauses (P.line peer.old).ends (P.line peer.new).ends
-        (P.line peer.old).read_faults (P.line peer.new).read_faults (P.line peer.old).write_faults
-        (P.line peer.new).write_faults (Some result) }
+) -> (u32, Paused)
+    requires { served < 10000 }
+    ensures stay { let at = standing_by P.line S.calls in StaysTo which served result.0
+        (at peer.old worker.old) (at peer.new worker.new) result.1 }
+    ensures few { result.0 < 10000 }
 {
-    let Ok(mut rest) = Rest::room(alloc) else {
-        return Ended::OutOfMemory;
+    let Ok(mut rest) = Rest::room(context.alloc) else {
+        return (served, Paused::Ended(Ended::OutOfMemory));
     };
-    'requests: for served in 0..MOST_REQUESTS {
-        match serve_next(
-            rt,
-            alloc,
-            router,
-            pass,
-            which,
-            served + 1 == MOST_REQUESTS,
-            stop,
-            peer,
-            &mut rest,
-        ) {
-            Some(ended) => return ended,
+    'requests: for count in served..MOST_REQUESTS {
+        let spent = count + 1 == MOST_REQUESTS;
+        match serve_next(context, worker, which, spent, peer, &mut rest) {
+            Some(paused) => return (count, paused),
             None => {}
         }
     }
     unreachable!()
 }
 
-/// Serves the next request of a connection, and says how the connection ends behind it, if it does.
+/// Serves the next request of a connection, and says how the connection stands behind it, where it
+/// does not go on.
 fn serve_next<J: Naming, R: Wait, P: Peer, S: Stop>(
-    rt: &R,
-    alloc: Global,
-    router: &Router<J>,
-    pass: &mut Pass<J>,
+    context: &Context<'_, J, R>,
+    worker: &mut ApiWorker<J, S>,
     which: Which,
     spent: bool,
-    stop: &mut S,
     peer: &mut P,
     rest: &mut Rest,
-) -> Option<Ended>
-    ensures number { number_in pass.new ≡ number_in pass.old }
+) -> Option<Paused>
+    ensures number { number_in worker.new.pass ≡ number_in worker.old.pass }
     ensures turn { (came : List ℕ) × (gave : List ℕ) × (stopped : Bool) × (closing : Bool)
         × Consumes (P.line peer.old).left (P.line peer.new).left came
         × Appends (P.line peer.old).given (P.line peer.new).given gave
-        × (S.calls stop.new ≡ calls_after (S.calls stop.old) stopped)
+        × (S.calls worker.new.stop ≡ calls_after (S.calls worker.old.stop) stopped)
         × ((P.line peer.new).closings ≡ raised_where closing (P.line peer.old).closings)
-        × Turns which spent closing pass.old pass.new (rest.old ++ came) rest.new gave stopped
-        result }
+        × Turns which spent closing worker.old.pass worker.new.pass (rest.old ++ came) rest.new gave
+        stopped result }
+    ensures quiets { (P.line peer.new).quiets ≡ quiets_behind result (P.line peer.old).quiets }
     ensures causes { HasCauses (P.line peer.old).ends (P.line peer.new).ends
         (P.line peer.old).read_faults (P.line peer.new).read_faults (P.line peer.old).write_faults
-        (P.line peer.new).write_faults result }
+        (P.line peer.new).write_faults (ended_in result) }
 {
-    match read_request(alloc, peer, rest) {
+    match read_request(context.alloc, peer, rest) {
         Ok(request) => {
             let closing = hears_closing(spent, peer);
             let last = is_last(spent, closing);
             let found = which.while_closing(closing);
-            let ended = reply_to(rt, alloc, router, pass, found, last, stop, peer, &request);
-            drained(closing, ended)
+            let ended = reply_to(context, worker, found, last, peer, &request);
+            paused_by(drained(closing, ended))
         }
-        Err(Refused::Own(err, with_body)) => Some(refuse(alloc, peer, err, with_body)),
-        Err(Refused::Ends(ended)) => Some(ended),
+        Err(Refused::Own(err, with_body)) => {
+            Some(Paused::Ended(refuse(context.alloc, peer, err, with_body)))
+        }
+        Err(Refused::Ends(ended)) => Some(Paused::Ended(ended)),
+        Err(Refused::Waits) => Some(Paused::Quiet),
     }
 }
 
@@ -158,48 +145,41 @@ fn is_last(spent: bool, closing: bool) -> bool
 
 /// Answers a request, writes the reply, and stops the program where it asked for that.
 fn reply_to<J: Naming, R: Wait, P: Peer, S: Stop>(
-    rt: &R,
-    alloc: Global,
-    router: &Router<J>,
-    pass: &mut Pass<J>,
+    context: &Context<'_, J, R>,
+    worker: &mut ApiWorker<J, S>,
     which: Which,
     last: bool,
-    stop: &mut S,
     peer: &mut P,
     request: &Request,
 ) -> Option<Ended>
     requires { IsTaken request.now.head }
-    ensures number { number_in pass.new ≡ number_in pass.old }
+    ensures number { number_in worker.new.pass ≡ number_in worker.old.pass }
     ensures answers { (gave : List ℕ) × (stopped : Bool)
         × Appends (P.line peer.old).given (P.line peer.new).given gave
-        × (S.calls stop.new ≡ calls_after (S.calls stop.old) stopped)
-        × Answers which last request.now.head request.now.body.items pass.old pass.new gave stopped
-        result }
+        × (S.calls worker.new.stop ≡ calls_after (S.calls worker.old.stop) stopped)
+        × Answers which last request.now.head request.now.body.items worker.old.pass worker.new.pass
+        gave stopped result }
     ensures others { IsUnread (P.line peer.old) (P.line peer.new) }
     ensures cause { result ≡ Some Ended.WriteFault
         → Rose (P.line peer.old).write_faults (P.line peer.new).write_faults }
     ensures later { (P.line peer.old).write_faults ≤ (P.line peer.new).write_faults }
 {
     match answer(
-        rt,
-        alloc,
-        router,
-        pass,
+        context,
+        &mut worker.pass,
         which,
         &request.head,
         &request.body,
         last,
     ) {
-        Ok(reply) => deliver(stop, peer, &request.head, last, &reply),
+        Ok(reply) => deliver(&mut worker.stop, peer, &request.head, last, &reply),
         Err(_want) => Some(Ended::OutOfMemory),
     }
 }
 
 /// Answers a request of this interface.
 fn answer<J: Naming, R: Wait>(
-    rt: &R,
-    alloc: Global,
-    router: &Router<J>,
+    context: &Context<'_, J, R>,
     pass: &mut Pass<J>,
     which: Which,
     head: &Head,
@@ -213,9 +193,25 @@ fn answer<J: Naming, R: Wait>(
     ensures want { OnErr result (LeavesAs which head.now body.now.items pass.old pass.new) }
 {
     match which {
-        Which::Namerd => ns_answer(rt, alloc, router, pass, head, body, last),
-        Which::Admin { ready } => admin_answer(rt, alloc, router, pass, ready, head, body, last),
-        Which::Feed { run } => feed_answer(rt, alloc, router, pass, run, head, last),
+        Which::Namerd => ns_answer(
+            context.rt,
+            context.alloc,
+            context.router,
+            pass,
+            head,
+            body,
+            last,
+        ),
+        Which::Admin { ready } => admin_answer(context, pass, ready, head, body, last),
+        Which::Feed { run } => feed_answer(
+            context.rt,
+            context.alloc,
+            context.router,
+            pass,
+            run,
+            head,
+            last,
+        ),
     }
 }
 

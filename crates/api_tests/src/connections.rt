@@ -1,11 +1,12 @@
-//! Connections to the interfaces of one router, served one after the other.
+//! Connections to the interfaces of one router, served one after the other, each by two workers in
+//! turns.
 ghost use Rattle.std.specs.Prelude.{◌≡◌, Some};
 ghost use Rattle.load_words.specs.Seats.{words_of};
 ghost use Rattle.snap_cell.specs.Writers.{cell_written, opening_written};
 ghost use Rattle.router.specs.Values.{settings_in};
 
 use addr_book::Name;
-use admin_api::{Which, serve_admin};
+use admin_api::{ApiWorker, Context, IdleCaller, Stayed, Which};
 use choose_core::Limits;
 use dtab_table::Dtab;
 use http_wire::Ended;
@@ -14,6 +15,7 @@ use machine::Settings;
 use router::{Naming, Opened, Pass, Router, open};
 use std::alloc::{AllocError, Global};
 use std::marker::Brand;
+use std::process::Abort;
 use std::sync::Wait;
 use std::test::Fail;
 
@@ -23,35 +25,41 @@ pub(crate) type Mem<T> = Result<T, AllocError>;
 /// The bytes of a text.
 pub(crate) type Bytes = Vec<u8>;
 
-/// A connection: the bytes that come on it, which of its reads and which of its writes fails, the
-/// first being 0, and from which question on it says that its listeners are closing.
+/// A connection: the bytes that come on it, and how many in each of its first reads; which of its
+/// reads and which of its writes fails, the first being 0; at which questions nothing comes; and
+/// from which question on it says that its listeners are closing.
 #[derive(Drop)]
 pub(crate) struct Connection {
     pub(crate) to: Which,
     pub(crate) bytes: Bytes,
+    pub(crate) sizes: &'static [usize],
     pub(crate) read_fails: Option<u64>,
     pub(crate) write_fails: Option<u64>,
+    pub(crate) quiet: &'static [u64],
     pub(crate) closing: Option<u64>,
 }
 
 impl Connection {
-    /// One on which no call fails, and whose listeners stay open.
+    /// One whose bytes come at once, on which no call fails, and whose listeners stay open.
     pub(crate) fn of(to: Which, bytes: Bytes) -> Connection {
         Connection {
             to,
             bytes,
+            sizes: &[],
             read_fails: None,
             write_fails: None,
+            quiet: &[],
             closing: None,
         }
     }
 }
 
-/// What a connection was given, how it ended, and how often the program was stopped.
+/// What a connection was given, how it ended, unless it still waits, and how often the program was
+/// stopped.
 #[derive(Drop)]
 pub(crate) struct Served {
     pub(crate) given: Bytes,
-    pub(crate) ended: Ended,
+    pub(crate) ended: Option<Ended>,
     pub(crate) stops: u64,
 }
 
@@ -69,7 +77,7 @@ fn peer_of(alloc: Global, connection: &Connection) -> Mem<MemPeer> {
     let bytes = Vec::from_slice(alloc, connection.bytes.as_slice())?;
     let source = MemSource::of(
         bytes,
-        Vec::new(alloc),
+        Vec::from_slice(alloc, connection.sizes)?,
         failing(alloc, connection.read_fails)?,
     );
     let sink = MemSink::of(
@@ -77,47 +85,116 @@ fn peer_of(alloc: Global, connection: &Connection) -> Mem<MemPeer> {
         Vec::new(alloc),
         failing(alloc, connection.write_fails)?,
     );
-    Ok(match connection.closing {
+    let peer = match connection.closing {
         Some(question) => MemPeer::closing(source, sink, question),
         None => MemPeer::of(source, sink),
-    })
+    };
+    Ok(peer.quiet(Vec::from_slice(alloc, connection.quiet)?))
+}
+
+/// The workers of a router.
+#[derive(Drop)]
+struct Pair<J: Naming> {
+    first: ApiWorker<J, MemStop>,
+    second: ApiWorker<J, MemStop>,
+}
+
+/// A caller whose stay came out so, behind a stay more with this worker, where it waits.
+fn go_on<J: Naming, R: Wait>(
+    context: &Context<'_, J, R>,
+    worker: &mut ApiWorker<J, MemStop>,
+    stayed: Stayed<IdleCaller<MemPeer, J>, MemPeer>,
+) -> Stayed<IdleCaller<MemPeer, J>, MemPeer> {
+    match stayed {
+        Stayed::Waits(caller) => caller.serve(context, worker),
+        Stayed::Ends(peer, ended) => Stayed::Ends(peer, ended),
+    }
+}
+
+/// Serves a peer for three stays at most: by the first worker, the second, and the first again.
+fn serve_by_turns<J: Naming, R: Wait>(
+    context: &Context<'_, J, R>,
+    pair: &mut Pair<J>,
+    to: Which,
+    peer: MemPeer,
+) -> (MemPeer, Option<Ended>) {
+    let caller = IdleCaller::came(peer, to, &pair.first);
+    let stayed = caller.serve(context, &mut pair.first);
+    let stayed = go_on(context, &mut pair.second, stayed);
+    match go_on(context, &mut pair.first, stayed) {
+        Stayed::Waits(caller) => (caller.end(), None),
+        Stayed::Ends(peer, ended) => (peer, Some(ended)),
+    }
 }
 
 /// Serves a connection.
 fn serve<J: Naming, R: Wait>(
-    rt: &R,
-    alloc: Global,
-    router: &Router<J>,
-    pass: &mut Pass<J>,
+    context: &Context<'_, J, R>,
+    pair: &mut Pair<J>,
     connection: &Connection,
 ) -> Mem<Served> {
-    let mut peer = peer_of(alloc, connection)?;
-    let mut stop = MemStop::new();
-    let ended = serve_admin(rt, alloc, router, pass, connection.to, &mut stop, &mut peer);
+    let peer = peer_of(context.alloc, connection)?;
+    let before = stops_of(pair);
+    let (peer, ended) = serve_by_turns(context, pair, connection.to, peer);
     Ok(Served {
-        given: Vec::from_slice(alloc, peer.sink().held())?,
+        given: Vec::from_slice(context.alloc, peer.sink().held())?,
         ended,
-        stops: stop.calls(),
+        stops: stops_of(pair).saturating_sub(before),
     })
+}
+
+/// How often the workers stopped the program.
+fn stops_of<J: Naming>(pair: &Pair<J>) -> u64 {
+    pair.first
+        .stop
+        .calls()
+        .saturating_add(pair.second.stop.calls())
 }
 
 /// Serves connections one after the other.
 fn serve_all<J: Naming, R: Wait>(
-    rt: &R,
-    alloc: Global,
-    router: &Router<J>,
-    pass: &mut Pass<J>,
+    context: &Context<'_, J, R>,
+    pair: &mut Pair<J>,
     connections: &[Connection],
 ) -> Mem<Vec<Served>> {
-    let mut all = Vec::new(alloc);
+    let mut all = Vec::new(context.alloc);
     for connection in connections {
-        all.push(serve(rt, alloc, router, pass, connection)?)?;
+        all.push(serve(context, pair, connection)?)?;
     }
     Ok(all)
 }
 
-/// Names a router, serves connections with its one pass, and ends it.
-fn staged<J: Naming, R: Wait>(
+/// A worker with this pass.
+fn worker_of<J: Naming>(pass: Pass<J>) -> ApiWorker<J, MemStop> {
+    ApiWorker {
+        pass,
+        stop: MemStop::new(),
+    }
+}
+
+/// Ends a router, whose workers had these passes.
+fn close<J: Naming, R: Wait + Abort>(
+    rt: &R,
+    router: Router<J>,
+    room: Vec<Pass<J>>,
+    first: Pass<J>,
+    second: Pass<J>,
+)
+    requires { J.parts ≡ J.seats }
+{
+    let mut passes = room;
+    assert!(rt; first.number() < second.number());
+    assert!(rt; passes.is_empty() && passes.capacity() >= 2);
+    passes.push_reserved(first);
+    passes.push_reserved(second);
+    match router.close(rt, passes) {
+        Ok(_place) => {}
+        Err(_back) => panic!(rt; "not closed"),
+    }
+}
+
+/// Names a router, serves connections with its two passes, and ends it.
+fn staged<J: Naming, R: Wait + Abort>(
     rt: &R,
     alloc: Global,
     opened: Opened,
@@ -128,18 +205,25 @@ fn staged<J: Naming, R: Wait>(
     requires words { Some (words_of opened.loads) ≡ J.words }
     requires name { opened.blank.name ≡ J.name }
     requires parts { (opened.blank.parts ≡ J.parts) × (J.parts ≡ J.seats) }
-    requires seats { (opened.seats ≡ J.seats) × (opened.seats ≡ 1) }
+    requires seats { (opened.seats ≡ J.seats) × (opened.seats ≡ 2) }
 {
     let (router, mut passes) = opened.named::<J, R>(rt, alloc)?;
-    let Some(mut pass) = passes.pop() else {
-        unreachable!()
+    let (Some(second), Some(first)) = (passes.pop(), passes.pop()) else {
+        panic!(rt; "no passes")
     };
-    let served = serve_all(rt, alloc, &router, &mut pass, connections);
-    passes.push_reserved(pass);
-    match router.close(rt, passes) {
-        Ok(_place) => served,
-        Err(_back) => unreachable!(),
-    }
+    let context = Context {
+        rt,
+        alloc,
+        router: &router,
+    };
+    let mut pair = Pair {
+        first: worker_of(first),
+        second: worker_of(second),
+    };
+    let served = serve_all(&context, &mut pair, connections);
+    let Pair { first, second } = pair;
+    close(rt, router, passes, first.pass, second.pass);
+    served
 }
 
 /// Settings with the namespace `default` and no configured table.
@@ -158,11 +242,11 @@ fn settings(alloc: Global) -> Result<Settings, Fail> {
 }
 
 /// Serves connections one after the other, on a new router.
-pub(crate) fn run<R: Wait>(
+pub(crate) fn run<R: Wait + Abort>(
     rt: &R,
     alloc: Global,
     connections: &[Connection],
 ) -> Result<Vec<Served>, Fail> {
-    let opened = open(rt, alloc, settings(alloc)?, 1)?;
+    let opened = open(rt, alloc, settings(alloc)?, 2)?;
     Ok(staged::<Brand, R>(rt, alloc, opened, connections)?)
 }

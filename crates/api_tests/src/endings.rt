@@ -4,6 +4,7 @@ use crate::rows::{ADMIN, said};
 use admin_api::Which::{self, Namerd};
 use http_wire::Ended;
 use std::alloc::Global;
+use std::process::Abort;
 use std::sync::Wait;
 use std::test::Fail;
 
@@ -235,19 +236,18 @@ const ROWS: [Row; 23] = [
 fn connections(alloc: Global) -> Mem<Vec<Connection>> {
     let mut all = Vec::new(alloc);
     for (to, comes, read_fails, write_fails, _gives, _ended, _stops) in &ROWS {
+        let bytes = Vec::from_slice(alloc, comes.as_bytes())?;
         all.push(Connection {
-            to: *to,
-            bytes: Vec::from_slice(alloc, comes.as_bytes())?,
             read_fails: *read_fails,
             write_fails: *write_fails,
-            closing: None,
+            ..Connection::of(*to, bytes)
         })?;
     }
     Ok(all)
 }
 
 /// What serving them came to.
-fn serve_rows<R: Wait>(rt: &R, alloc: Global) -> Result<Vec<Served>, Fail> {
+fn serve_rows<R: Wait + Abort>(rt: &R, alloc: Global) -> Result<Vec<Served>, Fail> {
     let connections = connections(alloc)?;
     run(rt, alloc, connections.as_slice())
 }
@@ -260,7 +260,7 @@ fn each_request_has_its_reply_and_each_connection_its_end(rt: HostRuntime) -> Re
     for (one, (_to, comes, _read, _write, gives, ended, stops)) in served.iter().zip(&ROWS) {
         let told = said(alloc, one.given.as_slice())?;
         assert_eq!(rt; told.as_str(), *gives, "{comes}");
-        assert_eq!(rt; one.ended, *ended, "{comes}");
+        assert_eq!(rt; one.ended, Some(*ended), "{comes}");
         assert_eq!(rt; one.stops, *stops, "{comes}");
     }
     Ok(())

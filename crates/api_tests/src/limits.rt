@@ -4,6 +4,7 @@ use crate::rows::{ADMIN, request, said};
 use admin_api::Which::{self, Namerd};
 use http_wire::Ended;
 use std::alloc::Global;
+use std::process::Abort;
 use std::sync::Wait;
 use std::test::Fail;
 
@@ -113,16 +114,14 @@ fn request_of(alloc: Global, row: &Row) -> Mem<Bytes> {
     request(alloc, asks, json, body.as_slice())
 }
 
-/// What a connection with these bytes is given, on a new router, how it ends, and how many bytes it
-/// was given.
-fn served<R: Wait>(
+/// What a connection is given, on a new router, how it ends, and how many bytes it was given.
+fn served<R: Wait + Abort>(
     rt: &R,
     alloc: Global,
-    to: Which,
-    bytes: Bytes,
-) -> Result<(String, Ended, usize), Fail> {
+    connection: Connection,
+) -> Result<(String, Option<Ended>, usize), Fail> {
     let mut connections = Vec::new(alloc);
-    connections.push(Connection::of(to, bytes))?;
+    connections.push(connection)?;
     let all = run(rt, alloc, connections.as_slice())?;
     match all.first() {
         Some(one) => Ok((
@@ -130,7 +129,7 @@ fn served<R: Wait>(
             one.ended,
             one.given.len(),
         )),
-        None => Ok((String::new(alloc), Ended::OutOfMemory, 0)),
+        None => Ok((String::new(alloc), None, 0)),
     }
 }
 
@@ -219,9 +218,10 @@ fn replies_to(alloc: Global, most: &Most) -> Mem<String> {
 fn a_full_router_takes_no_more(rt: HostRuntime) -> Result<(), Fail> {
     let alloc = rt.alloc();
     for most in &FULL {
-        let (told, ended, _length) = served(&rt, alloc, most.0, one_too_many(alloc, most)?)?;
+        let connection = Connection::of(most.0, one_too_many(alloc, most)?);
+        let (told, ended, _length) = served(&rt, alloc, connection)?;
         let wanted = replies_to(alloc, most)?;
-        assert_eq!(rt; ended, Ended::PeerEnded);
+        assert_eq!(rt; ended, Some(Ended::PeerEnded));
         assert!(rt; told.as_str() == wanted.as_str(), "{}", most.3);
     }
     Ok(())
@@ -231,12 +231,14 @@ fn a_full_router_takes_no_more(rt: HostRuntime) -> Result<(), Fail> {
 fn bodies_end_at_their_limits(rt: HostRuntime) -> Result<(), Fail> {
     let alloc = rt.alloc();
     for row in &ROWS {
-        let (told, _ended, _length) = served(&rt, alloc, row.0, request_of(alloc, row)?)?;
+        let connection = Connection::of(row.0, request_of(alloc, row)?);
+        let (told, _ended, _length) = served(&rt, alloc, connection)?;
         assert_eq!(rt; told.as_str(), row.5, "{} {}", row.2, row.3);
     }
     Ok(())
 }
 
+/// The first request comes alone, and the connection waits behind it.
 #[test]
 fn a_connection_carries_ten_thousand_requests(rt: HostRuntime) -> Result<(), Fail> {
     let alloc = rt.alloc();
@@ -247,8 +249,13 @@ fn a_connection_carries_ten_thousand_requests(rt: HostRuntime) -> Result<(), Fai
         10_001,
         "",
     )?;
-    let (_told, ended, length) = served(&rt, alloc, ADMIN, pings)?;
-    assert_eq!(rt; ended, Ended::Spent);
+    let connection = Connection {
+        sizes: &[37],
+        quiet: &[2],
+        ..Connection::of(ADMIN, pings)
+    };
+    let (_told, ended, length) = served(&rt, alloc, connection)?;
+    assert_eq!(rt; ended, Some(Ended::Spent));
     // A reply has 69 bytes, and the last one says `Connection: close`, which is 19 more.
     assert_eq!(rt; length, 10_000 * 69 + 19);
     Ok(())

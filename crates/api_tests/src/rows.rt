@@ -2,6 +2,7 @@
 use crate::connections::{Bytes, Connection, Mem, run};
 use admin_api::Which;
 use std::alloc::Global;
+use std::process::Abort;
 use std::sync::Wait;
 use std::test::Fail;
 
@@ -49,7 +50,11 @@ pub(crate) fn said(alloc: Global, given: &[u8]) -> Mem<String> {
 }
 
 /// The replies to the requests of some rows, on a new router.
-pub(crate) fn replies<R: Wait>(rt: &R, alloc: Global, rows: &[Row]) -> Result<Vec<String>, Fail> {
+pub(crate) fn replies<R: Wait + Abort>(
+    rt: &R,
+    alloc: Global,
+    rows: &[Row],
+) -> Result<Vec<String>, Fail> {
     let served = run(rt, alloc, connections(alloc, rows)?.as_slice())?;
     let mut replies = Vec::new(alloc);
     for one in &served {

@@ -36,6 +36,7 @@ impl Peer for Gathered {
       write_faults = g.faults;
       ends = g.ends;
       closings = 0;
+      quiets = 0;
     } };
 
     fn read(&mut self, into: &mut [u8]) -> Result<usize, Failed> {

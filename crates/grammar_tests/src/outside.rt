@@ -2,8 +2,8 @@
 ghost use Rattle.std.specs.Prelude.{◌≡◌, ◌≤◌, ◌<◌};
 
 use line_base::{
-    Clock, ConnectionPool, DialEvent, Dialer, Failed, Folder, FolderFault, Found, Listener, Mem,
-    MemAddress, MemClock, MemDialer, MemDials, MemFile, MemFolder, MemNet, MemPeer, MemSink,
+    Clock, ConnectionPool, DialEvent, Dialer, Event, Failed, Folder, FolderFault, Found, Listener,
+    Mem, MemAddress, MemClock, MemDialer, MemDials, MemFile, MemFolder, MemNet, MemPeer, MemSink,
     MemSource, MemStop, MemVisits, Net, NetFault, Peer, Sink, Source, Stop,
 };
 use std::alloc::Global;
@@ -343,17 +343,19 @@ fn folder_of_files(rt: HostRuntime) -> Result<(), Fail> {
     Ok(())
 }
 
-/// Five answers of a listener: `p` for a peer, which goes back at once, `!` for a fault, and `-`
-/// where it is closed.
+/// Five answers of a listener: `p` for a peer, which goes back at once, `r` for one that was
+/// watched, `t` for a tick, `!` for a fault, and `-` where it is closed.
 fn answers<L: Listener>(listener: &mut L) -> [u8; 5] {
     let mut answers = [b'.'; 5];
     for answer in answers.iter_mut() {
-        *answer = match listener.accept() {
-            Ok(Some(peer)) => {
+        *answer = match listener.next_event() {
+            Ok(Event::Came(peer)) => {
                 listener.finish(peer);
                 b'p'
             }
-            Ok(None) => b'-',
+            Ok(Event::Ready(_)) => b'r',
+            Ok(Event::Tick(_)) => b't',
+            Ok(Event::Closed) => b'-',
             Err(_) => b'!',
         };
     }
@@ -388,14 +390,18 @@ fn listen_twice<N: Net>(net: &mut N, alloc: Global, ip: u32) -> Result<Vec<u8>, 
     Ok(told)
 }
 
-/// So many peers that say nothing come to a place, whose calls fail as told.
+/// So many peers that say nothing come to a place, and then it tells a number and a tick; its calls
+/// fail as told.
 fn visits(alloc: Global, count: u32, failing: &[u64]) -> Mem<MemVisits<MemPeer>> {
-    let mut peers = Vec::new(alloc);
+    let mut events = Vec::new(alloc);
     for _peer in 0..count {
-        peers.push(MemPeer::of(source_of(alloc, b"", &[], &[])?, sink_of(alloc, &[], &[])?))?;
+        let peer = MemPeer::of(source_of(alloc, b"", &[], &[])?, sink_of(alloc, &[], &[])?);
+        events.push(Event::Came(peer))?;
     }
+    events.push(Event::Ready(7))?;
+    events.push(Event::Tick(1))?;
     let failing = Vec::from_slice(alloc, failing)?;
-    Ok(MemVisits { peers, failing })
+    Ok(MemVisits { events, failing })
 }
 
 /// A net whose call 1 fails. To port 80 of the address 7 two peers come at the first place, where
@@ -447,10 +453,10 @@ fn ended_text(alloc: Global, net: &MemNet<MemPeer>) -> Mem<String> {
 fn net_of_listeners(rt: HostRuntime) -> Result<(), Fail> {
     let mut net = net_of_visits(rt.alloc())?;
     let rows = [
-        (7, "p!p--p----", 0, 2),
-        (7, "failed", 1, 2),
-        (7, "----------", 1, 4),
-        (8, "----------", 1, 6),
+        (7, "p!prtprt--", 0, 1),
+        (7, "failed", 1, 1),
+        (7, "----------", 1, 3),
+        (8, "----------", 1, 5),
     ];
     for (ip, told, faults, clean) in rows {
         let heard = heard(&mut net, rt.alloc(), ip)?;

@@ -5,14 +5,14 @@ use Rattle.std.proofs.KnownBytes.{Consumes-nil, Keeps-refl, Keeps-trans}
 use Rattle.line_base.specs.Counts.{raised}
 use Rattle.line_base.specs.declared.outside.Failed.{Failed}
 use Rattle.line_base.specs.declared.outside.Next.{Next}
-use Rattle.line_base.specs.declared.outside.Next.TheVariants.{Bytes, End, Closing}
-use Rattle.line_base.specs.Lines.{IsRead, IsUnwritten, Line, WaitsForNext, told_closing}
+use Rattle.line_base.specs.declared.outside.Next.TheVariants.{Bytes, End, Closing, Quiet}
+use Rattle.line_base.specs.Lines.{IsRead, IsUnwritten, Line, WaitsForNext, told_closing, told_quiet}
 use Rattle.http_wire.specs.declared.head.Head.{Head}
 use Rattle.http_wire.specs.declared.reading.HeadEnd.{HeadEnd}
 use Rattle.http_wire.specs.declared.rest.FillFault.{FillFault}
 use Rattle.http_wire.specs.declared.rest.FillFault.TheVariants.{ReadFault, OutOfMemory}
 use Rattle.http_wire.specs.FirstLine.{skip_empty_lines}
-use Rattle.http_wire.specs.Heads.{IsUnfinished, most_piece}
+use Rattle.http_wire.specs.Heads.{most_piece}
 use Rattle.http_wire.specs.Next.{Awaits, HasBegun, ReadsOff, awaited_of}
 use Rattle.http_wire.specs.Reading.{HasCauses, ReadsHead}
 use Rattle.http_wire.specs.Rest.{FillsNext, FillsNextIn, GivesNone, GivesPiece}
@@ -35,6 +35,11 @@ came_end old new buffer next is waits =
 pub came_closing : (old new : Line) (buffer : List ℕ) (next : Next) → next ≡ Closing
     → WaitsForNext old new buffer (Ok next) → new ≡ told_closing true old
 came_closing old new buffer next is waits =
+    subst (λ (n : Next). WaitsForNext old new buffer (Ok n)) is waits
+
+pub came_quiet : (old new : Line) (buffer : List ℕ) (next : Next) → next ≡ Quiet
+    → WaitsForNext old new buffer (Ok next) → new ≡ told_quiet old
+came_quiet old new buffer next is waits =
     subst (λ (n : Next). WaitsForNext old new buffer (Ok n)) is waits
 
 no_bytes : (xs : List ℕ) → take 0 xs ≡ []
@@ -110,6 +115,8 @@ filled old new held kept kept_after most End is few x =
     none_given old new held kept kept_after (raised old.ends) old.read_faults is x
 filled old new held kept kept_after most Closing is few x =
     record { same = x.same ∙ is; closing = x.closing }
+filled old new held kept kept_after most Quiet is few x =
+    record { same = x.same ∙ is; quiet = x.quiet }
 
 pub failed : (old new : Line) (held kept kept_after : List ℕ) (most : ℕ) (fault : Failed)
     → held ≡ kept → FillsNext old new held kept_after most (Err fault)
@@ -122,7 +129,7 @@ failed old new held kept kept_after most fault is x =
 unwritten : (old new : Line) → new ≡ old → IsUnwritten old new
 unwritten old new is =
     subst (IsUnwritten old) (sym is)
-    (record { given = Keeps-refl old.given; write_faults = refl; closings = refl })
+    (record { given = Keeps-refl old.given; write_faults = refl; closings = refl; quiets = refl })
 
 nothing_lies : (kept : List ℕ) → kept ≡ [] → skip_empty_lines kept ≡ []
 nothing_lies kept none = ap skip_empty_lines none
@@ -155,6 +162,8 @@ begins old new kept kept_after (Ok End) none x = record {
 }
 begins old new kept kept_after (Ok Closing) none x =
     record { none = none; none_came = x.same ∙ none; closing = x.closing }
+begins old new kept kept_after (Ok Quiet) none x =
+    record { none = none; none_came = x.same ∙ none; quiet = x.quiet }
 begins old new kept kept_after (Err ReadFault) none x = record {
   head =
       ended_at_once old.left new.left kept kept_after (Err HeadEnd.ReadFault) x.given
@@ -214,5 +223,6 @@ read_off a b c k0 k1 k2 result first head causes others = record {
     given = Keeps-trans a.given b.given c.given first.others.given others.given;
     write_faults = others.write_faults ∙ first.others.write_faults;
     closings = others.closings ∙ first.others.closings;
+    quiets = others.quiets ∙ first.others.quiets;
   };
 }

@@ -9,6 +9,7 @@ pub mod Lines
 pub mod Next
 pub mod Parsed
 pub mod Places
+pub mod Paused
 pub mod Reading
 pub mod Replies
 pub mod ReplyReading

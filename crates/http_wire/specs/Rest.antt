@@ -8,8 +8,8 @@ use Rattle.line_base.specs.Counts.{raised}
 use Rattle.line_base.specs.Dials.{KeepsLog, Logs}
 use Rattle.line_base.specs.declared.outside.Failed.{Failed}
 use Rattle.line_base.specs.declared.outside.Next.{Next}
-use Rattle.line_base.specs.declared.outside.Next.TheVariants.{Bytes, End, Closing}
-use Rattle.line_base.specs.Lines.{IsUnwritten, Line, told_closing}
+use Rattle.line_base.specs.declared.outside.Next.TheVariants.{Bytes, End, Closing, Quiet}
+use Rattle.line_base.specs.Lines.{IsUnwritten, Line, told_closing, told_quiet}
 use Rattle.http_wire.specs.declared.rest.FillFault.{FillFault}
 use Rattle.http_wire.specs.declared.rest.FillFault.TheVariants.{ReadFault, OutOfMemory}
 use Rattle.http_wire.specs.declared.room.Room.{Room}
@@ -69,12 +69,18 @@ pub record TellsClosing (old new : Line) (kept kept_after : List ℕ) : Type 0 w
   pub same : kept_after ≡ kept
   pub closing : new ≡ told_closing true old
 
+-- nothing came for a while, and the connection said so
+pub record TellsQuiet (old new : Line) (kept kept_after : List ℕ) : Type 0 where
+  pub same : kept_after ≡ kept
+  pub quiet : new ≡ told_quiet old
+
 -- what a wait for the next request gave, of at most so many bytes
 abbrev pub FillsNext : Line → Line → List ℕ → List ℕ → ℕ → Result Next Failed → Type 0
 FillsNext old new kept kept_after most (Ok (Bytes count)) = GivesPiece old new kept kept_after most
 FillsNext old new kept kept_after most (Ok End) =
     GivesNone old new kept kept_after (raised old.ends) old.read_faults
 FillsNext old new kept kept_after most (Ok Closing) = TellsClosing old new kept kept_after
+FillsNext old new kept kept_after most (Ok Quiet) = TellsQuiet old new kept kept_after
 FillsNext old new kept kept_after most (Err failed) =
     GivesNone old new kept kept_after old.ends (raised old.read_faults)
 
@@ -85,6 +91,7 @@ FillsNextIn old new kept kept_after most (Ok (Bytes count)) =
 FillsNextIn old new kept kept_after most (Ok End) =
     GivesNone old new kept kept_after (raised old.ends) old.read_faults
 FillsNextIn old new kept kept_after most (Ok Closing) = TellsClosing old new kept kept_after
+FillsNextIn old new kept kept_after most (Ok Quiet) = TellsQuiet old new kept kept_after
 FillsNextIn old new kept kept_after most (Err ReadFault) =
     GivesNone old new kept kept_after old.ends (raised old.read_faults)
 FillsNextIn old new kept kept_after most (Err OutOfMemory) =

@@ -3,12 +3,13 @@
 //!
 //! [`read_request_head`] reads a [`Head`] off a [`Peer`](line_base::Peer), in any pieces, and keeps
 //! the bytes past it in a [`Rest`]; [`read_next_head`] also waits for it, between two requests, and
-//! can be told there that the listeners are closing. [`framing`] says how the body behind it ends,
-//! [`read_target`] what its target goes on as, and [`read_host`] whom it asks. [`read_reply_head`]
-//! receives a [`ReplyHead`] from a [`Dialer`](line_base::Dialer) in the same way, and
-//! [`reply_framing`] says how its body ends. [`push_line`] and its kin write the lines of a head.
-//! The profile is that of RFC 9110 and RFC 9112, stricter where two readers of the same bytes could
-//! see two different requests; `docs/HTTP.md` states it.
+//! can be told there that the listeners are closing, or that nothing came for a while
+//! ([`NextHead::Quiet`]), so that the connection can wait elsewhere ([`Paused`]). [`framing`] says
+//! how the body behind it ends, [`read_target`] what its target goes on as, and [`read_host`] whom
+//! it asks. [`read_reply_head`] receives a [`ReplyHead`] from a [`Dialer`](line_base::Dialer) in
+//! the same way, and [`reply_framing`] says how its body ends. [`push_line`] and its kin write the
+//! lines of a head. The profile is that of RFC 9110 and RFC 9112, stricter where two readers of the
+//! same bytes could see two different requests; `docs/HTTP.md` states it.
 //!
 //! # What is proved
 //! The head that is read is that of all the bytes, whatever the pieces in which they came and
@@ -47,6 +48,7 @@ mod lines;
 mod list;
 mod next;
 mod parse;
+mod paused;
 mod reading;
 mod reply_parse;
 mod reply_reading;
@@ -69,6 +71,7 @@ pub use laws::{heads_are_unique, readings_exclude_one_another};
 pub use lines::{end_line, push_field, push_line};
 pub use list::{before, trimmed};
 pub use next::{NextHead, hears_closing, read_next_head};
+pub use paused::{Paused, paused_by};
 pub use reading::{HeadEnd, read_request_head};
 pub use reply_reading::read_reply_head;
 pub use rest::Rest;

@@ -19,6 +19,9 @@ pub enum NextHead {
     /// The listeners are closing, and no byte of a next request has come: the peer's count of that
     /// rose.
     Closing,
+    /// No byte of a next request has come for a while, and none is kept: the peer's count of that
+    /// rose, and the connection can wait.
+    Quiet,
 }
 
 /// Waits for the next request of a connection, and reads its head as [`read_request_head`] does.
@@ -36,6 +39,7 @@ pub fn read_next_head<P: Peer>(alloc: Global, peer: &mut P, rest: &mut Rest) -> 
         },
         Awaited::Ended(end) => NextHead::Ended(end),
         Awaited::Closing => NextHead::Closing,
+        Awaited::Quiet => NextHead::Quiet,
     }
 }
 
@@ -48,6 +52,8 @@ enum Awaited {
     Ended(HeadEnd),
     /// The listeners are closing.
     Closing,
+    /// None came for a while.
+    Quiet,
 }
 
 /// Waits for the begin of a request, where no byte of it is kept.
@@ -68,6 +74,7 @@ fn begin_by(filled: Result<Next, FillFault>) -> Awaited
         Ok(Next::Bytes(_)) => Awaited::Begun,
         Ok(Next::End) => Awaited::Ended(HeadEnd::Ended),
         Ok(Next::Closing) => Awaited::Closing,
+        Ok(Next::Quiet) => Awaited::Quiet,
         Err(FillFault::ReadFault) => Awaited::Ended(HeadEnd::ReadFault),
         Err(FillFault::OutOfMemory) => Awaited::Ended(HeadEnd::OutOfMemory),
     }

@@ -159,6 +159,7 @@ impl Room {
             }
             Ok(Next::End) => Ok(Next::End),
             Ok(Next::Closing) => Ok(Next::Closing),
+            Ok(Next::Quiet) => Ok(Next::Quiet),
             Err(failed) => Err(failed),
         }
     }

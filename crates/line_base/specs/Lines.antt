@@ -5,12 +5,12 @@ use Rattle.std.specs.Io.KnownBytes.{Appends, Keeps, ReadConsumes}
 use Rattle.line_base.specs.Counts.{HasCause, CountsEnds, raised}
 use Rattle.line_base.specs.declared.outside.Failed.{Failed}
 use Rattle.line_base.specs.declared.outside.Next.{Next}
-use Rattle.line_base.specs.declared.outside.Next.TheVariants.{Bytes, End, Closing}
+use Rattle.line_base.specs.declared.outside.Next.TheVariants.{Bytes, End, Closing, Quiet}
 
 -- a connection: the bytes that it has yet to give and those that were given to it, where it tells
--- them; how often a read and a write failed, how many reads gave the end, and how often it said
--- that its listeners are closing. A count never falls, and stands still at the last value of a
--- `u64`
+-- them; how often a read and a write failed, how many reads gave the end, how often it said that
+-- its listeners are closing, and how often that nothing came for a while. A count never falls, and
+-- stands still at the last value of a `u64`
 pub record Line : Type 0 where
   pub left : Option (List ℕ)
   pub given : Option (List ℕ)
@@ -18,6 +18,7 @@ pub record Line : Type 0 where
   pub write_faults : ℕ
   pub ends : ℕ
   pub closings : ℕ
+  pub quiets : ℕ
 
 -- nothing moved on the connection
 pub record Rests (old new : Line) : Type 0 where
@@ -27,6 +28,7 @@ pub record Rests (old new : Line) : Type 0 where
   pub write_faults : new.write_faults ≡ old.write_faults
   pub ends : new.ends ≡ old.ends
   pub closings : new.closings ≡ old.closings
+  pub quiets : new.quiets ≡ old.quiets
 
 -- these bytes were given to the peer, and nothing else moved but its count of failed writes
 pub record Gives (old new : Line) (bytes : List ℕ) : Type 0 where
@@ -35,19 +37,24 @@ pub record Gives (old new : Line) (bytes : List ℕ) : Type 0 where
   pub read_faults : new.read_faults ≡ old.read_faults
   pub ends : new.ends ≡ old.ends
   pub closings : new.closings ≡ old.closings
+  pub quiets : new.quiets ≡ old.quiets
 
--- nothing was written to the connection, and it did not say that its listeners are closing
+-- nothing was written to the connection, and it said neither that its listeners are closing nor
+-- that nothing came for a while
 pub record IsUnwritten (old new : Line) : Type 0 where
   pub given : Keeps old.given new.given
   pub write_faults : new.write_faults ≡ old.write_faults
   pub closings : new.closings ≡ old.closings
+  pub quiets : new.quiets ≡ old.quiets
 
--- nothing was read off the connection, and it did not say that its listeners are closing
+-- nothing was read off the connection, and it said neither that its listeners are closing nor that
+-- nothing came for a while
 pub record IsUnread (old new : Line) : Type 0 where
   pub left : Keeps old.left new.left
   pub read_faults : new.read_faults ≡ old.read_faults
   pub ends : new.ends ≡ old.ends
   pub closings : new.closings ≡ old.closings
+  pub quiets : new.quiets ≡ old.quiets
 
 -- the connection was read once, into this buffer
 pub record IsRead (old new : Line) (buffer : List ℕ) (result : Result ℕ Failed) : Type 0 where
@@ -67,11 +74,26 @@ told_closing true line = record {
   write_faults = line.write_faults;
   ends = line.ends;
   closings = raised line.closings;
+  quiets = line.quiets;
 }
 
--- a wait for the next request: it is a read, or it ended since the listeners are closing
+-- it said that nothing came for a while, and nothing else moved
+abbrev pub told_quiet : Line → Line
+told_quiet line = record {
+  left = line.left;
+  given = line.given;
+  read_faults = line.read_faults;
+  write_faults = line.write_faults;
+  ends = line.ends;
+  closings = line.closings;
+  quiets = raised line.quiets;
+}
+
+-- a wait for the next request: it is a read, or it ended since the listeners are closing, or since
+-- nothing came for a while; and the connection said so
 abbrev pub WaitsForNext : Line → Line → List ℕ → Result Next Failed → Type 0
 WaitsForNext old new buffer (Ok (Bytes count)) = (0 < count) × IsRead old new buffer (Ok count)
 WaitsForNext old new buffer (Ok End) = IsRead old new buffer (Ok 0)
 WaitsForNext old new buffer (Ok Closing) = new ≡ told_closing true old
+WaitsForNext old new buffer (Ok Quiet) = new ≡ told_quiet old
 WaitsForNext old new buffer (Err e) = IsRead old new buffer (Err e)

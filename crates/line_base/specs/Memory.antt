@@ -1,7 +1,7 @@
 -- What the objects in memory hold.
 use Rattle.std.specs.Prelude.{◌≡◌, ℕ, ◌-◌, ◌^◌, ◌==◌, nat_le, max, Bool, false, if◌then◌else◌, List}
 use Rattle.std.specs.Prelude.{[], ◌∷◌, ◌++◌, map, drop, Option, Some, None, Contains}
-use Rattle.std.specs.Prelude.{slice_index_or}
+use Rattle.std.specs.Prelude.{slice_index_or, Result, Ok, Err}
 use Rattle.line_base.specs.Accepts.{Listening}
 use Rattle.line_base.specs.Counts.{raised}
 use Rattle.line_base.specs.Dials.{Upstream}
@@ -10,7 +10,12 @@ use Rattle.line_base.specs.Lines.{Line}
 use Rattle.line_base.specs.Nets.{Networking}
 use Rattle.line_base.specs.Streams.{Input, Output}
 use Rattle.line_base.specs.declared.dialer.DialEvent.{DialEvent}
+use Rattle.line_base.specs.declared.event.Event.{Event}
+use Rattle.line_base.specs.declared.event.Event.TheVariants.{Closed}
 use Rattle.line_base.specs.declared.memory.link.MemLink.{MemLink}
+use Rattle.line_base.specs.declared.outside.Failed.{Failed}
+use Rattle.line_base.specs.declared.outside.Next.{Next}
+use Rattle.line_base.specs.declared.outside.Next.TheVariants as next
 
 -- when calls are to fail, and how many bytes each may move: calls are numbered from 0, and `calls`
 -- is the number of the next one
@@ -52,17 +57,24 @@ pub record Taking : Type 0 where
   pub plan : Plan
   pub faults : ℕ
 
--- when a connection says that its listeners are closing: from the question of this number on, if
--- they close at all. Questions are numbered from 0, `asked` is the number of the next one, and
--- `told` says how often it said so
+-- when a connection says that its listeners are closing, from the question of this number on, if
+-- they close at all; and the questions at which it says that nothing came, where they are open.
+-- Questions are numbered from 0, `asked` is the number of the next one, `told` says how often it
+-- said that they are closing, and `quiets` how often that nothing came
 pub record Noticing : Type 0 where
   pub from : Option ℕ
+  pub quiet : List ℕ
   pub asked : ℕ
   pub told : ℕ
+  pub quiets : ℕ
 
--- the listeners stay open
+-- the listeners stay open, and something comes at each question
 abbrev pub no_notice : Noticing
-no_notice = record { from = None; asked = 0; told = 0 }
+no_notice = record { from = None; quiet = []; asked = 0; told = 0; quiets = 0 }
+
+-- nothing comes at the next question
+abbrev pub IsQuiet : Noticing → Type 0
+IsQuiet n = Contains n.quiet n.asked
 
 -- the question of this number is answered by that the listeners are closing
 abbrev pub is_late : Option ℕ → ℕ → Bool
@@ -76,9 +88,29 @@ is_due n = is_late n.from n.asked
 abbrev pub questioned : Noticing → Noticing
 questioned n = record {
   from = n.from;
+  quiet = n.quiet;
   asked = raised n.asked;
   told = if is_due n then raised n.told else n.told;
+  quiets = n.quiets;
 }
+
+-- it said that nothing came
+abbrev pub quieted : Noticing → Noticing
+quieted n = record {
+  from = n.from;
+  quiet = n.quiet;
+  asked = n.asked;
+  told = n.told;
+  quiets = raised n.quiets;
+}
+
+-- one wait for the next request more, of this result
+abbrev pub awaited : Result Next Failed → Noticing → Noticing
+awaited (Ok (next.Bytes count)) n = questioned n
+awaited (Ok next.End) n = questioned n
+awaited (Ok next.Closing) n = questioned n
+awaited (Ok next.Quiet) n = quieted (questioned n)
+awaited (Err e) n = questioned n
 
 -- a peer: the source that it gives from, the sink that it takes into, and when it says that its
 -- listeners are closing
@@ -121,6 +153,7 @@ line_of p = record {
   write_faults = p.sink.faults;
   ends = p.source.ends;
   closings = p.notice.told;
+  quiets = p.notice.quiets;
 }
 
 abbrev pub upstream_of : Dialing → Upstream
@@ -164,10 +197,10 @@ pub record Filing : Type 0 where
 abbrev pub filed_of : Filing → Filed
 filed_of d = record { files = Some d.files; faults = d.faults }
 
--- a listener: what it tells, the peers that are to come, a plan of its accepts, and its faults
+-- a listener: what it tells, the events that are to come, a plan of its waits, and its faults
 pub record Hosting (P : Type 0) : Type 0 where
   pub state : Listening P
-  pub coming : List P
+  pub coming : List (Event P)
   pub plan : Plan
   pub faults : ℕ
 
@@ -176,3 +209,8 @@ pub record Linking (P : Type 0) : Type 0 where
   pub state : Networking P
   pub plan : Plan
   pub faults : ℕ
+
+-- an open listener tells the next of its events, and behind the last that it is closed
+abbrev pub TellsNext : {P : Type 0} → List (Event P) → List (Event P) → Event P → Type 0
+TellsNext [] new event = (event ≡ Closed) × (new ≡ [])
+TellsNext (e ∷ es) new event = (event ≡ e) × (new ≡ es)

@@ -1,9 +1,9 @@
 -- What nets tell, and what their calls leave.
-use Rattle.std.specs.Prelude.{◌≡◌, ℕ, ◌+◌, ◌-◌, ◌<◌, ◌≤◌, ◌==◌, ◌&&◌, nat_lt, Bool, if◌then◌else◌}
-use Rattle.std.specs.Prelude.{List, [], ◌∷◌, ◌++◌, length, slice_index_or, Option, Some, None}
-use Rattle.std.specs.Prelude.{IsSome, OnSome, IfSome, Result, Ok, Err, option_map}
+use Rattle.std.specs.Prelude.{◌≡◌, ℕ, ◌+◌, ◌-◌, ◌<◌, ◌≤◌, ◌==◌, nat_lt, Bool, if◌then◌else◌, List}
+use Rattle.std.specs.Prelude.{[], ◌∷◌, ◌++◌, length, slice_index_or, Option, Some, None, IsSome}
+use Rattle.std.specs.Prelude.{OnSome, IfSome, Result, Ok, Err, option_map}
 use Rattle.line_base.specs.Accepts.{Listening, no_visits}
-use Rattle.line_base.specs.Counts.{raised}
+use Rattle.line_base.specs.Counts.{added, raised}
 use Rattle.line_base.specs.Dials.{Upstream}
 use Rattle.line_base.specs.declared.dialer.DialEvent.{DialEvent}
 use Rattle.line_base.specs.declared.listener.Endpoint.{Endpoint}
@@ -22,19 +22,20 @@ pub record Returns (P : Type 0) : Type 0 where
   pub ended : List (Ended P)
   pub room : ℕ
 
--- a net: what came back, where it tells it, and three numbers: the listeners that came back clean,
--- the stops that it handed out, and those that came back. A number stands still at the last value
--- of a `u64`
+-- a net: what came back, where it tells it, and five numbers: the listeners that came back clean,
+-- how many peers those that came back had handed out, and how many came back to them; the stops
+-- that it handed out, and those that came back. A number stands still at the last value of a `u64`
 pub record Networking (P : Type 0) : Type 0 where
   pub told : Option (Returns P)
   pub clean : ℕ
+  pub accepted : ℕ
+  pub finished : ℕ
   pub stops_given : ℕ
   pub stops_returned : ℕ
 
--- a listener that came back clean: it answered that it is closed, and as many peers came back as it
--- handed out
+-- a listener that came back clean: it answered that it is closed
 abbrev pub is_clean : {P : Type 0} → Listening P → Bool
-is_clean l = nat_lt 0 l.closes && (l.finished == l.accepted)
+is_clean l = nat_lt 0 l.closes
 
 -- there is room to tell so many listeners more when they come back
 abbrev pub with_room : {P : Type 0} → ℕ → Returns P → Returns P
@@ -46,30 +47,34 @@ with_ended e r = if r.room == 0 then r else record { ended = r.ended ++ e ∷ []
 
 -- a net behind a call that was to make so many listeners
 abbrev pub after_listen : {P T E : Type 0} → Networking P → ℕ → Result T E → Networking P
-after_listen n copies (Ok made) =
-    record {
-      told = option_map (with_room copies) n.told;
-      clean = n.clean;
-      stops_given = n.stops_given;
-      stops_returned = n.stops_returned;
-    }
+after_listen n copies (Ok made) = record {
+  told = option_map (with_room copies) n.told;
+  clean = n.clean;
+  accepted = n.accepted;
+  finished = n.finished;
+  stops_given = n.stops_given;
+  stops_returned = n.stops_returned;
+}
 after_listen n copies (Err e) = n
 
 -- a net that handed a stop out
 abbrev pub after_stopper : {P : Type 0} → Networking P → Networking P
-after_stopper n =
-    record {
-      told = n.told;
-      clean = n.clean;
-      stops_given = raised n.stops_given;
-      stops_returned = n.stops_returned;
-    }
+after_stopper n = record {
+  told = n.told;
+  clean = n.clean;
+  accepted = n.accepted;
+  finished = n.finished;
+  stops_given = raised n.stops_given;
+  stops_returned = n.stops_returned;
+}
 
 -- a net that took these back
 abbrev pub after_end : {P : Type 0} → Networking P → Ended P → Networking P
 after_end n e = record {
   told = option_map (with_ended e) n.told;
   clean = if is_clean e.listener then raised n.clean else n.clean;
+  accepted = added n.accepted e.listener.accepted;
+  finished = added n.finished e.listener.finished;
   stops_given = n.stops_given;
   stops_returned = raised n.stops_returned;
 }
@@ -78,7 +83,7 @@ after_end n e = record {
 -- its net tells what comes back
 pub record IsNew {P : Type 0} (told : Option (Returns P)) (endpoint : Endpoint)
     (l : Listening P) : Type 0 where
-  pub none_yet : IfSome l.visits (λ v. v ≡ no_visits)
+  pub none_yet : IfSome l.visits (λ v. v ≡ no_visits v.room)
   pub closes : l.closes ≡ 0
   pub accepted : l.accepted ≡ 0
   pub finished : l.finished ≡ 0

@@ -2,15 +2,15 @@
 //! that say why a call failed.
 //!
 //! A [`Source`] gives bytes, a [`Sink`] takes them, and a [`Peer`] does both. A [`Listener`] hands
-//! out the peers that connect to an address and takes them back. A [`Dialer`] opens connections of
-//! its own, a [`Folder`] has files, a [`Clock`] tells the moment, a [`Stop`] ends what listens, and
-//! a [`Gate`] is told of each request. A [`Net`] makes listeners, dialers and stops, and takes them
-//! back. Each object that can fail counts its faults: a call that fails raises the count by one,
-//! and no other call moves it. So code that is generic over these traits can't make a fault up: a
-//! clause such as "this status exactly where the source's count rose" refuses a body that gives up,
-//! and one that tries again and tells nobody. Where an object tells its content, as those in memory
-//! do, clauses speak of its bytes too, and of the peers that came and went; a real file or socket
-//! tells none.
+//! out the peers that connect to an address, tells which of those that it watches have something to
+//! say ([`Event`]), and takes them back. A [`Dialer`] opens connections of its own, a [`Folder`]
+//! has files, a [`Clock`] tells the moment, a [`Stop`] ends what listens, and a [`Gate`] is told of
+//! each request. A [`Net`] makes listeners, dialers and stops, and takes them back. Each object
+//! that can fail counts its faults: a call that fails raises the count by one, and no other call
+//! moves it. So code that is generic over these traits can't make a fault up: a clause such as
+//! "this status exactly where the source's count rose" refuses a body that gives up, and one that
+//! tries again and tells nobody. Where an object tells its content, as those in memory do, clauses
+//! speak of its bytes too, and of the peers that came and went; a real file or socket tells none.
 //!
 //! [`MemSource`], [`MemSink`], [`MemPeer`], [`MemListener`], [`MemDialer`], [`MemFolder`],
 //! [`MemClock`], [`MemStop`] and [`MemNet`] are the outside in memory, for tests: they give their
@@ -32,6 +32,7 @@ use std::alloc::AllocError;
 
 mod clock;
 mod dialer;
+mod event;
 mod folder;
 mod listener;
 mod memory;
@@ -42,6 +43,7 @@ mod signals;
 
 pub use clock::Clock;
 pub use dialer::{ConnectionPool, DialEvent, Dialer};
+pub use event::Event;
 pub use folder::{Folder, FolderFault, Found, NameList};
 pub use listener::{Endpoint, Listener, Listeners};
 pub use memory::{

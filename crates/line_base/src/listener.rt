@@ -1,7 +1,8 @@
 //! What hands out the peers that connect to an address.
-ghost use Rattle.std.specs.Prelude.{◌≡◌, ◌<◌, ℕ, Ok, None};
+ghost use Rattle.std.specs.Prelude.{◌≡◌, ◌<◌, ℕ, Ok};
 ghost use Rattle.line_base.specs.Counts.{HasCause};
 
+use crate::event::Event;
 use crate::outside::{Failed, Peer};
 use std::marker::Model;
 
@@ -54,29 +55,39 @@ impl<L> Listeners<L> {
     }
 }
 
-/// What hands out the peers that connect to an address, until it is closed.
+/// What hands out the peers that connect to an address, until it is closed, and tells of those
+/// that wait.
+///
+/// A peer that has nothing to say for a while need not be waited for: it is watched under a number
+/// ([`Listener::watch`]), and a listener of its address tells the number once it has.
 pub trait Listener {
-    ghost use Rattle.line_base.specs.Accepts.{Listening, after_accept, after_finish};
+    ghost use Rattle.line_base.specs.Accepts.{Listening, after_event, after_finish};
 
     /// The peers that it hands out.
     type P: Peer;
 
     /// What it was made for, the peers that it handed out and those that came back, each where it
     /// tells them; and, always, how often it answered that it is closed, how many peers it handed
-    /// out, how many came back, and how many accepts failed since the last that did not.
+    /// out, how many came back, and how many calls failed since the last that did not.
     ghost state: { Self → Listening Self.P };
 
-    /// How often an accept failed. The count never falls, and stands still at the last value of a
-    /// `u64`.
+    /// How often a wait for an event failed. The count never falls, and stands still at the last
+    /// value of a `u64`.
     ghost faults: { Self → ℕ };
 
-    /// The next peer; none once the listener is closed, and from then on always.
-    fn accept(&mut self) -> Result<Option<Self::P>, Failed>
-        ensures state { state self.new ≡ after_accept (state self.old) result }
-        ensures closed { 0 < (state self.old).closes → result ≡ Ok None }
+    /// Waits for the next event; [`Event::Closed`] once the listener is closed, and from then on
+    /// always.
+    fn next_event(&mut self) -> Result<Event<Self::P>, Failed>
+        ensures state { state self.new ≡ after_event (state self.old) result }
+        ensures closed { 0 < (state self.old).closes → result ≡ Ok Event.Closed }
         ensures cause { HasCause (faults self.old) (faults self.new) result };
 
-    /// Takes a peer back that was served, and ends its connection.
+    /// Watches a peer of this address: one of the listeners of the address tells the number once
+    /// the peer has something to say, or has ended. Whether it can be watched. It waits for
+    /// nothing.
+    fn watch(&self, peer: &Self::P, number: u64) -> bool;
+
+    /// Takes a peer of this address back that was served, and ends its connection.
     fn finish(&mut self, peer: Self::P)
         ensures state { state self.new ≡ after_finish (state self.old) peer }
         ensures kept { faults self.new ≡ faults self.old };

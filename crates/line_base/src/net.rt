@@ -16,7 +16,7 @@ pub enum NetFault {
     OutOfMemory,
 }
 
-/// How many accepts in a row have failed when a listener counts as broken.
+/// How many waits for an event in a row have failed when a listener counts as broken.
 pub const BROKEN_RUN: u64 = 100;
 
 /// What makes listeners for addresses, dialers, and stops that close the listeners; and takes them
@@ -35,7 +35,7 @@ pub trait Net {
     type S: Stop + Drop + Send;
 
     /// What came back, where it tells it; and, always, how many listeners came back clean, how many
-    /// stops it handed out, and how many came back.
+    /// peers they handed out and took back, how many stops it handed out, and how many came back.
     ghost state: { Self → Networking Self.L.P };
 
     /// How often a call failed. The count never falls, and stands still at the last value of a
@@ -56,6 +56,13 @@ pub trait Net {
         ensures state { state self.new ≡ after_listen (state self.old) copies result }
         ensures cause { HasNetCause (faults self.old) (faults self.new) result };
 
+    /// How many connections of the listeners may wait beside those that are served, at most `most`:
+    /// so many the process has room for, beside what `listen` was promised. It is asked for behind
+    /// the last `listen`.
+    fn waiting_room(&mut self, most: u32) -> u32
+        ensures most { result ≤ most }
+        ensures kept { (state self.new ≡ state self.old) × (faults self.new ≡ faults self.old) };
+
     /// A new dialer, which keeps connections in such a pool. Where the pool has no room for any, it
     /// keeps none.
     fn dialer(&mut self, pool: ConnectionPool) -> Self::D
@@ -72,7 +79,7 @@ pub trait Net {
         ensures kept { faults self.new ≡ faults self.old };
 
     /// Takes a listener back, with the stop of its job, and with the dialer if the job has one. It
-    /// fails exactly where the listener's last accepts failed [`BROKEN_RUN`] times in a row, or
+    /// fails exactly where the listener's last waits failed [`BROKEN_RUN`] times in a row, or
     /// more.
     fn end(
         &mut self,

@@ -17,6 +17,8 @@ pub enum Next {
     End,
     /// The listeners are closing, and no byte of a next request has come.
     Closing,
+    /// No byte of a next request has come for a short while.
+    Quiet,
 }
 
 /// What gives bytes: a file, a standard stream, or bytes in memory.
@@ -59,7 +61,8 @@ pub trait Sink {
 }
 
 /// The other end of a connection, which gives bytes and takes them. It has a count of faults for
-/// each direction, and one of how often it said that its listeners are closing.
+/// each direction, one of how often it said that its listeners are closing, and one of how often it
+/// said that nothing came for a while.
 ///
 /// What serves requests waits for the next one by [`Peer::read_next`], and asks once a request,
 /// by [`Peer::is_closing`], whether it is to be the last. So a shutdown ends connections where a
@@ -69,8 +72,8 @@ pub trait Peer {
     ghost use Rattle.line_base.specs.Lines.{told_closing};
 
     /// What it tells of itself: the bytes that it has yet to give, those that were given to it, how
-    /// often a read and a write failed, how many reads gave the end, and how often it said that its
-    /// listeners are closing.
+    /// often a read and a write failed, how many reads gave the end, how often it said that its
+    /// listeners are closing, and how often that nothing came for a while.
     ghost line: { Self → Line };
 
     /// Reads some bytes to the front of `into`, and gives their number. 0 is the end, where `into`
@@ -86,8 +89,12 @@ pub trait Peer {
             result (length into.new) };
 
     /// Waits for the next request of a connection, and reads its first bytes as [`Peer::read`]
-    /// does; or it is told that the listeners are closing, where no byte of it has come. It is
-    /// called between two requests, while no byte of the next one was read.
+    /// does; or it is told that the listeners are closing, or that nothing came for a while, where
+    /// no byte of it has come. It is called between two requests, while no byte of the next one was
+    /// read.
+    ///
+    /// A while is short where others wait for whoever calls this, and never longer than a
+    /// connection may be idle: then it fails.
     fn read_next(&mut self, into: &mut [u8]) -> Result<Next, Failed>
         requires { 0 < length into.old }
         ensures { WaitsForNext (line self.old) (line self.new) into.new result };

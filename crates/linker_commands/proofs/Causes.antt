@@ -1,5 +1,5 @@
 -- What each status shows.
-use Rattle.std.proofs.Common.{◌≡◌, ℕ, ◌<◌, Bool, List, [], ◌∷◌, length, length-append, refl, sym}
+use Rattle.std.proofs.Common.{◌≡◌, ℕ, ◌<◌, Bool, List, length, length-append, refl, sym}
 use Rattle.std.proofs.Common.{ap, subst, ◌∙◌, arith, true, false, inl, inr, lit<}
 use Rattle.std.specs.Prelude.{Option, None, Some, Result, Ok, Err, ◌⊎◌, IsSome, IsErr, Contains}
 use Rattle.std.specs.Io.KnownBytes.{Consumes}
@@ -9,6 +9,7 @@ use Rattle.line_base.specs.Nets.{Returns}
 use Rattle.linker_config.specs.declared.config.Config.{Config}
 use Rattle.line_base.specs.Lines.{Line}
 use Rattle.serving.specs.Posts.{jobs_of}
+use Rattle.serving.specs.Shifts.{admissions}
 use Rattle.std.specs.declared.marker.Brand.{Brand}
 use Rattle.linker_commands.specs.Check.{TellsPath}
 use Rattle.linker_commands.specs.Generated.{storm_line, weave_line}
@@ -20,7 +21,8 @@ use Rattle.linker_commands.specs.Run.{Course, words_refused, read_failed, too_lo
 use Rattle.linker_commands.specs.Run.{line_told, no_memory, served, followed, Follows, Linked}
 use Rattle.linker_commands.specs.Run.{Reads, ReadsScript}
 use Rattle.linker_commands.specs.Run.{Checks, Serves, Makes, Takes, Shows, ReadsLong, Ended}
-use Rattle.linker_commands.specs.Run.{AllBack, EndsWhole, Ran, Yields, status_of, status_if, statuses}
+use Rattle.linker_commands.specs.Run.{AllBack, EndsWhole, Ran, Yields}
+use Rattle.linker_commands.specs.Run.{status_of, status_if, statuses}
 use Rattle.linker_commands.specs.Served.{Finish, shut_down, broken, short, finish_code, IsConfig}
 use Rattle.linker_commands.specs.Served.{IsRefused, TellsNet, TellsServing}
 use Rattle.linker_commands.proofs.Serving.{jobs_by}
@@ -138,8 +140,8 @@ module _ {P : Type 0} (line_of : P → Line) (moments : Option (List ℕ)) where
       absurd (omega (arith, ap (λ (i : Input). i.faults) took.1, rose))
   failed_input (Ok (weave turns seed)) old new old_files new_files net net_after course rose took =
       absurd (omega (arith, ap (λ (i : Input). i.faults) took.1, rose))
-  failed_input (Ok (follow leader space polls)) old new old_files new_files net net_after course rose
-      took =
+  failed_input (Ok (follow leader space polls)) old new old_files new_files net net_after course
+      rose took =
       absurd (omega (arith, ap (λ (i : Input). i.faults) took.1, rose))
 
   -- the folder's count rose only where it could not be read
@@ -331,7 +333,7 @@ module _ {P : Type 0} (line_of : P → Line) (moments : Option (List ℕ)) where
       took =
       shown_followed good net.state.told leader space polls course is took.0
 
-  -- a router served, and all its listeners and stops came back
+  -- a router served, and all its listeners, peers and stops came back
   back_router : (path lines : List ℕ) (config : Config) (files : Filed) (net net_after : Linked P)
       (finish : Finish) → finish_code finish ≡ 0 → IsConfig files.files path config
       → TellsServing Brand line_of moments files.files config net.state net_after.state lines finish
@@ -342,6 +344,9 @@ module _ {P : Type 0} (line_of : P → Line) (moments : Option (List ℕ)) where
       let Back : ℕ → Type 0 = λ n. AllBack n net.state net_after.state in
       let all : Back (jobs_of by.site) = record {
         clean = w.clean;
+        peers = admissions w.ran.shifts;
+        accepted = w.accepted;
+        finished = w.finished;
         given = w.stops_given;
         returned = w.stops_returned;
       } in

@@ -1,10 +1,10 @@
 -- How following a leader ends.
-use Rattle.std.proofs.Common.{◌≡◌, ℕ, ◌≤◌, Bool, true, false, List, [], ◌++◌, append_assoc, length}
+use Rattle.std.proofs.Common.{◌≡◌, ℕ, ◌≤◌, Bool, true, false, List, ◌++◌, append_assoc, length}
 use Rattle.std.proofs.Common.{refl, sym, ap, subst, ◌∙◌, inl, inr, arith}
 use Rattle.std.specs.Prelude.{Option, None, Result}
 use Rattle.std.specs.Io.KnownBytes.{Appends}
 use Rattle.addr_book.specs.declared.addr.Addr.{Addr}
-use Rattle.line_base.specs.Counts.{Rose, raised}
+use Rattle.line_base.specs.Counts.{raised}
 use Rattle.line_base.specs.Dials.{Upstream}
 use Rattle.line_base.specs.Nets.{IsNewLog, Returns}
 use Rattle.line_base.specs.Streams.{Output}

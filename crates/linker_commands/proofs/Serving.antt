@@ -1,7 +1,7 @@
 -- How a run ends that was to serve.
 use Rattle.std.proofs.Common.{◌≡◌, ℕ, ◌+◌, List, ◌++◌, refl, sym, ap, subst, ◌∙◌, inl, inr, false}
 use Rattle.std.proofs.Common.{arith}
-use Rattle.std.specs.Prelude.{Option, None, Some, option_map, Result, Ok, Err, codes}
+use Rattle.std.specs.Prelude.{Option, None, Some, option_map, Err, codes}
 use Rattle.std.specs.Io.KnownBytes.{Appends}
 use Rattle.std.specs.declared.vec.Vec.{Vec}
 use Rattle.std.specs.declared.alloc.Global.{Global}
@@ -23,7 +23,6 @@ use Rattle.line_base.specs.Lines.{Line}
 use Rattle.std.specs.declared.marker.Brand.{Brand}
 use Rattle.linker_config.specs.declared.config.Config.{Config}
 use Rattle.linker_config.specs.declared.config.FeedAt.{FeedAt}
-use Rattle.linker_config.specs.declared.config.Port.{Port}
 use Rattle.linker_config.specs.declared.loaded.LoadFault.{LoadFault}
 use Rattle.linker_config.specs.declared.loaded.LoadFault.TheVariants.{BadFile, FolderFault}
 use Rattle.linker_config.specs.declared.loaded.LoadFault.TheVariants.{LongFile, OutOfMemory}
@@ -42,7 +41,7 @@ use Rattle.linker_commands.specs.Served.{Finish, broken, short, finish_code, Are
 use Rattle.linker_commands.specs.Served.{IsFeeding, IsLast, IsMadeBy, IsSiteOf, LoadsRoot}
 use Rattle.linker_commands.specs.Served.{RefusesBook, RefusesService, feed_jobs_in, feed_port}
 use Rattle.linker_commands.specs.Served.{jobs_in, line_of_ports, site_line}
-use Rattle.linker_commands.specs.Served.{ServedBy, TellsEnd, TellsNet, TellsServing, router_of}
+use Rattle.linker_commands.specs.Served.{ServedBy, TellsEnd, TellsNet, router_of}
 use Rattle.linker_commands.specs.Served.{file_line, memory_line, serving_line, shut_down}
 use Rattle.linker_commands.specs.Told.{Tells, code_of}
 use Rattle.linker_commands.proofs.Runs.{tells_end, tells_behind, tells_memory_first, fails_before}

@@ -1,6 +1,6 @@
 -- What a run of the program does: by its words, by what it reads, and by what becomes of its
 -- writing.
-use Rattle.std.specs.Prelude.{◌≡◌, ◌⊎◌, ℕ, ◌+◌, ◌<◌, ◌≤◌, Bool, true, false, nat_le, if◌then◌else◌}
+use Rattle.std.specs.Prelude.{◌≡◌, ◌⊎◌, ℕ, ◌<◌, ◌≤◌, Bool, true, false, nat_le, if◌then◌else◌}
 use Rattle.std.specs.Prelude.{List, [], ◌∷◌, ◌++◌, length, map, take, drop, codes, string_bytes}
 use Rattle.std.specs.Prelude.{String, Option, Some, Result, Ok, Err}
 use Rattle.std.specs.Global.{Global}
@@ -9,12 +9,12 @@ use Rattle.std.specs.declared.vec.IntoIter.{IntoIter}
 use Rattle.std.specs.declared.marker.Brand.{Brand}
 use Rattle.std.specs.Fmt.{decimal}
 use Rattle.std.specs.Io.KnownBytes.{Appends, Consumes, IsAtEnd}
-use Rattle.line_base.specs.Counts.{Rose}
+use Rattle.line_base.specs.Counts.{Rose, added}
 use Rattle.line_base.specs.Files.{File, Filed}
 use Rattle.line_base.specs.Nets.{Networking, Returns}
 use Rattle.line_base.specs.Streams.{Input, Output}
 use Rattle.line_base.specs.Lines.{Line}
-use Rattle.workers.specs.Served.{raised_by}
+use Rattle.workers.specs.Turns.{raised_by}
 use Rattle.addr_book.specs.declared.addr.Addr.{Addr}
 use Rattle.addr_book.specs.FileLine.{lines_of}
 use Rattle.machine.specs.State.{opening}
@@ -24,7 +24,7 @@ use Rattle.linker_commands.specs.Follow.{IsFollowed}
 use Rattle.linker_commands.specs.Generated.{storm_line, weave_line}
 use Rattle.linker_commands.specs.Lint.{TellsTablePath}
 use Rattle.linker_commands.specs.Replay.{played, replay_of}
-use Rattle.linker_commands.specs.Served.{Finish, shut_down, broken, short, finish_code, IsConfig}
+use Rattle.linker_commands.specs.Served.{Finish, finish_code, IsConfig}
 use Rattle.linker_commands.specs.Served.{IsRefused, RefusesBook, TellsNet, TellsServing}
 use Rattle.linker_commands.specs.Served.{jobs_in, memory_line}
 use Rattle.linker_commands.specs.Words.{Asked, replay, check, serve, lint, storm, weave, follow}
@@ -255,10 +255,13 @@ module _ {P : Type 0} (line_of : P → Line) (moments : Option (List ℕ)) where
       course
       × Ended course old_out new_out status
 
--- so many listeners came back clean, and the numbers of stops that were handed out and of those
--- that came back rose alike
+-- So many listeners came back clean, and over all of them as many peers were finished as had been
+-- accepted. The numbers of stops that were handed out and of those that came back rose alike
 pub record AllBack {P : Type 0} (jobs : ℕ) (net net_after : Networking P) : Type 0 where
   pub clean : net_after.clean ≡ raised_by jobs net.clean
+  pub peers : ℕ
+  pub accepted : net_after.accepted ≡ added net.accepted peers
+  pub finished : net_after.finished ≡ added net.finished peers
   pub given : net_after.stops_given ≡ raised_by jobs net.stops_given
   pub returned : net_after.stops_returned ≡ raised_by jobs net.stops_returned
 

@@ -35,7 +35,7 @@ use Rattle.linker_config.specs.Lines.{port_text}
 use Rattle.linker_commands.specs.Check.{TellsPath, most_config}
 
 -- how a router ends that was to serve: it was shut down, an address could not be listened on or the
--- accepts of a listener failed, or memory was wanting
+-- waits of a listener failed, or memory was wanting
 pub data Finish : Type 0 where
   shut_down : Finish
   broken : Finish

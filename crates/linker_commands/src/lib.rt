@@ -21,11 +21,12 @@
 //! as `specs/Check.antt` says, or by what is told of a table, as `specs/Lint.antt` has it, or by
 //! the line of the generated run, as `specs/Generated.antt` has it, or by the lines that tell where
 //! a router served and how many changes there were, as `specs/Served.antt` has them: that router
-//! did what `serving` says of a run, with all its listeners clean; or by the lines that tell what a
-//! leader's feeds came to, as `specs/Follow.antt` says. Each other status has its cause;
-//! and where nothing fails, a script is carried out in full, and a configuration, a table and a
-//! generated run are told of. These are clauses of [`linker`]. The code to exit with is the status
-//! for exactly the words after the program's name: a clause of [`run_arguments`].
+//! did what `serving` says of a run, with all its listeners clean and as many connections finished
+//! as were accepted; or by the lines that tell what a leader's feeds came to, as
+//! `specs/Follow.antt` says. Each other status has its cause; and where nothing fails, a script is
+//! carried out in full, and a configuration, a table and a generated run are told of. These are
+//! clauses of [`linker`]. The code to exit with is the status for exactly the words after the
+//! program's name: a clause of [`run_arguments`].
 //!
 //! # Example
 //! ```text

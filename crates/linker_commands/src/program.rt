@@ -52,7 +52,7 @@ use std::thread::Threads;
 /// | 3 | there is no room for the services | `error book` |
 /// | 4 | the input or the folder could not be read | `error read` |
 /// | 5 | a write failed; this comes before every other status | |
-/// | 6 | an address can't be listened on, or a hundred accepts failed in a row | `error net` |
+/// | 6 | an address can't be listened on, or 100 waits at one failed in a row | `error net` |
 /// | 7 | there was no memory, or not enough for a session of a router | `error memory` |
 /// | 8 | the script is longer than 67,108,864 bytes | `error long` |
 pub fn linker<
@@ -77,8 +77,9 @@ where
     // replay of what was read, or by the line that tells of the configuration that was found, or of
     // the generated run, or by what is told of the table that was found, or by the lines that tell
     // where a router served and how many changes there were. That router served by the
-    // configuration and the services of its folder: all its connections were served, and all its
-    // listeners and stops came back.
+    // configuration and the services of its folder: each stay of a client's connection went on with
+    // what was seen for it before, all connections were finished, and all listeners and stops came
+    // back.
     ensures ran { Ran N.L.P.line (C.of_fork clock.old) (map string_bytes words.now)
         (S.input input.old) (S.input input.new) (F.filed folder.old) (F.filed folder.new)
         (record { state = N.state net.old; faults = N.faults net.old })
@@ -98,8 +99,8 @@ where
     ensures wrong { result ≡ 3 → Shows (command_of (map string_bytes words.now)) (S.input input.old)
         (S.input input.new) (F.filed folder.old) false }
 
-    // 0 of `serve` only where every listener came back clean, and as many stops came back as were
-    // handed out.
+    // 0 of `serve` only where every listener came back clean, as many connections were finished as
+    // were accepted, and as many stops came back as were handed out.
     ensures all_back { result ≡ 0 → EndsWhole (command_of (map string_bytes words.now))
         (F.filed folder.old) (record { state = N.state net.old; faults = N.faults net.old })
         (record { state = N.state net.new; faults = N.faults net.new }) }

@@ -15,6 +15,7 @@ ghost use Rattle.linker_config.specs.declared.loaded.LoadedItem.{LoadedItem};
 ghost use Rattle.linker_config.specs.Loading.{HasLoadCause};
 ghost use Rattle.load_words.specs.Seats.{words_of};
 ghost use Rattle.router.specs.Values.{settings_in};
+ghost use Rattle.serving.specs.Policies.{IsHandledBy};
 ghost use Rattle.serving.specs.Posts.{jobs_of};
 ghost use Rattle.serving.specs.Services.{HaveSeen};
 ghost use Rattle.serving.specs.Returning.{listened};
@@ -26,9 +27,10 @@ use crate::ends::write_all;
 use crate::run::{Status, tell};
 use crate::{Bytes, Mem};
 use addr_book::Name;
+use client_stays::Handling;
 use line_base::{Clock, Folder, Listener, Net, Sink};
 use linker_config::{Config, FeedAt, LoadFault, Loaded, Text, append_port, load_folder};
-use router::{Naming, Opened, open};
+use router::{Opened, open};
 use serving::{Feeding, Policy, RunFault, Served, Serving, Site, StartFault, start};
 use std::alloc::Global;
 use std::marker::Brand;
@@ -160,7 +162,7 @@ fn tell_served<K: Sink>(alloc: Global, out: &mut K, served: Served) -> Status
 
 /// Serves where it was told, and tells how it was.
 fn serve_on<
-    J: Naming + Send + Sync,
+    J: Handling + Send + Sync,
     R: Threads + Wait + Sync,
     N: Net + Send,
     C: Clock + Drop + Send,
@@ -180,6 +182,7 @@ where
     requires listens { Listens N.L.state (N.state net.old).told site.now (bound_of serving) }
     requires seats { length (passes_of serving) ≡ jobs_of site.now + 1 }
     requires parts { J.parts ≡ J.seats }
+    requires handled { IsHandledBy J.rule J.tries site.now.policy }
     ensures { (files : Option (List File)) → (c : Config) → (before : Networking N.L.P)
         → (loaded : List LoadedItem)
         → IsMadeBy (C.of_fork clock.now) files c site.now J.settings loaded
@@ -199,7 +202,7 @@ where
 
 /// Serves with a router that was opened.
 fn serve_opened<
-    J: Naming + Send + Sync,
+    J: Handling + Send + Sync,
     R: Threads + Wait + Sync,
     N: Net + Send,
     C: Clock + Drop + Send,
@@ -222,6 +225,7 @@ where
     requires name { opened.blank.name ≡ J.name }
     requires parts { (opened.blank.parts ≡ J.parts) × (J.parts ≡ J.seats) }
     requires seats { (opened.seats ≡ J.seats) × (opened.seats ≡ jobs_of site.now + 1) }
+    requires handled { IsHandledBy J.rule J.tries site.now.policy }
     ensures { (files : Option (List File)) → (c : Config)
         → IsMadeBy (C.of_fork clock.now) files c site.now J.settings loaded
         → EndsServing J N.L.P.line (C.of_fork clock.now) files c

@@ -24,4 +24,6 @@ mod running;
 #[cfg(test)]
 mod scripts;
 #[cfg(test)]
+mod waiting;
+#[cfg(test)]
 mod words;

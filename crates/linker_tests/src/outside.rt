@@ -2,8 +2,8 @@
 use crate::paired::Paired;
 use crate::running::{append, sink, source};
 use line_base::{
-    DialEvent, Listener, MemAddress, MemClock, MemDials, MemFile, MemFolder, MemNet, MemPeer,
-    MemVisits, Net, Peer,
+    DialEvent, Event, Listener, MemAddress, MemClock, MemDials, MemFile, MemFolder, MemNet,
+    MemPeer, MemVisits, Net, Peer,
 };
 use linker_commands::linker;
 use std::alloc::{AllocError, AllocGlobal, Global};
@@ -34,18 +34,32 @@ fn visit(alloc: Global, port: u16, bytes: &str) -> Result<MemAddress<MemPeer>, A
     visits(alloc, port, peers, Vec::new(alloc))
 }
 
-/// What comes to a listener of a port: these connections. The accepts whose numbers are in
-/// `failing` fail.
+/// What comes to a listener of a port: these connections. The waits whose numbers are in `failing`
+/// fail.
 pub(crate) fn visits<P: Drop>(
     alloc: Global,
     port: u16,
     peers: Vec<P>,
     failing: Vec<u64>,
 ) -> Result<MemAddress<P>, AllocError> {
+    let mut events = Vec::new(alloc);
+    for peer in peers {
+        events.push(Event::Came(peer))?;
+    }
+    told(alloc, port, events, failing)
+}
+
+/// What a listener of a port tells. The waits whose numbers are in `failing` fail.
+pub(crate) fn told<P: Drop>(
+    alloc: Global,
+    port: u16,
+    events: Vec<Event<P>>,
+    failing: Vec<u64>,
+) -> Result<MemAddress<P>, AllocError> {
     Ok(MemAddress {
         ip: 0x7f00_0001,
         port,
-        visits: vec![in alloc; MemVisits { peers, failing }]?,
+        visits: vec![in alloc; MemVisits { events, failing }]?,
     })
 }
 

@@ -12,7 +12,7 @@ const LOOKS: u32 = 100_000_000;
 const LOOKS_A_YIELD: u32 = 16;
 
 /// A client that asks only once another one is being read too. Where that one does not come, its
-/// reads fail.
+/// reads fail. It may have nothing to say at first.
 ///
 /// It tells no content.
 #[derive(Drop)]
@@ -23,7 +23,10 @@ pub(crate) struct Paired<'a> {
     there: &'a AtomicBool,
     /// What it asks, and what it is answered.
     client: MemPeer,
+    /// Whether it has nothing to say when it is next asked for a request.
+    pauses: bool,
     read_faults: u64,
+    quiets: u64,
 }
 
 impl<'a> Paired<'a> {
@@ -33,7 +36,25 @@ impl<'a> Paired<'a> {
             here,
             there,
             client,
+            pauses: false,
             read_faults: 0,
+            quiets: 0,
+        }
+    }
+
+    /// Such a client, which has nothing to say at first.
+    pub(crate) fn pausing(
+        here: &'a AtomicBool,
+        there: &'a AtomicBool,
+        client: MemPeer,
+    ) -> Paired<'a> {
+        Paired {
+            here,
+            there,
+            client,
+            pauses: true,
+            read_faults: 0,
+            quiets: 0,
         }
     }
 
@@ -64,6 +85,7 @@ impl Peer for Paired<'_> {
       write_faults = p.client.sink.faults;
       ends = p.client.source.ends;
       closings = p.client.notice.told;
+      quiets = p.quiets;
     } };
 
     fn read(&mut self, into: &mut [u8]) -> Result<usize, Failed> {
@@ -85,6 +107,11 @@ impl Peer for Paired<'_> {
     }
 
     fn read_next(&mut self, into: &mut [u8]) -> Result<Next, Failed> {
+        if self.pauses {
+            self.pauses = false;
+            self.quiets = self.quiets.saturating_add(1);
+            return Ok(Next::Quiet);
+        }
         match self.read(into) {
             Ok(0) => Ok(Next::End),
             Ok(count) => Ok(Next::Bytes(count)),

@@ -4,7 +4,7 @@ use Rattle.std.specs.Io.{ReadsAtMost}
 use Rattle.line_base.specs.Accepts.{Listening}
 use Rattle.line_base.specs.Nets.{Networking}
 use Rattle.line_base.specs.declared.outside.Next.{Next}
-use Rattle.line_base.specs.declared.outside.Next.TheVariants.{Bytes, End, Closing}
+use Rattle.line_base.specs.declared.outside.Next.TheVariants.{Bytes, End, Closing, Quiet}
 use Rattle.net_edge.specs.declared.sockets.listener.SocketListener.{SocketListener}
 use Rattle.net_edge.specs.declared.sockets.peer.SocketPeer.{SocketPeer}
 
@@ -19,12 +19,14 @@ listening l = record {
   run = l.run;
 }
 
--- a net, by the listeners that came back clean, the stops that it handed out, and those that came
--- back
-abbrev pub networking : ℕ → ℕ → ℕ → Networking SocketPeer
-networking clean given returned = record {
+-- a net, by the listeners that came back clean, the peers that those had handed out and taken back,
+-- the stops that it handed out, and those that came back
+abbrev pub networking : ℕ → ℕ → ℕ → ℕ → ℕ → Networking SocketPeer
+networking clean accepted finished given returned = record {
   told = None;
   clean = clean;
+  accepted = accepted;
+  finished = finished;
   stops_given = given;
   stops_returned = returned;
 }
@@ -48,4 +50,5 @@ abbrev pub NextAtMost : {E : Type 0} → Result Next E → List ℕ → Type 0
 NextAtMost {E} (Ok (Bytes count)) buffer = (0 < count) × ReadsAtMost {E = E} (Ok count) buffer
 NextAtMost {E} (Ok End) buffer = Unit {0}
 NextAtMost {E} (Ok Closing) buffer = Unit {0}
+NextAtMost {E} (Ok Quiet) buffer = Unit {0}
 NextAtMost {E} (Err error) buffer = Unit {0}

@@ -17,6 +17,7 @@ mod refusal;
 mod stop;
 mod upstream;
 mod waiting;
+mod watched;
 
 pub use dial_socket::DIAL_SECONDS;
 pub use dialer::SocketDialer;

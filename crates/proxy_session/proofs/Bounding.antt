@@ -12,19 +12,12 @@ use Rattle.proxy_session.specs.Attempts.{Failed, has_retry, may_repeat, paid, sp
 use Rattle.proxy_session.specs.Exchange.{Standing}
 use Rattle.proxy_session.specs.Requests.{Requests, TriesAgain}
 use Rattle.proxy_session.specs.Seeking.{Sought}
-use Rattle.proxy_session.specs.Session.{Served, Serves, Sessions, having_told, most_retries}
+use Rattle.http_wire.specs.declared.paused.Paused.{Paused}
+use Rattle.http_wire.specs.declared.paused.Paused.TheVariants as paused
+use Rattle.proxy_session.specs.Session.{Accounts, Pays, Served, Serves, Sessions, Stays}
+use Rattle.proxy_session.specs.Session.{having_told, most_retries}
+use Rattle.proxy_session.specs.Laws.{StaysAreBounded}
 use Rattle.replica_try.proofs.BothHold.{and_right}
-
--- so many requests paid in, and so many retries were taken out
-pub record Pays (b : BudgetValue) (behind : Option BudgetValue) (requests retries : ℕ) : Type 0 where
-  pub left : BudgetValue
-  pub is : behind ≡ Some left
-  pub tries : left.tries ≡ b.tries
-  pub paid : 100 * retries + left.balance ≤ b.balance + b.tries.percent * requests
-
-abbrev pub Accounts : Option BudgetValue → Option BudgetValue → ℕ → ℕ → Type 0
-Accounts None behind requests retries = (behind ≡ None) × (retries ≡ 0)
-Accounts (Some b) behind requests retries = Pays b behind requests retries
 
 add_one_more : (n : ℕ) → suc n ≡ n + 1
 add_one_more n = omega arith
@@ -44,7 +37,7 @@ pays_nothing b behind n none is = record {
   paid = omega (arith, none, no_more b.tries.percent);
 }
 
-account_same : (budget behind : Option BudgetValue) (n : ℕ) → n ≡ 0 → behind ≡ budget
+pub account_same : (budget behind : Option BudgetValue) (n : ℕ) → n ≡ 0 → behind ≡ budget
     → Accounts budget behind 0 n
 account_same None behind n none is = (is, none)
 account_same (Some b) behind n none is = pays_nothing b behind n none is
@@ -75,7 +68,7 @@ pays_on b between behind m n r s p q =
           (sum_paid b.tries.percent m n);
     }
 
-accounts_on : (budget between behind : Option BudgetValue) (m n r s : ℕ)
+pub accounts_on : (budget between behind : Option BudgetValue) (m n r s : ℕ)
     → Accounts budget between m r → Accounts between behind n s
     → Accounts budget behind (m + n) (r + s)
 accounts_on None between behind m n r s p q =
@@ -147,41 +140,47 @@ module _ (settings : SettingsValue) (rule : Rule) where
       request_account settings rule x.head (last || closing) n before behind
       (having_told closing x.mid) new x.end x.request
 
-  served_account : (n retries : ℕ) (before behind : Option BudgetValue) (old new : Standing)
-      (result : Option Ended) → Served settings rule n retries before behind old new result
+  served_account : (from n retries : ℕ) (before behind : Option BudgetValue) (old new : Standing)
+      (result : Option Ended) → Served settings rule from n retries before behind old new result
       → Accounts before behind n retries
-  served_account zero retries before behind old new result served =
+  served_account from zero retries before behind old new result served =
       account_same before behind retries served.0.none served.0.same
-  served_account (suc n) retries before behind old new result
+  served_account from (suc n) retries before behind old new result
       (mid, between, earlier, more, served, next, all) =
       subst (λ (k : ℕ). Accounts before behind k retries) (sym (add_one_more n))
       (subst (λ (k : ℕ). Accounts before behind (n + 1) k) (sym all)
       (accounts_on before between behind n 1 earlier more
-      (served_account n earlier before between old mid None served)
+      (served_account from n earlier before between old mid None served)
       (serves_account _ more between behind mid new result next)))
 
-  session_account : (requests retries : ℕ) (before behind : Option BudgetValue)
+  session_account : (from requests retries : ℕ) (before behind : Option BudgetValue)
       (old new : Standing) (result : Ended)
-      → Sessions settings rule requests retries before behind old new result
+      → Sessions settings rule from requests retries before behind old new result
       → Accounts before behind requests retries
-  session_account requests retries before behind old new result (inl (mid, served, without)) =
-      served_account requests retries before behind old mid None served
-  session_account requests retries before behind old new result (inr served) =
-      served_account requests retries before behind old new (Some result) served
+  session_account from requests retries before behind old new result (inl (mid, served, without)) =
+      served_account from requests retries before behind old mid None served
+  session_account from requests retries before behind old new result (inr served) =
+      served_account from requests retries before behind old new (Some result) served
 
-  whole : (n all : ℕ) → 100 * n ≤ all → n ≤ all / 100
-  whole n all few = omega (arith, few)
+  pub stay_account : (from requests retries : ℕ) (before behind : Option BudgetValue)
+      (old new : Standing) (result : Paused)
+      → Stays settings rule from requests retries before behind old new result
+      → Accounts before behind requests retries
+  stay_account from requests retries before behind old new paused.Quiet (mid, served, still) =
+      served_account from requests retries before behind old mid None served
+  stay_account from requests retries before behind old new (paused.Ended end) sessions =
+      session_account from requests retries before behind old new end sessions
 
-  bounded_by : (before behind : Option BudgetValue) (requests retries : ℕ)
-      → Accounts before behind requests retries → retries ≤ most_retries before requests
-  bounded_by None behind requests retries a = omega (arith, a.1)
-  bounded_by (Some b) behind requests retries a =
-      whole retries (b.balance + b.tries.percent * requests) (omega (arith, a.paid))
+whole : (n all : ℕ) → 100 * n ≤ all → n ≤ all / 100
+whole n all few = omega (arith, few)
 
-  pub session_bounded : (requests retries : ℕ) (before behind : Option BudgetValue)
-      (old new : Standing) (result : Ended)
-      → Sessions settings rule requests retries before behind old new result
-      → retries ≤ most_retries before requests
-  session_bounded requests retries before behind old new result session =
-      bounded_by before behind requests retries
-      (session_account requests retries before behind old new result session)
+-- so no more were taken out than it had
+pub bounded_by : (before behind : Option BudgetValue) (requests retries : ℕ)
+    → Accounts before behind requests retries → retries ≤ most_retries before requests
+bounded_by None behind requests retries a = omega (arith, a.1)
+bounded_by (Some b) behind requests retries a =
+    whole retries (b.balance + b.tries.percent * requests) (omega (arith, a.paid))
+
+pub stays_bounded : StaysAreBounded
+stays_bounded settings rule from upto before behind old new result stay =
+    bounded_by before behind stay.requests stay.retries stay.paid

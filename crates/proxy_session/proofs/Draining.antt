@@ -1,18 +1,21 @@
 -- A request that is its connection's last since the listeners are closing, and others.
-use Rattle.std.proofs.Common.{◌≡◌, ℕ, zero, suc, ◌||◌, Bool, true, false, refl, sym, subst, ap, ◌∙◌, Option, Some, None}
+use Rattle.std.proofs.Common.{◌≡◌, ℕ, zero, suc, ◌||◌, Bool, true, false, refl, sym, subst, ap, ◌∙◌}
+use Rattle.std.proofs.Common.{Option, Some, None, Result, Ok}
 use Rattle.line_base.specs.Counts.{Rose, raised}
 use Rattle.line_base.specs.Lines.{Line}
 use Rattle.http_wire.specs.declared.ended.Ended.{Ended}
 use Rattle.http_wire.specs.Ended.{drained}
+use Rattle.http_wire.specs.declared.head.Head.{Head}
+use Rattle.http_wire.specs.declared.reading.HeadEnd.{HeadEnd}
 use Rattle.http_wire.specs.declared.ended.Ended.TheVariants as ended
 use Rattle.identifier.specs.declared.rule.Rule.{Rule}
 use Rattle.machine.specs.Values.{SettingsValue}
 use Rattle.retry_budget.specs.Budget.{BudgetValue}
 use Rattle.proxy_session.specs.Causes.{CauseOf, FitsLast, HasCauseOf}
 use Rattle.proxy_session.specs.Exchange.{Standing}
-use Rattle.proxy_session.specs.Session.{Served, ServesSo, having_told}
+use Rattle.proxy_session.specs.Session.{Reads, Served, ServesSo, having_told}
 use Rattle.http_wire.proofs.Endings.{goes_on, spends}
-use Rattle.proxy_session.proofs.Closings.{Quiet, request_quiet}
+use Rattle.proxy_session.proofs.Closings.{SaysNeither, neither_on, request_quiet}
 use Rattle.proxy_session.proofs.Splitting.{request_cause, request_fits}
 
 -- ---- two reasons to be the last
@@ -79,16 +82,25 @@ drained_cause true (Some ended.OutOfMemory) e old new rose cause is =
 
 -- ---- what the connection said
 
-told_closings : (closing : Bool) (s : Standing) → closing ≡ false
-    → (having_told closing s).line.closings ≡ s.line.closings
-told_closings false s is = refl
-told_closings true s is = absurd (cc)
+told_neither : (closing : Bool) (s : Standing) → closing ≡ false
+    → SaysNeither s.line (having_told closing s).line
+told_neither false s is = record { closings = refl; quiets = refl }
+told_neither true s is = absurd (cc)
+
+told_quiets : (closing : Bool) (s : Standing)
+    → (having_told closing s).line.quiets ≡ s.line.quiets
+told_quiets false s = refl
+told_quiets true s = refl
+
+reads_neither : (old mid : Standing) (r : Result Head HeadEnd) → Reads old mid r
+    → SaysNeither old.line mid.line
+reads_neither old mid r x = record { closings = x.closings; quiets = x.quiets }
 
 module _ (settings : SettingsValue) (rule : Rule) (spent : Bool) (n : ℕ)
     (before behind : Option BudgetValue) (old new : Standing) where
   still : (closing : Bool) (result : Option Ended)
       → (x : ServesSo settings rule spent closing n before behind old new result)
-      → new.line.closings ≡ (having_told closing x.mid).line.closings
+      → SaysNeither (having_told closing x.mid).line new.line
   still closing result x =
       request_quiet settings rule x.head (spent || closing) n before behind
       (having_told closing x.mid) new x.end x.request
@@ -96,15 +108,25 @@ module _ (settings : SettingsValue) (rule : Rule) (spent : Bool) (n : ℕ)
   -- nothing, where they stay open
   pub serves_quiet : (closing : Bool) (result : Option Ended) → closing ≡ false
       → ServesSo settings rule spent closing n before behind old new result
-      → Quiet old.line new.line
+      → SaysNeither old.line new.line
   serves_quiet closing result off x =
-      still closing result x ∙ (told_closings closing x.mid off ∙ x.reads.closings)
+      neither_on old.line x.mid.line new.line
+      (reads_neither old x.mid (Ok x.received) x.reads)
+      (neither_on x.mid.line (having_told closing x.mid).line new.line
+      (told_neither closing x.mid off) (still closing result x))
+
+  -- that nothing came for a while is never said in a request
+  pub serves_quiets : (closing : Bool) (result : Option Ended)
+      → ServesSo settings rule spent closing n before behind old new result
+      → new.line.quiets ≡ old.line.quiets
+  serves_quiets closing result x =
+      (still closing result x).quiets ∙ (told_quiets closing x.mid ∙ x.reads.quiets)
 
   -- and else once that they are closing
   pub serves_rose : (result : Option Ended)
       → ServesSo settings rule spent true n before behind old new result
       → new.line.closings ≡ raised old.line.closings
-  serves_rose result x = still true result x ∙ ap raised x.reads.closings
+  serves_rose result x = (still true result x).closings ∙ ap raised x.reads.closings
 
   fits : (closing : Bool) (result : Option Ended)
       → (x : ServesSo settings rule spent closing n before behind old new result)
@@ -149,13 +171,29 @@ module _ (settings : SettingsValue) (rule : Rule) (spent : Bool) (n : ℕ)
       (λ (e : Option Ended). HasCauseOf e (having_told false x.mid).line new.line)
       (sym x.is ∙ ap Some is) cause
 
-pub served_quiet : (settings : SettingsValue) (rule : Rule) (n retries : ℕ)
+pub served_quiet : (settings : SettingsValue) (rule : Rule) (from n retries : ℕ)
     (before behind : Option BudgetValue) (old new : Standing)
-    → Served settings rule n retries before behind old new None → Quiet old.line new.line
-served_quiet settings rule zero retries before behind old new served =
-    ap (λ (s : Standing). s.line.closings) served.1
-served_quiet settings rule (suc n) retries before behind old new
+    → Served settings rule from n retries before behind old new None
+    → SaysNeither old.line new.line
+served_quiet settings rule from zero retries before behind old new served =
+    record {
+      closings = ap (λ (s : Standing). s.line.closings) served.1;
+      quiets = ap (λ (s : Standing). s.line.quiets) served.1;
+    }
+served_quiet settings rule from (suc n) retries before behind old new
     (mid, between, earlier, more, served, (closing, x), all) =
-    serves_quiet settings rule _ more between behind mid new closing None
-    (not_closing settings rule _ more between behind mid new closing x) x
-    ∙ served_quiet settings rule n earlier before between old mid served
+    neither_on old.line mid.line new.line
+    (served_quiet settings rule from n earlier before between old mid served)
+    (serves_quiet settings rule _ more between behind mid new closing None
+    (not_closing settings rule _ more between behind mid new closing x) x)
+
+pub served_quiets : (settings : SettingsValue) (rule : Rule) (from n retries : ℕ)
+    (before behind : Option BudgetValue) (old new : Standing) (result : Option Ended)
+    → Served settings rule from n retries before behind old new result
+    → new.line.quiets ≡ old.line.quiets
+served_quiets settings rule from zero retries before behind old new result served =
+    ap (λ (s : Standing). s.line.quiets) served.1
+served_quiets settings rule from (suc n) retries before behind old new result
+    (mid, between, earlier, more, served, (closing, x), all) =
+    serves_quiets settings rule _ more between behind mid new closing result x
+    ∙ served_quiets settings rule from n earlier before between old mid None served

@@ -18,12 +18,15 @@ use Rattle.retry_budget.specs.Budget.{BudgetValue}
 use Rattle.line_base.specs.Counts.{raised}
 use Rattle.line_base.specs.Dials.{Upstream}
 use Rattle.line_base.specs.Lines.{Line, Rests}
+use Rattle.http_wire.specs.Paused.{IfEnds, quiets_behind}
+use Rattle.http_wire.specs.declared.paused.Paused.{Paused}
+use Rattle.http_wire.specs.declared.paused.Paused.TheVariants as paused
 use Rattle.proxy_session.specs.Session.{AnswersEnd, EndsWithout, HearsClosing, Reads, Served}
-use Rattle.proxy_session.specs.Session.{Serves, Sessions, SessionsTo, Spends, begun, ended_of_end}
-use Rattle.proxy_session.specs.Session.{having_told, own_of_end}
-use Rattle.proxy_session.proofs.Closings.{Quiet, writes_quiet}
+use Rattle.proxy_session.specs.Session.{Serves, Sessions, Spends, Stays, StaysTo, Stops, begun}
+use Rattle.proxy_session.specs.Session.{ended_of_end, having_told, own_of_end}
+use Rattle.proxy_session.proofs.Closings.{SaysNeither, rests_quiet, writes_quiet}
 use Rattle.proxy_session.proofs.Draining.{drained_cause, is_spent, never_drained, serves_quiet}
-use Rattle.proxy_session.proofs.Draining.{serves_rose, served_quiet}
+use Rattle.proxy_session.proofs.Draining.{serves_rose, served_quiet, served_quiets}
 use Rattle.proxy_session.proofs.Splitting.{request_cause, request_closed, request_fell}
 use Rattle.proxy_session.proofs.Splitting.{request_keeps, request_number}
 use Rattle.replica_try.proofs.Resting.{rests_same}
@@ -61,6 +64,7 @@ reads_last old new r x = record {
     writes = later_same old.line.write_faults new.line.write_faults x.writes;
     ends = later_below old.line.ends new.line.ends x.causes.ends_later;
     closings = later_same old.line.closings new.line.closings x.closings;
+    quiets = later_same old.line.quiets new.line.quiets x.quiets;
   };
   closed = λ is. x.upstream.links.open_to ∙ is;
   keeps = x.upstream.links.keeps;
@@ -80,6 +84,7 @@ told_last true a = record {
     writes = later_same a.line.write_faults a.line.write_faults refl;
     ends = later_same a.line.ends a.line.ends refl;
     closings = later_raised a.line.closings (raised a.line.closings) refl;
+    quiets = later_same a.line.quiets a.line.quiets refl;
   };
   closed = λ is. is;
   keeps = refl;
@@ -127,13 +132,14 @@ module _ (settings : SettingsValue) (rule : Rule) where
       new x.end x.request))
       x.is
 
-  served_lasts : (n retries : ℕ) (before behind : Option BudgetValue) (old new : Standing)
-      (r : Option Ended) → Served settings rule n retries before behind old new r → Lasts old new
-  served_lasts zero retries before behind old new r served =
+  served_lasts : (from n retries : ℕ) (before behind : Option BudgetValue) (old new : Standing)
+      (r : Option Ended) → Served settings rule from n retries before behind old new r
+      → Lasts old new
+  served_lasts from zero retries before behind old new r served =
       subst (Lasts old) (sym served.1) (lasts_same old)
-  served_lasts (suc n) retries before behind old new r
+  served_lasts from (suc n) retries before behind old new r
       (mid, between, earlier, more, served, next, all) =
-      lasts_on old mid new (served_lasts n earlier before between old mid None served)
+      lasts_on old mid new (served_lasts from n earlier before between old mid None served)
       (serves_last _ more between behind mid new r next)
 
 -- ---- the end
@@ -169,7 +175,7 @@ cause_within ended.OutOfMemory a b c d p q x = tt
 abbrev Without : Ended → Line → Line → Line → Type 0
 Without result old mid new =
     CauseOf result old new × NoneFell mid new × (result ≢ ended.Spent) × (result ≢ ended.Drained)
-    × Quiet mid new
+    × SaysNeither mid new
 
 quietly : (quiet result : Ended) (old mid new : Line) → NoneFell old mid → Rests mid new → result
     ≡ quiet → CauseOf quiet old mid → quiet ≢ ended.Spent → quiet ≢ ended.Drained
@@ -181,7 +187,7 @@ quietly quiet result old mid new fell rests is cause other open_ =
       rests_fell mid new rests,
       other,
       open_,
-      rests.closings,
+      rests_quiet mid new rests,
     )
 
 refusing : (reply : List ℕ) (result : Ended) (old mid new : Line) → NoneFell old mid
@@ -207,7 +213,7 @@ refusing reply result old mid new fell (Err ended.WriteFault) w is =
     )
 refusing reply result old mid new fell (Err ended.OutOfMemory) w is =
     subst (λ (e : Ended). Without e old mid new) (sym (some_same is))
-    (tt, rests_fell mid new w, λ no. cc, λ no. cc, w.closings)
+    (tt, rests_fell mid new w, λ no. cc, λ no. cc, rests_quiet mid new w)
 refusing reply result old mid new fell (Err ended.PeerEnded) w is = absurd w
 refusing reply result old mid new fell (Err ended.Cut) w is = absurd w
 refusing reply result old mid new fell (Err ended.Closed) w is = absurd w
@@ -275,74 +281,127 @@ told_rose : (old new : Standing) → new ≡ having_told true old → new.line.c
     ≡ raised old.line.closings
 told_rose old new is = ap (λ (s : Standing). s.line.closings) is
 
-ending_of : (settings : SettingsValue) (rule : Rule) (n retries : ℕ)
+ending_of : (settings : SettingsValue) (rule : Rule) (from n retries : ℕ)
     (before behind : Option BudgetValue) (old new : Standing) (result : Ended)
-    → Sessions settings rule n retries before behind old new result
+    → Sessions settings rule from n retries before behind old new result
     → Ending old new.line new.upstream new.caller result
-ending_of settings rule n retries before behind old new result (inl (mid, served, inl x)) =
+ending_of settings rule from n retries before behind old new result (inl (mid, served, inl x)) =
     ending_by old mid new result
-    (served_lasts settings rule n retries before behind old mid None served)
+    (served_lasts settings rule from n retries before behind old mid None served)
     (without_lasts mid new result x)
     (ends_without x.end mid x.mid new result x.reads x.answers).0
-ending_of settings rule n retries before behind old new result (inl (mid, served, inr x)) =
+ending_of settings rule from n retries before behind old new result (inl (mid, served, inr x)) =
     ending_by old mid new result
-    (served_lasts settings rule n retries before behind old mid None served)
+    (served_lasts settings rule from n retries before behind old mid None served)
     (subst (Lasts mid) (sym x.closing) (told_last true mid))
     (subst (λ (e : Ended). CauseOf e mid.line new.line) (sym x.is)
     (rose_by mid.line.closings new.line.closings (told_rose mid new x.closing)))
-ending_of settings rule zero retries before behind old new result (inr served) =
+ending_of settings rule from zero retries before behind old new result (inr served) =
     absurd (some_never result served.2)
-ending_of settings rule (suc n) retries before behind old new result
+ending_of settings rule from (suc n) retries before behind old new result
     (inr (mid, between, earlier, more, served, next, all)) =
     ending_by old mid new result
-    (served_lasts settings rule n earlier before between old mid None served)
+    (served_lasts settings rule from n earlier before between old mid None served)
     (serves_last settings rule _ more between behind mid new (Some result) next)
     (serves_cause settings rule _ more between behind mid new result next)
 
-pub session_ending : (settings : SettingsValue) (rule : Rule) (before behind : Option BudgetValue)
-    (old new : Standing) (result : Ended)
-    → SessionsTo settings rule before behind old new result
-    → Ending old new.line new.upstream new.caller result
-session_ending settings rule before behind old new result x =
-    let e = ending_of settings rule x.requests x.retries before behind (begun old) new result
-    x.serves in
-    record { cause = e.cause; closed = e.closed; keeps = e.keeps; number = e.number }
+-- what a stay leaves as it was
+pub record Keeping (old : Standing) (upstream : Upstream) (caller : Caller) : Type 0 where
+  pub closed : old.upstream.open_to ≡ None → upstream.open_to ≡ None
+  pub keeps : upstream.keeps ≡ old.upstream.keeps
+  pub number : caller.number ≡ old.caller.number
 
-all_of : (n : ℕ) → eqb (n + 1) 10000 ≡ true → suc n ≡ 10000
-all_of n is = grind (arith, nat_tests)
+keeps_by : (settings : SettingsValue) (rule : Rule) (from n retries : ℕ)
+    (before behind : Option BudgetValue) (old new : Standing) (result : Paused)
+    → Stays settings rule from n retries before behind (begun old) new result
+    → Keeping old new.upstream new.caller
+keeps_by settings rule from n retries before behind old new paused.Quiet
+    (mid, served, (kept, still)) =
+    let l = served_lasts settings rule from n retries before behind (begun old) mid None served in
+    let up = ap (λ (s : Standing). s.upstream) still in
+    record {
+      closed = λ is. ap (λ (u : Upstream). u.open_to) up ∙ l.closed is;
+      keeps = ap (λ (u : Upstream). u.keeps) up ∙ l.keeps;
+      number = ap (λ (s : Standing). s.caller.number) still ∙ l.number;
+    }
+keeps_by settings rule from n retries before behind old new (paused.Ended end) sessions =
+    let e = ending_of settings rule from n retries before behind (begun old) new end sessions in
+    record { closed = e.closed; keeps = e.keeps; number = e.number }
 
-spends_by : (settings : SettingsValue) (rule : Rule) (n retries : ℕ)
+pub stay_keeps : (settings : SettingsValue) (rule : Rule) (from upto : ℕ)
+    (before behind : Option BudgetValue) (old new : Standing) (result : Paused)
+    → StaysTo settings rule from upto before behind old new result
+    → Keeping old new.upstream new.caller
+stay_keeps settings rule from upto before behind old new result x =
+    keeps_by settings rule from x.requests x.retries before behind old new result x.serves
+
+-- why it ended, if it did
+cause_by : (settings : SettingsValue) (rule : Rule) (from n retries : ℕ)
+    (before behind : Option BudgetValue) (old new : Standing) (result : Paused)
+    → Stays settings rule from n retries before behind (begun old) new result
+    → IfEnds result (λ e. CauseOf e old.line new.line)
+cause_by settings rule from n retries before behind old new paused.Quiet stays = tt
+cause_by settings rule from n retries before behind old new (paused.Ended end) sessions =
+    (ending_of settings rule from n retries before behind (begun old) new end sessions).cause
+
+pub stay_cause : (settings : SettingsValue) (rule : Rule) (from upto : ℕ)
+    (before behind : Option BudgetValue) (old new : Standing) (result : Paused)
+    → StaysTo settings rule from upto before behind old new result
+    → IfEnds result (λ e. CauseOf e old.line new.line)
+stay_cause settings rule from upto before behind old new result x =
+    cause_by settings rule from x.requests x.retries before behind old new result x.serves
+
+all_of : (from n : ℕ) → eqb (from + n + 1) 10000 ≡ true → from + suc n ≡ 10000
+all_of from n is = grind (arith, nat_tests)
+
+spends_by : (settings : SettingsValue) (rule : Rule) (from n retries : ℕ)
     (before behind : Option BudgetValue) (old new : Standing) (result : Ended)
-    → Sessions settings rule n retries before behind (begun old) new result
-    → result ≡ ended.Spent → Spends settings rule before behind old new
-spends_by settings rule n retries before behind old new result (inl (mid, served, inl x)) is =
+    → Sessions settings rule from n retries before behind (begun old) new result
+    → result ≡ ended.Spent → Spends settings rule from before behind old new
+spends_by settings rule from n retries before behind old new result (inl (mid, served, inl x)) is =
     absurd ((ends_without x.end mid x.mid new result x.reads x.answers).2 is)
-spends_by settings rule n retries before behind old new result (inl (mid, served, inr x)) is =
+spends_by settings rule from n retries before behind old new result (inl (mid, served, inr x)) is =
     let other : ended.Drained ≡ ended.Spent = sym x.is ∙ is in absurd (cc)
-spends_by settings rule zero retries before behind old new result (inr served) is =
+spends_by settings rule from zero retries before behind old new result (inr served) is =
     absurd (some_never result served.2)
-spends_by settings rule (suc n) retries before behind old new result
+spends_by settings rule from (suc n) retries before behind old new result
     (inr (mid, between, earlier, more, served, next, all)) is =
-    let last : eqb (n + 1) 10000 ≡ true = is_spent settings rule (eqb (n + 1) 10000) more between
-    behind mid new next.0 result is next.1 in (
+    let last : eqb (from + n + 1) 10000 ≡ true
+    = is_spent settings rule (eqb (from + n + 1) 10000) more between behind mid new next.0 result is
+    next.1 in (
       suc n,
       retries,
-      all_of n last,
+      all_of from n last,
       subst
-          (λ (e : Ended). Served settings rule (suc n) retries before behind (begun old) new
+          (λ (e : Ended). Served settings rule from (suc n) retries before behind (begun old) new
           (Some e)) is
           (mid, between, earlier, more, served, next, all),
     )
 
-pub session_spent : (settings : SettingsValue) (rule : Rule) (before behind : Option BudgetValue)
-    (old new : Standing) (result : Ended)
-    → SessionsTo settings rule before behind old new result → result ≡ ended.Spent
-    → Spends settings rule before behind old new
-session_spent settings rule before behind old new result x is =
-    spends_by settings rule x.requests x.retries before behind old new result x.serves is
+ends_same : {a b : Ended} → paused.Ended a ≡ paused.Ended b → a ≡ b
+ends_same is = cc
+
+quiet_not_ends : (e : Ended) → paused.Quiet ≡ paused.Ended e → ⊥
+quiet_not_ends e is = cc
+
+stay_spends : (settings : SettingsValue) (rule : Rule) (from n retries : ℕ)
+    (before behind : Option BudgetValue) (old new : Standing) (result : Paused)
+    → Stays settings rule from n retries before behind (begun old) new result
+    → result ≡ paused.Ended ended.Spent → Spends settings rule from before behind old new
+stay_spends settings rule from n retries before behind old new paused.Quiet stays is =
+    absurd (quiet_not_ends ended.Spent is)
+stay_spends settings rule from n retries before behind old new (paused.Ended end) sessions is =
+    spends_by settings rule from n retries before behind old new end sessions (ends_same is)
+
+pub stay_spent : (settings : SettingsValue) (rule : Rule) (from upto : ℕ)
+    (before behind : Option BudgetValue) (old new : Standing) (result : Paused)
+    → StaysTo settings rule from upto before behind old new result
+    → result ≡ paused.Ended ended.Spent → Spends settings rule from before behind old new
+stay_spent settings rule from upto before behind old new result x is =
+    stay_spends settings rule from x.requests x.retries before behind old new result x.serves is
 
 -- where no call failed, none is the end
-pub no_fault : (result : Ended) (old new : Line) → CauseOf result old new → NoneFailed old new
+no_fault : (result : Ended) (old new : Line) → CauseOf result old new → NoneFailed old new
     → IsNoFault result
 no_fault ended.PeerEnded old new cause none = tt
 no_fault ended.Cut old new cause none = tt
@@ -354,21 +413,29 @@ no_fault ended.WriteFault old new cause none = none.writes cause
 no_fault ended.UpstreamCut old new cause none = tt
 no_fault ended.OutOfMemory old new cause none = tt
 
+pub stay_complete : (result : Paused) (old new : Line)
+    → IfEnds result (λ e. CauseOf e old new) → NoneFailed old new → IfEnds result IsNoFault
+stay_complete paused.Quiet old new cause none = tt
+stay_complete (paused.Ended end) old new cause none = no_fault end old new cause none
+
 -- ---- how a session heard that the listeners are closing
 
-hears_by : (settings : SettingsValue) (rule : Rule) (n retries : ℕ)
+hears_by : (settings : SettingsValue) (rule : Rule) (from n retries : ℕ)
     (before behind : Option BudgetValue) (old new : Standing) (result : Ended)
-    → Sessions settings rule n retries before behind (begun old) new result
-    → HearsClosing settings rule before behind old new result
-hears_by settings rule n retries before behind old new result (inl (mid, served, inl x)) =
+    → Sessions settings rule from n retries before behind (begun old) new result
+    → HearsClosing settings rule from before behind old new (paused.Ended result)
+hears_by settings rule from n retries before behind old new result (inl (mid, served, inl x)) =
     let w = ends_without x.end mid x.mid new result x.reads x.answers in
     inl (
-      w.4 ∙ (x.reads.closings ∙ served_quiet settings rule n retries before behind (begun old) mid
-          served),
+      w.4.closings
+          ∙ (x.reads.closings
+          ∙ (served_quiet settings rule from n retries before behind (begun old) mid
+          served).closings),
       w.3,
     )
-hears_by settings rule n retries before behind old new result (inl (mid, served, inr x)) =
-    let quiet = served_quiet settings rule n retries before behind (begun old) mid served in
+hears_by settings rule from n retries before behind old new result (inl (mid, served, inr x)) =
+    let quiet =
+    (served_quiet settings rule from n retries before behind (begun old) mid served).closings in
     inr (record {
       requests = n;
       retries = retries;
@@ -380,18 +447,21 @@ hears_by settings rule n retries before behind old new result (inl (mid, served,
       rose = told_rose mid new x.closing ∙ ap raised quiet;
       ends = inl (x, record { none = refl; same = refl });
     })
-hears_by settings rule zero retries before behind old new result (inr served) =
+hears_by settings rule from zero retries before behind old new result (inr served) =
     absurd (some_never result served.2)
-hears_by settings rule (suc n) retries before behind old new result
+hears_by settings rule from (suc n) retries before behind old new result
     (inr (mid, between, earlier, more, served, (false, x), all)) =
     inl (
-      serves_quiet settings rule _ more between behind mid new false (Some result) refl x
-          ∙ served_quiet settings rule n earlier before between (begun old) mid served,
+      (serves_quiet settings rule _ more between behind mid new false (Some result) refl
+          x).closings
+          ∙ (served_quiet settings rule from n earlier before between (begun old) mid
+          served).closings,
       never_drained settings rule _ more between behind mid new result x,
     )
-hears_by settings rule (suc n) retries before behind old new result
+hears_by settings rule from (suc n) retries before behind old new result
     (inr (mid, between, earlier, more, served, (true, x), all)) =
-    let quiet = served_quiet settings rule n earlier before between (begun old) mid served in
+    let quiet =
+    (served_quiet settings rule from n earlier before between (begun old) mid served).closings in
     inr (record {
       requests = n;
       retries = earlier;
@@ -406,9 +476,52 @@ hears_by settings rule (suc n) retries before behind old new result
       ends = inr x;
     })
 
-pub session_hears : (settings : SettingsValue) (rule : Rule) (before behind : Option BudgetValue)
-    (old new : Standing) (result : Ended)
-    → SessionsTo settings rule before behind old new result
-    → HearsClosing settings rule before behind old new result
-session_hears settings rule before behind old new result x =
-    hears_by settings rule x.requests x.retries before behind old new result x.serves
+stay_hears_by : (settings : SettingsValue) (rule : Rule) (from n retries : ℕ)
+    (before behind : Option BudgetValue) (old new : Standing) (result : Paused)
+    → Stays settings rule from n retries before behind (begun old) new result
+    → HearsClosing settings rule from before behind old new result
+stay_hears_by settings rule from n retries before behind old new paused.Quiet
+    (mid, served, (kept, still)) =
+    ap (λ (s : Standing). s.line.closings) still
+    ∙ (served_quiet settings rule from n retries before behind (begun old) mid served).closings
+stay_hears_by settings rule from n retries before behind old new (paused.Ended end) sessions =
+    hears_by settings rule from n retries before behind old new end sessions
+
+pub stay_hears : (settings : SettingsValue) (rule : Rule) (from upto : ℕ)
+    (before behind : Option BudgetValue) (old new : Standing) (result : Paused)
+    → StaysTo settings rule from upto before behind old new result
+    → HearsClosing settings rule from before behind old new result
+stay_hears settings rule from upto before behind old new result x =
+    stay_hears_by settings rule from x.requests x.retries before behind old new result x.serves
+
+-- ---- how often a session said that nothing came for a while
+
+stops_quiets : (mid new : Standing) (result : Ended) → Stops mid new result
+    → new.line.quiets ≡ mid.line.quiets
+stops_quiets mid new result (inl x) =
+    (ends_without x.end mid x.mid new result x.reads x.answers).4.quiets ∙ x.reads.quiets
+stops_quiets mid new result (inr x) = ap (λ (s : Standing). s.line.quiets) x.closing
+
+stay_waits_by : (settings : SettingsValue) (rule : Rule) (from n retries : ℕ)
+    (before behind : Option BudgetValue) (old new : Standing) (result : Paused)
+    → Stays settings rule from n retries before behind (begun old) new result
+    → new.line.quiets ≡ quiets_behind (Some result) old.line.quiets
+stay_waits_by settings rule from n retries before behind old new paused.Quiet
+    (mid, served, (kept, still)) =
+    ap (λ (s : Standing). s.line.quiets) still
+    ∙ ap raised
+    (served_quiets settings rule from n retries before behind (begun old) mid None served)
+stay_waits_by settings rule from n retries before behind old new (paused.Ended end)
+    (inl (mid, served, stops)) =
+    stops_quiets mid new end stops
+    ∙ served_quiets settings rule from n retries before behind (begun old) mid None served
+stay_waits_by settings rule from n retries before behind old new (paused.Ended end)
+    (inr served) =
+    served_quiets settings rule from n retries before behind (begun old) new (Some end) served
+
+pub stay_waits : (settings : SettingsValue) (rule : Rule) (from upto : ℕ)
+    (before behind : Option BudgetValue) (old new : Standing) (result : Paused)
+    → StaysTo settings rule from upto before behind old new result
+    → new.line.quiets ≡ quiets_behind (Some result) old.line.quiets
+stay_waits settings rule from upto before behind old new result x =
+    stay_waits_by settings rule from x.requests x.retries before behind old new result x.serves

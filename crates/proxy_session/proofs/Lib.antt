@@ -18,6 +18,7 @@ pub mod Draining
 pub mod Lasting
 pub mod Fitting
 pub mod Ending
+pub mod Seeing
 pub mod FieldTexts
 pub mod Received
 pub mod Asked

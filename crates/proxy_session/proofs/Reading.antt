@@ -4,10 +4,10 @@ use Rattle.http_wire.specs.declared.head.Head.{Head}
 use Rattle.http_wire.specs.declared.next.NextHead.{NextHead}
 use Rattle.http_wire.specs.declared.next.NextHead.TheVariants as next
 use Rattle.http_wire.specs.declared.reading.HeadEnd.{HeadEnd}
-use Rattle.http_wire.specs.Next.{IsDrained, ReadsNext as LineReadsNext, ReadsOff}
+use Rattle.http_wire.specs.Next.{IsDrained, IsQuiet, ReadsNext as LineReadsNext, ReadsOff}
 use Rattle.line_base.specs.Lines.{Line}
 use Rattle.proxy_session.specs.Exchange.{Standing}
-use Rattle.proxy_session.specs.Session.{Reads, ReadsNext, having_told}
+use Rattle.proxy_session.specs.Session.{Reads, ReadsNext, having_told, having_waited}
 use Rattle.replica_try.proofs.Resting.{idle_same}
 
 -- a server behind such a wait: its client's connection stands so, and it keeps these bytes
@@ -29,6 +29,7 @@ off s line kept result x = record {
   given = x.others.given;
   writes = x.others.write_faults;
   closings = x.others.closings;
+  quiets = x.others.quiets;
   upstream = idle_same s.upstream;
   caller = refl;
   moments = refl;
@@ -41,8 +42,15 @@ told s line kept x =
     ap (λ (k : List ℕ). having_read s line k) (x.none_came ∙ sym x.none)
     ∙ ap (λ (l : Line). having_read s l s.kept) x.closing
 
+still : (s : Standing) (line : Line) (kept : List ℕ) → IsQuiet s.line line s.kept kept
+    → having_read s line kept ≡ having_waited s
+still s line kept x =
+    ap (λ (k : List ℕ). having_read s line k) (x.none_came ∙ sym x.none)
+    ∙ ap (λ (l : Line). having_read s l s.kept) x.quiet
+
 pub next_read : (s : Standing) (line : Line) (kept : List ℕ) (result : NextHead)
     → LineReadsNext s.line line s.kept kept result → ReadsNext s (having_read s line kept) result
 next_read s line kept (next.Head head) x = off s line kept (Ok head) x
 next_read s line kept (next.Ended end) x = off s line kept (Err end) x
 next_read s line kept next.Closing x = (x.none, told s line kept x)
+next_read s line kept next.Quiet x = (x.none, still s line kept x)

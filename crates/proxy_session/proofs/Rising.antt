@@ -56,6 +56,7 @@ none_fell_on a b c p q = record {
   writes = later_on a.write_faults b.write_faults c.write_faults p.writes q.writes;
   ends = later_on a.ends b.ends c.ends p.ends q.ends;
   closings = later_on a.closings b.closings c.closings p.closings q.closings;
+  quiets = later_on a.quiets b.quiets c.quiets p.quiets q.quiets;
 }
 
 pub rests_fell : (a b : Line) → Rests a b → NoneFell a b
@@ -64,6 +65,7 @@ rests_fell a b r = record {
   writes = later_same _ _ r.write_faults;
   ends = later_same _ _ r.ends;
   closings = later_same _ _ r.closings;
+  quiets = later_same _ _ r.quiets;
 }
 
 -- ---- bodies
@@ -105,6 +107,7 @@ module _ (head : List ℕ) (framing : Framing) (old new : Line) (kept kept_after
       writes = later_same old.write_faults new.write_faults x.writes;
       ends = counts_end (is_at_end framing r) framing old.ends new.ends r refl x.ends;
       closings = later_same old.closings new.closings x.closings;
+      quiets = later_same old.quiets new.quiets x.quiets;
     }
 
     back_fell : (chunked : Bool) (got : List (List ℕ)) (r : Result ℕ BodyEnd)
@@ -114,6 +117,7 @@ module _ (head : List ℕ) (framing : Framing) (old new : Line) (kept kept_after
       writes = raised_writes old.write_faults new.write_faults r x.writes;
       ends = later_same old.ends new.ends x.ends;
       closings = later_same old.closings new.closings x.closings;
+      quiets = later_same old.quiets new.quiets x.quiets;
     }
 
 -- ---- tries
@@ -277,6 +281,7 @@ writes_done old new reply closes last (Ok x) w = (
     writes = later_same _ _ w.1;
     ends = later_same _ _ w.0.ends;
     closings = later_same _ _ w.0.closings;
+    quiets = later_same _ _ w.0.quiets;
   },
   done_of closes last old new,
 )
@@ -286,6 +291,7 @@ writes_done old new reply closes last (Err ended.WriteFault) w = (
     writes = later_raised _ _ w.3;
     ends = later_same _ _ w.1.ends;
     closings = later_same _ _ w.1.closings;
+    quiets = later_same _ _ w.1.quiets;
   },
   rose_by _ _ w.3,
 )

@@ -101,6 +101,7 @@ body_untouched onward framing old new kept kept_after f0 f1 sent result goes bar
         write_faults = goes.writes;
         ends = goes.ends.others before_end;
         closings = goes.closings;
+        quiets = goes.quiets;
       },
       sym (ap (λ (l : List ℕ). l ++ kept_after) nothing)
           ∙ (sym p.bytes ∙ (ap (λ (c : List (List ℕ)). kept ++ concat c) none ∙ append-nil kept)),
@@ -114,6 +115,7 @@ rests_on a b c p q = record {
   write_faults = q.write_faults ∙ p.write_faults;
   ends = q.ends ∙ p.ends;
   closings = q.closings ∙ p.closings;
+  quiets = q.quiets ∙ p.quiets;
 }
 
 -- ---- the ways of a try

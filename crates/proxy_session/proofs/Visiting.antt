@@ -14,8 +14,11 @@ use Rattle.proxy_session.specs.Exchange.{Standing}
 use Rattle.proxy_session.specs.Laws.{GivesBytes, IsByteRule, SendsAgain, SendsHead, SendsHeads}
 use Rattle.proxy_session.specs.Laws.{SendsOnce}
 use Rattle.proxy_session.specs.Laws.{SendsTry}
-use Rattle.proxy_session.specs.Laws.{SessionsReadBack, Visits, WasRead}
-use Rattle.proxy_session.specs.Session.{Served, Serves, Sessions, having_told, most_requests}
+use Rattle.http_wire.specs.declared.paused.Paused.{Paused}
+use Rattle.http_wire.specs.declared.paused.Paused.TheVariants as paused
+use Rattle.proxy_session.specs.Laws.{StaysReadBack, Visits, WasRead}
+use Rattle.proxy_session.specs.Session.{Served, Serves, Sessions, Stays, having_told}
+use Rattle.proxy_session.specs.Session.{most_requests}
 use Rattle.replica_try.proofs.Growing.{grows_nothing, grows_on}
 use Rattle.proxy_session.proofs.ReadingBack.{requests_read_back}
 use Rattle.proxy_session.proofs.Supplying.{head_supplies, request_supplies, told_supplies}
@@ -191,21 +194,21 @@ module _ (settings : SettingsValue) (rule : Rule) (of_bytes : IsByteRule rule) w
             x.end of_bytes was x.request)),
       )
 
-  served : (n retries : ℕ) (before behind : Option BudgetValue) (old new : Standing)
+  served : (from n retries : ℕ) (before behind : Option BudgetValue) (old new : Standing)
       (result : Option Ended) → GivesBytes old
-      → Served settings rule n retries before behind old new result
+      → Served settings rule from n retries before behind old new result
       → GivesBytes new × SendsHeads rule (n + retries) old.upstream new.upstream
-  served zero retries before behind old new result gives (untried, is, none) =
+  served from zero retries before behind old new result gives (untried, is, none) =
       let same : old ≡ new = sym is in
       subst (λ (k : ℕ). GivesBytes new × SendsHeads rule k old.upstream new.upstream)
       (none_of retries untried.none)
       (subst (λ (s : Standing). GivesBytes s × SendsHeads rule zero old.upstream s.upstream) same
       (gives, grows_nothing old.upstream.log))
-  served (suc n) retries before behind old new result gives
+  served from (suc n) retries before behind old new result gives
       (mid, between, earlier, more, before_it, next, all) =
-      let first = served n earlier before between old mid None gives before_it in
-      let second = serves (eqb (n + 1) most_requests) more between behind mid new result first.0
-      next in (
+      let first = served from n earlier before between old mid None gives before_it in
+      let second = serves (eqb (from + n + 1) most_requests) more between behind mid new result
+      first.0 next in (
         second.0,
         subst (λ (k : ℕ). SendsHeads rule k old.upstream new.upstream)
             (all_of n retries earlier more all)
@@ -213,24 +216,37 @@ module _ (settings : SettingsValue) (rule : Rule) (of_bytes : IsByteRule rule) w
             second.1),
       )
 
-  session : (requests retries : ℕ) (before behind : Option BudgetValue) (old new : Standing)
+  session : (from requests retries : ℕ) (before behind : Option BudgetValue) (old new : Standing)
       (end : Ended) → GivesBytes old
-      → Sessions settings rule requests retries before behind old new end
+      → Sessions settings rule from requests retries before behind old new end
       → SendsHeads rule (requests + retries) old.upstream new.upstream
-  session requests retries before behind old new end gives (inl (mid, all, inr x)) =
+  session from requests retries before behind old new end gives (inl (mid, all, inr x)) =
       sends_before (requests + retries) old.upstream mid.upstream new.upstream
-      (served requests retries before behind old mid None gives all).1
+      (served from requests retries before behind old mid None gives all).1
       (subst (λ (s : Standing). Grows mid.upstream.log s.upstream.log []) (sym x.closing)
       (grows_nothing mid.upstream.log))
-  session requests retries before behind old new end gives (inl (mid, all, inl without)) =
+  session from requests retries before behind old new end gives (inl (mid, all, inl without)) =
       sends_before (requests + retries) old.upstream mid.upstream new.upstream
-      (served requests retries before behind old mid None gives all).1
+      (served from requests retries before behind old mid None gives all).1
       (grows_on mid.upstream.log without.mid.upstream.log new.upstream.log [] []
       without.reads.upstream.log without.nothing.away.upstream.log)
-  session requests retries before behind old new end gives (inr all) =
-      (served requests retries before behind old new (Some end) gives all).1
+  session from requests retries before behind old new end gives (inr all) =
+      (served from requests retries before behind old new (Some end) gives all).1
 
-pub sessions_read_back : SessionsReadBack
-sessions_read_back settings rule requests retries before behind old new result of_bytes gives
-    sessions =
-    session settings rule of_bytes requests retries before behind old new result gives sessions
+  stay : (from requests retries : ℕ) (before behind : Option BudgetValue) (old new : Standing)
+      (result : Paused) → GivesBytes old
+      → Stays settings rule from requests retries before behind old new result
+      → SendsHeads rule (requests + retries) old.upstream new.upstream
+  stay from requests retries before behind old new paused.Quiet gives
+      (mid, all, (kept, still)) =
+      sends_before (requests + retries) old.upstream mid.upstream new.upstream
+      (served from requests retries before behind old mid None gives all).1
+      (subst (λ (s : Standing). Grows mid.upstream.log s.upstream.log []) (sym still)
+      (grows_nothing mid.upstream.log))
+  stay from requests retries before behind old new (paused.Ended end) gives sessions =
+      session from requests retries before behind old new end gives sessions
+
+pub stays_read_back : StaysReadBack
+stays_read_back settings rule from requests retries before behind old new result of_bytes gives
+    stays =
+    stay settings rule of_bytes from requests retries before behind old new result gives stays

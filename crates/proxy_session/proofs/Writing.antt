@@ -13,9 +13,17 @@ use Rattle.line_base.specs.Lines.{Gives, Line}
 
 module _ (old new : Line) (bytes reply : List ℕ) (same : bytes
     ≡ reply) (left : Keeps old.left new.left) (reads : new.read_faults
-    ≡ old.read_faults) (ends : new.ends ≡ old.ends) (closings : new.closings ≡ old.closings) where
+    ≡ old.read_faults) (ends : new.ends ≡ old.ends) (closings : new.closings ≡ old.closings)
+    (quiets : new.quiets ≡ old.quiets) where
   gives : (sent : List ℕ) → Appends old.given new.given sent → Gives old new sent
-  gives sent given = record { left = left; given = given; read_faults = reads; ends = ends; closings = closings }
+  gives sent given = record {
+    left = left;
+    given = given;
+    read_faults = reads;
+    ends = ends;
+    closings = closings;
+    quiets = quiets;
+  }
 
   -- the whole reply was written
   pub wrote_all : (sent : List ℕ) → Appends old.given new.given sent → sent ≡ bytes

@@ -15,6 +15,7 @@ pub record NoneFell (old new : Line) : Type 0 where
   pub writes : Later old.write_faults new.write_faults
   pub ends : Later old.ends new.ends
   pub closings : Later old.closings new.closings
+  pub quiets : Later old.quiets new.quiets
 
 -- the count that rose, where an end says that one did
 abbrev pub CauseOf : Ended → Line → Line → Type 0

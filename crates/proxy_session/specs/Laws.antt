@@ -1,7 +1,8 @@
--- What is read of a head that goes on to a replica.
+-- What is read of a head that goes on to a replica, and what holds of a stay.
 use Rattle.std.specs.Prelude.{◌≡◌, ◌⊎◌, ◌+◌, ◌<◌, ◌≤◌, ◌^◌, ℕ, zero, suc, Bool, true, List, []}
 use Rattle.std.specs.Prelude.{◌∷◌, ◌++◌, length, map, codes, All, IsSomeAnd, Option, Ok}
 use Rattle.std.specs.List.{concat}
+use mathlib.Core.List.{IsPrefix}
 use Rattle.httparse.specs.Grammar.{trim_ows}
 use Rattle.line_base.specs.declared.dialer.DialEvent.{DialEvent}
 use Rattle.line_base.specs.declared.dialer.DialEvent.TheVariants.{Dialed, Resumed, Sent, Got}
@@ -23,15 +24,18 @@ use Rattle.machine.specs.Values.{SettingsValue, Replica}
 use Rattle.body_wire.specs.Bodies.{IsFrontBody, IsWholeBody}
 use Rattle.body_wire.specs.Passing.{IsFrontOf, form_of, most_passed}
 use Rattle.forward.specs.Laws.{table_texts}
+use Rattle.http_wire.specs.declared.paused.Paused.{Paused}
+use Rattle.proxy_session.specs.Callers.{Caller}
 use Rattle.proxy_session.specs.Exchange.{Exchanges, Standing}
 use Rattle.replica_try.specs.Heads.{Hears}
 use Rattle.proxy_session.specs.Onward.{IsForwarded, host_for}
 use Rattle.line_base.specs.Dials.{Grows, Upstream}
 use Rattle.proxy_session.specs.Seeking.{Seeks, Sought}
 use Rattle.proxy_session.specs.Requests.{Requests}
-use Rattle.proxy_session.specs.Session.{Sessions}
+use Rattle.proxy_session.specs.Session.{Stays, StaysTo, most_retries}
 use Rattle.replica_try.specs.Trying.{is_repeatable, is_reusable}
 use Rattle.retry_budget.specs.Budget.{BudgetValue}
+use Rattle.router_log.specs.Call.{Call}
 
 -- a head that was read off some bytes, as it was heard: with its context or without
 pub record WasRead (head : Head) : Type 0 where
@@ -213,12 +217,36 @@ abbrev pub SendsHeads : Rule → ℕ → Upstream → Upstream → Type 0
 SendsHeads rule zero old new = Grows old.log new.log []
 SendsHeads rule (suc n) old new = (mid : Upstream) × SendsHeads rule n old mid × Visits rule mid new
 
--- in a session over the bytes of a client the dialer did nothing else, at most once for each
--- request and once for each retry
-abbrev pub SessionsReadBack : Type 0
-SessionsReadBack =
-    (settings : SettingsValue) (rule : Rule) (requests retries : ℕ)
-    (before behind : Option BudgetValue) (old new : Standing) (result : Ended)
+-- in a stay of a connection over the bytes of a client the dialer did nothing else, at most once
+-- for each request and once for each retry
+abbrev pub StaysReadBack : Type 0
+StaysReadBack =
+    (settings : SettingsValue) (rule : Rule) (from requests retries : ℕ)
+    (before behind : Option BudgetValue) (old new : Standing) (result : Paused)
     → IsByteRule rule → GivesBytes old
-    → Sessions settings rule requests retries before behind old new result
+    → Stays settings rule from requests retries before behind old new result
     → SendsHeads rule (requests + retries) old.upstream new.upstream
+
+-- what a pass had seen stays seen, and the calls that it has made since then have their points
+-- behind all of that
+pub record CallsLater (old new : Caller) : Type 0 where
+  pub seen : IsPrefix old.seen new.seen
+  pub made : List (Call × ℕ)
+  pub items : new.items ≡ old.items ++ made
+  pub late : All (λ call. length old.seen ≤ call.1) made
+
+-- whatever a stay asks the router, it asks behind all that had been seen when it began
+abbrev pub StaysComeLater : Type 0
+StaysComeLater =
+    (settings : SettingsValue) (rule : Rule) (from upto : ℕ)
+    (before behind : Option BudgetValue) (old new : Standing) (result : Paused)
+    → StaysTo settings rule from upto before behind old new result
+    → CallsLater old.caller new.caller
+
+-- in a stay the attempts behind the first of each request are no more than its budget had
+abbrev pub StaysAreBounded : Type 0
+StaysAreBounded =
+    (settings : SettingsValue) (rule : Rule) (from upto : ℕ)
+    (before behind : Option BudgetValue) (old new : Standing) (result : Paused)
+    → (stay : StaysTo settings rule from upto before behind old new result)
+    → stay.retries ≤ most_retries before stay.requests

@@ -17,13 +17,15 @@ use Rattle.machine.specs.Values.{SettingsValue}
 use Rattle.own_reply.specs.declared.error.OwnError.{OwnError}
 use Rattle.own_reply.specs.declared.error.OwnError.TheVariants as own
 use Rattle.own_reply.specs.Reply.{reply_of}
+use Rattle.http_wire.specs.declared.paused.Paused.{Paused}
+use Rattle.http_wire.specs.declared.paused.Paused.TheVariants as paused
 use Rattle.proxy_session.specs.Answering.{Writes, end_behind}
 use Rattle.proxy_session.specs.Exchange.{AsksNothing, Standing}
 use Rattle.proxy_session.specs.Requests.{IsUntried, Requests}
 use Rattle.retry_budget.specs.Budget.{BudgetValue}
 use Rattle.line_base.specs.Dials.{IsIdle}
 use Rattle.line_base.specs.Counts.{raised}
-use Rattle.line_base.specs.Lines.{Line, Rests, told_closing}
+use Rattle.line_base.specs.Lines.{Line, Rests, told_closing, told_quiet}
 
 -- the most requests of one connection
 abbrev pub most_requests : ℕ
@@ -49,6 +51,7 @@ pub record Reads (old new : Standing) (result : Result Head HeadEnd) : Type 0 wh
   pub given : Keeps old.line.given new.line.given
   pub writes : new.line.write_faults ≡ old.line.write_faults
   pub closings : new.line.closings ≡ old.line.closings
+  pub quiets : new.line.quiets ≡ old.line.quiets
   pub upstream : IsIdle old.upstream new.upstream
   pub caller : new.caller ≡ old.caller
   pub moments : new.moments ≡ old.moments
@@ -65,12 +68,29 @@ having_told closing s = record {
   words = s.words;
 }
 
+-- the client's connection said that nothing came for a while, and nothing else moved
+abbrev pub having_waited : Standing → Standing
+having_waited s = record {
+  line = told_quiet s.line;
+  kept = s.kept;
+  upstream = s.upstream;
+  caller = s.caller;
+  moments = s.moments;
+  words = s.words;
+}
+
+-- a connection that waits: no byte of a further request was kept, and its client's connection said
+-- that none came for a while
+abbrev pub IsStill : Standing → Standing → Type 0
+IsStill old new = (old.kept ≡ []) × (new ≡ having_waited old)
+
 -- a further request was waited for, and its head was read; or it was seen that there is none; or
--- the listeners are closing, and no byte of one has come
+-- the listeners are closing, or it can wait, and no byte of one has come
 abbrev pub ReadsNext : Standing → Standing → NextHead → Type 0
 ReadsNext old new (next.Head head) = Reads old new (Ok head)
 ReadsNext old new (next.Ended end) = Reads old new (Err end)
 ReadsNext old new next.Closing = (old.kept ≡ []) × (new ≡ having_told true old)
+ReadsNext old new next.Quiet = IsStill old new
 
 -- A request: its head was read, and then it was served as it was heard, with so many retries: where
 -- the rule clears the context, what the client says of that is no part of the request. It is the
@@ -140,35 +160,59 @@ pub record EndsClosing (old new : Standing) (result : Ended) : Type 0 where
 abbrev pub Stops : Standing → Standing → Ended → Type 0
 Stops old new result = EndsWithout old new result ⊎ EndsClosing old new result
 
--- so many requests were served, with so many retries. The last of them ended so, and behind each
--- other one the connection went on
-abbrev pub Served : SettingsValue → Rule → ℕ → ℕ → Option BudgetValue → Option BudgetValue
+-- So many requests were served, with so many retries, of a connection that had had `from` before
+-- them. The last of them ended so, and behind each other one the connection went on
+abbrev pub Served : SettingsValue → Rule → ℕ → ℕ → ℕ → Option BudgetValue → Option BudgetValue
     → Standing → Standing → Option Ended → Type 0
-Served settings rule zero retries before behind old new end =
+Served settings rule from zero retries before behind old new end =
     IsUntried retries before behind × (new ≡ old) × (end ≡ None)
-Served settings rule (suc n) retries before behind old new end =
+Served settings rule from (suc n) retries before behind old new end =
     (mid : Standing) × (between : Option BudgetValue) × (earlier : ℕ) × (more : ℕ)
-    × Served settings rule n earlier before between old mid None
-    × Serves settings rule (n + 1 == most_requests) more between behind mid new end
+    × Served settings rule from n earlier before between old mid None
+    × Serves settings rule (from + n + 1 == most_requests) more between behind mid new end
     × (retries ≡ earlier + more)
 
--- a further request, or that there is none
+-- a further request, or that there is none, or that none has come yet
 abbrev pub ServesNext : SettingsValue → Rule → Bool → ℕ → Option BudgetValue → Option BudgetValue
-    → Standing → Standing → Option Ended → Type 0
+    → Standing → Standing → Option Paused → Type 0
 ServesNext settings rule last retries before behind old new None =
     Serves settings rule last retries before behind old new None
-ServesNext settings rule last retries before behind old new (Some end) =
+ServesNext settings rule last retries before behind old new (Some paused.Quiet) =
+    IsStill old new × IsUntried retries before behind
+ServesNext settings rule last retries before behind old new (Some (paused.Ended end)) =
     (Stops old new end × IsUntried retries before behind)
     ⊎ Serves settings rule last retries before behind old new (Some end)
 
--- so many requests, with so many retries: the last one ended the session, or there was no further
--- one
-abbrev pub Sessions : SettingsValue → Rule → ℕ → ℕ → Option BudgetValue → Option BudgetValue
+-- so many requests, with so many retries: the last one ended the connection, or there was no
+-- further one
+abbrev pub Sessions : SettingsValue → Rule → ℕ → ℕ → ℕ → Option BudgetValue → Option BudgetValue
     → Standing → Standing → Ended → Type 0
-Sessions settings rule requests retries before behind old new result =
-    ((mid : Standing) × Served settings rule requests retries before behind old mid None
+Sessions settings rule from requests retries before behind old new result =
+    ((mid : Standing) × Served settings rule from requests retries before behind old mid None
     × Stops mid new result)
-    ⊎ Served settings rule requests retries before behind old new (Some result)
+    ⊎ Served settings rule from requests retries before behind old new (Some result)
+
+-- so many requests, with so many retries: they ended the connection, or it waits behind them
+abbrev pub Stays : SettingsValue → Rule → ℕ → ℕ → ℕ → Option BudgetValue → Option BudgetValue
+    → Standing → Standing → Paused → Type 0
+Stays settings rule from requests retries before behind old new paused.Quiet =
+    (mid : Standing) × Served settings rule from requests retries before behind old mid None
+    × IsStill mid new
+Stays settings rule from requests retries before behind old new (paused.Ended end) =
+    Sessions settings rule from requests retries before behind old new end
+
+-- so many requests paid into a budget, and so many retries were taken out of it. What is left is no
+-- more than what it had and was paid
+pub record Pays (b : BudgetValue) (behind : Option BudgetValue) (requests retries : ℕ) : Type 0
+  where
+    pub left : BudgetValue
+    pub is : behind ≡ Some left
+    pub tries : left.tries ≡ b.tries
+    pub paid : 100 * retries + left.balance ≤ b.balance + b.tries.percent * requests
+
+abbrev pub Accounts : Option BudgetValue → Option BudgetValue → ℕ → ℕ → Type 0
+Accounts None behind requests retries = (behind ≡ None) × (retries ≡ 0)
+Accounts (Some b) behind requests retries = Pays b behind requests retries
 
 -- as many retries as so many requests have out of a budget, at most: what its balance was and what
 -- they paid in, in whole retries
@@ -176,29 +220,33 @@ abbrev pub most_retries : Option BudgetValue → ℕ → ℕ
 most_retries None requests = 0
 most_retries (Some b) requests = (b.balance + b.tries.percent * requests) / 100
 
--- A session: it begins with no byte of its client read, whatever is kept of the connection before
--- it. Over all its requests the attempts behind the first of each are no more than its budget had
-pub record SessionsTo
-    (settings : SettingsValue) (rule : Rule) (before behind : Option BudgetValue)
-    (old new : Standing) (result : Ended)
+-- A stay of a connection that had had so many requests before it: it begins with no byte of its
+-- client read, whatever is kept of the connection before it. Where the connection waits behind it,
+-- it has had so many requests more. Over all stays of a connection the attempts behind the first of
+-- each request are no more than its budget had, since each stay goes on with what the one before it
+-- left
+pub record StaysTo
+    (settings : SettingsValue) (rule : Rule) (from upto : ℕ) (before behind : Option BudgetValue)
+    (old new : Standing) (result : Paused)
     : Type 0 where
   pub requests : ℕ
   pub retries : ℕ
-  pub serves : Sessions settings rule requests retries before behind (begun old) new result
-  pub bounded : retries ≤ most_retries before requests
+  pub serves : Stays settings rule from requests retries before behind (begun old) new result
+  pub paid : Accounts before behind requests retries
+  pub count : result ≡ paused.Quiet → upto ≡ from + requests
 
 -- as many requests as a connection may carry were served, and the last one closed it by being the
 -- last alone
-abbrev pub Spends : SettingsValue → Rule → Option BudgetValue → Option BudgetValue → Standing
+abbrev pub Spends : SettingsValue → Rule → ℕ → Option BudgetValue → Option BudgetValue → Standing
     → Standing → Type 0
-Spends settings rule before behind old new =
-    (n : ℕ) × (retries : ℕ) × (n ≡ most_requests)
-    × Served settings rule n retries before behind (begun old) new (Some ended.Spent)
+Spends settings rule from before behind old new =
+    (n : ℕ) × (retries : ℕ) × (from + n ≡ most_requests)
+    × Served settings rule from n retries before behind (begun old) new (Some ended.Spent)
 
 -- the listeners' closing was told once, behind all requests but one at most: where a further one
 -- was waited for, or of the last one, when its head was read
 pub record Drains
-    (settings : SettingsValue) (rule : Rule) (before behind : Option BudgetValue)
+    (settings : SettingsValue) (rule : Rule) (from : ℕ) (before behind : Option BudgetValue)
     (old new : Standing) (result : Ended)
     : Type 0 where
   pub requests : ℕ
@@ -206,18 +254,20 @@ pub record Drains
   pub more : ℕ
   pub between : Option BudgetValue
   pub mid : Standing
-  pub served : Served settings rule requests retries before between (begun old) mid None
+  pub served : Served settings rule from requests retries before between (begun old) mid None
   pub quiet : mid.line.closings ≡ old.line.closings
   pub rose : new.line.closings ≡ raised old.line.closings
   pub ends :
       (EndsClosing mid new result × IsUntried more between behind)
-      ⊎ ServesSo settings rule (requests + 1 == most_requests) true more between behind mid new
-      (Some result)
+      ⊎ ServesSo settings rule (from + requests + 1 == most_requests) true more between behind mid
+      new (Some result)
 
--- how a session heard that the listeners are closing: not at all, and then it did not end by that;
--- or once, and then it ended there
-abbrev pub HearsClosing : SettingsValue → Rule → Option BudgetValue → Option BudgetValue → Standing
-    → Standing → Ended → Type 0
-HearsClosing settings rule before behind old new result =
+-- how a stay heard that the listeners are closing: not at all, and then it did not end by that; or
+-- once, and then the connection ended there
+abbrev pub HearsClosing : SettingsValue → Rule → ℕ → Option BudgetValue → Option BudgetValue
+    → Standing → Standing → Paused → Type 0
+HearsClosing settings rule from before behind old new paused.Quiet =
+    new.line.closings ≡ old.line.closings
+HearsClosing settings rule from before behind old new (paused.Ended result) =
     ((new.line.closings ≡ old.line.closings) × (result ≢ ended.Drained))
-    ⊎ Drains settings rule before behind old new result
+    ⊎ Drains settings rule from before behind old new result

@@ -41,6 +41,13 @@ impl<P> Connection<P> {
     }
 
     /// The client.
+    pub fn peer(&self) -> &P
+        ensures { result.now ≡ self.now.peer }
+    {
+        &self.peer
+    }
+
+    /// The client.
     pub fn into_peer(self) -> P
         ensures { result ≡ self.peer }
     {

@@ -1,6 +1,7 @@
-//! The laws of the heads that go on. The function does nothing: its contract is the laws.
+//! The laws of the heads that go on, and of stays. The functions do nothing: their contracts are
+//! the laws.
 ghost use Rattle.proxy_session.specs.Laws.{ExchangesReadBack, HeadsReadBack, RequestsReadBack};
-ghost use Rattle.proxy_session.specs.Laws.{SessionsReadBack};
+ghost use Rattle.proxy_session.specs.Laws.{StaysAreBounded, StaysComeLater, StaysReadBack};
 
 /// The head with which a request goes on to a replica is read, by the definition of
 /// [`read_request_head`](http_wire::read_request_head), as one head with nothing behind it. It has
@@ -20,12 +21,24 @@ ghost use Rattle.proxy_session.specs.Laws.{SessionsReadBack};
 /// request is sent before the reply to the one before it was got whole.
 ///
 /// In a request, as [`Server::proxy_once`](crate::Server::proxy_once) has one, the dialer does so
-/// at most once more than the request is tried again; and in a session over the bytes of a client,
-/// as [`Server::serve_session`](crate::Server::serve_session) has one, at most once for each
+/// at most once more than the request is tried again; and in a stay of a connection over the bytes
+/// of a client, as [`Server::serve_stay`](crate::Server::serve_stay) has one, at most once for each
 /// request and once for each retry. It does nothing else that its log shows.
 pub fn heads_that_go_on_are_read_back()
     ensures heads { HeadsReadBack }
     ensures exchanges { ExchangesReadBack }
     ensures requests { RequestsReadBack }
-    ensures sessions { SessionsReadBack }
+    ensures stays { StaysReadBack }
+{}
+
+/// In a stay, as [`Server::serve_stay`](crate::Server::serve_stay) has one, nothing that the
+/// server's pass had seen is forgotten, and whatever is asked of the router is asked behind all of
+/// that. So a server that has learnt what was seen for a connection answers none of its requests
+/// from an older state.
+///
+/// The attempts behind the first of each request are at most what the budget had and what the
+/// requests of the stay paid in, in whole retries.
+pub fn stays_follow_what_was_seen()
+    ensures later { StaysComeLater }
+    ensures bounded { StaysAreBounded }
 {}

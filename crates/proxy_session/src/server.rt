@@ -5,13 +5,13 @@ use crate::room::Room;
 use http_wire::Rest;
 use rand_pcg::Pcg64;
 use replica_try::Way;
-use router::{Names, Naming, Pass};
+use router::{Names, Naming, Pass, Ticket};
 
 /// What a worker has for all its connections, one after another: its pass to the router, a dialer
 /// for the replicas, a clock, a generator of words, and the room for a connection's bytes.
 ///
-/// A request is one call of [`Server::proxy_once`], and a connection one of
-/// [`Server::serve_session`]. What does not change in these calls is lent to them as a
+/// A request is one call of [`Server::proxy_once`], and a stay of a connection one of
+/// [`Server::serve_stay`]. What does not change in these calls is lent to them as a
 /// [`Context`](crate::Context).
 #[derive(Drop)]
 pub struct Server<J: Naming, D, C> {
@@ -37,6 +37,11 @@ pub struct Parts<J: Naming, D, C> {
 }
 
 impl<J: Naming, D, C> Server<J, D, C> {
+    ghost use mathlib.Core.List.{IsPrefix};
+    ghost use Rattle.router.specs.Passes.{SawMore, kept_in, made_in, number_in, seen_in};
+    ghost use Rattle.router.specs.Tickets.{told_in};
+    ghost use Rattle.snap_cell.specs.History.{longer};
+
     /// A server of these parts, with this room. It takes no memory.
     pub fn of(room: Room, parts: Parts<J, D, C>) -> Server<J, D, C>
         ensures pass { result.pass ≡ parts.pass }
@@ -82,5 +87,31 @@ impl<J: Naming, D, C> Server<J, D, C> {
             clock,
             words,
         }
+    }
+
+    /// What its pass has seen, as a ticket. It goes along with a connection that waits, so that
+    /// whichever server goes on with it has seen as much.
+    pub fn ticket(&self) -> Ticket<J>
+        ensures { told_in result ≡ seen_in self.now.pass }
+    {
+        self.pass.ticket()
+    }
+
+    /// Its pass learns what a ticket tells, before it goes on with the connection that waited with
+    /// it. Nothing else of it changes. It takes no memory, and waits for nobody.
+    pub fn learn(&mut self, ticket: Ticket<J>)
+        ensures number { number_in self.new.pass ≡ number_in self.old.pass }
+        ensures seen { seen_in self.new.pass ≡ longer (seen_in self.old.pass) (told_in ticket) }
+        ensures told { IsPrefix (told_in ticket) (seen_in self.new.pass) }
+        ensures more { SawMore self.old.pass self.new.pass }
+        ensures counts { (made_in self.new.pass ≡ made_in self.old.pass)
+            × (kept_in self.new.pass ≡ kept_in self.old.pass) }
+        ensures way { self.new.way ≡ self.old.way }
+        ensures clock { self.new.clock ≡ self.old.clock }
+        ensures words { self.new.words ≡ self.old.words }
+        ensures rest { self.new.rest ≡ self.old.rest }
+        ensures names { self.new.names ≡ self.old.names }
+    {
+        self.pass.learn(ticket);
     }
 }

@@ -14,6 +14,7 @@ rests_same a = record {
   write_faults = refl;
   ends = refl;
   closings = refl;
+  quiets = refl;
 }
 
 pub idle_same : (a : Upstream) → IsIdle a a

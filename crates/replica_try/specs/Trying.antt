@@ -46,6 +46,7 @@ pub record GoesOn
   pub given : Keeps old.given new.given
   pub writes : new.write_faults ≡ old.write_faults
   pub closings : new.closings ≡ old.closings
+  pub quiets : new.quiets ≡ old.quiets
 
 -- how a try ends whose body did not go on whole
 abbrev pub tried_of_body : BodyEnd → Tried
@@ -77,6 +78,7 @@ pub record GoesBack
   pub reads : new.read_faults ≡ old.read_faults
   pub ends : new.ends ≡ old.ends
   pub closings : new.closings ≡ old.closings
+  pub quiets : new.quiets ≡ old.quiets
 
 -- how a try ends whose reply went back whole, or not. `closes` says whether the client's connection
 -- closes behind it, and `reusable` whether the replica's may carry another request

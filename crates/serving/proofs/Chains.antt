@@ -9,26 +9,36 @@ use Rattle.router.specs.Closing.{numbers_of}
 use Rattle.router.specs.Opening.{AreNew}
 use Rattle.router.specs.Passes.{number_in, slot_in}
 use Rattle.router.proofs.Closing.{all_of_each, get_map, map_length}
+use Rattle.std.proofs.lemmas.List.Elements.{All-head, All-tail}
+use Rattle.waiting.specs.declared.hand.Hand.{Hand}
+use Rattle.waiting.specs.Hands.{IsNew as IsNewHand}
+use Rattle.serving.specs.Hands.{AreNewHands}
 use Rattle.serving.specs.Passes.{AreFree}
 use Rattle.serving.specs.Faults.{TellsFaults}
 use Rattle.workers.specs.Runs.{ComesBack}
-use Rattle.workers.specs.Served.{ServesEach}
+use Rattle.workers.specs.Turns.{ServesTurns, Turn}
 
-module _ {S P : Type 0} (serves : S → P → P → S → Type 0) (number : S → ℕ) (same : (s : S) (p q : P) (t : S) → serves s p q t → number t ≡ number s) where
-  -- what no connection alters stays
-  pub each_same : (old : S) (served : List (P × P)) (new : S) → ServesEach serves old served new → number new ≡ number old
+module _ {W P S : Type 0} (serves : W → Turn P S → W → Type 0) (number : W → ℕ)
+    (same : (w : W) (t : Turn P S) (v : W) → serves w t v → number v ≡ number w) where
+  -- what no turn alters stays
+  pub each_same : (old : W) (ts : List (Turn P S)) (new : W) → ServesTurns serves old ts new
+      → number new ≡ number old
   each_same old [] new is = ap number is
-  each_same old (p ∷ ps) new served = each_same served.0 ps new served.2 ∙ same old p.0 p.1 served.0 served.1
+  each_same old (t ∷ ts) new turns =
+      each_same turns.0 ts new turns.2 ∙ same old t turns.0 turns.1
 
--- what one connection does shows in what is seen of the server, where what tells how it serves stays
-module _ {S T R P : Type 0} (serves : S → P → P → S → Type 0) (seen : S → T) (how : S → R) (shows : R → T → P → P → T → Type 0)
-    (step : (s : S) (p q : P) (t : S) → serves s p q t → shows (how s) (seen s) p q (seen t) × (how t ≡ how s)) where
-  pub chain_shows : (r : R) (old : S) (served : List (P × P)) (new : S) → how old ≡ r → ServesEach serves old served new → ServesEach (shows r) (seen old) served (seen new)
+-- what one turn does shows in what is seen of the server, where what tells how it serves stays
+module _ {W V R P S : Type 0} (serves : W → Turn P S → W → Type 0) (seen : W → V) (how : W → R)
+    (shows : R → V → Turn P S → V → Type 0)
+    (step : (w : W) (t : Turn P S) (v : W) → serves w t v
+    → shows (how w) (seen w) t (seen v) × (how v ≡ how w)) where
+  pub chain_shows : (r : R) (old : W) (ts : List (Turn P S)) (new : W) → how old ≡ r
+      → ServesTurns serves old ts new → ServesTurns (shows r) (seen old) ts (seen new)
   chain_shows r old [] new is same = ap seen same
-  chain_shows r old (p ∷ ps) new is all =
-      let one = step old p.0 p.1 all.0 all.1 in
-      let shown = subst (λ (k : R). shows k (seen old) p.0 p.1 (seen all.0)) is one.0 in
-      (seen all.0, shown, chain_shows r all.0 ps new (one.1 ∙ is) all.2)
+  chain_shows r old (t ∷ ts) new is all =
+      let one = step old t all.0 all.1 in
+      let shown = subst (λ (k : R). shows k (seen old) t (seen all.0)) is one.0 in
+      (seen all.0, shown, chain_shows r all.0 ts new (one.1 ∙ is) all.2)
 
 module _ {A B : Type 0} (runs : A → A → B → Type 0) where
   -- each job that ran comes back
@@ -125,3 +135,12 @@ more_faults start old new false now all is first second = record {
 -- a net that has not failed yet
 pub no_fault : (n : ℕ) → TellsFaults n n false
 no_fault n = record { later = omega arith; rose = λ is. cc is; kept = λ is. refl }
+
+-- the next of new hands is new, and so are those behind it
+pub new_first : {A B : Type 0} (whole rest : List (Hand A B)) (h : Hand A B) → whole ≡ h ∷ rest
+    → AreNewHands whole → IsNewHand h
+new_first whole rest h cut all = All-head IsNewHand h rest (subst AreNewHands cut all)
+
+pub new_rest : {A B : Type 0} (whole rest : List (Hand A B)) (h : Hand A B) → whole ≡ h ∷ rest
+    → AreNewHands whole → AreNewHands rest
+new_rest whole rest h cut all = All-tail IsNewHand h rest (subst AreNewHands cut all)

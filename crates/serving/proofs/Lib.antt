@@ -1,5 +1,11 @@
+mod Answering
+mod Attending
 mod Chains
-mod Ending
+mod Counting
+mod Finishing
+mod Handing
+mod Outcome
+mod Parting
 mod Posting
 mod Refusing
 mod Returning

@@ -5,8 +5,11 @@ use Rattle.std.specs.Prelude.{Option, IfSome, option_map, if◌then◌else◌}
 use Rattle.std.specs.List.{AllByRecursion}
 use Rattle.line_base.specs.Counts.{raised}
 use Rattle.line_base.specs.Nets.{Ended, Networking, Returns, after_end, after_stopper, is_clean, with_ended, with_room}
-use Rattle.workers.specs.Served.{raised_by}
-use Rattle.serving.specs.Returning.{all_ended, listened, with_all, with_stops}
+use Rattle.workers.specs.Turns.{raised_by}
+use Rattle.line_base.specs.Accepts.{Listening, after_finish}
+use Rattle.line_base.specs.Counts.{added}
+use Rattle.serving.specs.Returning.{all_ended, all_finished, having_finished, is_broken, listened}
+use Rattle.serving.specs.Returning.{with_all, with_left_over, with_stops}
 
 raised_first : (n count : ℕ) → raised_by n (raised count) ≡ raised (raised_by n count)
 raised_first zero count = refl
@@ -29,6 +32,14 @@ module _ {P : Type 0} where
   pub given_returned : (k : ℕ) (n : Networking P) → (with_stops k n).stops_returned ≡ n.stops_returned
   given_returned zero n = refl
   given_returned (suc k) n = given_returned k (after_stopper n)
+
+  pub given_accepted : (k : ℕ) (n : Networking P) → (with_stops k n).accepted ≡ n.accepted
+  given_accepted zero n = refl
+  given_accepted (suc k) n = given_accepted k (after_stopper n)
+
+  pub given_finished : (k : ℕ) (n : Networking P) → (with_stops k n).finished ≡ n.finished
+  given_finished zero n = refl
+  given_finished (suc k) n = given_finished k (after_stopper n)
 
   -- so many, and then more
   pub more_stops : (k m : ℕ) (n : Networking P) → with_stops m (with_stops k n) ≡ with_stops (k + m) n
@@ -90,6 +101,36 @@ module _ {P : Type 0} where
   pub ended_told : (es : List (Ended P)) (n : Networking P) → IfSome n.told (λ r. length es ≤ r.room) → (all_ended es n).told ≡ option_map (with_all es) n.told
   ended_told es n room = told_each es n ∙ told_room es n.told room
 
+  -- ---- peers that were finished
+  pub finished_closes : (ps : List P) (l : Listening P) → (all_finished ps l).closes ≡ l.closes
+  finished_closes [] l = refl
+  finished_closes (p ∷ ps) l = finished_closes ps (after_finish l p)
+
+  pub finished_run : (ps : List P) (l : Listening P) → (all_finished ps l).run ≡ l.run
+  finished_run [] l = refl
+  finished_run (p ∷ ps) l = finished_run ps (after_finish l p)
+
+  pub finished_accepted : (ps : List P) (l : Listening P)
+      → (all_finished ps l).accepted ≡ l.accepted
+  finished_accepted [] l = refl
+  finished_accepted (p ∷ ps) l = finished_accepted ps (after_finish l p)
+
+  pub finished_count : (ps : List P) (l : Listening P)
+      → (all_finished ps l).finished ≡ raised_by (length ps) l.finished
+  finished_count [] l = refl
+  finished_count (p ∷ ps) l =
+      finished_count ps (after_finish l p) ∙ raised_first (length ps) l.finished
+
+  pub more_finished : (ps qs : List P) (l : Listening P)
+      → all_finished qs (all_finished ps l) ≡ all_finished (ps ++ qs) l
+  more_finished [] qs l = refl
+  more_finished (p ∷ ps) qs l = more_finished ps qs (after_finish l p)
+
+  pub over_length : (over : List P) (es : List (Ended P))
+      → length (with_left_over over es) ≡ length es
+  over_length over [] = refl
+  over_length over (e ∷ es) = refl
+
   -- ---- listeners that were made
   told_more : (a b k : ℕ) (t : Option (Returns P)) → a + b ≡ k → option_map (with_room b) (option_map (with_room a) t) ≡ option_map (with_room k) t
   told_more a b k None is = refl
@@ -97,7 +138,7 @@ module _ {P : Type 0} where
 
   pub listened_more : (a b k : ℕ) (n : Networking P) → a + b ≡ k → listened b (listened a n) ≡ listened k n
   listened_more a b k n is =
-      ap (λ (t : Option (Returns P)). let m : Networking P = record { told = t; clean = n.clean; stops_given = n.stops_given; stops_returned = n.stops_returned } in m) (told_more a b k n.told is)
+      ap (λ (t : Option (Returns P)). let m : Networking P = record { told = t; clean = n.clean; accepted = n.accepted; finished = n.finished; stops_given = n.stops_given; stops_returned = n.stops_returned } in m) (told_more a b k n.told is)
 
   room_in : (k : ℕ) (t : Option (Returns P)) → IfSome (option_map (with_room k) t) (λ r. k ≤ r.room)
   room_in k None = tt

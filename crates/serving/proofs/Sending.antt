@@ -8,6 +8,14 @@ use denote.Param.Send.{IsSend, IsSync, sendable, shr_send}
 use denote.Param.SendFields.{as_row_send, declared_send, variants_send}
 use Rattle.std.proofs.Crossing.{crosses}
 use Rattle.std.specs.declared.sync.ledger.Ledger as ledger
+use Rattle.line_base.specs.declared.outside.Peer as peer
+use Rattle.waiting.proofs.Crossing.{hand_send, lot_sync}
+use Rattle.waiting.specs.contracts.hand.Hand as Hand
+use Rattle.waiting.specs.contracts.lot.Lot as Lot
+use Rattle.client_stays.specs.contracts.client.IdleClient as IdleClient
+use Rattle.client_stays.specs.declared.handling.Handling as handling
+use Rattle.admin_api.proofs.Crossing.{idle_caller_send, worker_send}
+use Rattle.admin_api.specs.contracts.idle.IdleCaller as IdleCaller
 use Rattle.admin_api.specs.contracts.serving.Which as Which
 use Rattle.serving.proofs.policy.Policy.TheSendSync as policy
 use Rattle.serving.specs.contracts.policy.Policy as Policy
@@ -18,18 +26,27 @@ use Rattle.serving.specs.contracts.job.ApiJob as ApiJob
 use Rattle.serving.specs.contracts.job.ProxyJob as ProxyJob
 use Rattle.serving.specs.contracts.job.ServingJob as ServingJob
 use Rattle.serving.specs.contracts.proxy.ProxyServer as ProxyServer
+use Rattle.client_stays.proofs.Crossing.{idle_client_send}
 use Rattle.proxy_session.proofs.Crossing.{server_send}
-use Rattle.router.proofs.Crossing.{pass_send, router_sync}
+use Rattle.router.proofs.Crossing.{router_sync}
 
 own_send : (T : RattleType) → IsSend T → IsSend (as_row (row_field T))
 own_send T s = as_row_send (row_field T) s
 
-shared_send : (a : NamedLft) (R : RattleType) (one : One R.mir) → IsSync R → IsSend (as_row (shr_ref_field a R one))
+shared_send : (a : NamedLft) (R : RattleType) (one : One R.mir) → IsSync R
+    → IsSend (as_row (shr_ref_field a R one))
 shared_send a R one s = as_row_send (shr_ref_field a R one) (shr_send a.mir a.lft R s)
 
-module _ (a : NamedLft) (J L D C S : RattleType) (n : naming.Ghosts J.Denot) (l : ledger.Ghosts J.Denot) where
-  proxy_server_send : IsSend J → IsSend D → IsSend C → IsSend (ProxyServer.the_row a J D C n l)
-  proxy_server_send j d c = declared_send (ProxyServer.the_type a J D C n l) (
+which_send : IsSend Which.the_row
+which_send = variants_send Which.enum (tt, ((search sendable, tt), ((search sendable, tt), tt)))
+
+module _ (a : NamedLft) (P J L D C S A B E F : RattleType) (p : peer.Ghosts P.Denot)
+    (h : handling.Ghosts J.Denot) (n : naming.Ghosts J.Denot) (l : ledger.Ghosts J.Denot)
+    (la : ledger.Ghosts A.Denot) (lb : ledger.Ghosts B.Denot) (le : ledger.Ghosts E.Denot)
+    (lf : ledger.Ghosts F.Denot) where
+  proxy_server_send : IsSend J → IsSend D → IsSend C
+      → IsSend (ProxyServer.the_row a J D C h n l)
+  proxy_server_send j d c = declared_send (ProxyServer.the_type a J D C h n l) (
     search (crosses, sendable) depth 40,
     (
       shared_send a (Router.the_row J n l) tt (router_sync J n l j),
@@ -45,24 +62,47 @@ module _ (a : NamedLft) (J L D C S : RattleType) (n : naming.Ghosts J.Denot) (l 
     search (crosses, sendable) depth 40,
     (
       shared_send a (Router.the_row J n l) tt (router_sync J n l j),
+      (which_send, (worker_send J S n l j s, (search sendable, tt))),
+    ),
+  )
+
+  proxy_job_send : IsSend P → IsSend J → IsSend L → IsSend D → IsSend C → IsSend S
+      → IsSend (ProxyJob.the_row a P J L D C S A B h n p l la lb)
+  proxy_job_send q j k d c s = declared_send (ProxyJob.the_type a P J L D C S A B h n p l la lb) (
+    search sendable,
+    (
+      own_send L k,
       (
-        variants_send Which.enum (tt, ((search sendable, tt), ((search sendable, tt), tt))),
+        proxy_server_send j d c,
         (
-          pass_send J n l j,
-          (own_send S s, (search sendable, tt)),
+          own_send S s,
+          (
+            shared_send a (Lot.the_row (IdleClient.the_row P J n l p h) A B la lb) tt
+                (lot_sync (IdleClient.the_row P J n l p h) A B la lb
+                (idle_client_send P J n l p h q j)),
+            (as_row_send (Hand.the_field A B la lb) (hand_send A B la lb), tt),
+          ),
         ),
       ),
     ),
   )
 
-  proxy_job_send : IsSend J → IsSend L → IsSend D → IsSend C → IsSend S → IsSend (ProxyJob.the_row a J L D C S n l)
-  proxy_job_send j k d c s = declared_send (ProxyJob.the_type a J L D C S n l) (
-    search sendable,
-    (own_send L k, (proxy_server_send j d c, (own_send S s, tt))),
+  api_job_send : IsSend P → IsSend J → IsSend L → IsSend S
+      → IsSend (ApiJob.the_row a P J L S E F n p l le lf)
+  api_job_send q j k s = declared_send (ApiJob.the_type a P J L S E F n p l le lf) (
+    own_send L k,
+    (
+      api_server_send j s,
+      (
+        shared_send a (Lot.the_row (IdleCaller.the_row P J n l p) E F le lf) tt
+            (lot_sync (IdleCaller.the_row P J n l p) E F le lf (idle_caller_send P J n l p q j)),
+        (as_row_send (Hand.the_field E F le lf) (hand_send E F le lf), tt),
+      ),
+    ),
   )
 
-  api_job_send : IsSend J → IsSend L → IsSend S → IsSend (ApiJob.the_row a J L S n l)
-  api_job_send j k s = declared_send (ApiJob.the_type a J L S n l) (search sendable, (own_send L k, (api_server_send j s, tt)))
-
-  pub job_send : IsSend J → IsSend L → IsSend D → IsSend C → IsSend S → IsSend (ServingJob.the_row a J L D C S n l)
-  job_send j k d c s = variants_send (ServingJob.enum a J L D C S n l) ((proxy_job_send j k d c s, tt), ((api_job_send j k s, tt), tt))
+  pub job_send : IsSend P → IsSend J → IsSend L → IsSend D → IsSend C → IsSend S
+      → IsSend (ServingJob.the_row a P J L D C S A B E F h n p l la lb le lf)
+  job_send q j k d c s =
+      variants_send (ServingJob.enum a P J L D C S A B E F h n p l la lb le lf)
+      ((proxy_job_send q j k d c s, tt), ((api_job_send q j k s, tt), tt))

@@ -52,7 +52,7 @@ all_moved f new all [] none same = nil_behind new ∙ same
     nil_behind (y ∷ ys) = ap (λ (zs : List _). y ∷ zs) (nil_behind ys)
 all_moved f new all (x ∷ left) none same = absurd (omega (arith, none))
 
-or_assoc : (a b c : Bool) → ((a || b) || c) ≡ (a || (b || c))
+pub or_assoc : (a b c : Bool) → ((a || b) || c) ≡ (a || (b || c))
 or_assoc true b c = refl
 or_assoc false b c = refl
 
@@ -101,3 +101,8 @@ pub none_left : {A : Type 0} (f : A → Bool) (old all : Bool) (left : List A) �
     → (old || list_any f left) ≡ all → old ≡ all
 none_left f old all [] none same = any_done old all false refl same
 none_left f old all (x ∷ left) none same = absurd (omega (arith, none))
+
+pub any_map : {A B : Type 0} (f : A → B) (p : B → Bool) (xs : List A)
+    → list_any (λ x. p (f x)) xs ≡ list_any p (map f xs)
+any_map f p [] = refl
+any_map f p (x ∷ xs) = ap (λ (b : Bool). p (f x) || b) (any_map f p xs)

@@ -1,8 +1,9 @@
 -- What a router that served did, from its first connection to its end.
 use Rattle.std.specs.Prelude.{◌≡◌, ℕ, ◌+◌, ◌≤◌, List, length, map, Option, option_map}
 use Rattle.one_history.specs.Order.{Distinct}
+use Rattle.line_base.specs.Counts.{added}
 use Rattle.line_base.specs.Nets.{Networking}
-use Rattle.workers.specs.Served.{raised_by}
+use Rattle.workers.specs.Turns.{raised_by}
 use Rattle.linker_config.specs.declared.loaded.LoadedItem.{LoadedItem}
 use Rattle.router.specs.declared.naming.Naming.{Ghosts}
 use Rattle.router.specs.declared.pass.Pass.{Pass}
@@ -11,15 +12,17 @@ use Rattle.line_base.specs.Lines.{Line}
 use Rattle.serving.specs.declared.running.Served.{Served}
 use Rattle.serving.specs.declared.site.Site.{Site}
 use Rattle.serving.specs.Services.{HaveSeen}
-use Rattle.serving.specs.Returning.{with_all}
+use Rattle.serving.specs.Returning.{with_all, with_left_over}
+use Rattle.serving.specs.Shifts.{admissions}
 use Rattle.serving.specs.Posts.{jobs_of}
 use Rattle.serving.specs.Running.{HasRun}
 
 module _ {J P : Type 0} {g : Ghosts J} where
   -- Its passes were apart, and had seen the loaded services. A job ran for each listener, with one
   -- of the passes; and all passes, as they were then, ended with one history, of as many changes as
-  -- it tells. So each listener came back clean, as many stops came back as were handed out, what
-  -- came back is told in order where the net tells it, and each loaded service is a change
+  -- it tells. So each listener came back clean, over all of them as many peers were finished as had
+  -- been accepted, as many stops came back as were handed out, what came back is told in order
+  -- where the net tells it, and each loaded service is a change
   pub record HasServed (line_of : P → Line) (site : Site) (moments : Option (List ℕ))
       (loaded : List LoadedItem) (passes : List (Pass J g)) (net net_after : Networking P)
       (served : Served) : Type 0 where
@@ -29,7 +32,11 @@ module _ {J P : Type 0} {g : Ghosts J} where
     pub ran : HasRun line_of site moments passes last net net_after served.lacked_memory
     pub closed : IsClosed served.place last
     pub clean : net_after.clean ≡ raised_by (jobs_of site) net.clean
+    pub accepted : net_after.accepted ≡ added net.accepted (admissions ran.shifts)
+    pub finished : net_after.finished ≡ added net.finished (admissions ran.shifts)
     pub stops_given : net_after.stops_given ≡ raised_by (jobs_of site) net.stops_given
     pub stops_returned : net_after.stops_returned ≡ raised_by (jobs_of site) net.stops_returned
-    pub told : net_after.told ≡ option_map (with_all (map (λ s. s.ended) ran.shifts)) net.told
+    pub told :
+        net_after.told
+        ≡ option_map (with_all (with_left_over ran.over (map (λ s. s.ended) ran.shifts))) net.told
     pub place : length loaded ≤ served.place

@@ -1,8 +1,13 @@
 pub mod Ending
 pub mod Faults
+pub mod Hands
 pub mod Interfaces
 pub mod Jobs
+pub mod Ledgers
+pub mod LeftOver
+pub mod Parts
 pub mod Passes
+pub mod Policies
 pub mod Pools
 pub mod Posts
 pub mod Returning
@@ -10,3 +15,5 @@ pub mod Running
 pub mod Services
 pub mod Sessions
 pub mod Shifts
+pub mod Supplying
+pub mod Tending

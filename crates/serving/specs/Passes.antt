@@ -1,4 +1,4 @@
--- Passes that no session has in use.
+-- Passes that no stay has in use.
 use Rattle.std.specs.Prelude.{◌≡◌, List, None}
 use Rattle.std.specs.List.{AllByRecursion}
 use Rattle.router.specs.declared.naming.Naming.{Ghosts}

@@ -51,6 +51,9 @@ feed_posts (Some f) = posts_at (interface_post (Feed f.run) f.port) 1
 abbrev pub posts_of : Site → List Post
 posts_of site = main_posts site ++ feed_posts site.feed
 
--- how many listeners there are in all
+-- how many listeners there are in all, and how many of them are those of the interfaces
 abbrev pub jobs_of : Site → ℕ
 jobs_of site = site.workers + 4 + feed_jobs site.feed
+
+abbrev pub interface_jobs : Site → ℕ
+interface_jobs site = 4 + feed_jobs site.feed

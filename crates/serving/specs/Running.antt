@@ -1,6 +1,6 @@
 -- A router that is ready to serve, and how it ends.
-use Rattle.std.specs.Prelude.{◌≡◌, ℕ, suc, ◌≤◌, ◌<◌, ◌^◌, Bool, List, [], ◌∷◌, ◌++◌, length, map}
-use Rattle.std.specs.Prelude.{Option, None, Some, IfSome}
+use Rattle.std.specs.Prelude.{◌≡◌, ℕ, suc, ◌+◌, ◌≤◌, ◌<◌, ◌^◌, Bool, List, [], ◌∷◌, ◌++◌, length}
+use Rattle.std.specs.Prelude.{map, Option, None, Some, IfSome}
 use Rattle.std.specs.List.{AllZip, list_any}
 use Rattle.one_history.specs.Order.{Distinct}
 use Rattle.line_base.specs.Accepts.{Listening}
@@ -16,8 +16,9 @@ use Rattle.serving.specs.declared.site.Feeding.{Feeding}
 use Rattle.serving.specs.declared.site.Site.{Site}
 use Rattle.serving.specs.Passes.{AreFree}
 use Rattle.serving.specs.Posts.{endpoint_at, feed_jobs, jobs_of, posts_of}
-use Rattle.serving.specs.Returning.{all_ended, with_stops}
-use Rattle.serving.specs.Shifts.{ServesPost, Shift}
+use Rattle.serving.specs.LeftOver.{LeftOver}
+use Rattle.serving.specs.Returning.{all_ended, with_left_over, with_stops}
+use Rattle.serving.specs.Shifts.{ServesPost, Shift, admissions, returns}
 
 module _ {P L : Type 0} (state : L → Listening P) (told : Option (Returns P)) where
   -- new listeners at an address, for this place and those behind it
@@ -57,8 +58,10 @@ module _ {J L : Type 0} {g : Ghosts J} where
     pub free : AreFree s.passes.items
 
 module _ {J P : Type 0} {g : Ghosts J} where
-  -- a job ran for each listener of a site, with a pass of its own, and one pass served nobody; then
-  -- the listeners came back to the net, in their order, with the stops that it had handed out
+  -- A job ran for each listener of a site, with a pass of its own, and one pass served nobody. The
+  -- connections that waited still were ended at the first listener: so as many were given back as
+  -- had come. Then the listeners came back to the net, in their order, with the stops that it had
+  -- handed out
   pub record HasRun (line_of : P → Line) (site : Site) (moments : Option (List ℕ))
       (passes passes_after : List (Pass J g)) (net net_after : Networking P)
       (lacked_memory : Bool) : Type 0 where
@@ -67,5 +70,10 @@ module _ {J P : Type 0} {g : Ghosts J} where
     pub before : passes ≡ map (λ s. s.before) shifts ++ rest ∷ []
     pub behind : passes_after ≡ map (λ s. s.behind) shifts ++ rest ∷ []
     pub served : AllZip (ServesPost line_of site.policy moments net.told) (posts_of site) shifts
-    pub net_is : net_after ≡ all_ended (map (λ s. s.ended) shifts) (with_stops (jobs_of site) net)
+    pub over : List P
+    pub left_over : LeftOver line_of g site.policy.rule site.policy.retries over
+    pub all_back : admissions shifts ≡ returns shifts + length over
+    pub net_is :
+        net_after ≡ all_ended (with_left_over over (map (λ s. s.ended) shifts))
+        (with_stops (jobs_of site) net)
     pub lacked : lacked_memory ≡ list_any (λ s. s.lacked_memory) shifts

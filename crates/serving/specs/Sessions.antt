@@ -1,31 +1,27 @@
--- What a proxy job does with a connection.
-use Rattle.std.specs.Prelude.{◌≡◌, Bool, true, [], ℕ, List, Option, option_map}
-use Rattle.rand_pcg.specs.Lcg.{Lcg}
+-- What a worker does with the connections of clients, a turn at a time.
+use Rattle.std.specs.Prelude.{◌≡◌, ◌⊎◌, Bool, true, ℕ, List, Option}
 use Rattle.http_wire.specs.declared.ended.Ended.{Ended}
 use Rattle.http_wire.specs.declared.ended.Ended.TheVariants as ended
+use Rattle.http_wire.specs.declared.paused.Paused.{Paused}
+use Rattle.http_wire.specs.declared.paused.Paused.TheVariants as paused
 use Rattle.serving.specs.declared.policy.Policy.{Policy}
 use Rattle.machine.specs.Values.{SettingsValue}
 use Rattle.router.specs.declared.naming.Naming.{Ghosts}
 use Rattle.retry_budget.specs.declared.tries.Tries.{Tries}
-use Rattle.retry_budget.specs.Budget.{BudgetValue, opening}
 use Rattle.proxy_session.specs.declared.server.Server.{Server}
-use Rattle.proxy_session.specs.Callers.{Caller, caller_of}
-use Rattle.proxy_session.specs.Exchange.{Standing}
+use Rattle.proxy_session.specs.Idle.{EndsIdle}
 use Rattle.line_base.specs.Dials.{Upstream}
 use Rattle.line_base.specs.Lines.{Line}
-use Rattle.proxy_session.specs.Idle.{EndsIdle}
-use Rattle.proxy_session.specs.Session.{SessionsTo}
+use Rattle.client_stays.specs.Chains.{CameTo, Idle, came}
+use Rattle.client_stays.specs.Servers.{ServerValue, StaysWith, server_value}
+use Rattle.workers.specs.Turns.{Begin, End, Turn, from_peer, from_stay, given_back, left}
 
--- what goes on from one connection to the next: the dialer, the pass, the clock's moments to come
--- and the generator of words; and whether memory was wanting in a session
+-- what goes on from one turn to the next: the server, and whether a stay ran out of memory
 pub record Going : Type 0 where
-  pub upstream : Upstream
-  pub caller : Caller
-  pub moments : Option (List ℕ)
-  pub words : Lcg
+  pub server : ServerValue
   pub lacked_memory : Bool
 
--- memory was wanting in a session that ended so, or before it
+-- a stay that ended so ran out of memory, or one before it
 abbrev pub lacked_behind : Bool → Ended → Bool
 lacked_behind before ended.OutOfMemory = true
 lacked_behind before ended.PeerEnded = before
@@ -37,52 +33,77 @@ lacked_behind before ended.ReadFault = before
 lacked_behind before ended.WriteFault = before
 lacked_behind before ended.UpstreamCut = before
 
--- a server, and whether memory was wanting so far, by what its dialer and its clock tell of
+-- in a stay that came out so, or before it
+abbrev pub lacked_in : Bool → Paused → Bool
+lacked_in before paused.Quiet = before
+lacked_in before (paused.Ended end) = lacked_behind before end
+
+-- a server, and whether a stay ran out of memory so far, by what its dialer and its clock tell of
 -- themselves
 module _ {J D C : Type 0} {g : Ghosts J} (upstream_of : D → Upstream)
     (moments_of : C → Option (List ℕ)) where
   abbrev pub going_by : Server J D C g → Bool → Going
   going_by s lacked_memory = record {
-    upstream = upstream_of s.way.dialer;
-    caller = caller_of s.pass;
-    moments = moments_of s.clock;
-    words = s.words;
+    server = server_value upstream_of moments_of s;
     lacked_memory = lacked_memory;
   }
 
--- a connection, of which these bytes were read and not used, beside what goes on
-abbrev pub beside : Line → List ℕ → Going → Standing
-beside line kept s =
-    record {
-      line = line;
-      kept = kept;
-      upstream = s.upstream;
-      caller = s.caller;
-      moments = s.moments;
-      words = s.words;
-    }
-
--- the budget of retries that a connection begins with: none, where requests are not tried again
-abbrev pub budget_by : Option Tries → Option BudgetValue
-budget_by retries = option_map opening retries
-
--- what goes on, with a dialer that tells this
-abbrev pub with_upstream : Upstream → Going → Going
+-- a server with a dialer that tells this
+abbrev pub with_upstream : Upstream → ServerValue → ServerValue
 with_upstream upstream s = record {
   upstream = upstream;
   caller = s.caller;
   moments = s.moments;
   words = s.words;
-  lacked_memory = s.lacked_memory;
 }
 
--- one connection: a session with what the one before it left, and with a budget of its own. What of
--- its bytes was read and not used is dropped, and connections to replicas that were kept for too
--- long are ended
-abbrev pub Attends : SettingsValue → Policy → Going → Line → Line → Going → Type 0
-Attends settings policy old line line_after new =
-    (end : Ended) × (rest : List ℕ) × (left : Option BudgetValue) × (dialer : Upstream)
-    × SessionsTo settings policy.rule (budget_by policy.retries) left (beside line [] old)
-    (beside line_after rest (with_upstream dialer new)) end
-    × EndsIdle dialer new.upstream
-    × (new.lacked_memory ≡ lacked_behind old.lacked_memory end)
+-- how a turn ends behind a stay that came out so: its connection waits as the stay left it, or its
+-- client is given back
+abbrev pub EndsAs : {P : Type 0} → (P → Line) → Idle → Paused → End P Idle → Type 0
+EndsAs line_of behind paused.Quiet (left idle) = idle ≡ behind
+EndsAs line_of behind paused.Quiet (given_back peer) = ⊥
+EndsAs line_of behind (paused.Ended end) (left idle) = ⊥
+EndsAs line_of behind (paused.Ended end) (given_back peer) = line_of peer ≡ behind.line
+
+-- a turn was a stay of this connection, with what the turn before it left. Behind it connections to
+-- replicas that were kept for too long are ended
+pub record IsServed
+    {P : Type 0} (line_of : P → Line) (settings : SettingsValue) (policy : Policy) (idle : Idle)
+    (old : Going) (end : End P Idle) (new : Going)
+    : Type 0 where
+  pub behind : Idle
+  pub paused : Paused
+  pub dialer : Upstream
+  pub stay :
+      StaysWith settings policy.rule idle old.server (with_upstream dialer new.server) behind paused
+  pub ends_idle : EndsIdle dialer new.server.upstream
+  pub ends : EndsAs line_of behind paused end
+  pub lacked : new.lacked_memory ≡ lacked_in old.lacked_memory paused
+
+module _ {P : Type 0} (line_of : P → Line) where
+  -- the connection with which a turn begins: that of a client that came, with a budget of its own
+  -- where requests may be tried again, or one that waited
+  abbrev pub begun_by : Policy → Going → Begin P Idle → Idle
+  begun_by policy old (from_peer peer) =
+      came policy.retries (line_of peer) old.server.caller.seen
+  begun_by policy old (from_stay idle) = idle
+
+  -- a connection that waited was ended, and nothing else moved
+  abbrev pub IsEnded : Begin P Idle → End P Idle → Going → Going → Type 0
+  IsEnded (from_stay idle) (given_back peer) old new = (line_of peer ≡ idle.line) × (new ≡ old)
+  IsEnded (from_stay idle) (left after) old new = ⊥
+  IsEnded (from_peer peer) end old new = ⊥
+
+-- some stays led to a connection that waited from a client that came
+abbrev pub HasCome : {P : Type 0} → SettingsValue → Policy → Begin P Idle → Type 0
+HasCome settings policy (from_peer peer) = Unit {0}
+HasCome settings policy (from_stay idle) = CameTo settings policy.rule policy.retries idle
+
+-- one turn: a stay of a client that came or of a connection that waited, or the end of one that
+-- waited
+abbrev pub Attends : {P : Type 0} → (P → Line) → SettingsValue → Policy → Going → Turn P Idle
+    → Going → Type 0
+Attends line_of settings policy old t new =
+    HasCome settings policy t.begin
+    × (IsServed line_of settings policy (begun_by line_of policy old t.begin) old t.end new
+    ⊎ IsEnded line_of t.begin t.end old new)

@@ -1,61 +1,89 @@
 -- What came of the connections of one listener.
-use Rattle.std.specs.Prelude.{◌≡◌, ℕ, Bool, false, nat_lt, List, [], Option, None}
+use Rattle.std.specs.Prelude.{◌≡◌, ℕ, ◌+◌, Bool, false, nat_lt, List, [], ◌∷◌, length, Option}
+use Rattle.std.specs.Prelude.{None}
 use Rattle.rand_core.specs.Pcg32Seed.{pcg32_seed}
 use Rattle.rand_pcg.specs.Pcg.{pcg64_of_seed}
 use Rattle.line_base.specs.declared.listener.Endpoint.{Endpoint}
 use Rattle.line_base.specs.Accepts.{Listening}
 use Rattle.line_base.specs.Clocks.{Begins}
 use Rattle.line_base.specs.Nets.{Ended, IsNew, IsNewLog, Returns}
-use Rattle.workers.specs.Served.{Lends, ServesEach}
+use Rattle.workers.specs.Turns.{Lends, ServesTurns, Turn, admitted, returned}
 use Rattle.serving.specs.declared.policy.Policy.{Policy}
 use Rattle.router.specs.declared.naming.Naming.{Ghosts}
 use Rattle.router.specs.declared.pass.Pass.{Pass}
 use Rattle.router.specs.Passes.{number_in}
-use Rattle.proxy_session.specs.Callers.{Caller, caller_of}
+use Rattle.proxy_session.specs.Callers.{caller_of, Caller as CallerValue}
 use Rattle.line_base.specs.Dials.{Upstream}
 use Rattle.line_base.specs.Lines.{Line}
 use Rattle.admin_api.specs.declared.serving.Which.{Which}
-use Rattle.serving.specs.Interfaces.{AnswersNext, standing_of}
+use Rattle.admin_api.specs.Stays.{Idle as Caller}
+use Rattle.client_stays.specs.Chains.{Idle}
+use Rattle.serving.specs.Interfaces.{AnswersTurn, desk_by}
 use Rattle.serving.specs.Pools.{most_kept}
 use Rattle.serving.specs.Posts.{Post, clients, interface}
 use Rattle.serving.specs.Sessions.{Attends, Going}
 
--- the pass that served the connections of a listener, before the first and behind the last; the
--- peers, in order, each as it was handed out and as it came back; what came back to the net in the
--- end; and whether memory was wanting
+-- the turns of a worker, in order: of connections of clients, or of those of the interfaces
+pub data Turns (P : Type 0) : Type 0 where
+  of_clients : List (Turn P Idle) → Turns P
+  of_callers : List (Turn P Caller) → Turns P
+
+module _ {P : Type 0} where
+  -- the peers that began such turns, and those that were given back
+  abbrev pub admitted_in : Turns P → List P
+  admitted_in (of_clients turns) = admitted turns
+  admitted_in (of_callers turns) = admitted turns
+
+  abbrev pub returned_in : Turns P → List P
+  returned_in (of_clients turns) = returned turns
+  returned_in (of_callers turns) = returned turns
+
+-- the pass that served at a listener, before the first turn and behind the last; the turns; what
+-- came back to the net in the end, but for the connections that waited still; and whether a stay
+-- ran out of memory
 pub record Shift (J P : Type 0) (g : Ghosts J) : Type 0 where
   pub before : Pass J g
   pub behind : Pass J g
-  pub served : List (P × P)
+  pub turns : Turns P
   pub ended : Ended P
   pub lacked_memory : Bool
 
--- what the first session begins with
-abbrev pub beginning : Caller → Upstream → Option (List ℕ) → ℕ → Going
-beginning caller dialer moments seed =
-    record {
-      upstream = dialer;
-      caller = caller;
-      moments = moments;
-      words = pcg64_of_seed (pcg32_seed 32 seed);
-      lacked_memory = false;
-    }
+-- what the first turn begins with
+abbrev pub beginning : CallerValue → Upstream → Option (List ℕ) → ℕ → Going
+beginning caller dialer moments seed = record {
+  server = record {
+    upstream = dialer;
+    caller = caller;
+    moments = moments;
+    words = pcg64_of_seed (pcg32_seed 32 seed);
+  };
+  lacked_memory = false;
+}
 
 module _ {J P : Type 0} {g : Ghosts J} where
-  -- the listener was new, handed these peers out and took them back, one after another, and then
-  -- answered once that it is closed. The pass keeps its number
+  -- how many connections came, and how many were given back in turns
+  abbrev pub admissions : List (Shift J P g) → ℕ
+  admissions [] = 0
+  admissions (s ∷ ss) = length (admitted_in s.turns) + admissions ss
+
+  abbrev pub returns : List (Shift J P g) → ℕ
+  returns [] = 0
+  returns (s ∷ ss) = length (returned_in s.turns) + returns ss
+
+  -- the listener was new, handed out the peers that began turns and took back those that ended
+  -- them, and then answered once that it is closed. The pass keeps its number
   pub record IsTended (told : Option (Returns P)) (endpoint : Endpoint) (s : Shift J P g) : Type 0
     where
       pub first : Listening P
       pub new : IsNew told endpoint first
-      pub lends : Lends s.served first s.ended.listener
+      pub lends : Lends (admitted_in s.turns) (returned_in s.turns) first s.ended.listener
       pub closes : s.ended.listener.closes ≡ 1
       pub run : s.ended.listener.run ≡ 0
       pub number : number_in s.behind ≡ number_in s.before
 
-  -- each connection of a client was a session, with what the one before it left: the first one with
-  -- a new dialer, which keeps connections as the policy says, a fork of a clock with these moments,
-  -- and a generator with this seed. Its stop was never called
+  -- the turns of clients' connections were one after another, each with what the one before it
+  -- left: the first one with a new dialer, which keeps connections as the policy says, a fork of a
+  -- clock with these moments, and a generator with this seed. Its stop was never called
   pub record HasSessions (line_of : P → Line) (policy : Policy) (moments : Option (List ℕ))
       (told : Option (Returns P)) (endpoint : Endpoint) (seed : ℕ) (s : Shift J P g) : Type 0 where
     pub tended : IsTended told endpoint s
@@ -65,22 +93,25 @@ module _ {J P : Type 0} {g : Ghosts J} where
     pub clock : Option (List ℕ)
     pub forked : Begins moments clock
     pub final : Going
-    pub sessions : ServesEach
-        (λ old p q new. Attends g.settings policy old (line_of p) (line_of q) new)
-        (beginning (caller_of s.before) dialer clock seed) s.served final
-    pub caller : final.caller ≡ caller_of s.behind
-    pub log : s.ended.log ≡ final.upstream.log
+    pub turns : List (Turn P Idle)
+    pub turns_are : s.turns ≡ of_clients turns
+    pub serves : ServesTurns (Attends line_of g.settings policy)
+        (beginning (caller_of s.before) dialer clock seed) turns final
+    pub caller : final.server.caller ≡ caller_of s.behind
+    pub log : s.ended.log ≡ final.server.upstream.log
     pub lacked : s.lacked_memory ≡ final.lacked_memory
     pub stops : s.ended.stops ≡ 0
 
-  -- each connection of an interface had its requests answered with the pass, one connection after
-  -- another. The stop was called where one of them asked for it
-  pub record IsAnswered (line_of : P → Line) (told : Option (Returns P)) (which : Which)
+  -- the turns of the interfaces' connections were one after another: the requests of each were
+  -- answered with the pass, by the interface that it came to. The stop was called where one of them
+  -- asked for it
+  pub record HasAnswers (line_of : P → Line) (told : Option (Returns P)) (which : Which)
       (endpoint : Endpoint) (s : Shift J P g) : Type 0 where
     pub tended : IsTended told endpoint s
-    pub connections : ServesEach (λ old p q new. AnswersNext which old (line_of p) (line_of q) new)
-        (standing_of s.before 0 false) s.served
-        (standing_of s.behind s.ended.stops s.lacked_memory)
+    pub turns : List (Turn P Caller)
+    pub turns_are : s.turns ≡ of_callers turns
+    pub serves : ServesTurns (AnswersTurn line_of which) (desk_by s.before 0 false) turns
+        (desk_by s.behind s.ended.stops s.lacked_memory)
     pub log : s.ended.log ≡ None
 
   -- a listener's connections were served as its post says
@@ -89,4 +120,4 @@ module _ {J P : Type 0} {g : Ghosts J} where
   ServesPost line_of policy moments told (clients endpoint seed) s =
       HasSessions line_of policy moments told endpoint seed s
   ServesPost line_of policy moments told (interface which endpoint) s =
-      IsAnswered line_of told which endpoint s
+      HasAnswers line_of told which endpoint s

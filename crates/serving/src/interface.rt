@@ -1,49 +1,96 @@
-//! What serves the connections of an interface.
+//! What serves the connections of the interfaces.
+ghost use Rattle.std.specs.Prelude.{◌≡◌};
+ghost use Rattle.router.specs.Passes.{number_in};
+
 use crate::proxy::lacked_behind;
-use admin_api::{Which, serve_admin};
+use admin_api::{ApiWorker, Context, IdleCaller, Stayed, Which};
 use line_base::{Gate, Peer, Stop};
-use router::{Naming, Pass, Router};
+use router::{Naming, Router};
 use std::alloc::Global;
 use std::sync::Wait;
-use workers::Serve;
+use workers::{Serve, Turned};
 
-/// Serves connections of an interface, one after another. A shutdown calls its stop.
+/// Serves connections of the interfaces a stay at a time. A shutdown calls its stop.
 #[derive(Drop)]
 pub struct ApiServer<'a, J: Naming, S> {
     pub(crate) alloc: Global,
     pub(crate) router: &'a Router<J>,
+    /// Which interface answers those that come to its listener. One that waited is answered by the
+    /// interface that it came to.
     pub(crate) which: Which,
-    pub(crate) pass: Pass<J>,
-    pub(crate) stop: S,
+    pub(crate) worker: ApiWorker<J, S>,
     pub(crate) lacked_memory: bool,
+}
+
+impl<J: Naming, S: Stop> ApiServer<'_, J, S> {
+    ghost use Rattle.admin_api.specs.Stays.{CameTo};
+    ghost use Rattle.serving.specs.Interfaces.{IsAnswered, desk_by};
+    ghost use Rattle.workers.specs.Turns.{end_of};
+
+    /// Serves a connection for a stay.
+    fn serve<P: Peer, R: Wait>(
+        &mut self,
+        rt: &R,
+        caller: IdleCaller<P, J>,
+    ) -> Turned<IdleCaller<P, J>, P>
+        ensures chain { CameTo J.Naming.own caller }
+        ensures answered { IsAnswered P.line caller
+            (desk_by self.old.worker.pass (S.calls self.old.worker.stop) self.old.lacked_memory)
+            (end_of result)
+            (desk_by self.new.worker.pass (S.calls self.new.worker.stop) self.new.lacked_memory) }
+        ensures which { self.new.which ≡ self.old.which }
+        ensures number { number_in self.new.worker.pass ≡ number_in self.old.worker.pass }
+    {
+        let context = Context {
+            rt,
+            alloc: self.alloc,
+            router: self.router,
+        };
+        match caller.serve(&context, &mut self.worker) {
+            Stayed::Waits(caller) => Turned::Waits(caller),
+            Stayed::Ends(peer, ended) => {
+                self.lacked_memory = lacked_behind(self.lacked_memory, ended);
+                Turned::Ends(peer)
+            }
+        }
+    }
 }
 
 impl<P: Peer, J: Naming, S: Stop> Serve<P> for ApiServer<'_, J, S> {
     ghost use Rattle.std.specs.Prelude.{◌≡◌};
     ghost use Rattle.router.specs.Passes.{number_in};
-    ghost use Rattle.serving.specs.Interfaces.{Answers};
+    ghost use Rattle.serving.specs.Interfaces.{AnswersTurn, desk_by};
 
-    ghost serves = { λ old peer peer_after new.
-        Answers old.which
-        (P.line peer)
-        (P.line peer_after)
-        old.pass new.pass
-        (record { stops = S.calls old.stop; lacked_memory = old.lacked_memory })
-        (record { stops = S.calls new.stop; lacked_memory = new.lacked_memory })
-        × (new.which ≡ old.which) × (number_in new.pass ≡ number_in old.pass) };
+    type Stay = IdleCaller<P, J>;
 
-    fn serve<R: Wait, G: Gate>(&mut self, rt: &R, peer: P, _gate: &G, _worker: u32) -> P {
-        let mut peer = peer;
-        let ended = serve_admin(
-            rt,
-            self.alloc,
-            self.router,
-            &mut self.pass,
-            self.which,
-            &mut self.stop,
-            &mut peer,
-        );
-        self.lacked_memory = lacked_behind(self.lacked_memory, ended);
-        peer
+    ghost serves = { λ old t new.
+        AnswersTurn P.line old.which
+        (desk_by old.worker.pass (S.calls old.worker.stop) old.lacked_memory) t
+        (desk_by new.worker.pass (S.calls new.worker.stop) new.lacked_memory)
+        × (new.which ≡ old.which) × (number_in new.worker.pass ≡ number_in old.worker.pass) };
+
+    fn begin<R: Wait, G: Gate>(
+        &mut self,
+        rt: &R,
+        peer: P,
+        _gate: &G,
+        _worker: u32,
+    ) -> Turned<IdleCaller<P, J>, P> {
+        let caller = IdleCaller::came(peer, self.which, &self.worker);
+        self.serve(rt, caller)
+    }
+
+    fn go_on<R: Wait, G: Gate>(
+        &mut self,
+        rt: &R,
+        stay: IdleCaller<P, J>,
+        _gate: &G,
+        _worker: u32,
+    ) -> Turned<IdleCaller<P, J>, P> {
+        self.serve(rt, stay)
+    }
+
+    fn end(&mut self, stay: IdleCaller<P, J>) -> P {
+        stay.end()
     }
 }

@@ -1,27 +1,43 @@
-//! A router that serves: connections of clients and of the two interfaces, each accepted by a job
-//! of its own.
+//! A router that serves: connections of clients and of its interfaces, each with whichever worker
+//! is free.
 //!
-//! [`start`] gives a router its services and listens on its three addresses; [`Serving::run`] then
-//! serves until it is stopped. A job has a listener, a pass of the router, and a stop of its own,
-//! and serves one connection after another: a proxy job by `Server::serve_session`, with a dialer,
-//! a clock and a generator of words that go on from connection to connection; a job of an interface
-//! by `serve_admin`. A shutdown that is asked for on an interface, and a listener whose accepts
-//! fail a hundred times in a row, close all listeners; then each is taken back, and the router is
-//! ended.
+//! [`start`] gives a router its services and listens on its addresses; [`Serving::run`] then serves
+//! until it is stopped. It runs a job for each listener, on a thread of its own: a [`ProxyJob`]
+//! serves connections of clients, with a dialer, a clock and a generator of words, and an
+//! [`ApiJob`] those of the interfaces to the namespaces and for the administrator, and of the feed
+//! where it is served. Each has a pass of the router and a stop.
+//!
+//! A connection holds a worker only while it is served. Between two of its requests it waits in a
+//! lot, which all workers of its kind share, and any of them goes on with it, with a pass that has
+//! seen all that had been seen for it. So there are as many workers as requests that are served at
+//! a time, and thousands of connections may wait. One that has waited for a minute is ended, and so
+//! is the one that has waited longest where there is no room for another.
+//!
+//! A shutdown that is asked for on an interface, and a listener whose waits fail a hundred times in
+//! a row, close all listeners. Then each job is taken apart, the connections that still wait are
+//! ended, the listeners go back to the net, and the router is ended.
 //!
 //! # What is proved
-//! [`start`] leaves new listeners, one for each place of the three addresses, and passes that have
-//! all seen the services set. It answers that the book has no room only where `BookRefuses` of
+//! [`start`] leaves new listeners, one for each place of its addresses, and passes that have all
+//! seen the services set. It answers that the book has no room only where `BookRefuses` of
 //! `specs/Services.antt` holds: the services before one are accepted, and the book that they leave
-//! has no room for it. What [`Serving::run`] did is `HasServed` of `specs/Ending.antt`: each
-//! listener had a pass of its own, and its connections were served one after another, and each
-//! given back, until it answered that it is closed. Those of clients were sessions, each with the
-//! dialer, the clock, the generator and the pass that the one before left; the first had new ones,
-//! with the seed of the listener's place. Those of an interface were served by `serve_admin`, and
-//! its stop was called as often as that says. All listeners came back clean, in their order, and as
-//! many stops as were handed out. The passes ended with one history, of as many changes as is told,
-//! each loaded service among them; and it is told whether memory was wanting in a session. That the
-//! jobs run beside one another is not proved.
+//! has no room for it.
+//!
+//! What [`Serving::run`] did is `HasServed` of `specs/Ending.antt`. Each listener had a pass of its
+//! own, and its worker took one turn after another (`specs/Shifts.antt`) until the listener
+//! answered that it is closed: a stay of a connection that came to it, a stay of one that waited,
+//! or the end of one that waited. A stay of a client goes on with the dialer, the clock, the
+//! generator and the pass that the turn before it left; the first has new ones, with the seed of
+//! the listener's place. Of a connection that waited it is known that stays led to it from one that
+//! came, each in turn with a pass that had seen all that the stays before it had seen
+//! (`client_stays`, `admin_api`). A stop was called as often as the turns say. The connections that
+//! still waited were ended at the first listener, so over all listeners as many were finished as
+//! had been accepted. All listeners came back clean, in their order, and as many stops as were
+//! handed out. The passes ended with one history, of as many changes as [`Served`] tells, each
+//! loaded service among them; and it tells whether a stay ran out of memory.
+//!
+//! It is not proved that the jobs run beside one another, nor which worker took up a connection
+//! that another one left.
 //!
 //! # Example
 //! ```text
@@ -33,11 +49,14 @@
 #![tactic(auto)]
 
 mod bound;
+mod ending;
 mod gate;
 mod interface;
 mod job;
 mod jobs;
 mod loading;
+mod lots;
+mod parts;
 mod policy;
 mod pool;
 mod proxy;
@@ -49,6 +68,7 @@ pub use bound::Bound;
 pub use gate::NoGate;
 pub use interface::ApiServer;
 pub use job::{ApiJob, ProxyJob, ServingJob};
+pub use parts::{Apart, Part};
 pub use policy::Policy;
 pub use proxy::ProxyServer;
 pub use running::{RunFault, Served, Serving, StartFault, start};

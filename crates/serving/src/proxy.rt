@@ -1,33 +1,35 @@
-//! What serves the connections of a proxy job.
+//! What serves the connections of clients.
 ghost use Rattle.std.specs.Prelude.{◌≡◌, None};
-ghost use Rattle.router.specs.Passes.{slot_in};
-ghost use Rattle.serving.specs.Sessions.{budget_by, lacked_behind};
-ghost use Rattle.std.specs.Option.{ForSome};
-ghost use Rattle.retry_budget.specs.Budget.{AreAllowed};
+ghost use Rattle.std.specs.Coded.{Coded-set, coded_option};
+ghost use Rattle.identifier.specs.contracts.rule.Rule as Rule;
+ghost use Rattle.retry_budget.specs.contracts.tries.Tries as Tries;
+ghost use Rattle.router.specs.Passes.{number_in, slot_in};
+ghost use Rattle.serving.specs.Sessions.{lacked_behind};
 
 use crate::policy::Policy;
+use client_stays::{Handling, IdleClient, Stayed};
 use http_wire::Ended;
 use line_base::{Clock, Dialer, Gate, Peer};
-use proxy_session::{Connection, Context, Server};
-use retry_budget::Tries;
-use router::{Naming, Router};
+use proxy_session::{Context, Server};
+use router::Router;
 use std::alloc::Global;
 use std::sync::Wait;
-use workers::Serve;
+use workers::{Serve, Turned};
 
-/// Serves connections of clients, one after another, each by a session with what the one before it
-/// left.
+/// Serves connections of clients a stay at a time, each with what the one before it left.
 #[derive(Drop)]
-pub struct ProxyServer<'a, J: Naming, D, C> {
+pub struct ProxyServer<'a, J: Handling, D, C> {
     pub(crate) alloc: Global,
     pub(crate) router: &'a Router<J>,
     pub(crate) policy: &'a Policy,
     pub(crate) server: Server<J, D, C>,
     pub(crate) lacked_memory: bool,
     ghost free: { slot_in server.pass ≡ None },
+    ghost rule: { policy.now.rule ≡ J.rule } by { Coded-set Rule.the_row.coded _ _ },
+    ghost tries: { policy.now.retries ≡ J.tries } by { Coded-set (coded_option Tries.the_row.coded) _ _ },
 }
 
-/// Whether memory was wanting in a session that ended so, or before it.
+/// Whether a stay that ended so ran out of memory, or one before it.
 pub(crate) fn lacked_behind(before: bool, end: Ended) -> bool
     ensures { result ≡ lacked_behind before end }
 {
@@ -44,42 +46,82 @@ pub(crate) fn lacked_behind(before: bool, end: Ended) -> bool
     }
 }
 
-/// A connection to this client, with a budget of its own where requests may be tried again.
-fn begin<P>(peer: P, retries: Option<Tries>) -> Connection<P>
-    requires { ForSome retries (λ tries. AreAllowed tries) }
-    ensures { (result.peer ≡ peer) × (result.served ≡ 0) × (result.budget ≡ budget_by retries) }
-{
-    match retries {
-        Some(tries) => Connection::trying(peer, tries),
-        None => Connection::of(peer),
-    }
-}
+impl<J: Handling, D: Dialer, C: Clock> ProxyServer<'_, J, D, C> {
+    ghost use Rattle.client_stays.specs.Chains.{CameTo};
+    ghost use Rattle.serving.specs.Sessions.{IsServed, going_by};
+    ghost use Rattle.workers.specs.Turns.{end_of};
 
-impl<P: Peer, J: Naming, D: Dialer, C: Clock> Serve<P> for ProxyServer<'_, J, D, C> {
-    ghost use Rattle.std.specs.Prelude.{◌≡◌};
-    ghost use Rattle.router.specs.Passes.{number_in};
-    ghost use Rattle.serving.specs.Sessions.{Attends, going_by};
-
-    ghost serves = { λ old peer peer_after new.
-        Attends J.settings old.policy.now
-        (going_by D.upstream C.to_come old.server old.lacked_memory)
-        (P.line peer) (P.line peer_after)
-        (going_by D.upstream C.to_come new.server new.lacked_memory)
-        × (new.policy ≡ old.policy) × (number_in new.server.pass ≡ number_in old.server.pass) };
-
-    fn serve<R: Wait, G: Gate>(&mut self, rt: &R, peer: P, gate: &G, worker: u32) -> P {
+    /// Serves a connection for a stay, and ends the connections to replicas that were kept for too
+    /// long, since the next client may be long in coming.
+    fn serve<P: Peer, R: Wait, G: Gate>(
+        &mut self,
+        rt: &R,
+        client: IdleClient<P, J>,
+        gate: &G,
+        worker: u32,
+    ) -> Turned<IdleClient<P, J>, P>
+        ensures chain { CameTo J.settings self.old.policy.now.rule self.old.policy.now.retries
+            client }
+        ensures served { IsServed P.line J.settings self.old.policy.now client
+            (going_by D.upstream C.to_come self.old.server self.old.lacked_memory)
+            (end_of result)
+            (going_by D.upstream C.to_come self.new.server self.new.lacked_memory) }
+        ensures policy { self.new.policy ≡ self.old.policy }
+        ensures number { number_in self.new.server.pass ≡ number_in self.old.server.pass }
+    {
         let context = Context {
             rt,
             alloc: self.alloc,
             router: self.router,
             rule: &self.policy.rule,
         };
-        let mut connection = begin(peer, self.policy.retries);
-        let ended = self
-            .server
-            .serve_session(&context, &mut connection, gate, worker);
+        let stayed = client.serve(&mut self.server, &context, gate, worker);
         self.server.end_idle();
-        self.lacked_memory = lacked_behind(self.lacked_memory, ended);
-        connection.into_peer()
+        match stayed {
+            Stayed::Waits(client) => Turned::Waits(client),
+            Stayed::Ends(peer, ended) => {
+                self.lacked_memory = lacked_behind(self.lacked_memory, ended);
+                Turned::Ends(peer)
+            }
+        }
+    }
+}
+
+impl<P: Peer, J: Handling, D: Dialer, C: Clock> Serve<P> for ProxyServer<'_, J, D, C> {
+    ghost use Rattle.std.specs.Prelude.{◌≡◌};
+    ghost use Rattle.router.specs.Passes.{number_in};
+    ghost use Rattle.serving.specs.Sessions.{Attends, going_by};
+
+    type Stay = IdleClient<P, J>;
+
+    ghost serves = { λ old t new.
+        Attends P.line J.settings old.policy.now
+        (going_by D.upstream C.to_come old.server old.lacked_memory) t
+        (going_by D.upstream C.to_come new.server new.lacked_memory)
+        × (new.policy ≡ old.policy) × (number_in new.server.pass ≡ number_in old.server.pass) };
+
+    fn begin<R: Wait, G: Gate>(
+        &mut self,
+        rt: &R,
+        peer: P,
+        gate: &G,
+        worker: u32,
+    ) -> Turned<IdleClient<P, J>, P> {
+        let client = IdleClient::came(peer, self.policy.retries, &self.server);
+        self.serve(rt, client, gate, worker)
+    }
+
+    fn go_on<R: Wait, G: Gate>(
+        &mut self,
+        rt: &R,
+        stay: IdleClient<P, J>,
+        gate: &G,
+        worker: u32,
+    ) -> Turned<IdleClient<P, J>, P> {
+        self.serve(rt, stay, gate, worker)
+    }
+
+    fn end(&mut self, stay: IdleClient<P, J>) -> P {
+        stay.end()
     }
 }

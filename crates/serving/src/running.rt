@@ -1,5 +1,6 @@
 //! From a router that was opened to its end.
-ghost use Rattle.std.specs.Prelude.{◌≡◌, ◌+◌, ◌≤◌, ◌++◌, [], List, Some, Err, true, false, length};
+ghost use Rattle.std.specs.Prelude.{◌≡◌, ℕ, ◌+◌, ◌≤◌, ◌<◌, ◌++◌, List, Some, Err, true, false};
+ghost use Rattle.std.specs.Prelude.{[], length};
 ghost use Rattle.std.specs.Prelude.{IfOk, vec_len, vec_capacity};
 ghost use Rattle.line_base.specs.Counts.{Rose};
 ghost use Rattle.linker_config.specs.declared.loaded.LoadedItem.{LoadedItem};
@@ -9,26 +10,40 @@ ghost use Rattle.router.specs.Closing.{IsClosed, numbers_of};
 ghost use Rattle.router.specs.Values.{settings_in};
 ghost use Rattle.serving.specs.Ending.{HasServed};
 ghost use Rattle.serving.specs.Faults.{TellsFaults};
-ghost use Rattle.serving.specs.Jobs.{ComeBack, Runs, passes_of_jobs};
+ghost use Rattle.serving.specs.Jobs.{Runs, passes_of_jobs};
+ghost use Rattle.serving.specs.Ledgers.{AreBlanksFor};
+ghost use Rattle.serving.specs.Parts.{ComeApart, CountsParts, EndsAll, HasRoom, IsEmpty};
+ghost use Rattle.serving.specs.Parts.{any_broken};
+ghost use Rattle.serving.specs.Policies.{IsHandledBy};
+ghost use Rattle.serving.specs.Supplying.{AreSupplied};
+ghost use Rattle.serving.specs.Tending.{HasParts, HaveTended};
 ghost use Rattle.serving.specs.Services.{BookRefuses, HaveSeen};
 ghost use Rattle.serving.specs.Passes.{AreFree};
-ghost use Rattle.serving.specs.Posts.{jobs_of};
-ghost use Rattle.serving.specs.Returning.{listened};
+ghost use Rattle.serving.specs.Posts.{interface_jobs, jobs_of};
+ghost use Rattle.serving.specs.Returning.{listened, with_stops};
 ghost use Rattle.serving.specs.Running.{HasRun, IsReady, Listens, bound_of, passes_of};
 ghost use Rattle.std.specs.Vec.Iter.{into_iter_items};
 ghost use Rattle.snap_cell.specs.Writers.{cell_written, opening_written};
 
 use crate::bound::{Bound, bind};
+use crate::ending::{StillWaiting, end_all};
 use crate::gate::NoGate;
-use crate::jobs::{Jobs, Setup, add_jobs, make_rooms};
+use crate::job::ServingJob;
+use crate::jobs::{Jobs, Setup, Supplies, add_jobs, make_rooms};
 use crate::loading::{SetFault, set_services};
+use crate::lots::{Blanks, LEAST_CLIENTS, Lots, MOST_CLIENTS};
+use crate::parts::Apart;
 use crate::site::Site;
-use crate::taking_back::{Tally, take_all_back, take_unrun_back};
-use line_base::{Clock, Listener, Net, NetFault};
+use crate::taking_back::{take_all_apart, take_unrun_apart};
+use client_stays::Handling;
+use line_base::{Clock, Listener, Net, NetFault, Peer};
 use linker_config::Loaded;
+use proxy_session::Mem;
 use router::{Naming, Opened, Pass, Router};
 use std::alloc::Global;
+use std::marker::Brand;
 use std::sync::Wait;
+use std::sync::ledger::Ledger;
 use std::thread::Threads;
 use std::vec::IntoIter;
 use workers::{JobsBack, run_workers};
@@ -47,9 +62,9 @@ pub enum StartFault {
 /// Why a router that serves came to no good end.
 #[derive(Clone, Copy, Debug, PartialEq, Eq)]
 pub enum RunFault {
-    /// The accepts of a listener failed again and again. The net's count of faults rose.
+    /// The waits of a listener failed a hundred times in a row. The net's count of faults rose.
     Net,
-    /// There was no memory for the jobs, none of which ran.
+    /// There was no memory for the jobs. None of them ran.
     OutOfMemory,
 }
 
@@ -58,7 +73,7 @@ pub enum RunFault {
 pub struct Served {
     /// How many changes there were.
     pub place: u64,
-    /// Whether memory was wanting in a session.
+    /// Whether a stay of a connection ran out of memory.
     pub lacked_memory: bool,
 }
 
@@ -165,31 +180,59 @@ struct Returned<J: Naming> {
     passes: Vec<Pass<J>>,
 }
 
-/// Runs these jobs and takes them back: whether there was memory to run them, and what is known
-/// then.
-fn run_all<
-    J: Naming + Send + Sync,
+/// What is known once all jobs are back.
+#[derive(Clone, Copy, Debug, PartialEq, Eq)]
+struct Tally {
+    /// Whether the net failed to take a listener back.
+    failed: bool,
+    /// Whether a stay of a connection ran out of memory.
+    lacked_memory: bool,
+}
+
+/// What does not change while a router serves: the allocator, the router, and where it serves.
+#[derive(Drop)]
+struct Plan<'a, J: Naming> {
+    alloc: Global,
+    router: &'a Router<J>,
+    site: &'a Site,
+}
+
+/// Runs these jobs and takes them apart: whether there was memory to run them.
+fn run_apart<
+    J: Handling + Send + Sync,
     R: Threads + Wait + Sync,
     N: Net + Send,
     C: Clock + Drop + Send,
->(rt: &R, net: &mut N, jobs: Jobs<'_, J, N, C>, back: &mut Vec<Pass<J>>) -> (bool, Tally)
+    A: Ledger + Send + Sync,
+    B: Ledger + Send + Sync,
+    E: Ledger + Send + Sync,
+    F: Ledger + Send + Sync,
+>(
+    rt: &R,
+    jobs: Jobs<'_, J, N, C, A, B, E, F>,
+    apart: &mut Apart<J, N::L, N::D, N::S, A, B, E, F>,
+) -> bool
 where
     <N::L as Listener>::P: Send,
-    requires room { vec_len back.old + length jobs.items ≤ vec_capacity back.old }
-    ensures numbers { numbers_of back.new.items
-        ≡ numbers_of back.old.items ++ numbers_of (passes_of_jobs jobs.entry.items) }
-    ensures room { (vec_len back.new ≡ vec_len back.old + length jobs.entry.items)
-        × (vec_capacity back.new ≡ vec_capacity back.old) }
-    ensures faults { TellsFaults (N.faults net.old) (N.faults net.new) result.1.failed }
-    ensures came { result.0 ≡ true
-        → ComeBack (Runs N.L.P.line N.L.state
+    requires room { HasRoom apart.old (length jobs.items) }
+    ensures room { (n : ℕ) → HasRoom apart.old (length jobs.entry.items + n)
+        → HasRoom apart.new n }
+    ensures numbers { numbers_of apart.new.passes.items
+        ≡ numbers_of apart.old.passes.items ++ numbers_of (passes_of_jobs jobs.entry.items) }
+    ensures counts { CountsParts jobs.entry.items apart.old apart.new }
+    ensures came { result ≡ true → ComeApart (Runs N.L.P.line N.L.state
         N.D.upstream C.to_come N.S.calls) N.L.state N.D.upstream N.S.calls
-        jobs.entry.items back.old.items back.new.items (N.state net.old) (N.state net.new)
-        result.1.failed result.1.lacked_memory }
+        jobs.entry.items apart.old apart.new }
 {
     match run_workers(rt, jobs, &NoGate) {
-        Ok(ended) => (true, take_all_back(net, ended, back)),
-        Err(JobsBack { jobs }) => (false, take_unrun_back(net, jobs, back)),
+        Ok(back) => {
+            take_all_apart(back, apart);
+            true
+        }
+        Err(JobsBack { jobs }) => {
+            take_unrun_apart(jobs, apart);
+            false
+        }
     }
 }
 
@@ -199,61 +242,243 @@ fn unrun<J: Naming>(passes: Vec<Pass<J>>) -> Returned<J>
 {
     Returned {
         ran: false,
-        tally: Tally::begin(),
+        tally: Tally {
+            failed: false,
+            lacked_memory: false,
+        },
         passes,
     }
 }
 
+/// What the jobs of a router need besides its listeners and passes, before the first is posted.
+struct Stock<'a, P: Peer, J: Handling, L, D, C, S, A: Ledger, B: Ledger, E: Ledger, F: Ledger> {
+    /// Where connections wait.
+    lots: Lots<P, J, A, B, E, F>,
+    /// What each job gets.
+    supplies: Supplies<A, B, E, F>,
+    /// Room for the parts of the jobs, once they have ended.
+    apart: Apart<J, L, D, S, A, B, E, F>,
+    /// Room for the jobs.
+    jobs: Vec<ServingJob<'a, P, J, L, D, C, S, A, B, E, F>>,
+}
+
+/// Takes all memory that so many jobs need, so that they can be taken apart once they have run:
+/// room for the jobs and for their parts, rooms for bytes, and lots where as many connections may
+/// wait as the net has room for.
+fn make_stock<'a, J: Handling, N: Net, C: Drop, A: Ledger, B: Ledger, E: Ledger, F: Ledger>(
+    plan: &Plan<'_, J>,
+    net: &mut N,
+    blanks: Blanks,
+    count: usize,
+) -> Mem<Stock<'a, <N::L as Listener>::P, J, N::L, N::D, C, N::S, A, B, E, F>>
+    requires blanks { AreBlanksFor A.Ledger.own B.Ledger.own E.Ledger.own F.Ledger.own
+        plan.now.site.now.workers (interface_jobs plan.now.site.now) blanks }
+    ensures supplies { IfOk result (λ s. AreSupplied plan.now.site.now s.supplies) }
+    ensures apart { IfOk result (λ s. IsEmpty s.apart × HasRoom s.apart count) }
+    ensures jobs { IfOk result (λ s. (s.jobs.items ≡ []) × (count ≤ vec_capacity s.jobs)) }
+    ensures kept { (N.state net.new ≡ N.state net.old) × (N.faults net.new ≡ N.faults net.old) }
+{
+    let apart = match Apart::with_room(plan.alloc, count) {
+        Ok(apart) => apart,
+        Err(out_of_memory) => return Err(out_of_memory),
+    };
+    let jobs = match Vec::with_capacity(plan.alloc, count) {
+        Ok(jobs) => jobs,
+        Err(out_of_memory) => return Err(out_of_memory),
+    };
+    let rooms = match make_rooms(plan.alloc, plan.site.workers as usize) {
+        Ok(rooms) => rooms,
+        Err(out_of_memory) => return Err(out_of_memory),
+    };
+    let room = net.waiting_room(MOST_CLIENTS).max(LEAST_CLIENTS);
+    let callers = plan.site.interface_jobs();
+    match Lots::open(plan.alloc, room, blanks, plan.site.workers, callers) {
+        Ok((lots, hands)) => Ok(Stock {
+            lots,
+            supplies: Supplies { rooms, hands },
+            apart,
+            jobs,
+        }),
+        Err(out_of_memory) => Err(out_of_memory),
+    }
+}
+
+/// What the jobs of a router are made from: its listeners, what else each job gets, and its passes.
+struct JobInputs<J: Naming, L, A: Ledger, B: Ledger, E: Ledger, F: Ledger> {
+    bound: Bound<L>,
+    supplies: Supplies<A, B, E, F>,
+    passes: Vec<Pass<J>>,
+}
+
+/// Makes a job for each listener, runs them, and takes them apart: whether there was memory to run
+/// them, and the passes that no job has.
+fn post_and_run<
+    'a,
+    J: Handling + Send + Sync,
+    R: Threads + Wait + Sync,
+    N: Net + Send,
+    C: Clock + Drop + Send,
+    A: Ledger + Send + Sync,
+    B: Ledger + Send + Sync,
+    E: Ledger + Send + Sync,
+    F: Ledger + Send + Sync,
+>(
+    rt: &R,
+    setup: &Setup<'a, <N::L as Listener>::P, J, A, B, E, F>,
+    net: &mut N,
+    clock: &C,
+    inputs: JobInputs<J, N::L, A, B, E, F>,
+    mut jobs: Jobs<'a, J, N, C, A, B, E, F>,
+    apart: &mut Apart<J, N::L, N::D, N::S, A, B, E, F>,
+) -> (bool, IntoIter<Pass<J>>)
+where
+    <N::L as Listener>::P: Send,
+    requires handled { IsHandledBy J.rule J.tries setup.now.site.now.policy }
+    requires seats { length inputs.passes.items ≡ jobs_of setup.now.site.now + 1 }
+    requires free { AreFree inputs.passes.items }
+    requires supplied { AreSupplied setup.now.site.now inputs.supplies }
+    requires listens { Listens N.L.state (N.state net.old).told setup.now.site.now inputs.bound }
+    requires none_yet { jobs.items ≡ [] }
+    requires job_room { jobs_of setup.now.site.now ≤ vec_capacity jobs }
+    requires nothing { IsEmpty apart.old }
+    requires room { HasRoom apart.old (jobs_of setup.now.site.now + 1) }
+    ensures rest { length (into_iter_items result.1) ≡ 1 }
+    ensures room { HasRoom apart.new 1 }
+    ensures parts { HasParts setup.now.site.now apart.new }
+    ensures numbers { numbers_of (apart.new.passes.items ++ into_iter_items result.1)
+        ≡ numbers_of inputs.passes.items }
+    ensures stops { N.state net.new ≡ with_stops (jobs_of setup.now.site.now) (N.state net.old) }
+    ensures kept { N.faults net.new ≡ N.faults net.old }
+    ensures tended { result.0 ≡ true
+        → any_broken N.L.state N.D.upstream N.S.calls apart.new.parts.items ≡ false
+        → HaveTended N.L.P.line N.L.state N.D.upstream N.S.calls setup.now.site.now
+        (C.of_fork clock.now) (N.state net.old).told inputs.passes.items
+        (into_iter_items result.1) apart.new }
+{
+    let JobInputs {
+        bound,
+        supplies,
+        passes,
+    } = inputs;
+    let mut passes = passes.into_iter();
+    add_jobs(setup, net, clock, bound, supplies, &mut passes, &mut jobs);
+    let ran = run_apart::<J, R, N, C, A, B, E, F>(rt, jobs, apart);
+    (ran, passes)
+}
+
+/// Closes the lots, ends who waited still, and gives the listeners back to the net: whether it
+/// failed to take one, and all passes, these last.
+fn close_all<J: Handling, N: Net, A: Ledger, B: Ledger, E: Ledger, F: Ledger>(
+    net: &mut N,
+    lots: Lots<<N::L as Listener>::P, J, A, B, E, F>,
+    apart: Apart<J, N::L, N::D, N::S, A, B, E, F>,
+    rest: IntoIter<Pass<J>>,
+) -> (Tally, Vec<Pass<J>>)
+    requires some { 0 < length apart.parts.items }
+    requires clients { (A.parts ≤ length apart.client_hands.items)
+        × (B.parts ≤ length apart.client_hands.items) }
+    requires callers { (E.parts ≤ length apart.caller_hands.items)
+        × (F.parts ≤ length apart.caller_hands.items) }
+    requires room { HasRoom apart (length (into_iter_items rest)) }
+    ensures ends { EndsAll N.L.P.line N.L.state N.D.upstream N.S.calls J.rule J.tries apart
+        (N.state net.old) (N.state net.new) }
+    ensures broken { result.0.failed
+        ≡ any_broken N.L.state N.D.upstream N.S.calls apart.parts.items }
+    ensures lacked { result.0.lacked_memory ≡ apart.lacked_memory }
+    ensures faults { TellsFaults (N.faults net.old) (N.faults net.new) result.0.failed }
+    ensures passes { result.1.items ≡ apart.passes.items ++ into_iter_items rest }
+{
+    let Apart {
+        parts,
+        mut passes,
+        client_hands,
+        caller_hands,
+        lacked_memory,
+    } = apart;
+    let Lots { clients, callers } = lots;
+    let still = StillWaiting {
+        clients: clients.close(client_hands),
+        callers: callers.close(caller_hands),
+    };
+    let failed = end_all(net, parts, still);
+    add_rest(rest, &mut passes);
+    let tally = Tally {
+        failed,
+        lacked_memory,
+    };
+    (tally, passes)
+}
+
 /// Runs a job for each listener, and takes all back.
 fn run_jobs<
-    J: Naming + Send + Sync,
+    J: Handling + Send + Sync,
+    A: Ledger + Send + Sync,
+    B: Ledger + Send + Sync,
+    E: Ledger + Send + Sync,
+    F: Ledger + Send + Sync,
     R: Threads + Wait + Sync,
     N: Net + Send,
     C: Clock + Drop + Send,
 >(
     rt: &R,
-    setup: &Setup<'_, J>,
+    plan: &Plan<'_, J>,
     net: &mut N,
     clock: &C,
     bound: Bound<N::L>,
     passes: Vec<Pass<J>>,
+    blanks: Blanks,
 ) -> Returned<J>
 where
     <N::L as Listener>::P: Send,
-    requires seats { length passes.items ≡ jobs_of setup.now.site.now + 1 }
+    requires blanks { AreBlanksFor A.Ledger.own B.Ledger.own E.Ledger.own F.Ledger.own
+        plan.now.site.now.workers (interface_jobs plan.now.site.now) blanks }
+    requires handled { IsHandledBy J.rule J.tries plan.now.site.now.policy }
+    requires seats { length passes.items ≡ jobs_of plan.now.site.now + 1 }
     requires free { AreFree passes.items }
-    requires listens { Listens N.L.state (N.state net.old).told setup.now.site.now bound }
+    requires listens { Listens N.L.state (N.state net.old).told plan.now.site.now bound }
     ensures numbers { numbers_of result.passes.items ≡ numbers_of passes.items }
     ensures faults { TellsFaults (N.faults net.old) (N.faults net.new) result.tally.failed }
     ensures served { result.ran ≡ true → result.tally.failed ≡ false
-        → HasRun N.L.P.line setup.now.site.now (C.of_fork clock.now)
+        → HasRun N.L.P.line plan.now.site.now (C.of_fork clock.now)
         passes.items result.passes.items (N.state net.old) (N.state net.new)
         result.tally.lacked_memory }
 {
     let count = passes.len();
-    let (Ok(mut jobs), Ok(mut back)) = (
-        Vec::with_capacity(setup.alloc, count),
-        Vec::with_capacity(setup.alloc, count),
-    ) else {
+    let Ok(stock) = make_stock::<J, N, C, A, B, E, F>(plan, net, blanks, count) else {
         return unrun(passes);
     };
-    let Ok(rooms) = make_rooms(setup.alloc, setup.site.workers as usize) else {
-        return unrun(passes);
+    let Stock {
+        lots,
+        supplies,
+        mut apart,
+        jobs,
+    } = stock;
+    let setup = Setup {
+        alloc: plan.alloc,
+        router: plan.router,
+        site: plan.site,
+        lots: &lots,
     };
-    let mut passes = passes.into_iter();
-    add_jobs(setup, net, clock, bound, rooms, &mut passes, &mut jobs);
-    let (ran, tally) = run_all(rt, net, jobs, &mut back);
-    add_rest(passes, &mut back);
-    Returned {
-        ran,
-        tally,
-        passes: back,
-    }
+    let inputs = JobInputs {
+        bound,
+        supplies,
+        passes,
+    };
+    let (ran, rest) = post_and_run::<J, R, N, C, A, B, E, F>(
+        rt, &setup, net, clock, inputs, jobs, &mut apart,
+    );
+    let (tally, passes) = close_all(net, lots, apart, rest);
+    Returned { ran, tally, passes }
 }
 
-impl<J: Naming + Send + Sync, L: Listener> Serving<J, L> {
+impl<J: Handling + Send + Sync, L: Listener> Serving<J, L> {
     /// Serves until it is stopped, and ends the router: how many changes there were in all, those
-    /// that set the services among them, and whether memory was wanting in a session.
+    /// that set the services among them, and whether a stay of a connection ran out of memory.
+    ///
+    /// A connection holds a worker while it is served. Between two of its requests it waits, and
+    /// any worker goes on with it. One that has waited for a minute is ended, and so is the one that
+    /// has waited longest where there is no room for another. Those that still wait when all workers
+    /// have ended are ended then, so that as many are finished as were accepted.
     pub fn run<R: Threads + Wait + Sync, N: Net<L = L> + Send, C: Clock + Drop + Send>(
         self,
         rt: &R,
@@ -268,6 +493,7 @@ impl<J: Naming + Send + Sync, L: Listener> Serving<J, L> {
         requires listens { Listens L.state (N.state net.old).told site.now (bound_of self) }
         requires seats { length (passes_of self) ≡ jobs_of site.now + 1 }
         requires parts { J.parts ≡ J.seats }
+        requires handled { IsHandledBy J.rule J.tries site.now.policy }
         ensures broken { result ≡ Err RunFault.Net → Rose (N.faults net.old) (N.faults net.new) }
         ensures kept { (result ≡ Err RunFault.Net → ⊥) → N.faults net.new ≡ N.faults net.old }
         ensures served { IfOk result
@@ -280,12 +506,15 @@ impl<J: Naming + Send + Sync, L: Listener> Serving<J, L> {
             passes,
             bound,
         } = self;
-        let setup = Setup {
+        let plan = Plan {
             alloc,
             router: &router,
             site,
         };
-        let Returned { ran, tally, passes } = run_jobs(rt, &setup, net, clock, bound, passes);
+        let blanks = Blanks::new(site.workers, site.interface_jobs());
+        let Returned { ran, tally, passes } = run_jobs::<J, Brand, Brand, Brand, Brand, R, N, C>(
+            rt, &plan, net, clock, bound, passes, blanks,
+        );
         let place = close(rt, router, passes);
         if tally.failed {
             return Err(RunFault::Net);

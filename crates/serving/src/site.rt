@@ -1,6 +1,6 @@
 //! Where a router serves, and how.
 ghost use Rattle.std.specs.Prelude.{◌≡◌, ◌+◌, ◌≤◌};
-ghost use Rattle.serving.specs.Posts.{jobs_of};
+ghost use Rattle.serving.specs.Posts.{interface_jobs, jobs_of};
 
 use crate::policy::Policy;
 use linker_config::Port;
@@ -42,17 +42,22 @@ pub struct Site {
 }
 
 impl Site {
-    /// How many jobs there are: those for clients, those of the two interfaces, and that of the
-    /// feed.
+    /// How many jobs serve the interfaces: those of the two, and that of the feed.
+    pub(crate) fn interface_jobs(&self) -> u32
+        ensures { result ≡ interface_jobs self.now }
+    {
+        match self.feed {
+            Some(_) => 2 * API_JOBS + FEED_JOBS,
+            None => 2 * API_JOBS,
+        }
+    }
+
+    /// How many jobs there are: those for clients, and those of the interfaces.
     fn jobs(&self) -> u32
         requires few { self.now.workers ≤ 256 }
         ensures { result ≡ jobs_of self.now }
     {
-        let others = match self.feed {
-            Some(_) => 2 * API_JOBS + FEED_JOBS,
-            None => 2 * API_JOBS,
-        };
-        self.workers + others
+        self.workers + self.interface_jobs()
     }
 
     /// How many passes its router has: one for each job, and one that sets the services.

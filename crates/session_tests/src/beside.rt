@@ -7,7 +7,7 @@ ghost use Rattle.router.specs.Values.{settings_in};
 ghost use Rattle.snap_cell.specs.Writers.{cell_written, opening_written};
 
 use crate::scene::{Mem, Scene, by_host, client, clock, settings, spelling, spelt};
-use http_wire::Ended;
+use http_wire::{Ended, Paused};
 use identifier::Rule;
 use line_base::{Failed, Gate, MemClock, MemDialer, MemPeer, Next, Peer};
 use proxy_session::{Connection, Context, Parts, Room, Server};
@@ -140,13 +140,13 @@ struct Visit<'a, J: Naming> {
 }
 
 impl<J: Naming> Job for Visit<'_, J> {
-    type End = Ended;
+    type End = Paused;
 
     ghost runs = { λ old new end. new ≡ new };
 
-    fn run<R: Wait, G: Gate>(&mut self, rt: &R, gate: &G) -> Ended {
+    fn run<R: Wait, G: Gate>(&mut self, rt: &R, gate: &G) -> Paused {
         let Some(client) = self.client.take() else {
-            return Ended::PeerEnded;
+            return Paused::Quiet;
         };
         let context = Context {
             rt,
@@ -155,11 +155,11 @@ impl<J: Naming> Job for Visit<'_, J> {
             rule: self.rule,
         };
         let mut connection = Connection::of(client);
-        let ended = self
+        let paused = self
             .server
-            .serve_session(&context, &mut connection, gate, self.number);
+            .serve_stay(&context, &mut connection, gate, self.number);
         self.client = Some(connection.into_peer());
-        ended
+        paused
     }
 }
 
@@ -178,11 +178,11 @@ fn server<J: Naming>(alloc: Global, pass: Pass<J>) -> Mem<Server<J, MemDialer, M
     Ok(Server::of(room, parts))
 }
 
-/// How a session ended, and what its client was given.
-type Told = (Ended, String);
+/// How a stay ended, and what its client was given.
+type Told = (Paused, String);
 
-/// The pass of a job that has run, and what came of its session.
-fn told<J: Naming>(alloc: Global, job: Visit<'_, J>, ended: Ended) -> (Pass<J>, Mem<Told>) {
+/// The pass of a job that has run, and what came of its stay.
+fn told<J: Naming>(alloc: Global, job: Visit<'_, J>, paused: Paused) -> (Pass<J>, Mem<Told>) {
     let Visit { server, client, .. } = job;
     let Parts {
         pass,
@@ -192,7 +192,7 @@ fn told<J: Naming>(alloc: Global, job: Visit<'_, J>, ended: Ended) -> (Pass<J>, 
     } = server.into_parts();
     let told = match client {
         Some(client) => match spelling(alloc, client.peer.sink().held()) {
-            Ok(written) => Ok((ended, written)),
+            Ok(written) => Ok((paused, written)),
             Err(want) => Err(want),
         },
         None => Err(AllocError),
@@ -326,7 +326,8 @@ fn a_request_is_held_until_another_is_answered(rt: HostRuntime) -> Result<(), Fa
     assert_eq!(rt; crossing.released.load(Ordering::SeqCst), 2);
     let answer = spelt(alloc, SECOND.1)?.len() as u64;
     assert_eq!(rt; crossing.answered.load(Ordering::SeqCst), answer);
-    assert_eq!(rt; (first.0, first.1.as_str()), (Ended::PeerEnded, FIRST.1));
-    assert_eq!(rt; (second.0, second.1.as_str()), (Ended::PeerEnded, SECOND.1));
+    let ended = Paused::Ended(Ended::PeerEnded);
+    assert_eq!(rt; (first.0, first.1.as_str()), (ended, FIRST.1));
+    assert_eq!(rt; (second.0, second.1.as_str()), (ended, SECOND.1));
     Ok(())
 }

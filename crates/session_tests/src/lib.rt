@@ -1,7 +1,7 @@
 //! Whole sessions over peers, dialers and clocks in memory: worked exchanges with the bytes on both
 //! sides, hostile and large requests, each failing call, limits, requests that are tried again, and
-//! connections that are kept; one request by itself; what a dialer sees of the router; and two
-//! sessions beside one another.
+//! connections that are kept; one request by itself; what a dialer sees of the router; two sessions
+//! beside one another; and a connection that another server goes on with.
 #![tactic(auto)]
 
 #[cfg(test)]
@@ -18,6 +18,8 @@ mod keeping;
 mod large;
 #[cfg(test)]
 mod limits;
+#[cfg(test)]
+mod moving;
 #[cfg(test)]
 mod played;
 #[cfg(test)]

@@ -26,18 +26,25 @@ fn refusals(alloc: Global) -> Result<String, AllocError> {
     Ok(text)
 }
 
+/// The most bytes that a call moves, and the questions at which nothing comes: all requests come at
+/// once; or one by one, 29 bytes each, and the connection waits behind 500 of them.
+const COMING: [(usize, &[u64]); 2] = [(usize::MAX, &[]), (29, &[1000])];
+
 #[test]
 fn a_connection_is_spent(rt: HostRuntime) -> Result<(), Fail> {
     let alloc = rt.alloc();
-    let replies = [""];
-    let scene = Scene {
-        times: 10001,
-        ..Scene::of("", REQUEST, &replies)
-    };
-    let played = play(&rt, alloc, &scene)?;
     let wanted = refusals(alloc)?;
-    assert_eq!(rt; played.ended, Some(Spent));
-    assert!(rt; played.written == wanted, "the replies");
+    for (most, quiet) in COMING {
+        let scene = Scene {
+            times: 10001,
+            most,
+            quiet,
+            ..Scene::of("", REQUEST, &[""])
+        };
+        let played = play(&rt, alloc, &scene)?;
+        assert_eq!(rt; played.ended, Some(Spent));
+        assert!(rt; played.written == wanted, "the replies");
+    }
     Ok(())
 }
 

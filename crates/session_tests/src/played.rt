@@ -1,5 +1,5 @@
 //! Sessions that are played, and what they came to.
-ghost use Rattle.std.specs.Prelude.{◌≡◌, None, Some};
+ghost use Rattle.std.specs.Prelude.{◌≡◌, ◌<◌, None, Some};
 ghost use Rattle.load_words.specs.Seats.{words_of};
 ghost use Rattle.machine.specs.Code.{change_of};
 ghost use Rattle.machine.specs.State.{IsSoundChange};
@@ -12,7 +12,7 @@ use crate::scene::{
 };
 use addr_book::Addr;
 use dtab_table::Dtab;
-use http_wire::{Ended, NextHead};
+use http_wire::{Ended, NextHead, Paused};
 use identifier::Rule;
 use line_base::{DialEvent, Gate, MemClock, MemDialer, MemPeer};
 use machine::{Ask, Change, Reply};
@@ -156,6 +156,25 @@ impl Outside {
     }
 }
 
+/// Serves the client's requests until its connection ends, which waits once at most. `None` where
+/// it waits once more.
+fn serve_all<J: Naming, R: Wait>(
+    context: &Context<'_, J, R>,
+    server: &mut Server<J, MemDialer, MemClock>,
+    connection: &mut Connection<MemPeer>,
+) -> Option<Ended>
+    requires free { slot_in server.old.pass ≡ None }
+    requires few { connection.old.served < 10000 }
+{
+    match server.serve_stay(context, connection, &Free, 0) {
+        Paused::Ended(ended) => Some(ended),
+        Paused::Quiet => match server.serve_stay(context, connection, &Free, 0) {
+            Paused::Ended(ended) => Some(ended),
+            Paused::Quiet => None,
+        },
+    }
+}
+
 /// Reads the head of the client's first request and serves it. `None` where the connection goes on.
 fn serve_first<J: Naming, R: Wait>(
     context: &Context<'_, J, R>,
@@ -230,7 +249,7 @@ fn play_on<J: Naming, R: Wait>(
     let mut server = Server::of(room, parts);
     let mut connection = scene.connection(peer);
     let ended = match scene.serving {
-        Serving::Session => Some(server.serve_session(context, &mut connection, &Free, 0)),
+        Serving::Session => serve_all(context, &mut server, &mut connection),
         Serving::FirstRequest => serve_first(context, &mut server, &mut connection),
     };
     let Parts {

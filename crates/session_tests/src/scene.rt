@@ -72,6 +72,8 @@ pub(crate) struct Scene<'a> {
     /// The client's connection says that its listeners are closing from the question of this number
     /// on.
     pub(crate) closing: Option<u64>,
+    /// Nothing comes at these questions, where its listeners are open.
+    pub(crate) quiet: &'a [u64],
 }
 
 impl<'a> Scene<'a> {
@@ -87,6 +89,7 @@ impl<'a> Scene<'a> {
             most: usize::MAX,
             failing: Failing::Nothing,
             closing: None,
+            quiet: &[],
             keeping: None,
             tries: None,
         }
@@ -229,10 +232,11 @@ pub(crate) fn client(alloc: Global, scene: &Scene<'_>) -> Mem<MemPeer> {
         listed(alloc, read)?,
     );
     let sink = MemSink::of(alloc, scene.sizes(alloc)?, listed(alloc, write)?);
-    Ok(match scene.closing {
+    let peer = match scene.closing {
         Some(question) => MemPeer::closing(source, sink, question),
         None => MemPeer::of(source, sink),
-    })
+    };
+    Ok(peer.quiet(Vec::from_slice(alloc, scene.quiet)?))
 }
 
 /// The upstreams of a scene.

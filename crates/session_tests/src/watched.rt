@@ -174,7 +174,7 @@ fn serve<J: Naming, R: Wait + Abort>(
         panic!(context.rt; "no server")
     };
     let mut connection = scene.connection(peer);
-    let _ended = server.serve_session(context, &mut connection, &Free, 0);
+    let _paused = server.serve_stay(context, &mut connection, &Free, 0);
     let Parts {
         pass,
         dialer,

@@ -1,7 +1,7 @@
 //! A net over loopback, and the other adapters over the machine.
 use line_base::{
-    Clock, ConnectionPool, Dialer, Failed, Folder, FolderFault, Found, Listener, Net, NetFault,
-    Peer, Sink, Source, Stop,
+    Clock, ConnectionPool, Dialer, Event, Failed, Folder, FolderFault, Found, Listener, Net,
+    NetFault, Peer, Sink, Source, Stop,
 };
 use net_edge::{FileSystem, ReaderSource, SocketNet, SystemClock, WriterSink};
 use std::net::{Ipv4Addr, SocketAddr, SocketAddrV4, TcpListener, TcpStream};
@@ -27,10 +27,10 @@ fn free_port(
 fn echo<L: Listener>(listener: &mut L, most: u32) -> (u32, bool) {
     let mut served = 0u32;
     for _ in 0..most {
-        let mut peer = match listener.accept() {
-            Ok(Some(peer)) => peer,
-            Ok(None) => return (served, true),
-            Err(_) => continue,
+        let mut peer = match listener.next_event() {
+            Ok(Event::Came(peer)) => peer,
+            Ok(Event::Closed) => return (served, true),
+            Ok(Event::Ready(_)) | Ok(Event::Tick(_)) | Err(_) => continue,
         };
         let mut piece = [0u8; 16];
         if let Ok(count) = peer.read(&mut piece) {

@@ -1,5 +1,5 @@
 //! Connections over loopback: what is sent arrives, and what is cut is a fault.
-use line_base::{Clock, ConnectionPool, Dialer, Failed, Listener, Net, Next, Peer, Stop};
+use line_base::{Clock, ConnectionPool, Dialer, Event, Failed, Listener, Net, Next, Peer, Stop};
 use net_edge::{SocketNet, SystemClock};
 use std::io::{self, Read, Write};
 use std::net::{self, Ipv4Addr, SocketAddr, SocketAddrV4, TcpListener, TcpStream};
@@ -32,6 +32,18 @@ fn listener_of<N: Net>(
     }
 }
 
+/// The next client of a listener, if one comes.
+fn next_client<L: Listener>(listener: &mut L) -> Option<L::P> {
+    for _ in 0..1_000 {
+        match listener.next_event() {
+            Ok(Event::Came(peer)) => return Some(peer),
+            Ok(Event::Ready(_)) | Ok(Event::Tick(_)) => {}
+            Ok(Event::Closed) | Err(_) => return None,
+        }
+    }
+    None
+}
+
 /// Reads to the end, a little at a time, and counts the bytes; none where a read fails.
 fn count_slowly<R: rt::Clock>(rt: &R, stream: &mut TcpStream) -> usize {
     let mut piece = [0u8; 16_384];
@@ -49,7 +61,7 @@ fn count_slowly<R: rt::Clock>(rt: &R, stream: &mut TcpStream) -> usize {
 
 /// Accepts a client, says all of this to it, and ends; whether all was taken.
 fn say_all<L: Listener>(listener: &mut L, bytes: &[u8]) -> bool {
-    let Ok(Some(peer)) = listener.accept() else {
+    let Some(peer) = next_client(listener) else {
         return false;
     };
     let mut peer = peer;
@@ -153,7 +165,7 @@ fn read_cut<L: Listener>(
 ) -> io::Result<[Result<usize, Failed>; 2]> {
     let mut client = client?;
     client.write(b"body")?;
-    let Ok(Some(peer)) = listener.accept() else {
+    let Some(peer) = next_client(listener) else {
         return Err(io::Error::from(io::ErrorKind::NotConnected));
     };
     let mut peer = peer;
@@ -270,10 +282,15 @@ fn kept_connections_are_looked_at(rt: HostRuntime) -> Result<(), Fail> {
 
 /// How many clients a listener hands out before it is closed.
 fn count_clients<L: Listener>(listener: &mut L) -> Option<u32> {
-    for served in 0..100 {
-        match listener.accept() {
-            Ok(Some(peer)) => listener.finish(peer),
-            Ok(None) => return Some(served),
+    let mut served = 0u32;
+    for _ in 0..100 {
+        match listener.next_event() {
+            Ok(Event::Came(peer)) => {
+                listener.finish(peer);
+                served = served.saturating_add(1);
+            }
+            Ok(Event::Ready(_)) | Ok(Event::Tick(_)) => {}
+            Ok(Event::Closed) => return Some(served),
             Err(_) => return None,
         }
     }
@@ -309,15 +326,15 @@ fn moments_are_milliseconds(rt: HostRuntime) -> Result<(), Fail> {
     Ok(())
 }
 
-/// Who waits for a next request is told that the listeners are closing, and gets what has come of
-/// one before.
+/// Who waits for a next request is heard still while the listeners close, and is told once they are
+/// closed.
 #[test]
 fn who_waits_is_told(rt: HostRuntime) -> Result<(), Fail> {
     let mut net = SocketNet::of(&rt)?;
     let (mut listener, port) = listener_of(&mut net, TcpListener::bind(&rt, at(LOOPBACK, 0)))?;
     let mut stop = net.stopper();
     let mut client = TcpStream::connect(&rt, at(LOOPBACK, port))?;
-    let Ok(Some(peer)) = listener.accept() else {
+    let Some(peer) = next_client(&mut listener) else {
         return Err(Fail::from("no client"));
     };
     let mut peer = peer;
@@ -327,11 +344,20 @@ fn who_waits_is_told(rt: HostRuntime) -> Result<(), Fail> {
     let mut buffer = [0u8; 16];
     let first = peer.read_next(&mut buffer);
     let second = peer.read_next(&mut buffer);
+    let others = count_clients(&mut listener);
+    let third = peer.read_next(&mut buffer);
     let behind = peer.is_closing();
     listener.finish(peer);
     assert_eq!(rt;
-        (before, first, second, behind),
-        (false, Ok(Next::Bytes(3)), Ok(Next::Closing), true)
+        (before, first, second, others, third, behind),
+        (
+            false,
+            Ok(Next::Bytes(3)),
+            Ok(Next::Quiet),
+            Some(0),
+            Ok(Next::Closing),
+            true
+        )
     );
     Ok(())
 }

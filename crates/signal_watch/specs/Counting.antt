@@ -8,6 +8,8 @@ abbrev pub counting : {P : Type 0} → ℕ → Networking P → Networking P
 counting given n = record {
   told = n.told;
   clean = n.clean;
+  accepted = n.accepted;
+  finished = n.finished;
   stops_given = given;
   stops_returned = n.stops_returned;
 }

@@ -62,6 +62,10 @@ impl<R: Wait, S: Stop + Send + Drop, N: Net<S = S>> Net for StoppableNet<'_, R, 
         self.net.listen(ip, port, copies, kept)
     }
 
+    fn waiting_room(&mut self, most: u32) -> u32 {
+        self.net.waiting_room(most)
+    }
+
     fn dialer(&mut self, pool: ConnectionPool) -> N::D {
         self.net.dialer(pool)
     }

@@ -1,2 +1,3 @@
 pub mod Beginning
-pub mod Serving
+pub mod Sums
+pub mod Turning

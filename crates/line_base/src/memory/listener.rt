@@ -1,11 +1,12 @@
 //! A listener in memory.
-ghost use Rattle.std.specs.Prelude.{◌≡◌, ◌<◌, ◌++◌, [], Ok, None, Some, IsErr, IfOk, IfSome, OnErr};
-ghost use Rattle.std.specs.Prelude.{option_to_list};
-ghost use Rattle.line_base.specs.Accepts.{after_accept, after_finish, new_listening};
+ghost use Rattle.std.specs.Prelude.{◌≡◌, ◌<◌, [], Ok, Some, IsErr, IfOk, IfSome, OnErr};
+ghost use Rattle.line_base.specs.Accepts.{after_event, after_finish, new_listening};
 ghost use Rattle.line_base.specs.Counts.{HasCause};
-ghost use Rattle.line_base.specs.Memory.{FailsNext};
+ghost use Rattle.line_base.specs.Memory.{FailsNext, TellsNext};
 ghost use Rattle.line_base.specs.Nets.{is_clean};
 
+use crate::Mem;
+use crate::event::Event;
 use crate::listener::{Endpoint, Listener};
 use crate::memory::plan::CallPlan;
 use crate::outside::{Failed, Peer};
@@ -14,14 +15,15 @@ use std::marker::Model;
 use std::snapshot::Snapshot;
 use std::vec::IntoIter;
 
-/// A listener that hands out the peers of a list, one a call, and is closed behind the last. It
-/// keeps those that come back.
+/// A listener that tells the events of a list, one a call, and is closed behind the last. It keeps
+/// the peers that come back. It tells no number of a peer but those in its list, whatever it is
+/// asked to watch.
 ///
-/// Calls of `accept` are counted from 0, as long as it is not closed.
+/// Calls of `next_event` are counted from 0, as long as it is not closed.
 #[derive(Drop)]
 pub struct MemListener<P: Peer + Drop> {
     endpoint: Option<Endpoint>,
-    coming: IntoIter<P>,
+    coming: IntoIter<Event<P>>,
     handed: Vec<Snapshot<P>>,
     returned: Vec<P>,
     room: usize,
@@ -58,37 +60,40 @@ impl<P: Peer + Drop> Model for MemListener<P> {
       faults = l.faults;
     } };
 
-    // Each peer that is out has room to come back.
+    // There is room for so many to come back.
     ghost invariant = { λ l. vec_len l.returned + l.room ≤ vec_capacity l.returned };
 }
 
 impl<P: Peer + Drop> MemListener<P> {
-    /// A listener, made for this endpoint if there is one, to which these peers are to come. The
-    /// accepts whose numbers are in `failing` fail.
+    /// A listener, made for this endpoint if there is one, which is to tell these events. The calls
+    /// whose numbers are in `failing` fail. It keeps so many of the peers that come back.
     pub fn of(
         alloc: Global,
         endpoint: Option<Endpoint>,
-        coming: Vec<P>,
+        coming: Vec<Event<P>>,
         failing: Vec<u64>,
-    ) -> MemListener<P>
-        ensures state { result.state ≡ new_listening endpoint }
-        ensures coming { result.coming ≡ coming.items }
-        ensures plan { result.plan ≡ record { sizes = []; failing = failing.items; calls = 0 } }
-        ensures faults { result.faults ≡ 0 }
+        room: usize,
+    ) -> Mem<MemListener<P>>
+        ensures state { IfOk result (λ l. l.state ≡ new_listening endpoint room) }
+        ensures coming { IfOk result (λ l. l.coming ≡ coming.items) }
+        ensures plan { IfOk result (λ l.
+            l.plan ≡ record { sizes = []; failing = failing.items; calls = 0 }) }
+        ensures faults { IfOk result (λ l. l.faults ≡ 0) }
     {
-        MemListener {
+        let returned = Vec::with_capacity(alloc, room)?;
+        Ok(MemListener {
             endpoint,
             coming: coming.into_iter(),
             handed: Vec::new(alloc),
-            returned: Vec::new(alloc),
-            room: 0,
+            returned,
+            room,
             closes: 0,
             accepted: 0,
             finished: 0,
             run: 0,
             plan: CallPlan::of(Vec::new(alloc), failing),
             faults: 0,
-        }
+        })
     }
 
     /// The peers that came back, in order.
@@ -98,25 +103,39 @@ impl<P: Peer + Drop> MemListener<P> {
         self.returned.as_slice()
     }
 
-    /// How many accepts failed since the last that did not.
+    /// How many waits failed since the last that did not.
     pub fn run(&self) -> u64
         ensures { result ≡ self.now.state.run }
     {
         self.run
     }
 
-    /// How many accepts failed.
+    /// How many waits failed.
     pub fn faults(&self) -> u64
         ensures { result ≡ self.now.faults }
     {
         self.faults
     }
 
-    /// Whether it answered that it is closed, and as many peers came back as it handed out.
+    /// Whether it answered that it is closed.
     pub fn is_clean(&self) -> bool
         ensures { result ≡ is_clean self.now.state }
     {
-        self.closes > 0 && self.finished == self.accepted
+        self.closes > 0
+    }
+
+    /// How many peers it handed out.
+    pub fn accepted(&self) -> u64
+        ensures { result ≡ self.now.state.accepted }
+    {
+        self.accepted
+    }
+
+    /// How many peers came back.
+    pub fn finished(&self) -> u64
+        ensures { result ≡ self.now.state.finished }
+    {
+        self.finished
     }
 }
 
@@ -127,43 +146,46 @@ impl<P: Peer + Drop> Listener for MemListener<P> {
 
     ghost faults = { λ l. l.faults };
 
-    /// Fails at the calls that are listed, and where there is no memory for the peer to come back
-    /// to.
-    fn accept(&mut self) -> Result<Option<P>, Failed>
-        ensures state { self.new.state ≡ after_accept self.old.state result }
-        ensures closed { 0 < self.old.state.closes → result ≡ Ok None }
+    /// Fails at the calls that are listed, and else only where there is no memory.
+    fn next_event(&mut self) -> Result<Event<P>, Failed>
+        ensures state { self.new.state ≡ after_event self.old.state result }
+        ensures closed { 0 < self.old.state.closes → result ≡ Ok Event.Closed }
         ensures cause { HasCause self.old.faults self.new.faults result }
-        ensures gives { IfOk result
-            (λ peer. self.old.coming ≡ option_to_list peer ++ self.new.coming) }
-        ensures ends { result ≡ Ok None → self.old.state.closes ≡ 0 → self.old.coming ≡ [] }
+        ensures gives { self.old.state.closes ≡ 0
+            → IfOk result (TellsNext self.old.coming self.new.coming) }
         ensures waits { OnErr result (self.new.coming ≡ self.old.coming) }
         ensures fails { self.old.state.closes ≡ 0 → FailsNext self.old.plan → IsErr result }
     {
         if self.closes > 0 {
             self.closes = self.closes.saturating_add(1);
             self.run = 0;
-            return Ok(None);
+            return Ok(Event::Closed);
         }
         let due = self.plan.call().is_ok();
-        let Some(room) = self.room.checked_add(1) else {
-            self.run = self.run.saturating_add(1);
-            self.faults = self.faults.saturating_add(1);
-            return Err(Failed);
-        };
-        if !due || self.returned.reserve(room).is_err() || self.handed.reserve(1).is_err() {
+        if !due || self.handed.reserve(1).is_err() {
             self.run = self.run.saturating_add(1);
             self.faults = self.faults.saturating_add(1);
             return Err(Failed);
         }
         self.run = 0;
-        let Some(peer) = self.coming.next() else {
-            self.closes = self.closes.saturating_add(1);
-            return Ok(None);
-        };
-        self.handed.push_reserved(Snapshot::of(&peer));
-        self.room = room;
-        self.accepted = self.accepted.saturating_add(1);
-        Ok(Some(peer))
+        match self.coming.next() {
+            Some(Event::Came(peer)) => {
+                self.handed.push_reserved(Snapshot::of(&peer));
+                self.accepted = self.accepted.saturating_add(1);
+                Ok(Event::Came(peer))
+            }
+            Some(Event::Ready(number)) => Ok(Event::Ready(number)),
+            Some(Event::Tick(count)) => Ok(Event::Tick(count)),
+            Some(Event::Closed) | None => {
+                self.closes = self.closes.saturating_add(1);
+                Ok(Event::Closed)
+            }
+        }
+    }
+
+    /// It can watch any.
+    fn watch(&self, _peer: &P, _number: u64) -> bool {
+        true
     }
 
     fn finish(&mut self, peer: P)

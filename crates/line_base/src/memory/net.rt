@@ -8,6 +8,7 @@ ghost use Rattle.line_base.specs.Nets.{AreNew, HasNetCause, after_end, after_lis
 ghost use Rattle.line_base.specs.Nets.{log_of};
 
 use crate::dialer::ConnectionPool;
+use crate::event::Event;
 use crate::listener::{Endpoint, Listeners};
 use crate::memory::dialer::MemDialer;
 use crate::memory::listener::MemListener;
@@ -18,10 +19,10 @@ use crate::outside::{Failed, Peer};
 use std::alloc::Global;
 use std::marker::Model;
 
-/// What is to come to one listener: its peers, and the numbers of its accepts that fail.
+/// What is to come to one listener: its events, and the numbers of its waits that fail.
 #[derive(Debug, Drop)]
 pub struct MemVisits<P> {
-    pub peers: Vec<P>,
+    pub events: Vec<Event<P>>,
     pub failing: Vec<u64>,
 }
 
@@ -96,6 +97,8 @@ pub struct MemNet<P: Peer + Drop> {
     ended: Vec<MemEnded<P>>,
     room: usize,
     clean: u64,
+    accepted: u64,
+    finished: u64,
     stops_given: u64,
     stops_returned: u64,
     plan: CallPlan,
@@ -112,6 +115,8 @@ impl<P: Peer + Drop> Model for MemNet<P> {
       state = record {
         told = Some (record { ended = n.ended.items; room = n.room });
         clean = n.clean;
+        accepted = n.accepted;
+        finished = n.finished;
         stops_given = n.stops_given;
         stops_returned = n.stops_returned;
       };
@@ -124,7 +129,7 @@ impl<P: Peer + Drop> Model for MemNet<P> {
 }
 
 impl<P: Peer + Drop> MemNet<P> {
-    /// A net with these peers to come to each address, and these dials to be answered for each
+    /// A net with these events to come to each address, and these dials to be answered for each
     /// dialer, in order; past them, none.
     ///
     /// Listeners of an address get its visits by their places, also those of a later call, which go
@@ -138,6 +143,8 @@ impl<P: Peer + Drop> MemNet<P> {
         ensures state { result.state ≡ record {
           told = Some (record { ended = []; room = 0 });
           clean = 0;
+          accepted = 0;
+          finished = 0;
           stops_given = 0;
           stops_returned = 0;
         } }
@@ -150,6 +157,8 @@ impl<P: Peer + Drop> MemNet<P> {
             ended: Vec::new(alloc),
             room: 0,
             clean: 0,
+            accepted: 0,
+            finished: 0,
             stops_given: 0,
             stops_returned: 0,
             plan: CallPlan::of(Vec::new(alloc), failing),
@@ -165,6 +174,8 @@ impl<P: Peer + Drop> MemNet<P> {
         if ended.listener.is_clean() {
             self.clean = self.clean.saturating_add(1);
         }
+        self.accepted = self.accepted.saturating_add(ended.listener.accepted());
+        self.finished = self.finished.saturating_add(ended.listener.finished());
         self.stops_returned = self.stops_returned.saturating_add(1);
         if self.room > 0 {
             self.room -= 1;
@@ -184,6 +195,13 @@ impl<P: Peer + Drop> MemNet<P> {
         ensures { result ≡ self.now.state.clean }
     {
         self.clean
+    }
+
+    /// How many peers the listeners that came back had handed out, and how many came back to them.
+    pub fn peers(&self) -> (u64, u64)
+        ensures { result ≡ (self.now.state.accepted, self.now.state.finished) }
+    {
+        (self.accepted, self.finished)
     }
 
     /// How many stops were handed out, and how many came back.
@@ -211,6 +229,19 @@ fn next_visits<P>(addresses: &mut Vec<MemAddress<P>>, ip: u32, port: u16) -> Opt
     None
 }
 
+/// How many events are to come to the listeners of an address.
+fn events_to_come<P>(addresses: &[MemAddress<P>], ip: u32, port: u16) -> usize {
+    let mut count = 0usize;
+    for address in addresses {
+        if address.ip == ip && address.port == port {
+            for visits in &address.visits {
+                count = count.saturating_add(visits.events.len());
+            }
+        }
+    }
+    count
+}
+
 /// What the other ends of the next dialer give, and nothing past the last.
 fn next_dials(alloc: Global, dials: &mut Vec<MemDials>) -> MemDials {
     if dials.is_empty() {
@@ -223,28 +254,32 @@ fn next_dials(alloc: Global, dials: &mut Vec<MemDials>) -> MemDials {
     dials.remove(0)
 }
 
-/// Listeners for an address, each with what is to come to it.
+/// Listeners for an address, each with what is to come to it, and room for so many peers to come
+/// back.
 fn listeners_at<P: Peer + Drop>(
     alloc: Global,
     addresses: &mut Vec<MemAddress<P>>,
     ip: u32,
     port: u16,
     copies: u32,
+    room: usize,
 ) -> Result<Vec<MemListener<P>>, NetFault>
     ensures count { IfOk result (λ ls. length ls.items ≡ copies) }
     ensures new { IfOk result (λ ls. (at : ℕ) (d : _) → at < length ls.items
         → (slice_index_or ls.items at d).state
-        ≡ new_listening (Some (record { ip = ip; port = port; place = at }))) }
+        ≡ new_listening (Some (record { ip = ip; port = port; place = at })) room) }
     ensures only { result ≡ Err NetFault.Failed → ⊥ }
 {
     let mut listeners = Vec::new(alloc);
     for place in 0..copies {
-        let (peers, failing) = match next_visits(addresses, ip, port) {
-            Some(MemVisits { peers, failing }) => (peers, failing),
+        let (events, failing) = match next_visits(addresses, ip, port) {
+            Some(MemVisits { events, failing }) => (events, failing),
             None => (Vec::new(alloc), Vec::new(alloc)),
         };
         let endpoint = Endpoint { ip, port, place };
-        let listener = MemListener::of(alloc, Some(endpoint), peers, failing);
+        let Ok(listener) = MemListener::of(alloc, Some(endpoint), events, failing, room) else {
+            return Err(NetFault::OutOfMemory);
+        };
         let Ok(()) = listeners.push(listener) else {
             return Err(NetFault::OutOfMemory);
         };
@@ -289,11 +324,22 @@ impl<P: Peer + Drop + Send> Net for MemNet<P> {
             return Err(NetFault::OutOfMemory);
         }
         let alloc = *self.ended.allocator();
-        let Ok(listeners) = listeners_at(alloc, &mut self.addresses, ip, port, copies) else {
+        let to_come = events_to_come(self.addresses.as_slice(), ip, port);
+        let made = listeners_at(alloc, &mut self.addresses, ip, port, copies, to_come);
+        let Ok(listeners) = made else {
             return Err(NetFault::OutOfMemory);
         };
         self.room = room;
         Ok(Listeners::of(listeners))
+    }
+
+    /// As many as are asked for.
+    fn waiting_room(&mut self, most: u32) -> u32
+        ensures all { result ≡ most }
+        ensures kept { (self.new.state ≡ self.old.state) × (self.new.faults ≡ self.old.faults)
+            × (self.new.plan ≡ self.old.plan) }
+    {
+        most
     }
 
     /// The dialer keeps as many connections as are put aside, for any time, where the pool has room

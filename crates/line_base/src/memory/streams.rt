@@ -1,12 +1,12 @@
 //! Sources, sinks and peers in memory.
-ghost use Rattle.std.specs.Prelude.{◌≡◌, ◌≤◌, ◌<◌, ◌+◌, ◌↔◌, ◌⊎◌, [], length, min, true, Ok, Some};
-ghost use Rattle.std.specs.Prelude.{IsErr, IfOk, OnErr};
+ghost use Rattle.std.specs.Prelude.{◌≡◌, ◌≤◌, ◌<◌, ◌+◌, ◌↔◌, ◌⊎◌, [], length, min, true, false};
+ghost use Rattle.std.specs.Prelude.{Ok, Some, IsErr, IfOk, OnErr};
 ghost use Rattle.std.specs.Io.{ReadsAtMost, WritesAtMost};
 ghost use Rattle.std.specs.Io.KnownBytes.{ReadConsumes, WriteAppends};
 ghost use Rattle.line_base.specs.Counts.{HasCause, CountsEnds, MovesNothing};
 ghost use Rattle.line_base.specs.Lines.{WaitsForNext, told_closing};
 ghost use Rattle.line_base.specs.Memory.{FailsNext, piece_of, behind_call, input_of, output_of};
-ghost use Rattle.line_base.specs.Memory.{line_of, is_due, no_notice, questioned};
+ghost use Rattle.line_base.specs.Memory.{IsQuiet, awaited, line_of, is_due, no_notice, questioned};
 
 use crate::memory::notice::Notice;
 use crate::memory::plan::CallPlan;
@@ -196,8 +196,9 @@ impl Sink for MemSink {
 }
 
 /// A connection in memory: a source that it gives from and a sink that it takes into. Each has
-/// calls of its own. It may be told from which question on it says that its listeners are closing:
-/// calls of `read_next` and `is_closing` are its questions, and are counted together from 0.
+/// calls of its own. It may be told from which question on it says that its listeners are closing,
+/// and at which questions it says that nothing came: calls of `read_next` and `is_closing` are its
+/// questions, and are counted together from 0.
 #[derive(Debug, Drop)]
 pub struct MemPeer {
     source: MemSource,
@@ -219,9 +220,9 @@ impl MemPeer {
         ensures { result ≡ record { source = source; sink = sink; notice = no_notice } }
     {
         MemPeer {
+            notice: Notice::of(None, Vec::new(*sink.held.allocator())),
             source,
             sink,
-            notice: Notice::never(),
         }
     }
 
@@ -230,13 +231,39 @@ impl MemPeer {
         ensures { result ≡ record {
           source = source;
           sink = sink;
-          notice = record { from = Some question; asked = 0; told = 0 };
+          notice = record { from = Some question; quiet = []; asked = 0; told = 0; quiets = 0 };
         } }
     {
         MemPeer {
+            notice: Notice::of(Some(question), Vec::new(*sink.held.allocator())),
             source,
             sink,
-            notice: Notice::from(question),
+        }
+    }
+
+    /// The peer, of which nothing comes at these questions, where its listeners are open.
+    pub fn quiet(self, questions: Vec<u64>) -> MemPeer
+        ensures { result ≡ record {
+          source = self.source;
+          sink = self.sink;
+          notice = record {
+            from = self.notice.from;
+            quiet = questions.items;
+            asked = 0;
+            told = 0;
+            quiets = 0;
+          };
+        } }
+    {
+        let MemPeer {
+            source,
+            sink,
+            notice,
+        } = self;
+        MemPeer {
+            source,
+            sink,
+            notice: Notice::of(notice.closing_from(), questions),
         }
     }
 
@@ -260,6 +287,13 @@ impl MemPeer {
     {
         self.notice.told()
     }
+
+    /// How often it said that nothing came.
+    pub fn quiets(&self) -> u64
+        ensures { result ≡ self.now.notice.quiets }
+    {
+        self.notice.quiets()
+    }
 }
 
 impl Peer for MemPeer {
@@ -282,15 +316,23 @@ impl Peer for MemPeer {
         self.source.read(into)
     }
 
-    /// A question, and a read of its source where its listeners are open.
+    /// A question, and a read of its source where its listeners are open and something comes.
     fn read_next(&mut self, into: &mut [u8]) -> Result<Next, Failed>
         ensures next { WaitsForNext (line_of self.old) (line_of self.new) into.new result }
         ensures due { is_due self.old.notice ≡ true → result ≡ Ok Next.Closing }
         ensures only { result ≡ Ok Next.Closing → is_due self.old.notice ≡ true }
-        ensures asked { self.new.notice ≡ questioned self.old.notice }
+        ensures quiet { is_due self.old.notice ≡ false → IsQuiet self.old.notice
+            → result ≡ Ok Next.Quiet }
+        ensures only_quiet { result ≡ Ok Next.Quiet → IsQuiet self.old.notice }
+        ensures asked { self.new.notice ≡ awaited result self.old.notice }
     {
+        let is_quiet = self.notice.is_quiet();
         if self.notice.ask() {
             return Ok(Next::Closing);
+        }
+        if is_quiet {
+            self.notice.count_quiet();
+            return Ok(Next::Quiet);
         }
         match self.source.read(into) {
             Ok(0) => Ok(Next::End),

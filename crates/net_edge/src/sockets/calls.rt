@@ -2,7 +2,8 @@
 ghost use Rattle.std.specs.Io.{ReadsAtMost, WritesAtMost};
 
 use super::address::ADDRESS_BYTES;
-use libc::net::{self, _SS_SIZE};
+use libc::net::{self, _SS_SIZE, POLLIN};
+use libc::types::pollfd;
 use std::io::{self, ErrorKind, Read, Write};
 use std::net::TcpStream;
 use std::os::fd::AsRawFd;
@@ -21,6 +22,32 @@ pub(crate) fn read_some(stream: &mut TcpStream, into: &mut [u8]) -> io::Result<u
         }
     }
     Err(io::Error::from(ErrorKind::Interrupted))
+}
+
+/// Reads some bytes, where some have come. It waits for none (recv(2), `MSG_DONTWAIT`).
+pub(crate) fn read_now(stream: &TcpStream, into: &mut [u8]) -> io::Result<usize>
+    ensures { ReadsAtMost result into.new }
+{
+    for _ in 0..INTERRUPTIONS {
+        let count = unsafe { net::recv(stream.as_raw_fd(), into, net::MSG_DONTWAIT) };
+        if count >= 0 {
+            return Ok(count as usize);
+        }
+        if os::errno() != libc::EINTR {
+            return Err(io::Error::from_raw_os_error(os::errno()));
+        }
+    }
+    Err(io::Error::from(ErrorKind::Interrupted))
+}
+
+/// Waits for bytes of a connection, for at most so many milliseconds.
+pub(crate) fn await_bytes(stream: &TcpStream, milliseconds: i32) {
+    let mut asked = [pollfd {
+        fd: stream.as_raw_fd(),
+        events: POLLIN,
+        revents: 0,
+    }];
+    net::poll(&mut asked, milliseconds);
 }
 
 /// Writes some bytes.

@@ -1,7 +1,7 @@
 //! The bytes of a connection, in both directions.
 ghost use Rattle.std.specs.Io.{ReadsAtMost, WritesAtMost};
 
-use super::calls::{read_some, write_some};
+use super::calls::{await_bytes, read_now, read_some, write_some};
 use super::options::give_up_after;
 use std::io;
 use std::net::TcpStream;
@@ -58,6 +58,19 @@ impl Flow {
     {
         self.send_held()?;
         read_some(&mut self.stream, into)
+    }
+
+    /// Reads some bytes, where some have come. It waits for none.
+    pub(crate) fn read_now(&mut self, into: &mut [u8]) -> io::Result<usize>
+        ensures { ReadsAtMost result into.new }
+    {
+        self.send_held()?;
+        read_now(&self.stream, into)
+    }
+
+    /// Waits for bytes, for at most so many milliseconds.
+    pub(crate) fn wait(&self, milliseconds: i32) {
+        await_bytes(&self.stream, milliseconds);
     }
 
     /// Writes some bytes.

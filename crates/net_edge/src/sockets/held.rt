@@ -1,5 +1,5 @@
 //! The sockets that a net holds.
-ghost use Rattle.std.specs.Prelude.{◌≡◌, length, IfOk};
+ghost use Rattle.std.specs.Prelude.{◌≡◌, ◌≤◌, length, IfOk};
 ghost use Rattle.net_edge.specs.Sockets.{AllFresh};
 
 use super::dial_socket::DialSocket;
@@ -9,6 +9,7 @@ use super::stop::{Closing, Queues, SocketStop};
 use std::alloc::{AllocError, Global};
 use std::io::{self, ErrorKind};
 use std::net::{Net, SocketAddr, TcpListener, TcpStream};
+use std::rt;
 use std::sync::Arc;
 
 /// Descriptors that a process has beside those of its listeners: the standard streams and what it
@@ -16,15 +17,20 @@ use std::sync::Arc;
 /// listeners more too.
 const OTHER_DESCRIPTORS: u64 = 16;
 
+/// Descriptors that are left for what else the process opens while it serves, as a file that it
+/// reads: no waiting client takes them.
+const SPARE_DESCRIPTORS: u32 = 16;
+
 /// The queues of a net's addresses, and the sockets of the dialers to come.
 ///
-/// A listener has one client at a time, and a dialer one socket beside those of its pool. So a job
-/// takes two descriptors and those of its dialer's pool at most, and an address one more. All of
-/// them are there when `listen` is answered: the sockets of dialers are open, and room for the
+/// A listener serves one client at a time, and a dialer has one socket beside those of its pool. So
+/// a job takes two descriptors and those of its dialer's pool at most, and an address two more. All
+/// of them are there when `listen` is answered: the sockets of dialers are open, and room for the
 /// clients of all listeners and for what their dialers may keep was seen. What is closed later, a
 /// client's connection or a dialer's socket, gives its descriptor back before the same job opens
-/// the next. So where a process opens nothing else behind its last `listen`, no accept and no dial
-/// ever lacks a descriptor.
+/// the next. Clients that wait have descriptors beside those, as many as `waiting_room` saw, and
+/// [`SPARE_DESCRIPTORS`] are left. So where a process opens no more than those behind that, no
+/// accept and no dial ever lacks a descriptor.
 #[derive(Drop)]
 pub(crate) struct HeldSockets {
     pub(crate) alloc: Global,
@@ -83,7 +89,7 @@ impl HeldSockets {
 
     /// So many listeners of an address. They share one queue, and each has a descriptor for a
     /// client of its own and for a dialer, and so many for what that dialer may keep.
-    pub(crate) fn listen<'a, R: Net<Listener = TcpListener, Stream = TcpStream>>(
+    pub(crate) fn listen<'a, R: Net<Listener = TcpListener, Stream = TcpStream> + rt::Clock>(
         &mut self,
         rt: &'a R,
         address: SocketAddr,
@@ -113,6 +119,22 @@ impl HeldSockets {
         self.for_dialers.pop()
     }
 
+    /// How many descriptors more the process may open, up to so many, beside those that its
+    /// listeners were promised, and some that are left for what else it opens.
+    pub(crate) fn waiting_room(&self, most: u32) -> u32
+        ensures { result ≤ most }
+    {
+        let Some(queue) = self.queues.first() else {
+            return 0;
+        };
+        let promised = self
+            .listeners
+            .saturating_add(self.kept)
+            .saturating_add(SPARE_DESCRIPTORS);
+        let spare = queue.count_spare(self.alloc, promised.saturating_add(most));
+        spare.saturating_sub(promised).min(most)
+    }
+
     /// A stop of all listeners.
     pub(crate) fn stopper(&self) -> SocketStop
         ensures { result.calls ≡ 0 }
@@ -123,7 +145,9 @@ impl HeldSockets {
     /// How many descriptors the process wants for so many listeners more, whose dialers may keep so
     /// many connections each.
     pub(crate) fn wanted_descriptors(&self, copies: u32, kept: u32) -> u64 {
-        let addresses = (self.queues.len() as u64).saturating_add(1);
+        let addresses = (self.queues.len() as u64)
+            .saturating_add(1)
+            .saturating_mul(2);
         let jobs = u64::from(self.listeners.saturating_add(copies));
         let pools = u64::from(self.kept.saturating_add(copies.saturating_mul(kept)));
         jobs.saturating_mul(2)

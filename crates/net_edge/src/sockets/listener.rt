@@ -1,23 +1,24 @@
-//! Listeners of an address, each of which hands out its clients one after another.
-ghost use Rattle.std.specs.Prelude.{◌≡◌, ◌≤◌, ◌==◌, ◌&&◌, ◌↔◌, nat_lt, IsTrue};
+//! Listeners of an address, each of which tells what comes there.
+ghost use Rattle.std.specs.Prelude.{◌≡◌, ◌≤◌, ◌↔◌, nat_lt, IsTrue};
 ghost use Rattle.net_edge.specs.Sockets.{IsFresh, listening};
 
 use super::peer::SocketPeer;
-use super::queue::{QUEUE_LENGTH, Queue};
+use super::queue::{Found, QUEUE_LENGTH, Queue};
 use super::stop::Closing;
-use line_base::{BROKEN_RUN, Failed, Listener};
+use line_base::{BROKEN_RUN, Event, Failed, Listener};
 use std::sync::Arc;
 use std::time::Duration;
 use std::{io, rt, thread};
 
-/// How many milliseconds an accept that failed waits before it answers: so a moment without
-/// descriptors is no run of failed accepts.
+/// How many milliseconds a wait that failed lasts before it answers: so a moment without
+/// descriptors is no run of failed waits, and nobody spins meanwhile.
 const PAUSE_MILLISECONDS: u64 = 50;
 
-/// What hands out clients of a queue. It tells no peers.
+/// What tells of the clients of a queue. It tells no peers.
 ///
-/// Once its net is stopped, it hands out those who wait in the queue, at most [`QUEUE_LENGTH`],
-/// and then answers that it is closed.
+/// Once its net is stopped, it hands out those who wait in the queue to be accepted, at most
+/// [`QUEUE_LENGTH`], and tells for a second of those who waited and have sent a request. Then it
+/// answers that it is closed; at once where no connection is open.
 #[derive(Drop)]
 pub struct SocketListener<'a, R> {
     rt: &'a R,
@@ -31,17 +32,61 @@ pub struct SocketListener<'a, R> {
     faults: u64,
 }
 
-/// The next client of a queue; none once the listeners are closed and nobody waits any more.
-fn next_peer(queue: &Queue, closing: &Closing) -> io::Result<Option<SocketPeer>> {
-    match queue.accept() {
-        Ok(stream) => Ok(Some(SocketPeer::over(stream, closing.share()?)?)),
-        Err(_) if closing.is_closed() => {
-            // Others may wait for a client that comes no more.
-            queue.end();
-            Ok(None)
+/// The next client of a queue, if one waits to be accepted.
+fn next_client(queue: &Arc<Queue>, closing: &Closing) -> io::Result<Option<SocketPeer>> {
+    let Some(stream) = queue.accept()? else {
+        return Ok(None);
+    };
+    let queue = Arc::try_clone(queue)?;
+    Ok(Some(SocketPeer::over(stream, closing.share()?, queue)?))
+}
+
+/// What the sockets of an open address tell next.
+fn next_told<R: rt::Clock>(
+    rt: &R,
+    queue: &Arc<Queue>,
+    closing: &Closing,
+) -> io::Result<Event<SocketPeer>> {
+    for _ in 0..u64::MAX {
+        if closing.is_closed() {
+            return Ok(last_told(rt, queue, closing));
         }
-        Err(error) => Err(error),
+        if let Some(seconds) = queue.tick(rt) {
+            return Ok(Event::Tick(seconds));
+        }
+        match queue.wait()? {
+            Found::Ready(number) => return Ok(Event::Ready(number)),
+            Found::Client => match next_client(queue, closing) {
+                Ok(Some(peer)) => return Ok(Event::Came(peer)),
+                Ok(None) => {}
+                Err(_) if closing.is_closed() => {}
+                Err(error) => return Err(error),
+            },
+            Found::Nobody => {}
+        }
     }
+    Ok(Event::Closed)
+}
+
+/// What the sockets of an address that is closing tell next: a client that came before that, one
+/// that waited and has its next request under way, and in the end that the address is closed.
+fn last_told<R: rt::Clock>(rt: &R, queue: &Arc<Queue>, closing: &Closing) -> Event<SocketPeer> {
+    for _ in 0..u64::MAX {
+        if let Ok(Some(peer)) = next_client(queue, closing) {
+            return Event::Came(peer);
+        }
+        if !queue.is_in_grace(rt) {
+            break;
+        }
+        match queue.wait_in_grace() {
+            Ok(Found::Ready(number)) => return Event::Ready(number),
+            Ok(Found::Client | Found::Nobody) => {}
+            Err(_) => break,
+        }
+    }
+    // Others may wait for a client that comes no more.
+    queue.end_grace();
+    Event::Closed
 }
 
 impl<'a, R> SocketListener<'a, R> {
@@ -62,19 +107,32 @@ impl<'a, R> SocketListener<'a, R> {
         }
     }
 
-    /// Whether its accepts failed so often in a row that it counts as broken.
+    /// Whether its waits failed so often in a row that it counts as broken.
     pub(crate) fn is_broken(&self) -> bool
         ensures { IsTrue result ↔ (BROKEN_RUN ≤ self.now.run) }
     {
         self.run >= BROKEN_RUN
     }
 
-    /// Whether it answered that it is closed, and as many peers came back as it handed out.
+    /// Whether it answered that it is closed.
     pub(crate) fn is_clean(&self) -> bool
-        ensures { result ≡ (nat_lt 0 self.now.closes
-            && (self.now.finished == self.now.accepted)) }
+        ensures { result ≡ nat_lt 0 self.now.closes }
     {
-        self.closes > 0 && self.finished == self.accepted
+        self.closes > 0
+    }
+
+    /// How many peers it handed out.
+    pub(crate) fn accepted(&self) -> u64
+        ensures { result ≡ self.now.accepted }
+    {
+        self.accepted
+    }
+
+    /// How many peers came back.
+    pub(crate) fn finished(&self) -> u64
+        ensures { result ≡ self.now.finished }
+    {
+        self.finished
     }
 }
 
@@ -85,35 +143,49 @@ impl<R: rt::Clock> Listener for SocketListener<'_, R> {
 
     ghost faults = { λ l. l.faults };
 
-    fn accept(&mut self) -> Result<Option<SocketPeer>, Failed> {
+    fn next_event(&mut self) -> Result<Event<SocketPeer>, Failed> {
         let is_late = self.closing.is_closed();
         if self.closes > 0 || (is_late && self.late >= QUEUE_LENGTH) {
-            self.queue.end();
+            self.queue.end_grace();
             self.closes = self.closes.saturating_add(1);
             self.run = 0;
-            return Ok(None);
+            return Ok(Event::Closed);
         }
-        match next_peer(&self.queue, &self.closing) {
-            Ok(Some(peer)) => {
+        match next_told(self.rt, &self.queue, &self.closing) {
+            Ok(Event::Came(peer)) => {
                 if is_late {
                     self.late += 1;
                 }
                 self.accepted = self.accepted.saturating_add(1);
                 self.run = 0;
-                Ok(Some(peer))
+                Ok(Event::Came(peer))
             }
-            Ok(None) => {
+            Ok(Event::Ready(number)) => {
+                self.run = 0;
+                Ok(Event::Ready(number))
+            }
+            Ok(Event::Tick(seconds)) => {
+                self.run = 0;
+                Ok(Event::Tick(seconds))
+            }
+            Ok(Event::Closed) => {
                 self.closes = self.closes.saturating_add(1);
                 self.run = 0;
-                Ok(None)
+                Ok(Event::Closed)
             }
             Err(_) => {
                 thread::sleep(self.rt, Duration::from_millis(PAUSE_MILLISECONDS));
+                // The client that could not be accepted may be there still.
+                self.queue.listen_on();
                 self.run = self.run.saturating_add(1);
                 self.faults = self.faults.saturating_add(1);
                 Err(Failed)
             }
         }
+    }
+
+    fn watch(&self, peer: &SocketPeer, number: u64) -> bool {
+        self.queue.watch(peer.stream(), number)
     }
 
     fn finish(&mut self, peer: SocketPeer) {

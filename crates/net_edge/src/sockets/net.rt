@@ -27,6 +27,8 @@ pub struct SocketNet<'a, R> {
     refused: Option<Refusal>,
     faults: u64,
     clean: u64,
+    accepted: u64,
+    finished: u64,
     stops_given: u64,
     stops_returned: u64,
 }
@@ -34,8 +36,8 @@ pub struct SocketNet<'a, R> {
 impl<'a, R: AllocGlobal> SocketNet<'a, R> {
     /// The net that is reached by `rt`, with no listeners so far.
     pub fn of(rt: &'a R) -> Result<SocketNet<'a, R>, AllocError>
-        ensures { IfOk result (λ n. (n.faults ≡ 0) × (n.clean ≡ 0) × (n.stops_given ≡ 0)
-            × (n.stops_returned ≡ 0)) }
+        ensures { IfOk result (λ n. (n.faults ≡ 0) × (n.clean ≡ 0) × (n.accepted ≡ 0)
+            × (n.finished ≡ 0) × (n.stops_given ≡ 0) × (n.stops_returned ≡ 0)) }
     {
         Ok(SocketNet {
             rt,
@@ -43,6 +45,8 @@ impl<'a, R: AllocGlobal> SocketNet<'a, R> {
             refused: None,
             faults: 0,
             clean: 0,
+            accepted: 0,
+            finished: 0,
             stops_given: 0,
             stops_returned: 0,
         })
@@ -64,7 +68,7 @@ impl<'a, R: net::Net<Listener = TcpListener, Stream = TcpStream> + rt::Clock + S
 
     type S = SocketStop;
 
-    ghost state = { λ n. networking n.clean n.stops_given n.stops_returned };
+    ghost state = { λ n. networking n.clean n.accepted n.finished n.stops_given n.stops_returned };
 
     ghost faults = { λ n. n.faults };
 
@@ -88,6 +92,10 @@ impl<'a, R: net::Net<Listener = TcpListener, Stream = TcpStream> + rt::Clock + S
         }
     }
 
+    fn waiting_room(&mut self, most: u32) -> u32 {
+        self.held.waiting_room(most)
+    }
+
     fn dialer(&mut self, pool: ConnectionPool) -> SocketDialer<'a, R> {
         SocketDialer::of(self.rt, self.held.alloc, self.held.for_dialer(), pool)
     }
@@ -103,8 +111,10 @@ impl<'a, R: net::Net<Listener = TcpListener, Stream = TcpStream> + rt::Clock + S
         dialer: Option<SocketDialer<'a, R>>,
         stop: SocketStop,
     ) -> Result<(), Failed>
-        ensures state { networking self.new.clean self.new.stops_given self.new.stops_returned
-            ≡ after_end (networking self.old.clean self.old.stops_given self.old.stops_returned)
+        ensures state { networking self.new.clean self.new.accepted self.new.finished
+            self.new.stops_given self.new.stops_returned
+            ≡ after_end (networking self.old.clean self.old.accepted self.old.finished
+            self.old.stops_given self.old.stops_returned)
             (record { listener = listening listener.entry; log = None; stops = stop.calls }) }
         ensures broken { IsErr result ↔ (BROKEN_RUN ≤ listener.entry.run) }
         ensures cause { HasCause self.old.faults self.new.faults result }
@@ -112,6 +122,8 @@ impl<'a, R: net::Net<Listener = TcpListener, Stream = TcpStream> + rt::Clock + S
         if listener.is_clean() {
             self.clean = self.clean.saturating_add(1);
         }
+        self.accepted = self.accepted.saturating_add(listener.accepted());
+        self.finished = self.finished.saturating_add(listener.finished());
         self.stops_returned = self.stops_returned.saturating_add(1);
         let is_broken = listener.is_broken();
         drop((listener, dialer, stop));

@@ -2,12 +2,14 @@
 ghost use Rattle.std.specs.Prelude.{None};
 
 use super::flow::{Flow, IDLE_SECONDS};
+use super::queue::Queue;
 use super::stop::Closing;
-use super::waiting::{SLICE_SECONDS, read_in_slices, read_next_in_slices};
+use super::waiting::{Heard, PROMPT_MILLISECONDS, read_in_slices, read_next};
 use line_base::{Failed, Next, Peer};
 use std::io::{self, Read};
 use std::net::{Shutdown, TcpStream};
 use std::rt;
+use std::sync::Arc;
 use std::time::{Duration, Instant};
 
 /// How many milliseconds a connection that is being ended is read from.
@@ -27,44 +29,67 @@ const LINGER_PIECE: usize = 16_384;
 pub struct SocketPeer {
     flow: Flow,
     closing: Closing,
+    queue: Arc<Queue>,
+    heard: Heard,
     read_faults: u64,
     write_faults: u64,
     ends: u64,
     closings: u64,
+    quiets: u64,
 }
 
 impl SocketPeer {
-    /// A connection over this socket, with no fault and no end so far, whose listeners are closed
-    /// by `closing`. It ends its reads and writes in time.
-    pub(crate) fn over(stream: TcpStream, closing: Closing) -> io::Result<SocketPeer> {
-        let slice = Duration::from_secs(SLICE_SECONDS);
+    /// A connection over this socket, with no fault and no end so far, which came to this queue,
+    /// and whose listeners are closed by `closing`. It ends its reads and writes in time.
+    pub(crate) fn over(
+        stream: TcpStream,
+        closing: Closing,
+        queue: Arc<Queue>,
+    ) -> io::Result<SocketPeer> {
+        let prompt = Duration::from_millis(PROMPT_MILLISECONDS);
         let idle = Duration::from_secs(IDLE_SECONDS);
+        let flow = Flow::with_limits(stream, prompt, idle)?;
+        queue.count_opened();
         Ok(SocketPeer {
-            flow: Flow::with_limits(stream, slice, idle)?,
+            flow,
             closing,
+            queue,
+            heard: Heard::Nothing,
             read_faults: 0,
             write_faults: 0,
             ends: 0,
             closings: 0,
+            quiets: 0,
         })
+    }
+
+    /// Its socket.
+    pub(crate) fn stream(&self) -> &TcpStream {
+        &self.flow.stream
     }
 
     /// Ends the connection. What was written still arrives: the other end is told that no more
     /// comes, and what it has yet to say is read and dropped, since a socket that is closed before
-    /// its bytes were read resets the connection. That is bounded in time.
+    /// its bytes were read resets the connection. That is bounded in time. Where nothing has come
+    /// since the last request there is nothing to read, and it ends at once.
     pub(crate) fn end<R: rt::Clock>(self, rt: &R) {
         let SocketPeer {
             flow,
             closing: _,
+            queue,
+            heard,
             read_faults: _,
             write_faults: _,
             ends,
             closings: _,
+            quiets: _,
         } = self;
+        queue.count_ended();
         let stream = flow.stream;
         let silence = Duration::from_millis(SILENCE_MILLISECONDS);
         let is_told = stream.shutdown(Shutdown::Write).is_ok();
-        if is_told && ends == 0 && stream.set_read_timeout(Some(silence)).is_ok() {
+        let may_say_more = heard != Heard::Quiet && ends == 0;
+        if is_told && may_say_more && stream.set_read_timeout(Some(silence)).is_ok() {
             drain(rt, stream);
         }
     }
@@ -96,12 +121,14 @@ impl Peer for SocketPeer {
       write_faults = p.write_faults;
       ends = p.ends;
       closings = p.closings;
+      quiets = p.quiets;
     } };
 
     fn read(&mut self, into: &mut [u8]) -> Result<usize, Failed> {
         if into.is_empty() {
             return Ok(0);
         }
+        self.heard = Heard::Bytes;
         match read_in_slices(&mut self.flow, into) {
             Ok(0) => {
                 self.ends = self.ends.saturating_add(1);
@@ -116,15 +143,23 @@ impl Peer for SocketPeer {
     }
 
     fn read_next(&mut self, into: &mut [u8]) -> Result<Next, Failed> {
-        match read_next_in_slices(&mut self.flow, &self.closing, into) {
+        let heard = self.heard;
+        self.heard = Heard::Bytes;
+        match read_next(&mut self.flow, &self.queue, heard, into) {
             Ok(Next::Bytes(count)) => Ok(Next::Bytes(count)),
             Ok(Next::End) => {
                 self.ends = self.ends.saturating_add(1);
                 Ok(Next::End)
             }
             Ok(Next::Closing) => {
+                self.heard = Heard::Quiet;
                 self.closings = self.closings.saturating_add(1);
                 Ok(Next::Closing)
+            }
+            Ok(Next::Quiet) => {
+                self.heard = Heard::Quiet;
+                self.quiets = self.quiets.saturating_add(1);
+                Ok(Next::Quiet)
             }
             Err(_) => {
                 self.read_faults = self.read_faults.saturating_add(1);

@@ -1,50 +1,74 @@
-//! Waiting for the bytes of a connection, a second at a time.
+//! Waiting for the bytes of a connection that was accepted.
 ghost use Rattle.std.specs.Io.{ReadsAtMost};
 ghost use Rattle.net_edge.specs.Sockets.{NextAtMost};
 
 use super::flow::{Flow, IDLE_SECONDS};
-use super::stop::Closing;
+use super::queue::Queue;
 use line_base::Next;
 use std::io::{self, ErrorKind};
 
-/// How many seconds one read of an accepted connection may wait. Where nothing comes it is made
-/// again, up to [`IDLE_SECONDS`] in all. So a connection that waits sees within a second that the
-/// listeners are closing, and one that is busy makes no call for it.
-pub(crate) const SLICE_SECONDS: u64 = 1;
+/// How many milliseconds one read of an accepted connection may wait. So long a connection is
+/// waited for where another listener is free; a busy one sends its next request by then, and costs
+/// no call more for it.
+pub(crate) const PROMPT_MILLISECONDS: u64 = 5;
 
-/// How many such reads there are.
-const SLICES: u64 = IDLE_SECONDS / SLICE_SECONDS;
+/// How many milliseconds a connection that is silent in the middle of a request is waited for
+/// before it is read again.
+const SLICE_MILLISECONDS: i32 = 1_000;
 
-/// Reads some bytes of a connection whose reads wait for [`SLICE_SECONDS`].
+/// Reads some bytes of a connection whose reads wait for [`PROMPT_MILLISECONDS`]. Where nothing
+/// comes it is waited for a second at a time, up to [`IDLE_SECONDS`] in all.
 pub(crate) fn read_in_slices(flow: &mut Flow, into: &mut [u8]) -> io::Result<usize>
     ensures { ReadsAtMost result into.new }
 {
-    for _ in 0..SLICES {
+    for _ in 0..IDLE_SECONDS {
         match flow.read(into) {
-            Err(error) if error.kind() == ErrorKind::WouldBlock => {}
+            Err(error) if error.kind() == ErrorKind::WouldBlock => flow.wait(SLICE_MILLISECONDS),
             done => return done,
         }
     }
     Err(io::Error::from(ErrorKind::TimedOut))
 }
 
-/// Reads the first bytes of a request, or sees that the listeners are closing and that none have
-/// come.
-pub(crate) fn read_next_in_slices(
+/// What was heard of a connection last.
+#[derive(Clone, Copy, PartialEq, Eq)]
+pub(crate) enum Heard {
+    /// Nothing: it is new.
+    Nothing,
+    /// Some bytes.
+    Bytes,
+    /// That no more have come. It may have waited elsewhere since then.
+    Quiet,
+}
+
+/// Reads the first bytes of a request, or sees that none have come.
+///
+/// A connection is waited for a moment, where another listener waits for whoever comes, and else
+/// not at all: so the last listener that is free waits for nobody in particular. One that was quiet
+/// has been waited for already. Once those who wait are heard no more nobody else comes, and one that
+/// is new may have a second for its only request.
+pub(crate) fn read_next(
     flow: &mut Flow,
-    closing: &Closing,
+    queue: &Queue,
+    heard: Heard,
     into: &mut [u8],
 ) -> io::Result<Next>
     ensures { NextAtMost result into.new }
 {
-    for _ in 0..SLICES {
-        match flow.read(into) {
-            Ok(0) => return Ok(Next::End),
-            Ok(count) => return Ok(Next::Bytes(count)),
-            Err(error) if error.kind() != ErrorKind::WouldBlock => return Err(error),
-            Err(_) if closing.is_closed() => return Ok(Next::Closing),
-            Err(_) => {}
-        }
+    let is_over = queue.is_over();
+    if is_over && heard == Heard::Nothing {
+        flow.wait(SLICE_MILLISECONDS);
     }
-    Err(io::Error::from(ErrorKind::TimedOut))
+    let read = if heard != Heard::Quiet && (is_over || queue.has_waiting()) {
+        flow.read(into)
+    } else {
+        flow.read_now(into)
+    };
+    match read {
+        Ok(0) => Ok(Next::End),
+        Ok(count) => Ok(Next::Bytes(count)),
+        Err(error) if error.kind() != ErrorKind::WouldBlock => Err(error),
+        Err(_) if queue.is_over() => Ok(Next::Closing),
+        Err(_) => Ok(Next::Quiet),
+    }
 }

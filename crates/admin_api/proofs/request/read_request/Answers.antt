@@ -1,4 +1,4 @@
-use Rattle.std.proofs.Common.{[], ap, subst, sym, ◌∙◌, append-nil, Err}
+use Rattle.std.proofs.Common.{[], ap, arith, subst, sym, ◌∙◌, append-nil, Err}
 use Rattle.std.specs.Io.KnownBytes.{Consumes, Keeps}
 use Rattle.std.proofs.KnownBytes.{Consumes-nil, Keeps-refl}
 use Rattle.line_base.specs.Lines.{Line}
@@ -56,6 +56,9 @@ pub returns-in-Closing-clause-closings : goal.returns-in-Closing-clause-closings
 returns-in-Closing-clause-closings g c =
     ap (λ (l : Line). l.closings) c.in-Closing.ensures.closing
 
+pub returns-in-Closing-clause-quiets : goal.returns-in-Closing-clause-quiets
+returns-in-Closing-clause-quiets g c = ap (λ (l : Line). l.quiets) c.in-Closing.ensures.closing
+
 pub returns-in-Closing-clause-causes : goal.returns-in-Closing-clause-causes
 returns-in-Closing-clause-causes g c = record {
   peer_ended = λ is. absurd (cc);
@@ -64,3 +67,39 @@ returns-in-Closing-clause-causes g c = record {
   ends_later = λ is. absurd (cc);
   faults_later = λ is. absurd (cc);
 }
+
+pub returns-in-Quiet-clause-bytes : goal.returns-in-Quiet-clause-bytes
+returns-in-Quiet-clause-bytes g c =
+    let old = g.P.Peer.line c.args.peer.now in (
+      [],
+      subst (λ (l : Line). Consumes old.left l.left []) (sym c.in-Quiet.ensures.quiet)
+          (Consumes-nil old.left),
+      append-nil c.args.rest.now ∙ c.in-Quiet.ensures.none,
+    )
+
+pub returns-in-Quiet-clause-given : goal.returns-in-Quiet-clause-given
+returns-in-Quiet-clause-given g c =
+    let old = g.P.Peer.line c.args.peer.now in
+    subst (λ (l : Line). Keeps old.given l.given) (sym c.in-Quiet.ensures.quiet)
+    (Keeps-refl old.given)
+
+pub returns-in-Quiet-clause-writes : goal.returns-in-Quiet-clause-writes
+returns-in-Quiet-clause-writes g c = ap (λ (l : Line). l.write_faults) c.in-Quiet.ensures.quiet
+
+pub returns-in-Quiet-clause-closings : goal.returns-in-Quiet-clause-closings
+returns-in-Quiet-clause-closings g c = ap (λ (l : Line). l.closings) c.in-Quiet.ensures.quiet
+
+pub returns-in-Quiet-clause-quiets : goal.returns-in-Quiet-clause-quiets
+returns-in-Quiet-clause-quiets g c = ap (λ (l : Line). l.quiets) c.in-Quiet.ensures.quiet
+
+pub returns-in-Quiet-clause-causes : goal.returns-in-Quiet-clause-causes
+returns-in-Quiet-clause-causes g c =
+    let e = ap (λ (l : Line). l.ends) c.in-Quiet.ensures.quiet in
+    let f = ap (λ (l : Line). l.read_faults) c.in-Quiet.ensures.quiet in
+    record {
+      peer_ended = λ is. absurd (cc);
+      cut = λ is. absurd (cc);
+      read_fault = λ is. absurd (cc);
+      ends_later = λ is. omega (arith, e);
+      faults_later = λ is. omega (arith, f);
+    }

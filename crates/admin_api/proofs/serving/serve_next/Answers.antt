@@ -4,10 +4,14 @@ use Rattle.std.specs.Io.KnownBytes.{Consumes, Keeps}
 use Rattle.std.proofs.KnownBytes.{Consumes-kept}
 use Rattle.http_wire.specs.declared.ended.Ended.{Ended}
 use Rattle.admin_api.specs.declared.request.Request.{Request}
+use Rattle.http_wire.specs.declared.paused.Paused.{Paused}
+use Rattle.http_wire.specs.Paused.{quiets_behind}
 use Rattle.admin_api.specs.Reading.{is_drained, raised_where}
-use Rattle.admin_api.proofs.Turning.{ends_told, given_behind, gives_none, is_taken, own_told}
-use Rattle.admin_api.proofs.Turning.{quiet_turn, refusal_open, refused_turn, replied_causes, turned}
-use Rattle.admin_api.proofs.Turning.{was_asked}
+use Rattle.admin_api.specs.Serving.{HasCauses, Turns, ended_in}
+use Rattle.admin_api.proofs.Turning.{ended_same, ends_told, given_behind, gives_none, is_taken}
+use Rattle.admin_api.proofs.Turning.{ends_waits, own_waits, request_quiets, wait_waits}
+use Rattle.admin_api.proofs.Turning.{own_told, quiet_turn, quiet_wait, refusal_open, refused_turn}
+use Rattle.admin_api.proofs.Turning.{replied_causes, turned, wait_causes, wait_told, was_asked}
 use Rattle.admin_api.proofs.serving.serve_next.Goals as goal
 
 pub reply_to-ended-requires : goal.reply_to-ended-requires
@@ -38,12 +42,30 @@ returns-in-Ok-clause-turn g c =
       a.3,
       c.reply_to-ended.ensures.others.closings
           ∙ (w.closings ∙ ap (raised_where closing) c.in-Ok.ensures.closings),
-      turned c.while_closing-found.result c.is_last-last.result c.in-Ok.request.head
-          c.in-Ok.request.body.items c.args.pass.now c.reply_to-ended.new.pass a.0 c.args.which
-          (c.args.rest.now ++ r.0) c.read_request.new.rest c.args.spent closing a.1
+      subst
+          (λ (p : Option Paused). Turns c.args.which c.args.spent closing c.args.worker.now.pass
+          c.reply_to-ended.new.worker.pass (c.args.rest.now ++ r.0) c.read_request.new.rest a.0 a.1
+          p)
+          (sym c.paused_by.ensures)
+          (turned c.while_closing-found.result c.is_last-last.result c.in-Ok.request.head
+          c.in-Ok.request.body.items c.args.worker.now.pass c.reply_to-ended.new.worker.pass a.0
+          c.args.which (c.args.rest.now ++ r.0) c.read_request.new.rest c.args.spent closing a.1
           c.reply_to-ended.result c.drained.result c.while_closing-found.ensures
-          c.is_last-last.ensures c.hears_closing-closing.ensures.asked r.2 a.4 c.drained.ensures,
+          c.is_last-last.ensures c.hears_closing-closing.ensures.asked r.2 a.4 c.drained.ensures),
     )
+
+pub returns-in-Ok-clause-quiets : goal.returns-in-Ok-clause-quiets
+returns-in-Ok-clause-quiets g c =
+    let closing = c.hears_closing-closing.result in
+    let old = g.P.Peer.line c.args.peer.now in
+    let read = g.P.Peer.line c.read_request.new.peer in
+    let told = g.P.Peer.line c.hears_closing-closing.new.peer in
+    let w = was_asked closing read told c.hears_closing-closing.ensures.told in
+    c.reply_to-ended.ensures.others.quiets
+    ∙ (w.quiets
+    ∙ (c.in-Ok.ensures.quiets
+    ∙ (sym (request_quiets c.drained.result old.quiets)
+    ∙ ap (λ (p : Option Paused). quiets_behind p old.quiets) (sym c.paused_by.ensures))))
 
 pub returns-in-Ok-clause-causes : goal.returns-in-Ok-clause-causes
 returns-in-Ok-clause-causes g c =
@@ -55,13 +77,17 @@ returns-in-Ok-clause-causes g c =
     let told = g.P.Peer.line c.hears_closing-closing.new.peer in
     let new = g.P.Peer.line c.reply_to-ended.new.peer in
     let w = was_asked closing read told c.hears_closing-closing.ensures.told in
-    replied_causes old.ends read.ends new.ends old.read_faults read.read_faults new.read_faults
+    subst
+    (λ (end : Option Ended). HasCauses old.ends new.ends old.read_faults new.read_faults
+    old.write_faults new.write_faults end)
+    (sym (ap ended_in c.paused_by.ensures ∙ ended_same c.drained.result))
+    (replied_causes old.ends read.ends new.ends old.read_faults read.read_faults new.read_faults
     old.write_faults told.write_faults new.write_faults c.in-Ok.ensures.causes (o.ends ∙ w.ends)
     (o.read_faults ∙ w.reads) (w.writes ∙ c.in-Ok.ensures.writes) c.reply_to-ended.ensures.later
     c.while_closing-found.result c.is_last-last.result c.in-Ok.request.head
-    c.in-Ok.request.body.items c.args.pass.now c.reply_to-ended.new.pass a.0 a.1 c.drained.result
-    closing
-    c.reply_to-ended.result c.drained.ensures a.4 c.reply_to-ended.ensures.cause
+    c.in-Ok.request.body.items c.args.worker.now.pass c.reply_to-ended.new.worker.pass a.0 a.1
+    c.drained.result closing c.reply_to-ended.result c.drained.ensures a.4
+    c.reply_to-ended.ensures.cause)
 
 pub returns-in-Err-Own-clause-turn : goal.returns-in-Err-Own-clause-turn
 returns-in-Err-Own-clause-turn g c =
@@ -90,6 +116,28 @@ returns-in-Err-Own-clause-turn g c =
       ),
     )
 
+pub returns-in-Err-Own-clause-quiets : goal.returns-in-Err-Own-clause-quiets
+returns-in-Err-Own-clause-quiets g c =
+    let old = g.P.Peer.line c.args.peer.now in
+    let read = g.P.Peer.line c.read_request.new.peer in
+    c.refuse.ensures.others.quiets
+    ∙ own_waits Request old.quiets read.quiets c.in-Err-Own.field-0 c.in-Err-Own.ensures.quiets _ _
+    c.in-Err-Own.field-0-is
+
+pub returns-in-Err-Ends-clause-quiets : goal.returns-in-Err-Ends-clause-quiets
+returns-in-Err-Ends-clause-quiets g c =
+    let old = g.P.Peer.line c.args.peer.now in
+    let read = g.P.Peer.line c.read_request.new.peer in
+    ends_waits Request old.quiets read.quiets c.in-Err-Ends.field-0 c.in-Err-Ends.ensures.quiets _
+    c.in-Err-Ends.field-0-is
+
+pub returns-in-Err-Waits-clause-quiets : goal.returns-in-Err-Waits-clause-quiets
+returns-in-Err-Waits-clause-quiets g c =
+    let old = g.P.Peer.line c.args.peer.now in
+    let read = g.P.Peer.line c.read_request.new.peer in
+    wait_waits Request old.quiets read.quiets c.in-Err-Waits.field-0 c.in-Err-Waits.ensures.quiets
+    c.in-Err-Waits.field-0-is
+
 pub returns-in-Err-Ends-clause-turn : goal.returns-in-Err-Ends-clause-turn
 returns-in-Err-Ends-clause-turn g c =
     let b = c.in-Err-Ends.ensures.bytes in
@@ -112,3 +160,29 @@ returns-in-Err-Ends-clause-turn g c =
             (sym c.in-Err-Ends.ended-is),
       ),
     )
+
+pub returns-in-Err-Waits-clause-turn : goal.returns-in-Err-Waits-clause-turn
+returns-in-Err-Waits-clause-turn g c =
+    let b = c.in-Err-Waits.ensures.bytes in
+    let old = g.P.Peer.line c.args.peer.now in
+    let read = g.P.Peer.line c.read_request.new.peer in (
+      b.0,
+      [],
+      false,
+      false,
+      b.1,
+      gives_none old.given read.given c.in-Err-Waits.ensures.given,
+      refl,
+      wait_told Request old.closings read.closings c.in-Err-Waits.field-0
+          c.in-Err-Waits.ensures.closings c.in-Err-Waits.field-0-is,
+      quiet_wait (c.args.rest.now ++ b.0) c.in-Err-Waits.field-0 c.args.worker.now.pass
+          c.in-Err-Waits.field-0-is b.2,
+    )
+
+pub returns-in-Err-Waits-clause-causes : goal.returns-in-Err-Waits-clause-causes
+returns-in-Err-Waits-clause-causes g c =
+    let old = g.P.Peer.line c.args.peer.now in
+    let read = g.P.Peer.line c.read_request.new.peer in
+    wait_causes Request old.ends read.ends old.read_faults read.read_faults old.write_faults
+    read.write_faults c.in-Err-Waits.field-0 c.in-Err-Waits.field-0-is c.in-Err-Waits.ensures.causes
+    c.in-Err-Waits.ensures.writes

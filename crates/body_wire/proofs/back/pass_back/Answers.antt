@@ -25,6 +25,7 @@ pieces-init g c = record {
   reads = refl;
   ends = refl;
   closings = refl;
+  quiets = refl;
   left = Keeps-refl (g.P.Peer.line c.args.peer.now).left;
 }
 
@@ -88,6 +89,7 @@ pieces-preserved g c =
       reads = c.write_turn-turn.ensures.others.read_faults ∙ i.reads;
       ends = c.write_turn-turn.ensures.others.ends ∙ i.ends;
       closings = c.write_turn-turn.ensures.others.closings ∙ i.closings;
+      quiets = c.write_turn-turn.ensures.others.quiets ∙ i.quiets;
       left = Keeps-trans (g.P.Peer.line c.args.peer.now).left (g.P.Peer.line c.pieces.peer).left (g.P.Peer.line c.write_turn-turn.new.peer).left i.left c.write_turn-turn.ensures.others.left;
     }
 

@@ -81,6 +81,7 @@ pieces-preserved g c =
       );
       ends = c.in-Ok.ensures.end.given some ∙ i.ends;
       closings = c.in-Ok.ensures.others.closings ∙ i.closings;
+      quiets = c.in-Ok.ensures.others.quiets ∙ i.quiets;
       faults = c.in-Ok.ensures.cause.kept ∙ i.faults;
       given = Keeps-trans (g.P.Peer.line c.args.peer.now).given (g.P.Peer.line c.pieces.peer).given (g.P.Peer.line c.pull.new.peer).given i.given c.in-Ok.ensures.others.given;
       writes = c.in-Ok.ensures.others.write_faults ∙ i.writes;

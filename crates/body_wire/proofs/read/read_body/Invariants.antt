@@ -11,6 +11,7 @@ invariant-pieces g l = record {
       × Reads l.fn.framing l.decoder l.fn.rest came l.content.items l.rest;
   ends : (g.P.Peer.line l.peer).ends ≡ (g.P.Peer.line l.fn.peer).ends;
   closings : (g.P.Peer.line l.peer).closings ≡ (g.P.Peer.line l.fn.peer).closings;
+  quiets : (g.P.Peer.line l.peer).quiets ≡ (g.P.Peer.line l.fn.peer).quiets;
   faults : (g.P.Peer.line l.peer).read_faults ≡ (g.P.Peer.line l.fn.peer).read_faults;
   given : Keeps (g.P.Peer.line l.fn.peer).given (g.P.Peer.line l.peer).given;
   writes : (g.P.Peer.line l.peer).write_faults ≡ (g.P.Peer.line l.fn.peer).write_faults;

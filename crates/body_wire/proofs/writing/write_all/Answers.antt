@@ -11,6 +11,7 @@ loop-at-init g c = record {
   reads = refl;
   ends = refl;
   closings = refl;
+  quiets = refl;
   faults = refl;
 }
 
@@ -22,6 +23,7 @@ loop-at-preserved g c = record {
   reads = c.in-Ok.ensures.others.read_faults ∙ c.loop-at.invariant.reads;
   ends = c.in-Ok.ensures.others.ends ∙ c.loop-at.invariant.ends;
   closings = c.in-Ok.ensures.others.closings ∙ c.loop-at.invariant.closings;
+  quiets = c.in-Ok.ensures.others.quiets ∙ c.loop-at.invariant.quiets;
   faults = c.in-Ok.ensures.cause.kept ∙ c.loop-at.invariant.faults;
 }
 
@@ -34,6 +36,7 @@ returns-in-Err-clause-others g c = record {
   read_faults = c.in-Err.ensures.others.read_faults ∙ c.loop-at.invariant.reads;
   ends = c.in-Err.ensures.others.ends ∙ c.loop-at.invariant.ends;
   closings = c.in-Err.ensures.others.closings ∙ c.loop-at.invariant.closings;
+  quiets = c.in-Err.ensures.others.quiets ∙ c.loop-at.invariant.quiets;
 }
 
 pub returns-clause-bytes : goal.returns-clause-bytes

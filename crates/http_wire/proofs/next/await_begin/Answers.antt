@@ -1,8 +1,8 @@
-use Rattle.std.proofs.Common.{◌≡◌, ℕ, List, [], length, ap, sym, subst, arith, ◌∙◌}
+use Rattle.std.proofs.Common.{◌≡◌, length, ap, sym, subst, arith, ◌∙◌}
 use Rattle.std.proofs.lemmas.Bool.Decides.{nat_tests}
 use Rattle.http_wire.specs.declared.next.Awaited.{Awaited}
 use Rattle.http_wire.specs.Next.{Awaits}
-use Rattle.http_wire.proofs.Coming.{begins, begun_already, nothing_of}
+use Rattle.http_wire.proofs.Coming.{begins, nothing_of}
 use Rattle.http_wire.proofs.next.await_begin.Goals as goal
 
 pub returns : goal.returns

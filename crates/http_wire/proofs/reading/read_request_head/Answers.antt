@@ -16,6 +16,7 @@ loop-answer-init g c = record {
   given = c.in-More.ensures.others.given;
   write_faults = c.in-More.ensures.others.write_faults;
   closings = c.in-More.ensures.others.closings;
+  quiets = c.in-More.ensures.others.quiets;
 }
 
 pub loop-answer-preserved : goal.loop-answer-preserved
@@ -31,6 +32,7 @@ loop-answer-preserved g c =
       given = Keeps-trans _ _ _ before.given turn.others.given;
       write_faults = turn.others.write_faults ∙ before.write_faults;
       closings = turn.others.closings ∙ before.closings;
+      quiets = turn.others.quiets ∙ before.quiets;
     }
 
 pub returns-in-Answered-take_turn-clause-head : goal.returns-in-Answered-take_turn-clause-head

@@ -13,6 +13,7 @@ invariant-loop-answer g l = record {
   given : Keeps (g.P.Peer.line l.fn.peer).given (g.P.Peer.line l.peer).given;
   write_faults : (g.P.Peer.line l.peer).write_faults ≡ (g.P.Peer.line l.fn.peer).write_faults;
   closings : (g.P.Peer.line l.peer).closings ≡ (g.P.Peer.line l.fn.peer).closings;
+  quiets : (g.P.Peer.line l.peer).quiets ≡ (g.P.Peer.line l.fn.peer).quiets;
 }
 
 abbrev pub decreases-loop-answer : goal.decreases-loop-answer

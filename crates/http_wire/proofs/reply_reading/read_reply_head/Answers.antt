@@ -1,4 +1,4 @@
-use Rattle.std.proofs.Common.{rules, ◌≡◌, List, ℕ, [], refl, sym, ap, arith, subst, ◌∙◌, length-append, length}
+use Rattle.std.proofs.Common.{rules, List, ℕ, [], refl, sym, ap, arith, subst, ◌∙◌, length-append, length}
 use Rattle.line_base.proofs.Links.{links_on, links_same, still_open}
 use Rattle.http_wire.specs.Reading.{is_read_fault, raised_at}
 use Rattle.http_wire.specs.Replies.{Tracks}

@@ -1,9 +1,7 @@
-use Rattle.std.proofs.Common.{refl, sym, subst, ◌∙◌, ap, Ok, Result, ℕ}
+use Rattle.std.proofs.Common.{refl}
 use Rattle.linker_commands.specs.Generated.{storm_line, weave_line}
 use Rattle.line_base.specs.Files.{Filed}
-use Rattle.line_base.specs.Streams.{Input, Output}
-use Rattle.linker_commands.specs.Run.{Takes}
-use Rattle.linker_commands.specs.Words.{Asked, command_of, storm, weave}
+use Rattle.line_base.specs.Streams.{Input}
 use Rattle.linker_commands.proofs.Serving.{linked_same}
 use Rattle.linker_commands.proofs.run.run.Goals as goal
 

@@ -19,3 +19,8 @@ ghosts-serve_opened-J-Naming g a =
 abbrev pub ghosts-serve_opened-J-Ledger : goal.ghosts-serve_opened-J-Ledger
 ghosts-serve_opened-J-Ledger g a =
     record { name = a.opened.blank.name; parts = a.opened.blank.parts }
+
+-- it handles requests as the site says
+abbrev pub ghosts-serve_opened-J-Handling : goal.ghosts-serve_opened-J-Handling
+ghosts-serve_opened-J-Handling g a =
+    record { rule = a.site.now.policy.rule; tries = a.site.now.policy.retries }

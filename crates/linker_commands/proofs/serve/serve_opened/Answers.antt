@@ -68,7 +68,8 @@ returns-in-Ok-write_all g c = λ files config made.
     told_on g.row.J.Denot line_of (g.C.Clock.of_fork c.args.clock.now) files config
     (net_of c.args.net.now) (net_of c.start.new.net) (net_of c.serve_on.new.net)
     c.as_slice.result.now old mid new c.serve_on.result
-    (c.as_slice.ensures.value ∙ (c.in-Ok-site_text.ensures ∙ line_by (g.C.Clock.of_fork c.args.clock.now) config c.args.site.now made.site_is))
+    (c.as_slice.ensures.value ∙ (c.in-Ok-site_text.ensures
+    ∙ line_by (g.C.Clock.of_fork c.args.clock.now) config c.args.site.now made.site_is))
     (begun.kept (λ is. cc is)) wrote.ok wrote.kept
     (c.serve_on.ensures files config before c.args.loaded made begun.seen
     begun.net)
@@ -83,5 +84,6 @@ returns g c = λ files config made.
     let wrote = c.in-Err.ensures in
     not_told g.row.J.Denot line_of (g.C.Clock.of_fork c.args.clock.now) files config
     (net_of c.args.net.now) (net_of c.start.new.net) c.as_slice.result.now old new
-    (c.as_slice.ensures.value ∙ (c.in-Ok-site_text.ensures ∙ line_by (g.C.Clock.of_fork c.args.clock.now) config c.args.site.now made.site_is))
+    (c.as_slice.ensures.value ∙ (c.in-Ok-site_text.ensures
+    ∙ line_by (g.C.Clock.of_fork c.args.clock.now) config c.args.site.now made.site_is))
     (c.in-Ok.ensures.kept (λ is. cc is)) wrote.cause wrote.err

@@ -4,6 +4,7 @@ use Rattle.std.specs.List.{AllZip}
 use Rattle.std.specs.Vec.Iter.{into_iter_items}
 use Rattle.serving.specs.declared.policy.Policy.{Policy}
 use Rattle.linker_config.specs.declared.config.Port.{Port}
+use Rattle.serving.specs.Hands.{AreNewHands}
 use Rattle.serving.specs.Jobs.{IsPosted, passes_of_jobs}
 use Rattle.serving.specs.Passes.{AreFree}
 use Rattle.serving.specs.Posts.{Post, interface_post, posts_at}
@@ -17,6 +18,9 @@ invariant-loop-listener g l = record {
   count : vec_len l.jobs + length (into_iter_items l.listener-iterator) ≡ vec_len l.fn.jobs + length l.fn.listeners.items;
   rest : length (into_iter_items l.passes) + length l.fn.listeners.items ≡ length (into_iter_items l.fn.passes) + length (into_iter_items l.listener-iterator);
   enough : length (into_iter_items l.listener-iterator) ≤ length (into_iter_items l.passes);
+  hands : length (into_iter_items l.hands) + length l.fn.listeners.items ≡ length (into_iter_items l.fn.hands) + length (into_iter_items l.listener-iterator);
+  enough_hands : length (into_iter_items l.listener-iterator) ≤ length (into_iter_items l.hands);
+  new_hands : AreNewHands (into_iter_items l.hands);
   room : vec_len l.jobs + length (into_iter_items l.listener-iterator) ≤ vec_capacity l.jobs;
   capacity : vec_capacity l.jobs ≡ vec_capacity l.fn.jobs;
   free : AreFree (into_iter_items l.passes);

@@ -24,13 +24,13 @@ returns-clause-posted g c =
     let same_2 = told_kept (length bound.namerd.items) (g.N.Net.state c.add_proxy_jobs.new.net) (g.N.Net.state c.add_api_jobs.new.net) second.stops ∙ same_1 in
     let namerd = subst (λ (t : Option (Returns g.row.N-L-P.Denot)). AreNewFrom g.N.L.Listener.state t site.namerd 0 bound.namerd.items) (sym same_1) c.requires.listens.namerd in
     let admin = subst (λ (t : Option (Returns g.row.N-L-P.Denot)). AreNewFrom g.N.L.Listener.state t site.admin 0 bound.admin.items) (sym same_2) c.requires.listens.admin in
-    let main = main_posted (λ t. IsPosted {J = g.row.J.Denot} {D = g.row.N-D.Denot} {g = g.J.Naming} g.N.L.Listener.state upstream g.C.Clock.to_come g.N.S.Stop.calls site.policy moments t) site told
+    let main = main_posted (λ t. IsPosted {J = g.row.J.Denot} {D = g.row.N-D.Denot} {A = g.row.A.Denot} {B = g.row.B.Denot} {E = g.row.E.Denot} {F = g.row.F.Denot} {h = g.J.Handling} {g = g.J.Naming} g.N.L.Listener.state upstream g.C.Clock.to_come g.N.S.Stop.calls site.policy moments t) site told
     (g.N.Net.state c.add_proxy_jobs.new.net).told (g.N.Net.state c.add_api_jobs.new.net).told _ _ _ c.args.jobs.now.items c.add_proxy_jobs.new.jobs.items c.add_api_jobs.new.jobs.items
     c.add_api_jobs-2.new.jobs.items same_1 same_2 count.0 count.1 count.2 c.requires.none_yet first.posted (second.posted site.namerd namerd site.policy moments)
     (third.posted site.admin admin site.policy moments) in
     let fourth = c.add_feed_jobs.ensures in
     let same_3 = told_kept (length bound.admin.items) (g.N.Net.state c.add_api_jobs.new.net) (g.N.Net.state c.add_api_jobs-2.new.net) third.stops ∙ same_2 in
-    let By = λ (t : Option (Returns g.row.N-L-P.Denot)). IsPosted {J = g.row.J.Denot} {D = g.row.N-D.Denot} {g = g.J.Naming} g.N.L.Listener.state upstream g.C.Clock.to_come g.N.S.Stop.calls site.policy moments t in
+    let By = λ (t : Option (Returns g.row.N-L-P.Denot)). IsPosted {J = g.row.J.Denot} {D = g.row.N-D.Denot} {A = g.row.A.Denot} {B = g.row.B.Denot} {E = g.row.E.Denot} {F = g.row.F.Denot} {h = g.J.Handling} {g = g.J.Naming} g.N.L.Listener.state upstream g.C.Clock.to_come g.N.S.Stop.calls site.policy moments t in
     let then = subst (λ (t : Option (Returns g.row.N-L-P.Denot)). AllZip (By t) (main_posts site) c.add_api_jobs-2.new.jobs.items) (sym same_3) main in
     subst (λ (t : Option (Returns g.row.N-L-P.Denot)). AllZip (By t) (posts_of site) c.add_feed_jobs.new.jobs.items) same_3
     (fourth.posted site.policy moments (main_posts site) then)

@@ -1,6 +1,7 @@
 use Rattle.std.proofs.Common.{◌≡◌, ◌+◌, ◌≤◌, ◌++◌, List, length, vec_len, vec_capacity}
 use Rattle.std.specs.List.{AllZip}
 use Rattle.std.specs.Vec.Iter.{into_iter_items}
+use Rattle.serving.specs.Hands.{AreNewHands}
 use Rattle.serving.specs.Jobs.{IsPosted, passes_of_jobs}
 use Rattle.serving.specs.Passes.{AreFree}
 use Rattle.serving.specs.Posts.{Post, client_post, posts_at}
@@ -15,6 +16,8 @@ invariant-loop-listener g l = record {
   rest : length (into_iter_items l.passes) + length l.fn.listeners.items ≡ length (into_iter_items l.fn.passes) + length (into_iter_items l.listener-iterator);
   enough : length (into_iter_items l.listener-iterator) ≤ length (into_iter_items l.passes);
   rooms : length (into_iter_items l.listener-iterator) ≤ length (into_iter_items l.rooms);
+  hands : length (into_iter_items l.listener-iterator) ≤ length (into_iter_items l.hands);
+  new_hands : AreNewHands (into_iter_items l.hands);
   room : vec_len l.jobs + length (into_iter_items l.listener-iterator) ≤ vec_capacity l.jobs;
   capacity : vec_capacity l.jobs ≡ vec_capacity l.fn.jobs;
   free : AreFree (into_iter_items l.passes);

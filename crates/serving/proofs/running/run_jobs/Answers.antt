@@ -1,31 +1,79 @@
-use Rattle.std.proofs.Common.{List, ◌++◌, ap, ◌∙◌, arith, length}
+use Rattle.std.proofs.Common.{◌≡◌, ℕ, Bool, false, ap, arith, sym, subst, ◌∙◌}
 use Rattle.std.specs.Vec.Iter.{into_iter_items}
 use Rattle.line_base.specs.Dials.{Upstream}
 use Rattle.line_base.specs.Lines.{Line}
+use Rattle.line_base.specs.Nets.{Networking}
 use Rattle.router.specs.declared.pass.Pass.{Pass}
 use Rattle.router.specs.Closing.{numbers_of}
-use Rattle.serving.specs.Jobs.{passes_of_jobs}
-use Rattle.serving.proofs.Chains.{no_fault, numbers_stay}
+use Rattle.serving.specs.Faults.{TellsFaults}
+use Rattle.serving.specs.Running.{HasRun, Listens}
+use Rattle.serving.proofs.Chains.{no_fault}
+use Rattle.serving.proofs.Parting.{same_room}
 use Rattle.serving.proofs.Shifts.{has_run}
 use Rattle.serving.proofs.running.run_jobs.Goals as goal
 
-pub returns-clause-numbers : goal.returns-clause-numbers
-returns-clause-numbers g c =
-    let jobs = passes_of_jobs c.add_jobs.new.jobs.items in
-    let none = c.in-Ok-Ok.ensures'.items in
-    let same = c.run_all-ran.ensures.numbers ∙ ap (λ (ps : List (Pass g.row.J.Denot g.J.Naming)). numbers_of ps ++ numbers_of jobs) none in
-    numbers_stay c.args.passes.items jobs (into_iter_items c.add_jobs.new.passes) c.run_all-ran.new.back.items _ (c.add_jobs.ensures.passes ∙ c.into_iter-passes.ensures.rest) same c.add_rest.ensures
+pub post_and_run-ran-requires-clause-listens : goal.post_and_run-ran-requires-clause-listens
+post_and_run-ran-requires-clause-listens g c κs within =
+    subst (λ (n : Networking g.row.N-L-P.Denot).
+    Listens g.N.L.Listener.state n.told c.args.plan.now.site.now c.args.bound)
+    (sym c.make_stock.ensures.kept.0) c.requires.listens
 
-pub returns-clause-served : goal.returns-clause-served
-returns-clause-served g c = λ ran good.
+pub close_all-passes-requires-clause-some : goal.close_all-passes-requires-clause-some
+close_all-passes-requires-clause-some g c κs within =
+    let parts = c.post_and_run-ran.ensures.parts in omega (arith, parts.parts)
+
+pub close_all-passes-requires-clause-clients : goal.close_all-passes-requires-clause-clients
+close_all-passes-requires-clause-clients g c κs within =
+    let parts = c.post_and_run-ran.ensures.parts in
+    let blanks = c.requires.blanks in (
+      omega (arith, parts.clients, blanks.clients_left.2),
+      omega (arith, parts.clients, blanks.clients_taken.2),
+    )
+
+pub close_all-passes-requires-clause-callers : goal.close_all-passes-requires-clause-callers
+close_all-passes-requires-clause-callers g c κs within =
+    let parts = c.post_and_run-ran.ensures.parts in
+    let blanks = c.requires.blanks in (
+      omega (arith, parts.callers, blanks.callers_left.2),
+      omega (arith, parts.callers, blanks.callers_taken.2),
+    )
+
+pub close_all-passes-requires-clause-room : goal.close_all-passes-requires-clause-room
+close_all-passes-requires-clause-room g c κs within =
+    let ran = c.post_and_run-ran.ensures in
+    same_room c.post_and_run-ran.new.apart _ _ (sym ran.rest) ran.room
+
+pub returns : goal.returns
+returns g c =
     let line_of = λ (p : g.row.N-L-P.Denot). let l : Line = g.N.L.P.Peer.line p in l in
     let upstream = λ (d : g.row.N-D.Denot). let u : Upstream = g.N.D.Dialer.upstream d in u in
-    let begun = c.into_iter-passes.ensures.rest in
-    let whole = ap length begun in
-    has_run line_of g.N.L.Listener.state upstream g.C.Clock.to_come g.N.S.Stop.calls c.args.setup.now.site.now (g.C.Clock.of_fork c.args.clock.now) c.add_jobs.new.jobs.items c.args.passes.items
-    (into_iter_items c.add_jobs.new.passes) c.in-Ok-Ok.back.items c.run_all-ran.new.back.items c.add_rest.new.passes.items (g.N.Net.state c.args.net.now) (g.N.Net.state c.add_jobs.new.net)
-    (g.N.Net.state c.run_all-ran.new.net) c.run_all-ran.result.1.failed c.run_all-ran.result.1.lacked_memory c.add_jobs.ensures.posted (c.add_jobs.ensures.passes ∙ begun)
-    (omega (arith, c.add_jobs.ensures.rest, whole, c.requires.seats)) c.add_jobs.ensures.stops good c.in-Ok-Ok.ensures'.items (c.run_all-ran.ensures.came ran) c.add_rest.ensures
+    let kept = c.make_stock.ensures.kept in
+    let ran = c.post_and_run-ran.ensures in
+    let closed = c.close_all-passes.ensures in
+    let passes = c.close_all-passes.result.1.items in
+    record {
+      numbers = ap numbers_of closed.passes ∙ ran.numbers;
+      faults = subst (λ (n : ℕ). TellsFaults n (g.N.Net.faults c.close_all-passes.new.net)
+          c.close_all-passes.result.0.failed) (ran.kept ∙ kept.1) closed.faults;
+      served = λ is good. subst (λ (b : Bool). HasRun line_of c.args.plan.now.site.now
+          (g.C.Clock.of_fork c.args.clock.now) c.args.passes.items passes
+          (g.N.Net.state c.args.net.now) (g.N.Net.state c.close_all-passes.new.net) b)
+          (sym closed.lacked)
+          (subst (λ (n : Networking g.row.N-L-P.Denot). HasRun line_of
+          c.args.plan.now.site.now (g.C.Clock.of_fork c.args.clock.now) c.args.passes.items passes n
+          (g.N.Net.state c.close_all-passes.new.net) c.post_and_run-ran.new.apart.lacked_memory)
+          kept.0
+          (has_run line_of g.N.L.Listener.state upstream g.N.S.Stop.calls
+          c.args.plan.now.site.now (g.C.Clock.of_fork c.args.clock.now) c.args.passes.items
+          (into_iter_items c.post_and_run-ran.result.1) passes c.post_and_run-ran.new.apart
+          (g.N.Net.state c.make_stock.new.net) (g.N.Net.state c.post_and_run-ran.new.net)
+          (g.N.Net.state c.close_all-passes.new.net) g.J.Handling.rule g.J.Handling.tries
+          (ran.tended is (sym closed.broken ∙ good)) ran.rest ran.stops closed.ends
+          c.requires.handled closed.passes));
+    }
 
-pub returns-in_default-make_rooms-clause-faults : goal.returns-in_default-make_rooms-clause-faults
-returns-in_default-make_rooms-clause-faults g c = rw c.unrun-in_default-make_rooms.ensures.1 (no_fault (g.N.Net.faults c.args.net.now))
+pub returns-in_default-clause-faults : goal.returns-in_default-clause-faults
+returns-in_default-clause-faults g c =
+    rw c.unrun.ensures.1
+    (subst (λ (n : ℕ). TellsFaults (g.N.Net.faults c.args.net.now) n false)
+    (sym c.make_stock.ensures.kept.1) (no_fault (g.N.Net.faults c.args.net.now)))

@@ -1,9 +1,8 @@
-use Rattle.std.proofs.Common.{ℕ, ◌≡◌, ◌<◌, ◌≤◌, ◌+◌, ◌-◌, List, ◌++◌, length, take, ap, sym, arith, ◌∙◌}
+use Rattle.std.proofs.Common.{ℕ, ◌≡◌, ◌≤◌, ◌+◌, ◌-◌, List, ◌++◌, length, take, ap, arith, ◌∙◌}
 use Rattle.std.specs.List.{slice_range}
 use Rattle.std.proofs.lemmas.List.{with_items_is}
 use borrow.Rule.Slice.PartMut.{post_of}
-use Rattle.line_base.specs.Lines.{Line}
-use Rattle.http_wire.proofs.Coming.{came_closing, came_end, came_some, end_given, fault_given, piece_given}
+use Rattle.http_wire.proofs.Coming.{came_closing, came_quiet, came_end, came_some, end_given, fault_given, piece_given}
 use Rattle.http_wire.proofs.Held.{kept_before, lent_length, read_behind, same_length}
 use Rattle.http_wire.proofs.room.Room.read_next.Goals as goal
 
@@ -61,6 +60,25 @@ returns-in-Ok-Closing g c =
           ∙ kept_before bytes (c.read_next.new.into ++ tail) c.args.self.now.at c.args.self.now.end c.args.self.now.within.0 within
           ∙ ap (λ (xs : List ℕ). slice_range xs c.args.self.now.at c.args.self.now.end) c.deref_mut.ensures.value);
       closing = came_closing old new c.read_next.new.into c.in-Ok-Closing.field-0 c.in-Ok-Closing.field-0-is c.in-Ok-Closing.ensures;
+    }
+
+pub returns-in-Ok-Quiet : goal.returns-in-Ok-Quiet
+returns-in-Ok-Quiet g c =
+    let bytes = c.deref_mut.result.now in
+    let old = g.P.Peer.line c.args.peer.now in
+    let new = g.P.Peer.line c.read_next.new.self in
+    let within : c.args.self.now.end ≤ length bytes = omega (arith, c.deref_mut.ensures.len, c.args.self.now.within.1) in
+    let room : c.args.self.now.end + c.args.most ≤ length bytes = omega (arith, c.deref_mut.ensures.len, c.requires.room) in
+    let tail = post_of c.args.self.now.end (c.args.self.now.end + c.args.most - c.args.self.now.end) bytes in
+    let all = take c.args.self.now.end bytes ++ (c.read_next.new.into ++ tail) in
+    let given : length c.read_next.new.into ≡ c.args.most = c.read_next.auto.into ∙ lent_length bytes c.args.self.now.end c.args.most room in
+    let long : length all ≡ c.args.self.now.bytes.len =
+    same_length bytes c.read_next.new.into c.args.self.now.end c.args.most room given ∙ c.deref_mut.ensures.len in
+    record {
+      same = (ap (λ (xs : List ℕ). slice_range xs c.args.self.now.at c.args.self.now.end) (with_items_is c.args.self.now.bytes all long)
+          ∙ kept_before bytes (c.read_next.new.into ++ tail) c.args.self.now.at c.args.self.now.end c.args.self.now.within.0 within
+          ∙ ap (λ (xs : List ℕ). slice_range xs c.args.self.now.at c.args.self.now.end) c.deref_mut.ensures.value);
+      quiet = came_quiet old new c.read_next.new.into c.in-Ok-Quiet.field-0 c.in-Ok-Quiet.field-0-is c.in-Ok-Quiet.ensures;
     }
 
 pub returns-in-Err : goal.returns-in-Err

@@ -4,7 +4,7 @@ use Rattle.proxy_session.specs.Exchange.{Standing}
 use Rattle.proxy_session.specs.Standing.{standing}
 use Rattle.proxy_session.proofs.Reading.{having_read}
 use Rattle.replica_try.proofs.Resting.{idle_same}
-use Rattle.proxy_session.proofs.Serving.{head_served}
+use Rattle.proxy_session.proofs.Serving.{head_served, never_quiet}
 use Rattle.proxy_session.proofs.server.Server.serve_next.Goals as goal
 
 pub returns-in-Head-clause-serves : goal.returns-in-Head-clause-serves
@@ -19,11 +19,19 @@ returns-in-Head-clause-serves g c =
     (at c.proxy_once-ended.new.connection c.proxy_once-ended.new.self) c.in-Head.head
     c.hear-heard.result
     c.hears_closing-closing.result c.is_last.result c.proxy_once-ended.result c.drained.result
-    c.in-Head.ensures.served c.in-Head.ensures.budget
+    c.paused_by.result c.in-Head.ensures.served c.in-Head.ensures.budget
     c.in-Head.ensures.reads c.hear-heard.ensures
     c.hears_closing-closing.ensures.asked
     (ap (λ (l : Line). having_read mid l mid.kept) c.hears_closing-closing.ensures.told)
-    c.is_last.ensures c.proxy_once-ended.ensures.exchange c.drained.ensures
+    c.is_last.ensures c.proxy_once-ended.ensures.exchange c.drained.ensures c.paused_by.ensures
+
+pub returns-in-Head-clause-still : goal.returns-in-Head-clause-still
+returns-in-Head-clause-still g c is =
+    absurd (never_quiet c.drained.result c.paused_by.result c.paused_by.ensures is)
+
+pub returns-in-Quiet-clause-serves : goal.returns-in-Quiet-clause-serves
+returns-in-Quiet-clause-serves g c =
+    (0, (c.in-Quiet.ensures.reads, record { none = refl; same = c.in-Quiet.ensures.budget }))
 
 pub returns-in-Closing-clause-serves : goal.returns-in-Closing-clause-serves
 returns-in-Closing-clause-serves g c =

@@ -23,6 +23,7 @@ returns-in-Err-clause-spoke g c =
       given = e.peer_stays.given;
       writes = e.peer_stays.write_faults;
       closings = e.peer_stays.closings;
+      quiets = e.peer_stays.quiets;
     })
     c.of_body.ensures
 
@@ -50,5 +51,6 @@ returns-in-Ok-clause-spoke g c =
       given = e.peer_stays.given;
       writes = e.peer_stays.write_faults;
       closings = e.peer_stays.closings;
+      quiets = e.peer_stays.quiets;
     })
     c.receive_reply.ensures.replies

@@ -41,6 +41,7 @@ returns-clause-backs g c =
             reads = e.peer_stays.read_faults;
             ends = e.peer_stays.ends;
             closings = e.peer_stays.closings;
+            quiets = e.peer_stays.quiets;
           })
           c.is_reusable-reusable.ensures c.of_back.result c.of_back.ensures,
     )

@@ -1,7 +1,7 @@
 use Rattle.std.proofs.Common.{arith}
 use Rattle.line_base.specs.Lines.{Line}
 use Rattle.serving.proofs.Chains.{same_length}
-use Rattle.serving.proofs.Ending.{has_served}
+use Rattle.serving.proofs.Outcome.{has_served}
 use Rattle.serving.proofs.running.Serving.run.Goals as goal
 
 pub close-place-requires-clause-all : goal.close-place-requires-clause-all

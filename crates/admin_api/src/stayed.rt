@@ -1,0 +1,11 @@
+//! How a stay of a connection came out.
+use http_wire::Ended;
+
+/// How a stay of a connection came out.
+#[derive(Debug)]
+pub enum Stayed<S, P> {
+    /// It has nothing to say for now, and can wait.
+    Waits(S),
+    /// It has ended so.
+    Ends(P, Ended),
+}

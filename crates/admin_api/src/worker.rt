@@ -1,0 +1,13 @@
+//! What a worker has for all its callers.
+use router::{Naming, Pass};
+
+/// What a worker of the interfaces has for all its callers, one after another: its pass to the
+/// router, and what it stops the program by. It serves callers of any interface, since which one
+/// answers belongs to the caller's connection.
+#[derive(Drop)]
+pub struct ApiWorker<J: Naming, S> {
+    /// Its pass to the router.
+    pub pass: Pass<J>,
+    /// What a shutdown calls.
+    pub stop: S,
+}

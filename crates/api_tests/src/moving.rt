@@ -1,0 +1,82 @@
+//! Connections that wait, and move from one worker to another.
+use crate::connections::{Connection, Served, run};
+use crate::rows::{ADMIN, said};
+use admin_api::Which::{self, Namerd};
+use http_wire::Ended::{self, Drained, PeerEnded};
+use std::alloc::Global;
+use std::process::Abort;
+use std::sync::Wait;
+use std::test::Fail;
+
+/// What comes on a connection, and how much of it in the first read; at which questions nothing
+/// comes, and from which one on the listeners are closing; what is given behind `HTTP/1.1 `, and
+/// how it ends. The questions are a wait for each request, and behind it whether it is the last.
+type Row = (
+    Which,
+    &'static str,
+    &'static [usize],
+    &'static [u64],
+    Option<u64>,
+    &'static str,
+    Option<Ended>,
+);
+
+/// A table, which is asked for behind it, and an answer to both.
+const PUT_AND_GET: &str =
+    "POST /api/1/dtabs/a HTTP/1.1\r\nHost: n\r\nContent-Length: 6\r\n\r\n/a=>/bGET /api/1/dtabs/a HTTP/1.1\r\nHost: n\r\nAccept: application/dtab\r\n\r\n";
+
+const MADE_AND_TOLD: &str =
+    "204 No Content\r\nETag: \"1\"\r\n\r\nHTTP/1.1 200 OK\r\nETag: \"1\"\r\nContent-Type: application/dtab\r\nContent-Length: 6\r\n\r\n/a=>/b";
+
+const PING: &str = "GET /admin/ping HTTP/1.1\r\nHost: n\r\n\r\n";
+
+const PONG: &str = "200 OK\r\nContent-Type: text/plain\r\nContent-Length: 5\r\n\r\npong\n";
+
+const ROWS: [Row; 6] = [
+    // The second worker tells the table that the first one made.
+    (
+        Namerd,
+        PUT_AND_GET,
+        &[66],
+        &[2],
+        None,
+        MADE_AND_TOLD,
+        Some(PeerEnded),
+    ),
+    // It waits before its first request, and has it then.
+    (ADMIN, PING, &[], &[0], None, PONG, Some(PeerEnded)),
+    // It still waits.
+    (ADMIN, "", &[], &[0, 1, 2], None, "no reply", None),
+    (ADMIN, PING, &[], &[2, 3, 4], None, PONG, None),
+    // The listeners are closing while it waits, or when it came.
+    (ADMIN, PING, &[], &[2], Some(3), PONG, Some(Drained)),
+    (ADMIN, PING, &[], &[0], Some(0), "no reply", Some(Drained)),
+];
+
+/// What serving the rows came to.
+fn serve_rows<R: Wait + Abort>(rt: &R, alloc: Global) -> Result<Vec<Served>, Fail> {
+    let mut all = Vec::new(alloc);
+    for (to, comes, sizes, quiet, closing, _gives, _ended) in &ROWS {
+        let bytes = Vec::from_slice(alloc, comes.as_bytes())?;
+        all.push(Connection {
+            sizes: *sizes,
+            quiet: *quiet,
+            closing: *closing,
+            ..Connection::of(*to, bytes)
+        })?;
+    }
+    run(rt, alloc, all.as_slice())
+}
+
+#[test]
+fn a_connection_that_waits_goes_on_with_another_worker(rt: HostRuntime) -> Result<(), Fail> {
+    let alloc = rt.alloc();
+    let served = serve_rows(&rt, alloc)?;
+    assert_eq!(rt; served.len(), ROWS.len());
+    for (one, (_to, comes, _sizes, quiet, _closing, gives, ended)) in served.iter().zip(&ROWS) {
+        let told = said(alloc, one.given.as_slice())?;
+        assert_eq!(rt; told.as_str(), *gives, "{comes} {}", quiet.len());
+        assert_eq!(rt; one.ended, *ended, "{comes} {}", quiet.len());
+    }
+    Ok(())
+}

@@ -1,0 +1,3 @@
+pub mod Chaining
+pub mod Crossing
+mod Learning

@@ -1,0 +1,4 @@
+pub mod Chains
+pub mod Codes
+pub mod Laws
+pub mod Servers

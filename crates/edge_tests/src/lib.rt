@@ -1,0 +1,5 @@
+//! Tests of clients that wait, over loopback.
+#![tactic(auto)]
+
+#[cfg(test)]
+mod waiting;

@@ -1,0 +1,117 @@
+//! Clients that have nothing to say for a while.
+use crate::outside::{folder_of, served, told};
+use crate::paired::Paired;
+use crate::running::{sink, source};
+use line_base::{Event, MemNet, MemPeer};
+use std::alloc::{AllocError, AllocGlobal, Global};
+use std::sync::Wait;
+use std::sync::atomic::AtomicBool;
+use std::test::Fail;
+use std::thread::Threads;
+
+/// No table names anything, and there are two workers.
+const TWO_WORKERS: &str = "{\"routers\":[{\"protocol\":\"http\"}],\"workers\":2}";
+
+/// No table names anything, and there is one worker.
+const ONE_WORKER: &str = "{\"routers\":[{\"protocol\":\"http\"}],\"workers\":1}";
+
+/// A request that no table routes.
+const GET: &str = "GET / HTTP/1.1\r\nHost: web\r\n\r\n";
+
+const HEAD: &str = "HEAD / HTTP/1.1\r\nHost: web\r\n\r\n";
+
+/// What begins the answer to such a request, and is all of it where a head was asked for.
+const NEGATIVE: &str = "HTTP/1.1 502 Bad Gateway\r\nContent-Type: text/plain\r\n\
+    l5d-err: negative\r\nContent-Length: 9\r\n\r\n";
+
+/// A client that asks this.
+fn asking(alloc: Global, asks: &str) -> Result<MemPeer, AllocError> {
+    Ok(MemPeer::of(source(alloc, asks)?, sink(alloc)))
+}
+
+/// What the router's two listeners tell: the first one a client that pauses and one that asks only
+/// once the first one is read; the second one a client that asks only once that one is read, and
+/// then that the client which pauses has something to say.
+fn net_of_three<'a>(
+    alloc: Global,
+    paused: &'a AtomicBool,
+    first: &'a AtomicBool,
+    second: &'a AtomicBool,
+) -> Result<MemNet<Paired<'a>>, AllocError> {
+    let here = vec![in alloc;
+        Event::Came(Paired::pausing(paused, first, asking(alloc, HEAD)?)),
+        Event::Came(Paired::of(first, paused, asking(alloc, GET)?)),
+    ]?;
+    let there = vec![in alloc;
+        Event::Came(Paired::of(second, first, asking(alloc, GET)?)),
+        Event::Ready(0),
+    ]?;
+    let addresses = vec![in alloc;
+        told(alloc, 4140, here, Vec::new(alloc))?,
+        told(alloc, 4140, there, Vec::new(alloc))?,
+    ]?;
+    Ok(MemNet::of(alloc, addresses, Vec::new(alloc), Vec::new(alloc)))
+}
+
+/// A client that pauses is left by the worker that it came to, which is then held by the next
+/// client, and another worker goes on with it. Its answer comes behind those of the others, since
+/// it is given back at the second listener.
+#[test]
+fn another_worker_goes_on(rt: HostRuntime) -> Result<(), Fail> {
+    let alloc = rt.alloc();
+    let (paused, first, second) = (
+        AtomicBool::new(false),
+        AtomicBool::new(false),
+        AtomicBool::new(false),
+    );
+    let net = net_of_three(alloc, &paused, &first, &second)?;
+    let served = served(&rt, folder_of(alloc, TWO_WORKERS, "", 0, &[])?, net)?;
+    let want = format!(in alloc; "{NEGATIVE}negative\n{NEGATIVE}negative\n{NEGATIVE}")?;
+    assert_eq!(rt; (served.given.as_str(), served.status), (want.as_str(), 0));
+    Ok(())
+}
+
+/// A net in which one client comes, to a port, and asks this; it has nothing to say at these
+/// questions.
+fn net_of_one(
+    alloc: Global,
+    port: u16,
+    asks: &str,
+    quiet: &[u64],
+) -> Result<MemNet<MemPeer>, AllocError> {
+    let client = asking(alloc, asks)?.quiet(Vec::from_slice(alloc, quiet)?);
+    let events = vec![in alloc; Event::Came(client)]?;
+    let addresses = vec![in alloc; told(alloc, port, events, Vec::new(alloc))?]?;
+    Ok(MemNet::of(alloc, addresses, Vec::new(alloc), Vec::new(alloc)))
+}
+
+/// What such a client is given, and the status.
+fn waited<R: AllocGlobal + Threads + Wait + Sync>(
+    rt: &R,
+    port: u16,
+    asks: &str,
+    quiet: &[u64],
+) -> Result<(String, u8), Fail> {
+    let alloc = rt.alloc();
+    let net = net_of_one(alloc, port, asks, quiet)?;
+    let served = served(rt, folder_of(alloc, ONE_WORKER, "", 0, &[])?, net)?;
+    Ok((served.given, served.status))
+}
+
+/// Whoever waits when the listener closes is served what it has said by then, and ended.
+#[test]
+fn who_waits_is_served_at_the_end(rt: HostRuntime) -> Result<(), Fail> {
+    let caller = "GET /api/1/dtabs HTTP/1.1\r\nHost: n\r\n\r\n";
+    let names = "HTTP/1.1 200 OK\r\nContent-Type: application/json\r\nContent-Length: 2\r\n\r\n[]";
+    let rows: [(u16, &str, &[u64], &str); 4] = [
+        (4140, HEAD, &[0], NEGATIVE),
+        (4140, HEAD, &[0, 1], ""),
+        (4180, caller, &[0], names),
+        (4180, caller, &[0, 1], ""),
+    ];
+    for (port, asks, quiet, given) in rows {
+        let (text, status) = waited(&rt, port, asks, quiet)?;
+        assert_eq!(rt; (text.as_str(), status), (given, 0));
+    }
+    Ok(())
+}

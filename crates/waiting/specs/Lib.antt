@@ -1,0 +1,4 @@
+pub mod Waiting
+pub mod Leaving
+pub mod Hands
+pub mod Runs

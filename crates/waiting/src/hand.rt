@@ -1,0 +1,13 @@
+//! A worker's count of what it left and what it took.
+ghost use Rattle.std.specs.Prelude.{◌≡◌};
+
+use std::sync::ledger::{Ledger, Share};
+
+/// With what a worker leaves connections and takes them. Contracts see how many it left (`left_by`)
+/// and how many it took (`taken_by`). It takes no bytes.
+#[derive(Drop)]
+pub struct Hand<A: Ledger, B: Ledger> {
+    pub(crate) left: Share<A>,
+    pub(crate) taken: Share<B>,
+    ghost one_part: { (left.parts ≡ 1) × (taken.parts ≡ 1) },
+}

@@ -1,0 +1,13 @@
+//! What comes of a connection that is left.
+
+/// What came of a connection that was left.
+#[derive(Debug)]
+pub enum Left<C> {
+    /// It waits.
+    Waits,
+    /// It waits, and there was no room for one more: this one had waited longest, and waits no
+    /// more.
+    Displaced(C),
+    /// It does not wait: it can't be watched, or there was no memory.
+    Back(C),
+}

@@ -1,0 +1,5 @@
+//! Tests of the lot in which connections wait.
+#![tactic(auto)]
+
+#[cfg(test)]
+mod lots;
