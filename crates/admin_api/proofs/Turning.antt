@@ -5,7 +5,7 @@ use Rattle.std.proofs.Common.{Some, None, Err, inl, inr}
 use Rattle.std.proofs.lemmas.Bool.Decides.{nat_tests}
 use Rattle.std.specs.Io.KnownBytes.{Appends, Keeps}
 use Rattle.std.proofs.KnownBytes.{Appends-trans}
-use Rattle.line_base.specs.Counts.{Rose, raised}
+use Rattle.line_base.specs.Counts.{raised}
 use Rattle.http_wire.specs.declared.ended.Ended.{Ended}
 use Rattle.http_wire.specs.declared.ended.Ended.TheVariants as ended
 use Rattle.http_wire.specs.declared.head.Head.{Head}
@@ -20,13 +20,14 @@ use Rattle.admin_api.specs.declared.request.Refused.{Refused}
 use Rattle.admin_api.specs.declared.request.Refused.TheVariants.{Ends, Own, Waits}
 use Rattle.admin_api.specs.declared.serving.Which.{Which}
 use Rattle.admin_api.specs.Reading.{HasReadCauses, IsRefusal, ShowsNone, is_drained, quiet_end}
-use Rattle.admin_api.specs.Reading.{is_waiting, raised_where}
+use Rattle.admin_api.specs.Reading.{is_at_end, is_read_fault, is_waiting, is_write_fault}
+use Rattle.admin_api.specs.Reading.{raised_where}
 use Rattle.admin_api.specs.Requests.{IsRefusedAs, IsRequest}
 use Rattle.http_wire.specs.declared.paused.Paused.{Paused}
 use Rattle.http_wire.specs.Ended.{drained}
 use Rattle.http_wire.specs.Paused.{paused_by, quiets_behind}
 use Rattle.http_wire.specs.Next.{IsAsked}
-use Rattle.http_wire.proofs.Endings.{goes_on as still_open, same_end}
+use Rattle.http_wire.proofs.Endings.{goes_on as still_open}
 use Rattle.line_base.specs.Lines.{Line, told_closing}
 use Rattle.admin_api.specs.declared.serving.Which.TheVariants as interfaces
 use Rattle.admin_api.specs.Serving.{Answers, EndsWithout, HasCauses, IsDelivered, IsServing, Serves}
@@ -100,9 +101,6 @@ module _ (bytes : List ℕ) where
   refusal_end err with_body sent ended.ReadFault is written = absurd written
   refusal_end err with_body sent ended.UpstreamCut is written = absurd written
 
-rose_before : (a b c : ℕ) → a ≤ b → Rose b c → Rose a c
-rose_before a b c first rose = omega arith
-
 last_false : (a b c d : Bool) → (a || (b || (c || d))) ≡ false → d ≡ false
 last_false true b c d is = absurd (cc)
 last_false false true c d is = absurd (cc)
@@ -132,16 +130,6 @@ module _ {J : Type 0} {g : Ghosts J} (which : Which) (last : Bool) (head : Head)
       ≡ false
   goes_on stopped (inl replied) = replied.delivered.2
   goes_on stopped (inr wants) = absurd (no_want wants.is)
-
-  pub never_ends : (stopped : Bool) (result : Option Ended) (end : Ended)
-      → ((reply : ApiReply) → IsDelivered head last reply sent stopped (Some end) → ⊥)
-      → (Some end ≡ Some ended.OutOfMemory → ⊥) → Answers which last head body old new sent stopped
-      result → result ≡ Some end → ⊥
-  never_ends stopped result end never wanted (inl replied) is =
-      never replied.reply
-      (subst (λ (r : Option Ended). IsDelivered head last replied.reply sent stopped r) is
-      replied.delivered)
-  never_ends stopped result end never wanted (inr wants) is = wanted (sym is ∙ wants.is)
 
   -- behind the last request that a connection may carry, it ends
   pub not_last : Answers which last head body old new sent false None → last ≡ false
@@ -198,68 +186,154 @@ module _ {J : Type 0} {g : Ghosts J} (which : Which) (last : Bool) (head : Head)
 
 -- ---- why a connection ended
 
-module _ (e0 e1 e2 f0 f1 f2 w0 w1 w2 : ℕ) (read : HasReadCauses e0 e1 f0 f1 None) (ends : e2 ≡ e1)
-    (faults : f2 ≡ f1) (still : w1 ≡ w0) (later : w1 ≤ w2) where
+-- a reply ends a connection neither by its bytes nor by a failed read
+answered_still : {J : Type 0} {g : Ghosts J} (which : Which) (last : Bool) (head : Head)
+    (body : List ℕ) (old new : Pass J g) (sent : List ℕ) (stopped : Bool) (end : Option Ended)
+    → Answers which last head body old new sent stopped end
+    → (is_at_end end ≡ false) × (is_read_fault end ≡ false)
+answered_still which last head body old new sent stopped end (inr wants) =
+    subst (λ (e : Option Ended). (is_at_end e ≡ false) × (is_read_fault e ≡ false)) (sym wants.is)
+    (refl, refl)
+answered_still which last head body old new sent stopped end (inl replied) =
+    by_end end replied.delivered
+  where
+    by_end : (e : Option Ended) → IsDelivered head last replied.reply sent stopped e
+        → (is_at_end e ≡ false) × (is_read_fault e ≡ false)
+    by_end None delivered = (refl, refl)
+    by_end (Some ended.Closed) delivered = (refl, refl)
+    by_end (Some ended.Spent) delivered = (refl, refl)
+    by_end (Some ended.Drained) delivered = (refl, refl)
+    by_end (Some ended.WriteFault) delivered = (refl, refl)
+    by_end (Some ended.PeerEnded) delivered = absurd delivered
+    by_end (Some ended.Cut) delivered = absurd delivered
+    by_end (Some ended.ReadFault) delivered = absurd delivered
+    by_end (Some ended.UpstreamCut) delivered = (refl, refl)
+    by_end (Some ended.OutOfMemory) delivered = (refl, refl)
+
+-- the closing of the listeners is told by none of the counts of reads and writes
+drained_same : (closing : Bool) (end : Option Ended)
+    → (is_at_end (drained closing end) ≡ is_at_end end)
+    × (is_read_fault (drained closing end) ≡ is_read_fault end)
+    × (is_write_fault (drained closing end) ≡ is_write_fault end)
+drained_same false end = (refl, refl, refl)
+drained_same true None = (refl, refl, refl)
+drained_same true (Some ended.PeerEnded) = (refl, refl, refl)
+drained_same true (Some ended.Cut) = (refl, refl, refl)
+drained_same true (Some ended.Closed) = (refl, refl, refl)
+drained_same true (Some ended.Spent) = (refl, refl, refl)
+drained_same true (Some ended.Drained) = (refl, refl, refl)
+drained_same true (Some ended.ReadFault) = (refl, refl, refl)
+drained_same true (Some ended.WriteFault) = (refl, refl, refl)
+drained_same true (Some ended.UpstreamCut) = (refl, refl, refl)
+drained_same true (Some ended.OutOfMemory) = (refl, refl, refl)
+
+-- a reply that is written whole
+pub end_writes : (closes last : Bool) (result : Option Ended) → result ≡ end_behind closes last
+    → is_write_fault result ≡ false
+end_writes closes last result is = ap is_write_fault is ∙ by_case closes last
+  where
+    by_case : (c l : Bool) → is_write_fault (end_behind c l) ≡ false
+    by_case true l = refl
+    by_case false true = refl
+    by_case false false = refl
+
+-- a count that does not rise
+pub stays_at : (is_so : Bool) (before now : ℕ) → is_so ≡ false → now ≡ before
+    → now ≡ raised_where is_so before
+stays_at is_so before now off same = same ∙ ap (λ (b : Bool). raised_where b before) (sym off)
+
+module _ (e0 e1 e2 f0 f1 f2 w0 w1 w2 : ℕ) (ends : e2 ≡ e1) (faults : f2 ≡ f1)
+    (still : w1 ≡ w0) where
   -- for no end of its bytes
-  other_causes : (result : Option Ended) → (result ≡ Some ended.PeerEnded → ⊥)
-      → (result ≡ Some ended.Cut → ⊥) → (result ≡ Some ended.ReadFault → ⊥)
-      → (result ≡ Some ended.WriteFault → Rose w1 w2) → HasCauses e0 e2 f0 f2 w0 w2 result
-  other_causes result no_end no_cut no_fault cause =
-      let e = read.ends_later refl in
-      let f = read.faults_later refl in
-      record {
-        reading = record {
-          peer_ended = λ is. absurd (no_end is);
-          cut = λ is. absurd (no_cut is);
-          read_fault = λ is. absurd (no_fault is);
-          ends_later = λ is. omega (arith, e, ends);
-          faults_later = λ is. omega (arith, f, faults);
-        };
-        write_fault = λ is. subst (λ (w : ℕ). Rose w w2) still (cause is);
-        writes_later = omega (arith, later, still);
-      }
+  other_causes : HasReadCauses e0 e1 f0 f1 None → (result : Option Ended)
+      → is_at_end result ≡ false → is_read_fault result ≡ false
+      → w2 ≡ raised_where (is_write_fault result) w1 → HasCauses e0 e2 f0 f2 w0 w2 result
+  other_causes read result no_end no_fault wrote = record {
+    reading = record {
+      ends = stays_at (is_at_end result) e0 e2 no_end (ends ∙ read.ends);
+      faults = stays_at (is_read_fault result) f0 f2 no_fault (faults ∙ read.faults);
+    };
+    writes = wrote ∙ ap (raised_where (is_write_fault result)) still;
+  }
 
   -- behind an answer
-  pub replied_causes : {J : Type 0} {g : Ghosts J} (which : Which) (last : Bool) (head : Head)
-      (body : List ℕ) (old new : Pass J g) (sent : List ℕ) (stopped : Bool) (result : Option Ended)
-      → (closing : Bool) (end : Option Ended) → result ≡ drained closing end
+  pub replied_causes : HasReadCauses e0 e1 f0 f1 None → {J : Type 0} {g : Ghosts J}
+      (which : Which) (last : Bool) (head : Head) (body : List ℕ) (old new : Pass J g)
+      (sent : List ℕ) (stopped : Bool) (result : Option Ended) (closing : Bool)
+      (end : Option Ended) → result ≡ drained closing end
       → Answers which last head body old new sent stopped end
-      → (end ≡ Some ended.WriteFault → Rose w1 w2) → HasCauses e0 e2 f0 f2 w0 w2 result
-  replied_causes which last head body old new sent stopped result closing end behind answers cause =
-      other_causes result
-      (λ is. never_ends which last head body old new sent stopped end ended.PeerEnded (λ r d. d)
-      (λ no. cc) answers (same_end closing end ended.PeerEnded (λ no. cc) (sym behind ∙ is)))
-      (λ is. never_ends which last head body old new sent stopped end ended.Cut (λ r d. d)
-      (λ no. cc) answers (same_end closing end ended.Cut (λ no. cc) (sym behind ∙ is)))
-      (λ is. never_ends which last head body old new sent stopped end ended.ReadFault (λ r d. d)
-      (λ no. cc) answers (same_end closing end ended.ReadFault (λ no. cc) (sym behind ∙ is)))
-      (λ is. cause (same_end closing end ended.WriteFault (λ no. cc) (sym behind ∙ is)))
-
-  refused_never : (err : OwnError) (with_body : Bool) (sent : List ℕ) (result end : Ended)
-      → IsRefusal err with_body sent result → (IsRefusal err with_body sent end → ⊥)
-      → Some result ≡ Some end → ⊥
-  refused_never err with_body sent result end written never is =
-      let same : result ≡ end = cc in never (subst (IsRefusal err with_body sent) same written)
+      → w2 ≡ raised_where (is_write_fault end) w1 → HasCauses e0 e2 f0 f2 w0 w2 result
+  replied_causes read which last head body old new sent stopped result closing end behind answers
+      wrote =
+      let same = drained_same closing end in
+      let quiet = answered_still which last head body old new sent stopped end answers in
+      other_causes read result
+      (ap is_at_end behind ∙ (same.0 ∙ quiet.0))
+      (ap is_read_fault behind ∙ (same.1 ∙ quiet.1))
+      (wrote
+      ∙ ap (λ (b : Bool). raised_where b w1) (sym (ap is_write_fault behind ∙ same.2)))
 
   -- behind a refusal
-  pub refusal_causes : (err : OwnError) (with_body : Bool) (sent : List ℕ) (result : Ended)
-      → IsRefusal err with_body sent result → (result ≡ ended.WriteFault → Rose w1 w2)
+  refusal_causes : HasReadCauses e0 e1 f0 f1 None → (err : OwnError) (with_body : Bool)
+      (sent : List ℕ) (result : Ended) → IsRefusal err with_body sent result
+      → w2 ≡ raised_where (is_write_fault (Some result)) w1
       → HasCauses e0 e2 f0 f2 w0 w2 (Some result)
-  refusal_causes err with_body sent result written cause =
-      other_causes (Some result) (refused_never err with_body sent result ended.PeerEnded written
-      (λ d. d)) (refused_never err with_body sent result ended.Cut written (λ d. d))
-      (refused_never err with_body sent result ended.ReadFault written (λ d. d)) (λ is. cause cc)
+  refusal_causes read err with_body sent result written wrote =
+      let quiet = by_end result written in
+      other_causes read (Some result) quiet.0 quiet.1 wrote
+    where
+      by_end : (e : Ended) → IsRefusal err with_body sent e
+          → (is_at_end (Some e) ≡ false) × (is_read_fault (Some e) ≡ false)
+      by_end ended.Closed refusal = (refl, refl)
+      by_end ended.WriteFault refusal = (refl, refl)
+      by_end ended.OutOfMemory refusal = (refl, refl)
+      by_end ended.PeerEnded refusal = absurd refusal
+      by_end ended.Cut refusal = absurd refusal
+      by_end ended.Spent refusal = (refl, refl)
+      by_end ended.Drained refusal = (refl, refl)
+      by_end ended.ReadFault refusal = absurd refusal
+      by_end ended.UpstreamCut refusal = (refl, refl)
+
+  pub refused_causes : (T : Type 0) (refused : Refused) (err : OwnError) (with_body : Bool)
+      → refused ≡ Own err with_body
+      → HasReadCauses e0 e1 f0 f1 (quiet_end {T = T} (Err refused))
+      → (same_err : OwnError) (same_body : Bool) (sent : List ℕ) (result : Ended)
+      → IsRefusal same_err same_body sent result
+      → w2 ≡ raised_where (is_write_fault (Some result)) w1
+      → HasCauses e0 e2 f0 f2 w0 w2 (Some result)
+  refused_causes T refused err with_body is read same_err same_body sent result written wrote =
+      refusal_causes
+      (subst (λ (r : Refused). HasReadCauses e0 e1 f0 f1 (quiet_end {T = T} (Err r))) is read)
+      same_err same_body sent result written wrote
 
 -- with nothing written
-pub quiet_causes : (bytes : List ℕ) (e0 e1 f0 f1 w0 w1 : ℕ) (end : Ended)
-    → ShowsNone bytes (Ends end) → HasReadCauses e0 e1 f0 f1 (Some end) → w1 ≡ w0
-    → HasCauses e0 e1 f0 f1 w0 w1 (Some end)
-quiet_causes bytes e0 e1 f0 f1 w0 w1 end shows read still = record {
-  reading = read;
-  write_fault = λ is. let same : end ≡ ended.WriteFault = cc in
-      absurd (subst (λ (e : Ended). ShowsNone bytes (Ends e)) same shows);
-  writes_later = omega (arith, still);
-}
+module _ (bytes : List ℕ) (e0 e1 f0 f1 w0 w1 : ℕ) (still : w1 ≡ w0) where
+  quiet_causes : (end : Ended) → ShowsNone bytes (Ends end)
+      → HasReadCauses e0 e1 f0 f1 (Some end) → HasCauses e0 e1 f0 f1 w0 w1 (Some end)
+  quiet_causes end shows read =
+      record {
+        reading = read;
+        writes = stays_at (is_write_fault (Some end)) w0 w1 (by_end end shows) still;
+      }
+    where
+      by_end : (e : Ended) → ShowsNone bytes (Ends e) → is_write_fault (Some e) ≡ false
+      by_end ended.PeerEnded told = refl
+      by_end ended.Cut told = refl
+      by_end ended.ReadFault told = refl
+      by_end ended.OutOfMemory told = refl
+      by_end ended.Closed told = refl
+      by_end ended.Spent told = refl
+      by_end ended.Drained told = refl
+      by_end ended.WriteFault told = absurd told
+      by_end ended.UpstreamCut told = refl
+
+  pub ended_causes : (T : Type 0) (refused : Refused) (end same : Ended) → refused ≡ Ends end
+      → ShowsNone bytes refused → HasReadCauses e0 e1 f0 f1 (quiet_end {T = T} (Err refused))
+      → end ≡ same → HasCauses e0 e1 f0 f1 w0 w1 (Some same)
+  ended_causes T refused end same is shows read is_same =
+      subst (λ (e : Ended). HasCauses e0 e1 f0 f1 w0 w1 (Some e)) is_same
+      (quiet_causes end (subst (ShowsNone bytes) is shows)
+      (subst (λ (r : Refused). HasReadCauses e0 e1 f0 f1 (quiet_end {T = T} (Err r))) is read))
 
 -- ---- a connection
 
@@ -308,33 +382,19 @@ module _ {J : Type 0} {g : Ghosts J} (which : Which) (from : ℕ) (first : Pass 
       }
 
 -- behind the turns before it, why the last one ended, if it did
-pub all_causes : (e0 e1 e2 f0 f1 f2 w0 w1 w2 : ℕ) (end : Option Ended) → e0 ≤ e1 → f0 ≤ f1
-    → w0 ≤ w1 → HasCauses e1 e2 f1 f2 w1 w2 end → HasCauses e0 e2 f0 f2 w0 w2 end
+pub all_causes : (e0 e1 e2 f0 f1 f2 w0 w1 w2 : ℕ) (end : Option Ended) → e1 ≡ e0 → f1 ≡ f0
+    → w1 ≡ w0 → HasCauses e1 e2 f1 f2 w1 w2 end → HasCauses e0 e2 f0 f2 w0 w2 end
 all_causes e0 e1 e2 f0 f1 f2 w0 w1 w2 end e f w causes = record {
   reading = record {
-    peer_ended = λ is. rose_before e0 e1 e2 e (causes.reading.peer_ended is);
-    cut = λ is. rose_before e0 e1 e2 e (causes.reading.cut is);
-    read_fault = λ is. rose_before f0 f1 f2 f (causes.reading.read_fault is);
-    ends_later = λ is. let h = causes.reading.ends_later is in omega (arith, e, h);
-    faults_later = λ is. let h = causes.reading.faults_later is in omega (arith, f, h);
+    ends = causes.reading.ends ∙ ap (raised_where (is_at_end end)) e;
+    faults = causes.reading.faults ∙ ap (raised_where (is_read_fault end)) f;
   };
-  write_fault = λ is. rose_before w0 w1 w2 w (causes.write_fault is);
-  writes_later = let h = causes.writes_later in omega (arith, w, h);
+  writes = causes.writes ∙ ap (raised_where (is_write_fault end)) w;
 }
 
 -- where there was no memory, nothing was read or written
 pub want_causes : (e f w : ℕ) → HasCauses e e f f w w (Some ended.OutOfMemory)
-want_causes e f w = record {
-  reading = record {
-    peer_ended = λ is. absurd (cc);
-    cut = λ is. absurd (cc);
-    read_fault = λ is. absurd (cc);
-    ends_later = λ is. omega arith;
-    faults_later = λ is. omega arith;
-  };
-  write_fault = λ is. absurd (cc);
-  writes_later = omega arith;
-}
+want_causes e f w = record { reading = record { ends = refl; faults = refl }; writes = refl }
 
 -- how a connection stands behind a request says how it ended, if it did
 pub ended_same : (end : Option Ended) → ended_in (paused_by end) ≡ end
@@ -375,8 +435,7 @@ pub wait_causes : (T : Type 0) (e0 e1 f0 f1 w0 w1 : ℕ) (refused : Refused) →
 wait_causes T e0 e1 f0 f1 w0 w1 refused is read still = record {
   reading =
       subst (λ (r : Refused). HasReadCauses e0 e1 f0 f1 (quiet_end {T = T} (Err r))) is read;
-  write_fault = λ no. absurd (cc);
-  writes_later = omega (arith, still);
+  writes = still;
 }
 
 -- ---- whether the listeners are closing

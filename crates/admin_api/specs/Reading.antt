@@ -1,7 +1,7 @@
 -- What a call that reads a request answers, and why.
-use Rattle.std.specs.Prelude.{◌≡◌, ◌≤◌, ◌⊎◌, ℕ, Bool, true, false, if◌then◌else◌, List, [], ◌++◌}
+use Rattle.std.specs.Prelude.{◌≡◌, ◌⊎◌, ℕ, Bool, true, false, if◌then◌else◌, List, [], ◌++◌}
 use Rattle.std.specs.Prelude.{Option, Some, None, Result, Ok, Err}
-use Rattle.line_base.specs.Counts.{Rose, raised}
+use Rattle.line_base.specs.Counts.{raised}
 use Rattle.http_wire.specs.declared.ended.Ended.{Ended}
 use Rattle.http_wire.specs.declared.ended.Ended.TheVariants as ended
 use Rattle.http_wire.specs.declared.frames.Framing.{Framing}
@@ -101,16 +101,31 @@ is_waiting (Err Waits) = true
 abbrev pub raised_where : Bool → ℕ → ℕ
 raised_where is_so count = if is_so then raised count else count
 
--- the counts of a peer that tell why a connection ended where nothing was written. Where it goes
--- on, none of them fell
+-- the connection ends since its bytes have ended
+abbrev pub is_at_end : Option Ended → Bool
+is_at_end (Some ended.PeerEnded) = true
+is_at_end (Some ended.Cut) = true
+is_at_end _ = false
+
+-- since a read failed
+abbrev pub is_read_fault : Option Ended → Bool
+is_read_fault (Some ended.ReadFault) = true
+is_read_fault _ = false
+
+-- since a write failed
+abbrev pub is_write_fault : Option Ended → Bool
+is_write_fault (Some ended.WriteFault) = true
+is_write_fault _ = false
+
+-- A connection is read no further than the request that is due: one more read gave the end exactly
+-- where the connection ended there, and one more failed exactly where it ended by that. Between the
+-- last byte of a request and its reply there is no read: one there might give the end or fail, and
+-- the write of the reply might fail behind it
 pub record HasReadCauses
     (ends_before ends_now faults_before faults_now : ℕ) (result : Option Ended)
     : Type 0 where
-  pub peer_ended : result ≡ Some ended.PeerEnded → Rose ends_before ends_now
-  pub cut : result ≡ Some ended.Cut → Rose ends_before ends_now
-  pub read_fault : result ≡ Some ended.ReadFault → Rose faults_before faults_now
-  pub ends_later : result ≡ None → ends_before ≤ ends_now
-  pub faults_later : result ≡ None → faults_before ≤ faults_now
+  pub ends : ends_now ≡ raised_where (is_at_end result) ends_before
+  pub faults : faults_now ≡ raised_where (is_read_fault result) faults_before
 
 -- a refusal is written, behind which the connection closes
 abbrev pub IsRefusal : OwnError → Bool → List ℕ → Ended → Type 0

@@ -1,8 +1,8 @@
 -- A stay of a connection of an interface: the requests that its bytes begin with, in order, what
 -- each is answered, and how the connection stands behind them.
-use Rattle.std.specs.Prelude.{◌≡◌, ◌≤◌, ◌⊎◌, ℕ, ◌+◌, ◌==◌, ◌||◌, ◌&&◌, not, Bool, true, false}
+use Rattle.std.specs.Prelude.{◌≡◌, ◌⊎◌, ℕ, ◌+◌, ◌==◌, ◌||◌, ◌&&◌, not, Bool, true, false}
 use Rattle.std.specs.Prelude.{if◌then◌else◌, List, [], ◌++◌, Option, Some, None}
-use Rattle.line_base.specs.Counts.{Rose, raised}
+use Rattle.line_base.specs.Counts.{raised}
 use Rattle.http_wire.specs.declared.ended.Ended.{Ended}
 use Rattle.http_wire.specs.declared.ended.Ended.TheVariants as ended
 use Rattle.http_wire.specs.declared.head.Head.{Head}
@@ -25,7 +25,7 @@ use Rattle.admin_api.specs.declared.serving.Which.{Which}
 use Rattle.admin_api.specs.declared.serving.Which.TheVariants.{Namerd, Admin, Feed}
 use Rattle.admin_api.specs.Demand.{admin_demand}
 use Rattle.admin_api.specs.Requests.{IsRequest, HasOpenBody, IsRefusedAs, IsBetween, IsInside}
-use Rattle.admin_api.specs.Reading.{HasReadCauses, is_drained}
+use Rattle.admin_api.specs.Reading.{HasReadCauses, is_drained, is_write_fault, raised_where}
 
 -- the most requests of one connection, over all its stays
 abbrev pub most_requests : ℕ
@@ -213,9 +213,9 @@ ended_in None = None
 ended_in (Some paused.Quiet) = None
 ended_in (Some (paused.Ended end)) = Some end
 
--- the counts of a peer that tell why a connection ended: they never fall
+-- what the counts of a peer tell of how a connection ended, if it did: a write failed exactly where
+-- it ended by that, and it was read no further than the request that was due
 pub record HasCauses (ends_before ends_now reads_before reads_now writes_before writes_now : ℕ)
     (result : Option Ended) : Type 0 where
   pub reading : HasReadCauses ends_before ends_now reads_before reads_now result
-  pub write_fault : result ≡ Some ended.WriteFault → Rose writes_before writes_now
-  pub writes_later : writes_before ≤ writes_now
+  pub writes : writes_now ≡ raised_where (is_write_fault result) writes_before

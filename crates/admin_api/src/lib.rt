@@ -21,9 +21,13 @@
 //!
 //! A connection is served for a stay as `specs/Serving.antt` says, over any cutting of its bytes
 //! and every failing call: the requests that its bytes begin with have their replies, in order, up
-//! to the one that closes; then it ends by what the bytes show, or where a count of the peer rose;
-//! or it waits, and nothing of a further request was read. The stop was called exactly where all of
-//! a shutdown's reply was written.
+//! to the one that closes; then it ends by what the bytes show, or where a call failed; or it
+//! waits, and nothing of a further request was read. The stop was called exactly where all of a
+//! shutdown's reply was written.
+//!
+//! A read gave the end, and a read or a write failed, exactly where the connection ended by that.
+//! So no call that failed is tried again, and nothing is read ahead of a reply that is owed: a read
+//! there might give the end or fail, and the write of the reply might fail behind it.
 //!
 //! The type of an [`IdleCaller`] keeps that some stays led to it from a caller that came
 //! (`specs/Stays.antt`): each went on from the line and the number of requests that the one before

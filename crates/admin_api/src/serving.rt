@@ -1,13 +1,12 @@
 //! A stay of a caller's connection, request by request.
-ghost use Rattle.std.specs.Prelude.{◌≡◌, ◌≤◌, ◌<◌, ◌++◌, ◌||◌, ◌&&◌, not, Bool, IfOk, OnErr, List};
-ghost use Rattle.std.specs.Prelude.{Some, ℕ};
+ghost use Rattle.std.specs.Prelude.{◌≡◌, ◌<◌, ◌++◌, ◌||◌, ◌&&◌, not, Bool, IfOk, OnErr, List};
+ghost use Rattle.std.specs.Prelude.{ℕ};
 ghost use Rattle.std.specs.Io.KnownBytes.{Appends, Consumes};
-ghost use Rattle.line_base.specs.Counts.{Rose};
 ghost use Rattle.line_base.specs.Lines.{IsUnread};
 ghost use Rattle.http_wire.specs.Paused.{quiets_behind};
 ghost use Rattle.router.specs.Passes.{number_in};
 ghost use Rattle.ns_api.specs.Answering.{IsTaken};
-ghost use Rattle.admin_api.specs.Reading.{raised_where};
+ghost use Rattle.admin_api.specs.Reading.{is_write_fault, raised_where};
 ghost use Rattle.admin_api.specs.Serving.{Answers, AnswersAs, HasCauses, IsDelivered, LeavesAs};
 ghost use Rattle.admin_api.specs.Serving.{Turns, calls_after, end_behind, ended_in, while_closing};
 ghost use Rattle.admin_api.specs.Stays.{StaysTo, standing_by};
@@ -160,9 +159,8 @@ fn reply_to<J: Naming, R: Wait, P: Peer, S: Stop>(
         × Answers which last request.now.head request.now.body.items worker.old.pass worker.new.pass
         gave stopped result }
     ensures others { IsUnread (P.line peer.old) (P.line peer.new) }
-    ensures cause { result ≡ Some Ended.WriteFault
-        → Rose (P.line peer.old).write_faults (P.line peer.new).write_faults }
-    ensures later { (P.line peer.old).write_faults ≤ (P.line peer.new).write_faults }
+    ensures writes { (P.line peer.new).write_faults
+        ≡ raised_where (is_write_fault result) (P.line peer.old).write_faults }
 {
     match answer(
         context,
@@ -229,9 +227,8 @@ fn deliver<P: Peer, S: Stop>(
         × (S.calls stop.new ≡ calls_after (S.calls stop.old) stopped)
         × IsDelivered head.now last reply.now gave stopped result }
     ensures others { IsUnread (P.line peer.old) (P.line peer.new) }
-    ensures cause { result ≡ Some Ended.WriteFault
-        → Rose (P.line peer.old).write_faults (P.line peer.new).write_faults }
-    ensures later { (P.line peer.old).write_faults ≤ (P.line peer.new).write_faults }
+    ensures writes { (P.line peer.new).write_faults
+        ≡ raised_where (is_write_fault result) (P.line peer.old).write_faults }
 {
     match write_all(peer, reply.bytes.as_slice()) {
         Ok(()) => {

@@ -1,9 +1,8 @@
 //! Writing replies to a peer.
-ghost use Rattle.std.specs.Prelude.{◌≡◌, ◌≤◌, List, ℕ};
+ghost use Rattle.std.specs.Prelude.{◌≡◌, List, Some, ℕ};
 ghost use Rattle.std.specs.Io.KnownBytes.{Appends};
-ghost use Rattle.line_base.specs.Counts.{Rose};
 ghost use Rattle.line_base.specs.Lines.{IsUnread};
-ghost use Rattle.admin_api.specs.Reading.{IsRefusal};
+ghost use Rattle.admin_api.specs.Reading.{IsRefusal, is_write_fault, raised_where};
 
 use body_wire::write_all;
 use http_wire::Ended;
@@ -16,9 +15,8 @@ pub(crate) fn refuse<P: Peer>(alloc: Global, peer: &mut P, err: OwnError, with_b
     ensures bytes { (sent : List ℕ) × Appends (P.line peer.old).given (P.line peer.new).given sent
         × IsRefusal err with_body sent result }
     ensures others { IsUnread (P.line peer.old) (P.line peer.new) }
-    ensures cause { result ≡ Ended.WriteFault
-        → Rose (P.line peer.old).write_faults (P.line peer.new).write_faults }
-    ensures later { (P.line peer.old).write_faults ≤ (P.line peer.new).write_faults }
+    ensures writes { (P.line peer.new).write_faults
+        ≡ raised_where (is_write_fault (Some result)) (P.line peer.old).write_faults }
 {
     let Ok(reply) = own_reply(alloc, err, true, with_body) else {
         return Ended::OutOfMemory;

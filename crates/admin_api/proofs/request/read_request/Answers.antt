@@ -1,37 +1,77 @@
-use Rattle.std.proofs.Common.{[], ap, arith, subst, sym, ◌∙◌, append-nil, Err}
+use Rattle.std.proofs.Common.{[], ap, length, subst, sym, ◌∙◌, append-nil, Err}
 use Rattle.std.specs.Io.KnownBytes.{Consumes, Keeps}
 use Rattle.std.proofs.KnownBytes.{Consumes-nil, Keeps-refl}
 use Rattle.line_base.specs.Lines.{Line}
 use Rattle.admin_api.specs.declared.request.Request.{Request}
-use Rattle.admin_api.proofs.Requesting.{bad_test, body_causes, no_body, no_head, whole_request}
+use Rattle.admin_api.proofs.Requesting.{bad_test, body_causes, head_causes, no_body, no_head}
+use Rattle.admin_api.proofs.Requesting.{test_causes, whole_causes, whole_request}
 use Rattle.admin_api.proofs.request.read_request.Goals as goal
 
 pub returns-in-Ended-clause-bytes : goal.returns-in-Ended-clause-bytes
 returns-in-Ended-clause-bytes g c =
-    no_head (g.P.Peer.line c.args.peer.now).left (g.P.Peer.line c.read_next_head.new.peer).left c.args.rest.now c.read_next_head.new.rest c.in-Ended.end c.of_head.result c.of_head.ensures c.in-Ended.ensures.head
+    no_head (g.P.Peer.line c.args.peer.now).left (g.P.Peer.line c.read_next_head.new.peer).left
+    c.args.rest.now c.read_next_head.new.rest c.in-Ended.end c.of_head.result c.of_head.ensures
+    c.in-Ended.ensures.head
 
 pub returns-in-Err-clause-bytes : goal.returns-in-Err-clause-bytes
 returns-in-Err-clause-bytes g c =
-    bad_test (g.P.Peer.line c.args.peer.now).left (g.P.Peer.line c.read_next_head.new.peer).left c.args.rest.now c.read_next_head.new.rest c.in-Head.head c.in-Err.refused c.in-Head.ensures.head c.in-Err.ensures
+    bad_test (g.P.Peer.line c.args.peer.now).left (g.P.Peer.line c.read_next_head.new.peer).left
+    c.args.rest.now c.read_next_head.new.rest c.in-Head.head c.in-Err.refused c.in-Head.ensures.head
+    c.in-Err.ensures
 
 pub returns-in-Ok-read_body-clause-bytes : goal.returns-in-Ok-read_body-clause-bytes
 returns-in-Ok-read_body-clause-bytes g c =
-    whole_request (g.P.Peer.line c.args.peer.now).left (g.P.Peer.line c.read_next_head.new.peer).left (g.P.Peer.line c.read_body.new.peer).left c.args.rest.now c.read_next_head.new.rest c.read_body.new.rest
-    c.in-Head.head c.in-Ok.framing c.in-Head.ensures.head c.in-Ok.ensures c.in-Ok-read_body.body c.in-Ok-read_body.ensures.body
+    whole_request (g.P.Peer.line c.args.peer.now).left
+    (g.P.Peer.line c.read_next_head.new.peer).left (g.P.Peer.line c.read_body.new.peer).left
+    c.args.rest.now c.read_next_head.new.rest c.read_body.new.rest
+    c.in-Head.head c.in-Ok.framing c.in-Head.ensures.head c.in-Ok.ensures c.in-Ok-read_body.body
+    c.in-Ok-read_body.ensures.body
 
 pub returns-in-Err-read_body-clause-bytes : goal.returns-in-Err-read_body-clause-bytes
 returns-in-Err-read_body-clause-bytes g c =
     let never = c.in-Err-read_body.ensures.never in
-    no_body (g.P.Peer.line c.args.peer.now).left (g.P.Peer.line c.read_next_head.new.peer).left (g.P.Peer.line c.read_body.new.peer).left c.args.rest.now c.read_next_head.new.rest c.read_body.new.rest
-    c.in-Head.head c.in-Ok.framing c.in-Head.ensures.head c.in-Ok.ensures c.in-Err-read_body.end c.has_body.result c.of_body.result c.has_body.ensures c.of_body.ensures
-    c.in-Err-read_body.ensures.body (λ e. never.0 (ap Err e)) (λ e. never.1 (ap Err e)) (λ e. never.2 (ap Err e))
+    no_body (g.P.Peer.line c.args.peer.now).left (g.P.Peer.line c.read_next_head.new.peer).left
+    (g.P.Peer.line c.read_body.new.peer).left c.args.rest.now c.read_next_head.new.rest
+    c.read_body.new.rest
+    c.in-Head.head c.in-Ok.framing c.in-Head.ensures.head c.in-Ok.ensures c.in-Err-read_body.end
+    c.has_body.result c.of_body.result c.has_body.ensures c.of_body.ensures
+    c.in-Err-read_body.ensures.body (λ e. never.0 (ap Err e)) (λ e. never.1 (ap Err e))
+    (λ e. never.2 (ap Err e))
+
+pub returns-in-Ended-clause-causes : goal.returns-in-Ended-clause-causes
+returns-in-Ended-clause-causes g c =
+    let old = g.P.Peer.line c.args.peer.now in
+    let read = g.P.Peer.line c.read_next_head.new.peer in
+    head_causes Request old.ends read.ends old.read_faults read.read_faults c.in-Ended.end
+    c.of_head.result c.of_head.ensures c.in-Ended.ensures.causes
+
+pub returns-in-Err-clause-causes : goal.returns-in-Err-clause-causes
+returns-in-Err-clause-causes g c =
+    let old = g.P.Peer.line c.args.peer.now in
+    let read = g.P.Peer.line c.read_next_head.new.peer in
+    test_causes Request old.ends read.ends old.read_faults read.read_faults c.in-Head.head
+    c.in-Err.refused c.in-Err.ensures c.in-Head.ensures.causes
+
+pub returns-in-Ok-read_body-clause-causes : goal.returns-in-Ok-read_body-clause-causes
+returns-in-Ok-read_body-clause-causes g c =
+    let first = c.in-Head.ensures.causes in
+    let old = g.P.Peer.line c.args.peer.now in
+    let read = g.P.Peer.line c.read_next_head.new.peer in
+    let new = g.P.Peer.line c.read_body.new.peer in
+    whole_causes old.ends read.ends new.ends old.read_faults read.read_faults new.read_faults
+    c.in-Ok.framing first.ends first.faults c.in-Head.head (length c.in-Ok-read_body.body.items)
+    c.in-Ok.ensures c.in-Ok-read_body.ensures.ends c.in-Ok-read_body.ensures.reads
 
 pub returns-in-Err-read_body-clause-causes : goal.returns-in-Err-read_body-clause-causes
 returns-in-Err-read_body-clause-causes g c =
     let first = c.in-Head.ensures.causes in
-    body_causes Request (g.P.Peer.line c.args.peer.now).ends (g.P.Peer.line c.read_next_head.new.peer).ends (g.P.Peer.line c.read_body.new.peer).ends (g.P.Peer.line c.args.peer.now).read_faults
-    (g.P.Peer.line c.read_next_head.new.peer).read_faults (g.P.Peer.line c.read_body.new.peer).read_faults c.in-Ok.framing (first.ends_later) (first.faults_later) c.in-Err-read_body.end c.has_body.result
-    c.in-Err-read_body.ensures.ends c.in-Err-read_body.ensures.reads c.of_body.result c.of_body.ensures
+    let old = g.P.Peer.line c.args.peer.now in
+    let read = g.P.Peer.line c.read_next_head.new.peer in
+    let new = g.P.Peer.line c.read_body.new.peer in
+    body_causes old.ends read.ends new.ends old.read_faults read.read_faults new.read_faults
+    c.in-Ok.framing first.ends first.faults Request c.in-Err-read_body.end c.has_body.result
+    c.in-Err-read_body.ensures.ends c.in-Err-read_body.ensures.reads c.of_body.result
+    c.of_body.ensures
 
 pub returns-in-Closing-clause-bytes : goal.returns-in-Closing-clause-bytes
 returns-in-Closing-clause-bytes g c =
@@ -61,11 +101,8 @@ returns-in-Closing-clause-quiets g c = ap (λ (l : Line). l.quiets) c.in-Closing
 
 pub returns-in-Closing-clause-causes : goal.returns-in-Closing-clause-causes
 returns-in-Closing-clause-causes g c = record {
-  peer_ended = λ is. absurd (cc);
-  cut = λ is. absurd (cc);
-  read_fault = λ is. absurd (cc);
-  ends_later = λ is. absurd (cc);
-  faults_later = λ is. absurd (cc);
+  ends = ap (λ (l : Line). l.ends) c.in-Closing.ensures.closing;
+  faults = ap (λ (l : Line). l.read_faults) c.in-Closing.ensures.closing;
 }
 
 pub returns-in-Quiet-clause-bytes : goal.returns-in-Quiet-clause-bytes
@@ -93,13 +130,7 @@ pub returns-in-Quiet-clause-quiets : goal.returns-in-Quiet-clause-quiets
 returns-in-Quiet-clause-quiets g c = ap (λ (l : Line). l.quiets) c.in-Quiet.ensures.quiet
 
 pub returns-in-Quiet-clause-causes : goal.returns-in-Quiet-clause-causes
-returns-in-Quiet-clause-causes g c =
-    let e = ap (λ (l : Line). l.ends) c.in-Quiet.ensures.quiet in
-    let f = ap (λ (l : Line). l.read_faults) c.in-Quiet.ensures.quiet in
-    record {
-      peer_ended = λ is. absurd (cc);
-      cut = λ is. absurd (cc);
-      read_fault = λ is. absurd (cc);
-      ends_later = λ is. omega (arith, e);
-      faults_later = λ is. omega (arith, f);
-    }
+returns-in-Quiet-clause-causes g c = record {
+  ends = ap (λ (l : Line). l.ends) c.in-Quiet.ensures.quiet;
+  faults = ap (λ (l : Line). l.read_faults) c.in-Quiet.ensures.quiet;
+}

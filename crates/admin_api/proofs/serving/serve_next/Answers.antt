@@ -8,7 +8,8 @@ use Rattle.http_wire.specs.declared.paused.Paused.{Paused}
 use Rattle.http_wire.specs.Paused.{quiets_behind}
 use Rattle.admin_api.specs.Reading.{is_drained, raised_where}
 use Rattle.admin_api.specs.Serving.{HasCauses, Turns, ended_in}
-use Rattle.admin_api.proofs.Turning.{ended_same, ends_told, given_behind, gives_none, is_taken}
+use Rattle.admin_api.proofs.Turning.{ended_causes, ended_same, ends_told, given_behind}
+use Rattle.admin_api.proofs.Turning.{gives_none, is_taken, refused_causes}
 use Rattle.admin_api.proofs.Turning.{ends_waits, own_waits, request_quiets, wait_waits}
 use Rattle.admin_api.proofs.Turning.{own_told, quiet_turn, quiet_wait, refusal_open, refused_turn}
 use Rattle.admin_api.proofs.Turning.{replied_causes, turned, wait_causes, wait_told, was_asked}
@@ -82,12 +83,12 @@ returns-in-Ok-clause-causes g c =
     old.write_faults new.write_faults end)
     (sym (ap ended_in c.paused_by.ensures ∙ ended_same c.drained.result))
     (replied_causes old.ends read.ends new.ends old.read_faults read.read_faults new.read_faults
-    old.write_faults told.write_faults new.write_faults c.in-Ok.ensures.causes (o.ends ∙ w.ends)
-    (o.read_faults ∙ w.reads) (w.writes ∙ c.in-Ok.ensures.writes) c.reply_to-ended.ensures.later
+    old.write_faults told.write_faults new.write_faults (o.ends ∙ w.ends)
+    (o.read_faults ∙ w.reads) (w.writes ∙ c.in-Ok.ensures.writes) c.in-Ok.ensures.causes
     c.while_closing-found.result c.is_last-last.result c.in-Ok.request.head
     c.in-Ok.request.body.items c.args.worker.now.pass c.reply_to-ended.new.worker.pass a.0 a.1
     c.drained.result closing c.reply_to-ended.result c.drained.ensures a.4
-    c.reply_to-ended.ensures.cause)
+    c.reply_to-ended.ensures.writes)
 
 pub returns-in-Err-Own-clause-turn : goal.returns-in-Err-Own-clause-turn
 returns-in-Err-Own-clause-turn g c =
@@ -115,6 +116,27 @@ returns-in-Err-Own-clause-turn g c =
             (sym c.in-Err-Own.with_body-is),
       ),
     )
+
+pub returns-in-Err-Own-clause-causes : goal.returns-in-Err-Own-clause-causes
+returns-in-Err-Own-clause-causes g c =
+    let o = c.refuse.ensures.others in
+    let old = g.P.Peer.line c.args.peer.now in
+    let read = g.P.Peer.line c.read_request.new.peer in
+    let new = g.P.Peer.line c.refuse.new.peer in
+    refused_causes old.ends read.ends new.ends old.read_faults read.read_faults new.read_faults
+    old.write_faults read.write_faults new.write_faults o.ends o.read_faults
+    c.in-Err-Own.ensures.writes Request c.in-Err-Own.field-0 _ _ c.in-Err-Own.field-0-is
+    c.in-Err-Own.ensures.causes _ _ c.refuse.ensures.bytes.0 c.refuse.result
+    c.refuse.ensures.bytes.2 c.refuse.ensures.writes
+
+pub returns-in-Err-Ends-clause-causes : goal.returns-in-Err-Ends-clause-causes
+returns-in-Err-Ends-clause-causes g c =
+    let b = c.in-Err-Ends.ensures.bytes in
+    let old = g.P.Peer.line c.args.peer.now in
+    let read = g.P.Peer.line c.read_request.new.peer in
+    ended_causes (c.args.rest.now ++ b.0) old.ends read.ends old.read_faults read.read_faults
+    old.write_faults read.write_faults c.in-Err-Ends.ensures.writes Request c.in-Err-Ends.field-0 _
+    _ c.in-Err-Ends.field-0-is b.2 c.in-Err-Ends.ensures.causes (sym c.in-Err-Ends.ended-is)
 
 pub returns-in-Err-Own-clause-quiets : goal.returns-in-Err-Own-clause-quiets
 returns-in-Err-Own-clause-quiets g c =

@@ -1,4 +1,4 @@
-use Rattle.std.proofs.Common.{Bool, List, ℕ, [], ◌++◌, false, refl, sym, subst, ap, ◌∙◌, arith}
+use Rattle.std.proofs.Common.{Bool, List, ℕ, [], ◌++◌, false, refl, sym, subst, ap, ◌∙◌}
 use Rattle.std.proofs.Common.{inr, Some}
 use Rattle.std.proofs.KnownBytes.{Appends-nil, Appends-trans, Consumes-nil, Consumes-trans}
 use Rattle.router.specs.Passes.{number_in}
@@ -24,9 +24,9 @@ requests-init g c = record {
         c.args.served c.args.worker.now.pass (rest ++ more) [])
         (sym c.in-Ok.ensures) begun,
   );
-  ends = omega arith;
-  reads = omega arith;
-  writes = omega arith;
+  ends = refl;
+  reads = refl;
+  writes = refl;
   closings = refl;
   quiets = refl;
 }
@@ -36,9 +36,7 @@ requests-preserved g c =
     let i = c.requests.invariant in
     let s = i.serves in
     let t = c.in-None.ensures.turn in
-    let e = c.in-None.ensures.causes.reading.ends_later refl in
-    let f = c.in-None.ensures.causes.reading.faults_later refl in
-    let w = c.in-None.ensures.causes.writes_later in
+    let now = c.in-None.ensures.causes in
     let old = g.P.Peer.line c.args.peer.now in
     let mid = g.P.Peer.line c.requests.peer in
     let new = g.P.Peer.line c.serve_next.new.peer in
@@ -58,9 +56,9 @@ requests-preserved g c =
             c.requests.worker.pass c.serve_next.new.worker.pass s.0 s.1 t.0 t.1 c.requests.rest
             c.serve_next.new.rest s.4 t.2 t.3 t.8,
       );
-      ends = let h = i.ends in omega (arith, h, e);
-      reads = let h = i.reads in omega (arith, h, f);
-      writes = let h = i.writes in omega (arith, h, w);
+      ends = now.reading.ends ∙ i.ends;
+      reads = now.reading.faults ∙ i.reads;
+      writes = now.writes ∙ i.writes;
       closings =
           t.7 ∙ (ap (λ (b : Bool). raised_where b mid.closings) t.8.1 ∙ i.closings);
       quiets = c.in-None.ensures.quiets ∙ i.quiets;

@@ -1,4 +1,4 @@
-use Rattle.std.proofs.Common.{◌≡◌, ◌<◌, ◌≤◌, ℕ, List, ◌++◌}
+use Rattle.std.proofs.Common.{◌≡◌, ◌<◌, ℕ, List, ◌++◌}
 use Rattle.std.specs.Io.KnownBytes.{Appends, Consumes}
 use Rattle.router.specs.Passes.{number_in}
 use Rattle.admin_api.specs.Serving.{Serves}
@@ -14,9 +14,9 @@ invariant-requests g l = record {
       × Appends (g.P.Peer.line l.fn.peer).given (g.P.Peer.line l.peer).given gave
       × ((more : List ℕ) → Serves l.fn.which l.fn.served l.fn.worker.pass (came ++ more) l.count
       l.worker.pass (l.rest ++ more) gave);
-  ends : (g.P.Peer.line l.fn.peer).ends ≤ (g.P.Peer.line l.peer).ends;
-  reads : (g.P.Peer.line l.fn.peer).read_faults ≤ (g.P.Peer.line l.peer).read_faults;
-  writes : (g.P.Peer.line l.fn.peer).write_faults ≤ (g.P.Peer.line l.peer).write_faults;
+  ends : (g.P.Peer.line l.peer).ends ≡ (g.P.Peer.line l.fn.peer).ends;
+  reads : (g.P.Peer.line l.peer).read_faults ≡ (g.P.Peer.line l.fn.peer).read_faults;
+  writes : (g.P.Peer.line l.peer).write_faults ≡ (g.P.Peer.line l.fn.peer).write_faults;
   closings : (g.P.Peer.line l.peer).closings ≡ (g.P.Peer.line l.fn.peer).closings;
   quiets : (g.P.Peer.line l.peer).quiets ≡ (g.P.Peer.line l.fn.peer).quiets;
 }
