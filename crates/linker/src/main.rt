@@ -113,7 +113,7 @@ fn main(rt: HostRuntime) -> ExitCode {
     );
     finish.come();
     if let Some(thread) = watching {
-        thread.join(&rt);
+        let _ = thread.join(&rt);
     }
     if exit.tells_usage {
         let _ = eprint!(rt; "{USAGE}");

@@ -1,6 +1,6 @@
 //! The watch for a signal that asks for an end, in a thread beside a router that serves.
 use crate::pausing::{Finish, SystemPause};
-use line_base::Stop;
+use line_base::{Mem, Stop};
 use net_edge::FileSystem;
 use signal_watch::{RemoteStop, StopCell, Watched, is_watchable, watch};
 use std::rt::Files;
@@ -31,7 +31,10 @@ impl<S: Stop + Drop> Watch<S> {
     }
 
     /// Watches until a signal asks for an end, or until the program has served to its end.
-    pub fn run<R: Files + AllocGlobal + Wait + Clone + Drop>(self, rt: &R) -> Watched {
+    ///
+    /// # Errors
+    /// `AllocError` where there was no memory for the last look.
+    pub fn run<R: Files + AllocGlobal + Wait + Clone + Drop>(self, rt: &R) -> Mem<Watched> {
         let Watch { stops, finish } = self;
         let mut status = FileSystem::of(rt);
         let mut pause = SystemPause::of(rt, finish);

@@ -67,7 +67,7 @@ fn a_watch_ends_with_what_serves(rt: HostRuntime) -> Result<(), Fail> {
         },
     );
     assert_eq!(rt;
-        (watched, calls, net.net().stops()),
+        (watched?, calls, net.net().stops()),
         (Watched::Over, 0, (2, 0))
     );
     Ok(())

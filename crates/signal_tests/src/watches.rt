@@ -56,7 +56,7 @@ fn watched<R: AllocGlobal + Wait>(
     let mut folder = folder(rt.alloc(), status, failing)?;
     let mut pause = Counted { left: 1, heard: 0 };
     let mut stop = MemStop::new();
-    let watched = watch(rt, &mut folder, &mut pause, &mut stop);
+    let watched = watch(rt, &mut folder, &mut pause, &mut stop)?;
     Ok((watched, stop.calls()))
 }
 

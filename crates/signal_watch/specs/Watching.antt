@@ -1,6 +1,7 @@
 -- What a watch for signals found, and what it did.
 use Rattle.std.specs.Prelude.{◌≡◌, ◌<◌, ◌⊎◌, ℕ, Bool, true, false, if◌then◌else◌, List, length}
-use Rattle.std.specs.Prelude.{codes, IfSome, IsSomeAnd, Option, Some, None}
+use Rattle.std.specs.Prelude.{codes, IfSome, IsSomeAnd, Option, Some, None, Result, Ok, Err}
+use Rattle.std.specs.declared.alloc.AllocError.{AllocError}
 use Rattle.line_base.specs.Counts.{Rose, raised}
 use Rattle.line_base.specs.Files.{File, file_at}
 use Rattle.signal_watch.specs.declared.watching.Watched.{Watched}
@@ -12,10 +13,11 @@ abbrev pub heard_after : Bool → ℕ → ℕ
 heard_after is_over heard = if is_over then raised heard else heard
 
 -- the calls of a stop: one where a signal asked for it
-abbrev pub calls_after : ℕ → Watched → ℕ
-calls_after calls Asked = raised calls
-calls_after calls Over = calls
-calls_after calls Blind = calls
+abbrev pub calls_after : ℕ → Result Watched AllocError → ℕ
+calls_after calls (Ok Asked) = raised calls
+calls_after calls (Ok Over) = calls
+calls_after calls (Ok Blind) = calls
+calls_after calls (Err _) = calls
 
 -- where the status file of a process is, for the process itself
 abbrev pub status_path : List ℕ

@@ -1,5 +1,5 @@
 //! Watching for a signal that asks for an end.
-ghost use Rattle.std.specs.Prelude.{◌≡◌, ◌≤◌, ◌⊎◌, true, false, Ok};
+ghost use Rattle.std.specs.Prelude.{◌≡◌, ◌≤◌, ◌⊎◌, true, false, IfErr, Ok};
 ghost use Rattle.line_base.specs.Counts.{Rose};
 ghost use Rattle.signal_watch.specs.Status.{asks_to_stop};
 ghost use Rattle.signal_watch.specs.Seen.{seen_of};
@@ -23,7 +23,7 @@ const MOST_BYTES: usize = 65_536;
 pub enum Watched {
     /// A signal asked for an end, and the stop was called.
     Asked,
-    /// Nothing is left to stop, as the pause said.
+    /// Nothing is left to stop, as the pause said, and the last look found no signal.
     Over,
     /// There is no status file, or it can't be read. Signals end the program as any other.
     Blind,
@@ -62,30 +62,40 @@ pub fn is_watchable<F: Folder>(folder: &mut F) -> Mem<bool>
 
 /// Looks at the status file of the process until a signal asks for an end, and then calls the stop;
 /// or until the pause between two looks says that nothing is left to stop, or the file can't be
-/// read. A look for which memory was wanting is made again behind the next pause.
+/// read. A look for which there was no memory is made again behind the next pause.
+///
+/// # Errors
+/// [`AllocError`] where there was no memory for the last look before the pause that was the last.
 pub fn watch<R: Wait, F: Folder, P: Pause, S: Stop>(
     rt: &R,
     folder: &mut F,
     pause: &mut P,
     stop: &mut S,
-) -> Watched
-    ensures asked { result ≡ Watched.Asked → Asks (F.filed folder.old).files }
-    ensures over { result ≡ Watched.Over → Rose (P.heard pause.old) (P.heard pause.new) }
-    ensures blind { result ≡ Watched.Blind → SeesNothing (F.filed folder.old).files
+) -> Mem<Watched>
+    ensures asked { result ≡ Ok Watched.Asked → Asks (F.filed folder.old).files }
+    ensures over { result ≡ Ok Watched.Over → Rose (P.heard pause.old) (P.heard pause.new)
+        × AsksNothing (F.filed folder.old).files }
+    ensures blind { result ≡ Ok Watched.Blind → SeesNothing (F.filed folder.old).files
         (F.filed folder.old).faults (F.filed folder.new).faults }
+    ensures unseen { IfErr result (λ _. Rose (P.heard pause.old) (P.heard pause.new)) }
     ensures stopped { S.calls stop.new ≡ calls_after (S.calls stop.old) result }
 {
     'looks: for _ in rt.forever() {
-        match look(folder) {
+        let was_seen = match look(folder) {
             Seen::Asked => {
                 stop.stop();
-                return Watched::Asked;
+                return Ok(Watched::Asked);
             }
-            Seen::Nothing => return Watched::Blind,
-            Seen::Quiet | Seen::NoMemory => {}
-        }
+            Seen::Nothing => return Ok(Watched::Blind),
+            Seen::Quiet => true,
+            Seen::NoMemory => false,
+        };
         if pause.pause() {
-            return Watched::Over;
+            return if was_seen {
+                Ok(Watched::Over)
+            } else {
+                Err(AllocError)
+            };
         }
     }
     unreachable!()
