@@ -1,6 +1,6 @@
 //! Tests of the program over folders, nets, sources and sinks in memory: scripts with their
 //! replies, configurations, tables, words, limits, faults at each call in turn, and routers that
-//! serve.
+//! serve, with clients that have nothing to say for a while.
 #![tactic(auto)]
 
 #[cfg(test)]
@@ -18,12 +18,12 @@ mod outside;
 #[cfg(test)]
 mod paired;
 #[cfg(test)]
+mod quiet;
+#[cfg(test)]
 mod routers;
 #[cfg(test)]
 mod running;
 #[cfg(test)]
 mod scripts;
-#[cfg(test)]
-mod waiting;
 #[cfg(test)]
 mod words;

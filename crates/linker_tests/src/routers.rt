@@ -10,8 +10,9 @@ use std::test::Fail;
 use std::thread::Threads;
 
 /// The services are those of a folder, and `/svc/web` names its service `web`.
-const WITH_SERVICES: &str =
-    "{\"namers\":[{\"kind\":\"io.l5d.fs\",\"rootDir\":\"disco\"}],\"routers\":[{\"protocol\":\"http\",\"dtab\":\"/svc => /#/io.l5d.fs\",\"servers\":[{\"port\":4140}]}]}";
+const WITH_SERVICES: &str = "{\"namers\":[{\"kind\":\"io.l5d.fs\",\"rootDir\":\"disco\"}],\
+    \"routers\":[{\"protocol\":\"http\",\"dtab\":\"/svc => /#/io.l5d.fs\",\
+    \"servers\":[{\"port\":4140}]}]}";
 
 /// No table names anything, and there are two proxy jobs.
 const WITHOUT_TABLE: &str = "{\"routers\":[{\"protocol\":\"http\"}],\"workers\":2}";
@@ -23,10 +24,11 @@ const FOR_WEB: &str = "GET / HTTP/1.1\r\nHost: web\r\n\r\n";
 #[test]
 fn a_router_that_serves(rt: HostRuntime) -> Result<(), Fail> {
     let alloc = rt.alloc();
-    let requests =
-        "GET / HTTP/1.1\r\nHost: web\r\nUser-Agent: curl/8.5.0\r\nAccept: */*\r\n\r\nGET / HTTP/1.1\r\nHost: web\r\nUser-Agent: curl/8.5.0\r\nAccept: */*\r\n\r\n";
-    let edit =
-        "POST /api/1/dtabs/default HTTP/1.1\r\nHost: n\r\nContent-Type: application/dtab\r\nContent-Length: 12\r\n\r\n/other => /x";
+    let requests = "GET / HTTP/1.1\r\nHost: web\r\nUser-Agent: curl/8.5.0\r\nAccept: */*\r\n\r\n\
+            GET / HTTP/1.1\r\nHost: web\r\nUser-Agent: curl/8.5.0\r\nAccept: */*\r\n\r\n";
+    let edit = "POST /api/1/dtabs/default HTTP/1.1\r\nHost: n\r\nContent-Type: application/dtab\r\n\
+            Content-Length: 12\r\n\r\n\
+            /other => /x";
     let shutdown = "POST /admin/shutdown HTTP/1.1\r\nHost: a\r\n\r\n";
     let folder = folder_of(alloc, WITH_SERVICES, "127.0.0.1 9001\n", 1, &[])?;
     let served = served(&rt, folder, net_of(alloc, requests, "", edit, shutdown)?)?;
@@ -39,11 +41,22 @@ fn a_router_that_serves(rt: HostRuntime) -> Result<(), Fail> {
     );
     assert_eq!(rt;
         served.given.as_str(),
-        "HTTP/1.1 200 OK\r\nContent-Length: 2\r\nVia: 1.1 linkerd\r\n\r\nhiHTTP/1.1 200 OK\r\nContent-Length: 2\r\nVia: 1.1 linkerd\r\n\r\nhiHTTP/1.1 204 No Content\r\nETag: \"1\"\r\n\r\nHTTP/1.1 200 OK\r\nContent-Type: text/plain\r\nContent-Length: 4\r\nConnection: close\r\n\r\nbye\n"
+        "HTTP/1.1 200 OK\r\nContent-Length: 2\r\nVia: 1.1 linkerd\r\n\r\n\
+            hiHTTP/1.1 200 OK\r\nContent-Length: 2\r\nVia: 1.1 linkerd\r\n\r\n\
+            hiHTTP/1.1 204 No Content\r\nETag: \"1\"\r\n\r\n\
+            HTTP/1.1 200 OK\r\nContent-Type: text/plain\r\nContent-Length: 4\r\n\
+            Connection: close\r\n\r\n\
+            bye\n"
     );
     assert_eq!(rt;
         served.dialed.as_str(),
-        "dial 7f000001 9001\nGET / HTTP/1.1\r\nHost: web\r\nUser-Agent: curl/8.5.0\r\nAccept: */*\r\nVia: 1.1 linkerd\r\nl5d-dst-service: /svc/web\r\nl5d-dst-client: /#/io.l5d.fs/web\r\nConnection: close\r\n\r\nhang\ndial 7f000001 9001\nGET / HTTP/1.1\r\nHost: web\r\nUser-Agent: curl/8.5.0\r\nAccept: */*\r\nVia: 1.1 linkerd\r\nl5d-dst-service: /svc/web\r\nl5d-dst-client: /#/io.l5d.fs/web\r\nConnection: close\r\n\r\nhang\n"
+        "dial 7f000001 9001\nGET / HTTP/1.1\r\nHost: web\r\nUser-Agent: curl/8.5.0\r\n\
+            Accept: */*\r\nVia: 1.1 linkerd\r\nl5d-dst-service: /svc/web\r\n\
+            l5d-dst-client: /#/io.l5d.fs/web\r\nConnection: close\r\n\r\n\
+            hang\ndial 7f000001 9001\nGET / HTTP/1.1\r\nHost: web\r\nUser-Agent: curl/8.5.0\r\n\
+            Accept: */*\r\nVia: 1.1 linkerd\r\nl5d-dst-service: /svc/web\r\n\
+            l5d-dst-client: /#/io.l5d.fs/web\r\nConnection: close\r\n\r\n\
+            hang\n"
     );
     Ok(())
 }
@@ -108,27 +121,31 @@ fn two_clients_at_once(rt: HostRuntime) -> Result<(), Fail> {
     );
     assert_eq!(rt;
         served.given.as_str(),
-        "HTTP/1.1 502 Bad Gateway\r\nContent-Type: text/plain\r\nl5d-err: negative\r\nContent-Length: 9\r\n\r\nnegative\nHTTP/1.1 502 Bad Gateway\r\nContent-Type: text/plain\r\nl5d-err: negative\r\nContent-Length: 9\r\n\r\nnegative\n"
+        "HTTP/1.1 502 Bad Gateway\r\nContent-Type: text/plain\r\nl5d-err: negative\r\n\
+            Content-Length: 9\r\n\r\n\
+            negative\nHTTP/1.1 502 Bad Gateway\r\nContent-Type: text/plain\r\n\
+            l5d-err: negative\r\nContent-Length: 9\r\n\r\n\
+            negative\n"
     );
     assert_eq!(rt; served.dialed.as_str(), "");
     Ok(())
 }
 
 /// What `serve` writes, and its status, where these calls of the folder and of `listen` fail, and
-/// so many accepts of the router's first listener; and where the file of the service `web` has one
+/// so many waits of the router's first listener; and where the file of the service `web` has one
 /// line so many times.
 fn served_amiss<R: AllocGlobal + Threads + Wait + Sync>(
     rt: &R,
     reads: &[u64],
     listens: &[u64],
-    accepts: u64,
+    waits: u64,
     line: &str,
     lines: u32,
 ) -> Result<(String, u8), Fail> {
     let alloc = rt.alloc();
     let mut failing = Vec::new(alloc);
-    for accept in 0..accepts {
-        failing.push(accept)?;
+    for wait in 0..waits {
+        failing.push(wait)?;
     }
     let none: Vec<MemPeer> = Vec::new(alloc);
     let net = MemNet::of(
@@ -143,7 +160,7 @@ fn served_amiss<R: AllocGlobal + Threads + Wait + Sync>(
 }
 
 /// A folder that can't be read, files that are refused, addresses that can't be listened on, and
-/// accepts that fail.
+/// waits that fail.
 #[test]
 fn routers_that_do_not_serve(rt: HostRuntime) -> Result<(), Fail> {
     let line = "127.0.0.1 9001\n";
@@ -176,8 +193,8 @@ fn routers_that_do_not_serve(rt: HostRuntime) -> Result<(), Fail> {
             6,
         ),
     ];
-    for (reads, listens, accepts, line, lines, written, status) in rows {
-        let (text, ended) = served_amiss(&rt, reads, listens, accepts, line, lines)?;
+    for (reads, listens, waits, line, lines, written, status) in rows {
+        let (text, ended) = served_amiss(&rt, reads, listens, waits, line, lines)?;
         assert_eq!(rt; (text.as_str(), ended), (written, status));
     }
     Ok(())
@@ -217,7 +234,9 @@ fn feeds_of_routers(rt: HostRuntime) -> Result<(), Fail> {
     for (config, run) in rows {
         let (written, given, status) = fed(&rt, config)?;
         let want = format!(in rt.alloc();
-            "HTTP/1.1 200 OK\r\nContent-Type: application/json\r\nContent-Length: 19\r\n\r\n{{\"place\":0,\"run\":{run}}}HTTP/1.1 404 Not Found\r\nContent-Type: text/plain\r\nContent-Length: 5\r\n\r\n"
+            "HTTP/1.1 200 OK\r\nContent-Type: application/json\r\nContent-Length: 19\r\n\r\n\
+                {{\"place\":0,\"run\":{run}}}HTTP/1.1 404 Not Found\r\n\
+                Content-Type: text/plain\r\nContent-Length: 5\r\n\r\n"
         )?;
         assert_eq!(rt;
             (written.as_str(), given.as_str(), status),
@@ -260,8 +279,9 @@ fn tried<R: AllocGlobal + Threads + Wait + Sync>(
 fn requests_that_are_tried_again(rt: HostRuntime) -> Result<(), Fail> {
     let alloc = rt.alloc();
     let head = "{\"routers\":[{\"protocol\":\"http\",\"dtab\":\"/svc => /$/inet/127.0.0.1/9001\"";
-    let failed =
-        "HTTP/1.1 502 Bad Gateway\r\nContent-Type: text/plain\r\nl5d-err: dial\r\nContent-Length: 5\r\n\r\ndial\n";
+    let failed = "HTTP/1.1 502 Bad Gateway\r\nContent-Type: text/plain\r\nl5d-err: dial\r\n\
+            Content-Length: 5\r\n\r\n\
+            dial\n";
     let replied = "HTTP/1.1 200 OK\r\nContent-Length: 2\r\nVia: 1.1 linkerd\r\n\r\nhi";
     let rows = [
         ("", failed),
