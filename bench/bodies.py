@@ -12,11 +12,11 @@ from over_crates import output_of
 PROGRAM = r'''//! Times the passing of bodies.
 #![tactic(auto)]
 
-ghost use Rattle.std.specs.Prelude.{◌≡◌, ◌≤◌, ◌<◌, ◌↔◌, length, None, Some, List, ℕ, Option};
+ghost use Rattle.std.specs.Prelude.{◌≡◌, ◌≤◌, ◌<◌, [], length, false, None, Some, List, ℕ, Option};
 
 use body_wire::{pass_back, pass_body};
 use http_wire::{Framing, Rest};
-use line_base::{Dialer, Failed, Peer};
+use line_base::{Dialer, Failed, Next, Peer};
 use std::alloc::{AllocError, Global};
 use std::time::Instant;
 use std::{fs, io};
@@ -89,7 +89,7 @@ struct End {
     room: [u8; 16384],
     seen: u8,
     ends: u64,
-    is_open: bool,
+    open_to: Option<(u32, u16)>,
 }
 
 impl End {
@@ -102,14 +102,14 @@ impl End {
             room: [0; 16384],
             seen: 0,
             ends: 0,
-            is_open: false,
+            open_to: None,
         })
     }
 
     /// Gives some bytes. 0 is the end, where there is room.
     fn give(&mut self, into: &mut [u8]) -> usize
         ensures within { result ≤ length into.new }
-        ensures others { (self.new.ends ≡ self.old.ends) × (self.new.is_open ≡ self.old.is_open) }
+        ensures others { (self.new.ends ≡ self.old.ends) × (self.new.open_to ≡ self.old.open_to) }
     {
         if self.times > 0 && self.at >= self.block.len() {
             self.times -= 1;
@@ -127,7 +127,7 @@ impl End {
     fn take(&mut self, bytes: &[u8]) -> usize
         ensures within { result ≤ length bytes.now }
         ensures some { 0 < length bytes.now → 0 < result }
-        ensures others { (self.new.ends ≡ self.old.ends) × (self.new.is_open ≡ self.old.is_open) }
+        ensures others { (self.new.ends ≡ self.old.ends) × (self.new.open_to ≡ self.old.open_to) }
     {
         let count = bytes.len().min(self.room.len());
         self.room[..count].copy_from_slice(&bytes[..count]);
@@ -156,6 +156,8 @@ impl Peer for End {
       read_faults = 0;
       write_faults = 0;
       ends = e.ends;
+      closings = 0;
+      quiets = 0;
     } };
 
     fn read(&mut self, into: &mut [u8]) -> Result<usize, Failed> {
@@ -164,6 +166,18 @@ impl Peer for End {
             self.ends = self.ends.saturating_add(1);
         }
         Ok(count)
+    }
+
+    fn read_next(&mut self, into: &mut [u8]) -> Result<Next, Failed> {
+        match self.read(into) {
+            Ok(0) => Ok(Next::End),
+            Ok(count) => Ok(Next::Bytes(count)),
+            Err(failed) => Err(failed),
+        }
+    }
+
+    fn is_closing(&mut self) -> bool {
+        false
     }
 
     fn write(&mut self, bytes: &[u8]) -> Result<usize, Failed> {
@@ -175,13 +189,29 @@ impl Dialer for End {
     ghost upstream = { λ e. record {
       log = None;
       left = None;
-      is_open = e.is_open;
+      open_to = e.open_to;
+      kept = [];
+      keeps = false;
+      late = false;
       faults = 0;
     } };
 
-    fn dial(&mut self, _ip: u32, _port: u16) -> Result<(), Failed> {
-        self.is_open = true;
+    fn keeps(&self) -> bool {
+        false
+    }
+
+    fn is_late(&self) -> bool {
+        false
+    }
+
+    fn dial(&mut self, ip: u32, port: u16) -> Result<(), Failed> {
+        self.open_to = Some((ip, port));
         Ok(())
+    }
+
+    fn resume(&mut self, _ip: u32, _port: u16) -> bool {
+        self.open_to = None;
+        false
     }
 
     fn send(&mut self, bytes: &[u8]) -> Result<usize, Failed> {
@@ -193,8 +223,14 @@ impl Dialer for End {
     }
 
     fn hang(&mut self) {
-        self.is_open = false;
+        self.open_to = None;
     }
+
+    fn keep(&mut self) {
+        self.open_to = None;
+    }
+
+    fn end_idle(&mut self) {}
 }
 
 /// Copies all bytes piece by piece, and gives their number.

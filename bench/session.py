@@ -12,7 +12,7 @@ from over_crates import output_of
 PROGRAM = r'''//! Times sessions.
 #![tactic(auto)]
 
-ghost use Rattle.std.specs.Prelude.{◌≡◌, ◌≤◌, length, None, Some, List, ℕ, Option};
+ghost use Rattle.std.specs.Prelude.{◌≡◌, ◌≤◌, [], length, false, None, Some, List, ℕ, Option};
 ghost use Rattle.load_words.specs.Seats.{words_of};
 ghost use Rattle.machine.specs.Code.{change_of};
 ghost use Rattle.machine.specs.State.{IsSoundChange};
@@ -22,9 +22,9 @@ ghost use Rattle.snap_cell.specs.Writers.{cell_written, opening_written};
 use addr_book::{AddrList, Name, read_addrs};
 use choose_core::Limits;
 use dtab_table::read_dtab;
-use http_wire::{Ended, FieldName};
+use http_wire::FieldName;
 use identifier::{Kind, Rule};
-use line_base::{Dialer, Failed, Gate, MemClock, Peer};
+use line_base::{Dialer, Failed, Gate, MemClock, Next, Peer};
 use machine::{Change, Settings};
 use name_tree::read_path;
 use proxy_session::{Connection, Context, Parts, Room, Server};
@@ -111,6 +111,8 @@ impl Peer for Client {
       read_faults = 0;
       write_faults = 0;
       ends = c.ends;
+      closings = 0;
+      quiets = 0;
     } };
 
     fn read(&mut self, into: &mut [u8]) -> Result<usize, Failed> {
@@ -119,6 +121,18 @@ impl Peer for Client {
             self.ends = self.ends.saturating_add(1);
         }
         Ok(count)
+    }
+
+    fn read_next(&mut self, into: &mut [u8]) -> Result<Next, Failed> {
+        match self.read(into) {
+            Ok(0) => Ok(Next::End),
+            Ok(count) => Ok(Next::Bytes(count)),
+            Err(failed) => Err(failed),
+        }
+    }
+
+    fn is_closing(&mut self) -> bool {
+        false
     }
 
     fn write(&mut self, bytes: &[u8]) -> Result<usize, Failed> {
@@ -133,13 +147,13 @@ struct Upstream {
     reply: Vec<u8>,
     at: usize,
     seen: u64,
-    is_open: bool,
+    open_to: Option<(u32, u16)>,
 }
 
 impl Upstream {
     fn give(&mut self, into: &mut [u8]) -> usize
         ensures within { result ≤ length into.new }
-        ensures others { self.new.is_open ≡ self.old.is_open }
+        ensures others { self.new.open_to ≡ self.old.open_to }
     {
         let start = self.at.min(self.reply.len());
         let count = (self.reply.len() - start).min(into.len());
@@ -153,14 +167,30 @@ impl Dialer for Upstream {
     ghost upstream = { λ u. record {
       log = None;
       left = None;
-      is_open = u.is_open;
+      open_to = u.open_to;
+      kept = [];
+      keeps = false;
+      late = false;
       faults = 0;
     } };
 
-    fn dial(&mut self, _ip: u32, _port: u16) -> Result<(), Failed> {
-        self.is_open = true;
+    fn keeps(&self) -> bool {
+        false
+    }
+
+    fn is_late(&self) -> bool {
+        false
+    }
+
+    fn dial(&mut self, ip: u32, port: u16) -> Result<(), Failed> {
+        self.open_to = Some((ip, port));
         self.at = 0;
         Ok(())
+    }
+
+    fn resume(&mut self, _ip: u32, _port: u16) -> bool {
+        self.open_to = None;
+        false
     }
 
     fn send(&mut self, bytes: &[u8]) -> Result<usize, Failed> {
@@ -173,8 +203,14 @@ impl Dialer for Upstream {
     }
 
     fn hang(&mut self) {
-        self.is_open = false;
+        self.open_to = None;
     }
+
+    fn keep(&mut self) {
+        self.open_to = None;
+    }
+
+    fn end_idle(&mut self) {}
 }
 
 /// A gate that nobody asks.
@@ -223,6 +259,7 @@ fn make_parts(alloc: Global) -> Result<Option<Made>, AllocError> {
         rule: Rule {
             kind: Kind::Token(FieldName::of(Vec::from_slice(alloc, b"Host")?)),
             prefix,
+            clears_context: false,
         },
     }))
 }
@@ -278,7 +315,7 @@ fn time<J: Naming, R: Runtime + Wait>(
             reply: Vec::from_slice(alloc, REPLY.as_bytes())?,
             at: 0,
             seen: 0,
-            is_open: false,
+            open_to: None,
         },
         clock: MemClock::of(alloc, vec![in alloc; 1000]?)?,
         words: Pcg64::seed_from_u64(7),
