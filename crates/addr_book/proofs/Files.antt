@@ -4,7 +4,8 @@ use Rattle.std.specs.Prelude.{slice_range}
 use Rattle.addr_book.specs.declared.addr.Weighted.{Weighted}
 use Rattle.addr_book.specs.declared.file_line.FileLine.{FileLine}
 use Rattle.addr_book.specs.declared.file_line.FileLine.TheVariants.{Blank, Item, Bad}
-use Rattle.addr_book.specs.FileLine.{lines_of, line_value}
+use Rattle.text_parts.specs.Lines.{lines_of}
+use Rattle.addr_book.specs.FileLine.{line_value}
 use Rattle.addr_book.specs.declared.addr_file.AddrFault.TheVariants.{BadLine}
 use Rattle.addr_book.specs.AddrFile.{File, bad_at, addrs, with_line, file_from, file_value, IsLinesAnswer}
 

@@ -10,10 +10,12 @@ use Rattle.std.proofs.lemmas.List.Splits.{slice_split_at, slice_split_none, join
 use Rattle.std.proofs.lemmas.Option.{same_Some, option_and_then_some}
 use Rattle.std.proofs.lemmas.Slice.Eq.{bytes_eq-Decides}
 use Rattle.name_tree.specs.Grammar.{is_digit, AreDigits, no_digit, digit, number}
-use Rattle.addr_book.specs.Addr.{digits_behind, number_value, at_most, octet_value, ip_of_octets, host_value, port_value}
+use Rattle.text_parts.specs.Numbers.{digits_behind, number_value, at_most}
+use Rattle.text_parts.specs.Words.{is_gap}
+use Rattle.text_parts.proofs.Digits.{at_most_gives, at_most_read}
+use Rattle.text_parts.proofs.GapWords.{Lacks, lacks_none, lacks, lacks_append}
+use Rattle.addr_book.specs.Addr.{octet_value, ip_of_octets, host_value, port_value}
 use Rattle.addr_book.specs.AddrGrammar.{SpellsNumber, one_digit, digits, SpellsOctet, octet, SpellsHost, localhost, octets, SpellsPort, port}
-use Rattle.addr_book.specs.FileLine.{is_gap}
-use Rattle.addr_book.proofs.GapWords.{Lacks, lacks_none, lacks, lacks_append}
 use Rattle.addr_book.proofs.Hosts.{one_part, two_parts, three_parts, more_parts}
 
 -- ---- numbers
@@ -70,17 +72,6 @@ digits_lack p f (digit {b = b} h r) = lacks (f b h) (digits_lack p f r)
 pub number_lacks : (p : ℕ → Bool) → ((b : ℕ) → is_digit b ≡ true → p b ≡ false) → {s : List ℕ} {n : ℕ} → SpellsNumber s n → Lacks p s
 number_lacks p f (one_digit r) = digits_lack p f r
 number_lacks p f (digits n r) = digits_lack p f r
-
-pub at_most_gives : (most : ℕ) (o : Option ℕ) (v : ℕ) → at_most most o ≡ Some v → (o ≡ Some v) × (v ≤ most)
-at_most_gives most None v e = cc
-at_most_gives most (Some n) v e = go (nat_le n most) refl e
-  where
-    go : (t : Bool) → nat_le n most ≡ t → (if t then Some n else None) ≡ Some v → (Some n ≡ Some v) × (v ≤ most)
-    go true h f = let le : n ≤ most = grind (arith, nat_tests) in (f, subst (λ m. m ≤ most) (same_Some n v f) le)
-    go false h f = cc
-
-pub at_most_read : (most n : ℕ) → n ≤ most → at_most most (Some n) ≡ Some n
-at_most_read most n le = let e : nat_le n most ≡ true = grind (arith, nat_tests) in rw e refl
 
 -- ---- hosts
 

@@ -1,15 +1,14 @@
--- Texts that are cut at a byte, and numbers in decimal digits.
-use Rattle.std.proofs.Common.{◌≡◌, ℕ, ◌+◌, ◌-◌, ◌*◌, ◌<◌, ◌≤◌, Bool, true, false, List, [], ◌∷◌, length, take, drop, Some, None, refl, sym, ap, ◌∙◌, arith, length-drop, take_all, drop-cons, get_or, suc, Option, Bor, map}
+-- Texts that are cut at a byte, and addresses of four parts.
+use Rattle.std.proofs.Common.{◌≡◌, ℕ, ◌+◌, ◌-◌, ◌<◌, ◌≤◌, Bool, true, false, List, [], ◌∷◌, length, take, drop, Some, None, refl, sym, arith, length-drop, take_all, Option, Bor, map}
 use Rattle.std.specs.Prelude.{nat_lt, ◌==◌, if◌then◌else◌}
 use Rattle.std.specs.Option.{option_map_or, is_some}
 use Rattle.std.specs.List.{slice_split, position, position_or_len}
-use Rattle.std.specs.Char.{is_ascii_digit}
 use Rattle.std.proofs.lemmas.List.{length-map}
 use Rattle.std.proofs.lemmas.Bool.Decides.{nat_tests}
 use Rattle.std.proofs.lemmas.List.Splits.{slice_split_none, slice_split_first, length-slice_split}
 use Rattle.std.proofs.lemmas.List.Sums.{fails_before_first}
 use Rattle.std.proofs.lemmas.List.Elements.{All-from_get_or}
-use Rattle.addr_book.specs.Addr.{digits_behind, at_most, octet_value, ip_of_octets}
+use Rattle.addr_book.specs.Addr.{octet_value, ip_of_octets}
 
 some_place : (n len at : ℕ) → Some at ≡ (if nat_lt n len then Some n else None) → (at ≡ n) × (n < len)
 some_place n len at h = (grind (arith, nat_tests), grind (arith, nat_tests))
@@ -29,21 +28,6 @@ module _ (p : ℕ → Bool) (xs : List ℕ) where
   cut_none h =
       let far = no_place (position_or_len p xs) (length xs) (sym h) in
       slice_split_none p xs (All-from_get_or (λ x. p x ≡ false) xs 0 (λ i lt. fails_before_first p xs i 0 (omega arith)))
-
--- a number that is over the limit stays over it
-pub over_limit : (most n : ℕ) (bs : List ℕ) → most < n → at_most most (digits_behind n bs) ≡ None
-over_limit most n [] h = grind (arith, nat_tests)
-over_limit most n (b ∷ bs) h =
-    let later = over_limit most (10 * n + (b - 48)) bs (omega arith) in
-    elim (is_ascii_digit b) as (λ d. at_most most (if d then digits_behind (10 * n + (b - 48)) bs else None) ≡ None) [ true ↦ later | false ↦ refl ]
-
--- the next digit takes the number over the limit
-pub over_at : (most n : ℕ) (text : List ℕ) (at : ℕ) → at < length text → is_ascii_digit (get_or text at 0) ≡ true → most < 10 * n + (get_or text at 0 - 48)
-    → digits_behind n (drop at text) ≡ digits_behind 0 text → None ≡ at_most most (digits_behind 0 text)
-over_at most n text at lt digit over same =
-    let next : drop at text ≡ get_or text at 0 ∷ drop (suc at) text = drop-cons text at 0 lt in
-    let read : digits_behind n (get_or text at 0 ∷ drop (suc at) text) ≡ digits_behind (10 * n + (get_or text at 0 - 48)) (drop (suc at) text) = rw digit refl in
-    sym (ap (at_most most) (sym same ∙ ap (digits_behind n) next ∙ read) ∙ over_limit most (10 * n + (get_or text at 0 - 48)) (drop (suc at) text) over)
 
 -- an address has neither fewer than four parts nor five
 pub one_part : (a : Option ℕ) → ip_of_octets (a ∷ []) ≡ None

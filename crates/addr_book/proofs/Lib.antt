@@ -5,12 +5,12 @@ pub mod Bounds
 pub mod Counts
 pub mod Files
 pub mod Fronts
-pub mod GapWords
 pub mod HostTexts
 pub mod Hosts
+pub mod InOrder
 pub mod LineTexts
-pub mod Lines
-pub mod LinesTexts
+pub mod NameBytes
+pub mod Naming
 pub mod Places
 pub mod Results
 pub mod Seating

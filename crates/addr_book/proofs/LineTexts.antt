@@ -12,10 +12,12 @@ use Rattle.addr_book.specs.declared.addr.Weighted.{Weighted}
 use Rattle.addr_book.specs.declared.file_line.FileLine.{FileLine}
 use Rattle.addr_book.specs.declared.file_line.FileLine.TheVariants.{Blank, Item, Bad}
 use Rattle.addr_book.specs.Addr.{host_value, port_value, addr_of}
-use Rattle.addr_book.specs.AddrGrammar.{AreGaps, no_gap, gap, SpellsHost, SpellsPort, SpellsShare, whole_share, share, AddrText, addr}
-use Rattle.addr_book.specs.FileLine.{is_gap, is_empty, drop_gaps, word_of, behind_word, single_word, before_star, behind_star, some_weight, line_weight, item_line, behind_host, words_value, line_value}
-use Rattle.addr_book.proofs.GapWords.{Lacks, lacks_none, lacks, lacks_append, gaps_append, all_gaps, GapsCut, gaps_cut, gaps_gone, word_first, GapFirst, end_first, gap_first, some_gap_first, word_cut, behind_first, word_is, behind_is, InGaps, append_none, none_left, single_cut, single_is, single_gap}
-use Rattle.addr_book.proofs.Stars.{is_star, gap_no_star, gaps_lack_stars, StarCut, star_cut, before_first_star, before_all, behind_all, before_at, behind_at}
+use Rattle.text_parts.specs.Words.{is_gap, is_empty, drop_gaps, word_of, behind_word, single_word, AreGaps, no_gap, gap}
+use Rattle.text_parts.proofs.Cuts.{ByteCut, byte_cut, before_first, before_all, behind_all, before_at, behind_at}
+use Rattle.addr_book.specs.AddrGrammar.{SpellsHost, SpellsPort, SpellsShare, whole_share, share, AddrText, addr}
+use Rattle.addr_book.specs.FileLine.{before_star, behind_star, some_weight, line_weight, item_line, behind_host, words_value, line_value}
+use Rattle.text_parts.proofs.GapWords.{Lacks, lacks_none, lacks, lacks_append, gaps_append, all_gaps, GapsCut, gaps_cut, gaps_gone, word_first, GapFirst, end_first, gap_first, some_gap_first, word_cut, behind_first, word_is, behind_is, InGaps, append_none, none_left, single_cut, single_is, single_gap}
+use Rattle.addr_book.proofs.Stars.{is_star, gap_no_star, gaps_lack_stars}
 use Rattle.addr_book.proofs.HostTexts.{host_read, port_read, hosts, ports, port_lacks, some_port, digit_no_gap, host_no_gaps, some_host}
 
 -- ---- weights
@@ -122,7 +124,7 @@ module _ (weights : ComputesWeights) where
       let k = weight_gives m n f in
       record { word = word; around = single_cut text word found; spells = subst (SpellsWeight word) k.0 ((weights word m).0 reads); some = k.1 }))
 
-  cut_gives : (text front : List ℕ) (rest : Option (List ℕ)) (g p b : List ℕ) (n w : ℕ) → StarCut text front rest → front ≡ g ++ (p ++ b)
+  cut_gives : (text front : List ℕ) (rest : Option (List ℕ)) (g p b : List ℕ) (n w : ℕ) → ByteCut 42 text front rest → front ≡ g ++ (p ++ b)
       → AreGaps g → 1 ≤ length g → SpellsPort p n → AreGaps b → line_weight rest ≡ Some w → AfterHost text n w
   cut_gives text front None g p b n w cut is gg some pp gb e =
       let same : text ≡ g ++ (p ++ (b ++ [])) = cut ∙ (is ∙ ap (λ (xs : List ℕ). g ++ (p ++ xs)) (sym (append_none b))) in
@@ -140,12 +142,12 @@ module _ (weights : ComputesWeights) where
       → AfterHost rest n w
   after_gives [] f n w e g = cc
   after_gives (b ∷ bs) (gap_first h) n w e g =
-      let front : before_star (b ∷ bs) ≡ b ∷ before_star bs = before_first_star b bs (gap_no_star b h) in
+      let front : before_star (b ∷ bs) ≡ b ∷ before_star bs = before_first 42 b bs (gap_no_star b h) in
       let same : single_word (before_star (b ∷ bs)) ≡ single_word (before_star bs) = ap single_word front ∙ single_gap b (before_star bs) h in
       option_and_then_some port_value (single_word (before_star bs)) n (sym (ap (option_and_then port_value) same) ∙ e)
       (λ word found reads.
       let parts = single_cut (before_star bs) word found in
-      cut_gives (b ∷ bs) (before_star (b ∷ bs)) (behind_star (b ∷ bs)) (b ∷ parts.before) word parts.behind n w (star_cut (b ∷ bs))
+      cut_gives (b ∷ bs) (before_star (b ∷ bs)) (behind_star (b ∷ bs)) (b ∷ parts.before) word parts.behind n w (byte_cut 42 (b ∷ bs))
       (front ∙ ap (λ (xs : List ℕ). b ∷ xs) parts.is) (gap h parts.gaps) (omega arith) ((ports word n).0 reads) parts.more g)
 
   line_gives : (line : List ℕ) (item : Weighted) → line_value line ≡ Item item → AddrText line item
@@ -170,19 +172,19 @@ module _ (weights : ComputesWeights) where
       let tail : AreGaps (b ++ c) = gaps_append gb gc in
       let none : Lacks is_star (g ++ (p ++ (b ++ c)))
       = lacks_append is_star (gaps_lack_stars gg) (lacks_append is_star (port_lacks is_star digit_no_star pp) (gaps_lack_stars tail)) in (
-        ap (λ (xs : List ℕ). option_and_then port_value (single_word xs)) (before_all none)
+        ap (λ (xs : List ℕ). option_and_then port_value (single_word xs)) (before_all 42 none)
             ∙ (ap (option_and_then port_value) (single_is gg (port_lacks is_gap digit_no_gap pp) (some_port pp) tail) ∙ port_read pp),
-        ap line_weight (behind_all none),
+        ap line_weight (behind_all 42 none),
       )
   after_read (after {g = g} {p = p} {b = b} {c = c} gg some pp gb (share {a = x} {w = y} {n = n} gx sy least) gc) =
       let front : Lacks is_star (g ++ (p ++ b))
       = lacks_append is_star (gaps_lack_stars gg) (lacks_append is_star (port_lacks is_star digit_no_star pp) (gaps_lack_stars gb)) in
       let same : g ++ (p ++ (b ++ ((42 ∷ (x ++ y)) ++ c))) ≡ (g ++ (p ++ b)) ++ 42 ∷ (x ++ (y ++ c)) = sym (nest g p b x y c) in (
         ap (λ (xs : List ℕ). option_and_then port_value (single_word (before_star xs))) same
-            ∙ (ap (λ (xs : List ℕ). option_and_then port_value (single_word xs)) (before_at front (x ++ (y ++ c)))
+            ∙ (ap (λ (xs : List ℕ). option_and_then port_value (single_word xs)) (before_at 42 front (x ++ (y ++ c)))
             ∙ (ap (option_and_then port_value) (single_is gg (port_lacks is_gap digit_no_gap pp) (some_port pp) gb) ∙ port_read pp)),
         ap (λ (xs : List ℕ). line_weight (behind_star xs)) same
-            ∙ (ap line_weight (behind_at front (x ++ (y ++ c)))
+            ∙ (ap line_weight (behind_at 42 front (x ++ (y ++ c)))
             ∙ (ap (λ (o : Option (List ℕ)). option_and_then some_weight (option_and_then weight_of o)) (single_is gx (weight_lacks sy) (some_weight_text sy) gc)
             ∙ (ap (option_and_then some_weight) ((weights y n).1 sy) ∙ weight_stays n least))),
       )

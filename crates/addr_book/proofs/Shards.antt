@@ -9,11 +9,11 @@ use Rattle.std.specs.Cmp.{IsTotalOrder, Equal-is}
 use Rattle.std.specs.FinMap.{FinMap, IsAntisymmetric, empty, entries, find, get, insert, remove, contains_key, get-empty, get-entries, get-from_entries, get-insert, get-remove, same_map, len-entries, len-empty}
 use Rattle.addr_book.specs.Shards.{IsChanged, joined, whole, AreHome, IsSharded}
 
-no_length : {A : Type 0} (xs : List A) → length xs ≡ 0 → xs ≡ []
+pub no_length : {A : Type 0} (xs : List A) → length xs ≡ 0 → xs ≡ []
 no_length [] e = refl
 no_length (x ∷ xs) e = absurd (omega arith)
 
-abbrev either : {V : Type 0} → Option V → Option V → Option V
+abbrev pub either : {V : Type 0} → Option V → Option V → Option V
 either None p = p
 either (Some x) p = Some x
 
@@ -29,7 +29,7 @@ tied_is : {K : Type 0} {R : K → K → Ordering} → IsAntisymmetric R → (q k
 tied_is {R = R} only q k e = only q k ((Equal-is (R q k)).0 e)
 
 module _ {K V : Type 0} {R : K → K → Ordering} (o : IsTotalOrder R) (only : IsAntisymmetric R) (home : K → ℕ) where
-  find-both : (q : K) (es fs : List (K × V)) → find R q (es ++ fs) ≡ either (find R q es) (find R q fs)
+  pub find-both : (q : K) (es fs : List (K × V)) → find R q (es ++ fs) ≡ either (find R q es) (find R q fs)
   find-both q [] fs = refl
   find-both q (e ∷ es) fs =
       let rest = find-both q es fs in
@@ -38,7 +38,7 @@ module _ {K V : Type 0} {R : K → K → Ordering} (o : IsTotalOrder R) (only : 
   away : (m : FinMap R V) (at : ℕ) → ((q : K) → contains_key m q ≡ true → home q ≡ at) → (q : K) → home q ≢ at → get m q ≡ None
   away m at own q other = is_none (get m q) (not_true (contains_key m q) (λ e. other (own q e)))
 
-  none_later : (ms : List (FinMap R V)) (at : ℕ) → AreHome home at ms → (q : K) → home q < at → find R q (joined ms) ≡ None
+  pub none_later : (ms : List (FinMap R V)) (at : ℕ) → AreHome home at ms → (q : K) → home q < at → find R q (joined ms) ≡ None
   none_later [] at h q lt = refl
   none_later (m ∷ ms) at h q lt =
       let here = sym (get-entries m q) ∙ away m at h.0 q (λ e. absurd (omega arith)) in

@@ -1,28 +1,12 @@
 -- The texts of hosts, ports and addresses, and the order of addresses.
-use Rattle.std.specs.Prelude.{ℕ, ◌+◌, ◌-◌, ◌*◌, ◌/◌, ◌%◌, ◌==◌, nat_le, if◌then◌else◌, List, []}
+use Rattle.std.specs.Prelude.{ℕ, ◌+◌, ◌*◌, ◌/◌, ◌%◌, ◌==◌, nat_le, if◌then◌else◌, List, []}
 use Rattle.std.specs.Prelude.{◌∷◌, ◌++◌, map, codes, Option, Some, None}
 use Rattle.std.specs.Option.{option_and_then}
-use Rattle.std.specs.Char.{is_ascii_digit}
 use Rattle.std.specs.List.{slice_split}
 use Rattle.std.specs.Str.{bytes_eq}
 use Rattle.std.specs.Fmt.{decimal}
+use Rattle.text_parts.specs.Numbers.{at_most, number_value}
 use Rattle.addr_book.specs.declared.addr.Addr.{Addr}
-
--- the number of some digits, behind those that were read
-abbrev pub digits_behind : ℕ → List ℕ → Option ℕ
-digits_behind n [] = Some n
-digits_behind n (b ∷ bs) = if is_ascii_digit b then digits_behind (10 * n + (b - 48)) bs else None
-
--- a number in decimal digits, with no leading zero
-abbrev pub number_value : List ℕ → Option ℕ
-number_value [] = None
-number_value (b ∷ []) = digits_behind 0 (b ∷ [])
-number_value (b ∷ c ∷ bs) = if b == 48 then None else digits_behind 0 (b ∷ c ∷ bs)
-
--- the value, where it is no more than a limit
-abbrev pub at_most : ℕ → Option ℕ → Option ℕ
-at_most most None = None
-at_most most (Some n) = if nat_le n most then Some n else None
 
 -- a part of an IPv4 address: 0 to 255
 abbrev pub octet_value : List ℕ → Option ℕ
@@ -49,9 +33,12 @@ abbrev pub addr_of : Option ℕ → Option ℕ → Option Addr
 addr_of (Some ip) (Some port) = Some (record { ip = ip; port = port })
 addr_of _ _ = None
 
--- an address as text: four numbers with points between them, `:`, and the port
+-- an IPv4 address as text: four numbers with points between them
+abbrev pub ip_text : ℕ → List ℕ
+ip_text ip =
+    decimal (ip / 16777216) ++ codes "." ++ decimal (ip / 65536 % 256) ++ codes "."
+    ++ decimal (ip / 256 % 256) ++ codes "." ++ decimal (ip % 256)
+
+-- an address as text: the IPv4 address, `:`, and the port
 abbrev pub addr_text : Addr → List ℕ
-addr_text addr =
-    decimal (addr.ip / 16777216) ++ (46 ∷ []) ++ decimal (addr.ip / 65536 % 256) ++ (46 ∷ [])
-    ++ decimal (addr.ip / 256 % 256) ++ (46 ∷ []) ++ decimal (addr.ip % 256)
-    ++ (58 ∷ []) ++ decimal addr.port
+addr_text addr = ip_text addr.ip ++ codes ":" ++ decimal addr.port

@@ -2,13 +2,14 @@
 use Rattle.std.specs.Prelude.{◌≡◌, ℕ, ◌+◌, ◌<◌, ◌≤◌, min, List, [], ◌∷◌, length, Result, Ok, Err}
 use Rattle.std.specs.declared.vec.Vec.{Vec}
 use Rattle.std.specs.declared.alloc.Global.{Global}
+use Rattle.text_parts.specs.Lines.{lines_of}
 use Rattle.addr_book.specs.declared.addr.Weighted.{Weighted}
 use Rattle.addr_book.specs.declared.file_line.FileLine.{FileLine}
 use Rattle.addr_book.specs.declared.file_line.FileLine.TheVariants.{Blank, Item, Bad}
 use Rattle.addr_book.specs.declared.addr_file.AddrFault.{AddrFault}
 use Rattle.addr_book.specs.declared.addr_file.AddrFault.TheVariants.{BadLine, TooMany, OutOfMemory}
 use Rattle.addr_book.specs.AddrList.{first_places}
-use Rattle.addr_book.specs.FileLine.{lines_of, line_value}
+use Rattle.addr_book.specs.FileLine.{line_value}
 
 -- what an address file says: its first bad line, or the addresses of its lines with their weights,
 -- in order

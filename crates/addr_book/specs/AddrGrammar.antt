@@ -1,35 +1,10 @@
--- The lines of a text, and the texts that stand for hosts, ports and lines of an address file: a
--- rule for each line of the grammar.
-use Rattle.std.specs.Prelude.{◌≡◌, ◌≢◌, ℕ, ◌+◌, ◌*◌, ◌≤◌, List, [], ◌∷◌, ◌++◌, length, codes}
-use Rattle.std.specs.Prelude.{IsTrue}
+-- The texts that stand for hosts, ports and lines of an address file: a rule for each line of the
+-- grammar.
+use Rattle.std.specs.Prelude.{◌≢◌, ℕ, ◌+◌, ◌*◌, ◌≤◌, List, [], ◌∷◌, ◌++◌, length, codes}
+use Rattle.text_parts.specs.Words.{AreGaps}
 use Rattle.name_tree.specs.Value.{one_whole}
 use Rattle.name_tree.specs.Grammar.{AreDigits, number, SpellsWeight}
 use Rattle.addr_book.specs.declared.addr.Weighted.{Weighted}
-use Rattle.addr_book.specs.FileLine.{is_gap}
-
--- a text without a line feed
-pub data HasNoFeed : List ℕ → Type 0 where
-  no_byte : HasNoFeed []
-  no_feed : {b : ℕ} {s : List ℕ} → b ≢ 10 → HasNoFeed s → HasNoFeed (b ∷ s)
-
--- the last byte of a text, if there is one, is no carriage return
-abbrev pub EndsPlain : List ℕ → Type 0
-EndsPlain s = (front : List ℕ) → s ≡ front ++ 13 ∷ [] → ⊥
-
--- the lines of a text. Each ends with a line feed, or a carriage return and a line feed; the last
--- may end with the text, where it has a byte
-pub data SpellsLines : List ℕ → List (List ℕ) → Type 0 where
-  no_line : SpellsLines [] []
-  last_line : {l : List ℕ} → HasNoFeed l → 1 ≤ length l → SpellsLines l (l ∷ [])
-  line : {l t : List ℕ} {ls : List (List ℕ)} → HasNoFeed l → EndsPlain l → SpellsLines t ls
-      → SpellsLines (l ++ 10 ∷ t) (l ∷ ls)
-  returned_line : {l t : List ℕ} {ls : List (List ℕ)} → HasNoFeed l → SpellsLines t ls
-      → SpellsLines (l ++ 13 ∷ 10 ∷ t) (l ∷ ls)
-
--- any number of spaces and tabs, none included
-pub data AreGaps : List ℕ → Type 0 where
-  no_gap : AreGaps []
-  gap : {b : ℕ} {s : List ℕ} → IsTrue (is_gap b) → AreGaps s → AreGaps (b ∷ s)
 
 -- a number in decimal digits: one, or several that don't begin with 0
 pub data SpellsNumber : List ℕ → ℕ → Type 0 where

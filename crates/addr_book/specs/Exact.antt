@@ -1,15 +1,11 @@
--- That lines, hosts and ports are read as the grammar has them.
+-- That hosts, ports and lines of address files are read as the grammar has them.
 use Rattle.std.specs.Prelude.{◌≡◌, ◌↔◌, ℕ, List, Some}
+use Rattle.text_parts.specs.Words.{AreGaps}
 use Rattle.addr_book.specs.declared.addr.Weighted.{Weighted}
 use Rattle.addr_book.specs.declared.file_line.FileLine.TheVariants.{Blank, Item}
 use Rattle.addr_book.specs.Addr.{host_value, port_value}
-use Rattle.addr_book.specs.FileLine.{lines_of, line_value}
-use Rattle.addr_book.specs.AddrGrammar.{SpellsLines, AreGaps, SpellsHost, SpellsPort}
-use Rattle.addr_book.specs.AddrGrammar.{AddrText}
-
--- the lines that are computed are those of the text, and no others
-abbrev pub ComputesLines : Type 0
-ComputesLines = (text : List ℕ) (ls : List (List ℕ)) → (lines_of text ≡ ls) ↔ SpellsLines text ls
+use Rattle.addr_book.specs.FileLine.{line_value}
+use Rattle.addr_book.specs.AddrGrammar.{AddrText, SpellsHost, SpellsPort}
 
 -- the hosts that are computed are those of the grammar, and no others
 abbrev pub ComputesHosts : Type 0

@@ -1,7 +1,8 @@
 -- The lines of an address file.
-use Rattle.std.specs.Prelude.{ℕ, Bool, true, false, ◌||◌, ◌&&◌, ◌==◌, if◌then◌else◌, List, [], ◌∷◌}
-use Rattle.std.specs.Prelude.{Option, Some, None}
+use Rattle.std.specs.Prelude.{ℕ, ◌==◌, if◌then◌else◌, List, Option, Some, None}
 use Rattle.std.specs.Option.{option_and_then}
+use Rattle.text_parts.specs.Words.{before_byte, behind_byte, behind_word, drop_gaps, is_empty}
+use Rattle.text_parts.specs.Words.{single_word, word_of}
 use Rattle.name_tree.specs.Weight.{weight_of}
 use Rattle.addr_book.specs.declared.addr.Addr.{Addr}
 use Rattle.addr_book.specs.declared.file_line.FileLine.{FileLine}
@@ -9,59 +10,12 @@ use Rattle.addr_book.specs.declared.file_line.FileLine.TheVariants.{Blank, Item,
 use Rattle.addr_book.specs.Addr.{host_value, port_value, addr_of}
 use Rattle.addr_book.specs.AddrList.{IsWeight}
 
--- a byte at the front of the first line
-abbrev pub joined : ℕ → List (List ℕ) → List (List ℕ)
-joined b [] = (b ∷ []) ∷ []
-joined b (l ∷ ls) = (b ∷ l) ∷ ls
-
-abbrev pub begins_feed : List ℕ → Bool
-begins_feed [] = false
-begins_feed (b ∷ bs) = b == 10
-
--- the lines of a text, each to its line feed and without it. The last may lack it. A carriage
--- return right before a line feed is dropped
-abbrev pub lines_of : List ℕ → List (List ℕ)
-lines_of [] = []
-lines_of (b ∷ bs) =
-    if b == 10 then [] ∷ lines_of bs
-    else (if b == 13 && begins_feed bs then lines_of bs else joined b (lines_of bs))
-
--- a space or a tab
-abbrev pub is_gap : ℕ → Bool
-is_gap b = b == 32 || b == 9
-
-abbrev pub drop_gaps : List ℕ → List ℕ
-drop_gaps [] = []
-drop_gaps (b ∷ bs) = if is_gap b then drop_gaps bs else b ∷ bs
-
--- the bytes to the first gap, and those from there on
-abbrev pub word_of : List ℕ → List ℕ
-word_of [] = []
-word_of (b ∷ bs) = if is_gap b then [] else b ∷ word_of bs
-
-abbrev pub behind_word : List ℕ → List ℕ
-behind_word [] = []
-behind_word (b ∷ bs) = if is_gap b then b ∷ bs else behind_word bs
-
-abbrev pub is_empty : List ℕ → Bool
-is_empty [] = true
-is_empty (b ∷ bs) = false
-
--- the one word of a text, between gaps; None where there are more. The text of gaps alone has the
--- empty word
-abbrev pub single_word : List ℕ → Option (List ℕ)
-single_word text =
-    let words = drop_gaps text in
-    if is_empty (drop_gaps (behind_word words)) then Some (word_of words) else None
-
 -- the bytes before the first `*`, and those behind it, if there is one
 abbrev pub before_star : List ℕ → List ℕ
-before_star [] = []
-before_star (b ∷ bs) = if b == 42 then [] else b ∷ before_star bs
+before_star text = before_byte 42 text
 
 abbrev pub behind_star : List ℕ → Option (List ℕ)
-behind_star [] = None
-behind_star (b ∷ bs) = if b == 42 then Some bs else behind_star bs
+behind_star text = behind_byte 42 text
 
 -- a weight that is not 0
 abbrev pub some_weight : ℕ → Option ℕ

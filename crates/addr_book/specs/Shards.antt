@@ -1,5 +1,6 @@
 -- A finite map in shards: maps of which each has the keys of its own place.
-use Rattle.std.specs.Prelude.{◌≡◌, ℕ, ◌+◌, true, List, [], ◌∷◌, ◌++◌, length, slice_set, Option}
+use Rattle.std.specs.Prelude.{◌≡◌, ℕ, ◌+◌, true, List, [], ◌∷◌, ◌++◌, length, map, slice_set}
+use Rattle.std.specs.Prelude.{Option}
 use Rattle.std.specs.declared.cmp.Ordering.{Ordering}
 use Rattle.std.specs.FinMap.{FinMap, entries, from_entries, contains_key}
 
@@ -7,6 +8,10 @@ use Rattle.std.specs.FinMap.{FinMap, entries, from_entries, contains_key}
 abbrev pub joined : {K V : Type 0} {R : K → K → Ordering} → List (FinMap R V) → List (K × V)
 joined [] = []
 joined (shard ∷ shards) = entries shard ++ joined shards
+
+-- the keys of all shards
+abbrev pub joined_keys : {K V : Type 0} {R : K → K → Ordering} → List (FinMap R V) → List K
+joined_keys shards = map (λ entry. entry.0) (joined shards)
 
 -- the map of them all
 abbrev pub whole : {K V : Type 0} {R : K → K → Ordering} → List (FinMap R V) → FinMap R V

@@ -1,14 +1,14 @@
 //! Addresses of replicas, and their weights.
-ghost use Rattle.std.specs.Prelude.{◌≡◌, ◌++◌, length, take, decimal, OnOk, OnErr};
+ghost use Rattle.std.specs.Prelude.{◌≡◌, ◌++◌, length, take, OnOk, OnErr};
 ghost use Rattle.std.proofs.Common.{rules};
 ghost use Rattle.std.specs.Cmp.{partial_order_from_own_ties};
 ghost use Rattle.std.specs.Cmp.Rules.{comparing};
 ghost use Rattle.std.specs.Ordering.{nat_cmp, on, then_cmp, as_partial_cmp};
-ghost use Rattle.addr_book.specs.Addr.{addr_text};
+ghost use Rattle.addr_book.specs.Addr.{addr_text, ip_text};
 
 use crate::{Bytes, Mem};
-use itoa::Buffer;
 use std::cmp::Ordering;
+use text_parts::append_number;
 
 /// An IPv4 address and a port. Addresses are ordered by the IPv4 address and then by the port.
 #[derive(Clone, Copy, Debug, PartialEq, Eq)]
@@ -77,22 +77,24 @@ fn append_text(addr: Addr, out: &mut Bytes) -> Mem<()>
     ensures ok { OnOk result (out.new.items ≡ out.old.items ++ addr_text addr) }
     ensures err { OnErr result (take (length out.old.items) out.new.items ≡ out.old.items) }
 {
-    append_number(addr.ip / 0x0100_0000, out)?;
-    out.push(b'.')?;
-    append_number(addr.ip / 0x0001_0000 % 0x100, out)?;
-    out.push(b'.')?;
-    append_number(addr.ip / 0x0000_0100 % 0x100, out)?;
-    out.push(b'.')?;
-    append_number(addr.ip % 0x100, out)?;
+    append_ip(addr.ip, out)?;
     out.push(b':')?;
-    append_number(u32::from(addr.port), out)?;
+    append_number(u64::from(addr.port), out)?;
     Ok(())
 }
 
-/// Puts a number behind some bytes, in decimal digits. An `Err` changes nothing.
-fn append_number(number: u32, out: &mut Bytes) -> Mem<()>
-    ensures ok { OnOk result (out.new.items ≡ out.old.items ++ decimal number) }
-    ensures err { OnErr result (out.new.items ≡ out.old.items) }
+/// Puts an IPv4 address behind some bytes, as `a.b.c.d`, with no zero before a number. An `Err`
+/// leaves a part of it there.
+pub fn append_ip(ip: u32, out: &mut Bytes) -> Mem<()>
+    ensures ok { OnOk result (out.new.items ≡ out.old.items ++ ip_text ip) }
+    ensures err { OnErr result (take (length out.old.items) out.new.items ≡ out.old.items) }
 {
-    out.extend_from_slice(Buffer::new().format(number).as_bytes())
+    append_number(u64::from(ip / 0x0100_0000), out)?;
+    out.push(b'.')?;
+    append_number(u64::from(ip / 0x0001_0000 % 0x100), out)?;
+    out.push(b'.')?;
+    append_number(u64::from(ip / 0x0000_0100 % 0x100), out)?;
+    out.push(b'.')?;
+    append_number(u64::from(ip % 0x100), out)?;
+    Ok(())
 }

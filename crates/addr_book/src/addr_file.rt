@@ -5,18 +5,23 @@ ghost use Rattle.addr_book.specs.AddrFile.{IsFileAnswer, IsLinesAnswer, file_val
 
 use crate::addr::Weighted;
 use crate::addr_list::{AddrList, MOST_ADDRS};
-use crate::file_line::{FileLine, cut_line, read_line};
+use crate::file_line::{FileLine, read_line};
 use std::alloc::{AllocError, AllocFailed, Global};
+use text_parts::cut_line;
+use thiserror::Error;
 
 /// Why a text is no address file.
-#[derive(Clone, Copy, Debug, PartialEq, Eq)]
+#[derive(Clone, Copy, Debug, PartialEq, Eq, Error)]
 pub enum AddrFault {
     /// The first line, counted from 1, that is neither blank nor an address; a number above
     /// 4,294,967,295 is given as that.
+    #[error("line {0} is no address")]
     BadLine(u32),
     /// It has so many lines with an address, which is more than 1,024.
+    #[error("{0} addresses are too many")]
     TooMany(usize),
     /// There was no memory for the addresses.
+    #[error("out of memory")]
     OutOfMemory,
 }
 

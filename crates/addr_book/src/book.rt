@@ -98,6 +98,16 @@ impl Book {
         }
     }
 
+    /// The names of all services, in the order of their bytes.
+    ///
+    /// It takes memory for as many names as there are services, at most 4,096, which share their
+    /// bytes with those of the book, and sorts them: about `n log n` comparisons of names.
+    pub fn names(&self, alloc: Global) -> Mem<Vec<Name>>
+        ensures { IfOk result (λ names. names.items ≡ map.keys self.now.services) }
+    {
+        self.parts.services.names(alloc)
+    }
+
     /// The service with this name's text. `None` where it is not there, as where the text is no
     /// name.
     ///

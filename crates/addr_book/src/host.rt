@@ -1,9 +1,10 @@
 //! Hosts and ports, as the labels of a path write them.
-ghost use Rattle.std.specs.Prelude.{◌≡◌, ◌≤◌, ◌∷◌, ◌==◌, [], map, IfSome};
+ghost use Rattle.std.specs.Prelude.{◌≡◌, ◌∷◌, ◌==◌, [], map};
 ghost use Rattle.std.specs.List.{slice_split, position};
 ghost use Rattle.std.specs.Option.{option_map_or};
-ghost use Rattle.addr_book.specs.Addr.{at_most, digits_behind, number_value, octet_value};
-ghost use Rattle.addr_book.specs.Addr.{ip_of_octets, host_value, port_value};
+ghost use Rattle.addr_book.specs.Addr.{host_value, ip_of_octets, octet_value, port_value};
+
+use text_parts::read_number_to;
 
 /// The host that stands for the machine itself.
 const LOCALHOST: &[u8] = b"localhost";
@@ -27,9 +28,9 @@ pub fn read_ip(text: &[u8]) -> Option<u32>
 pub fn read_port(text: &[u8]) -> Option<u16>
     ensures { result ≡ port_value text.now }
 {
-    match read_number(text, u16::MAX) {
+    match read_number_to(text, 65_535) {
         Some(0) | None => None,
-        Some(port) => Some(port),
+        Some(port) => Some(port as u16),
     }
 }
 
@@ -83,7 +84,7 @@ fn joined_octets(
 fn read_octet(text: &[u8]) -> Option<u8>
     ensures { result ≡ octet_value text.now }
 {
-    match read_number(text, 255) {
+    match read_number_to(text, 255) {
         Some(octet) => Some(octet as u8),
         None => None,
     }
@@ -105,35 +106,4 @@ fn first_point(text: &[u8]) -> Option<usize>
     ensures { result ≡ position (λ b. b == 46) text.now }
 {
     text.iter().position(|byte| *byte == b'.')
-}
-
-/// The number that some decimal digits write without leading zeros, where it is no more than a
-/// limit.
-fn read_number(text: &[u8], most: u16) -> Option<u16>
-    ensures value { result ≡ at_most most (number_value text.now) }
-    ensures within { IfSome result (λ number. number ≤ most) }
-{
-    match text {
-        [] | [b'0', _, ..] => None,
-        _ => read_digits(text, most),
-    }
-}
-
-/// The number that some decimal digits write, where it is no more than a limit.
-fn read_digits(text: &[u8], most: u16) -> Option<u16>
-    ensures value { result ≡ at_most most (digits_behind 0 text.now) }
-    ensures within { IfSome result (λ number. number ≤ most) }
-{
-    let mut number: u16 = 0;
-    for byte in text {
-        if !byte.is_ascii_digit() {
-            return None;
-        }
-        let longer = 10 * u32::from(number) + u32::from(*byte - b'0');
-        if longer > u32::from(most) {
-            return None;
-        }
-        number = longer as u16;
-    }
-    Some(number)
 }

@@ -1,12 +1,14 @@
 //! What holds of the slots of all books, and of all texts of hosts, ports and lines. The functions
 //! do nothing: their contracts are the laws.
-ghost use Rattle.addr_book.specs.Exact.{ComputesLines, ComputesHosts, ComputesPorts};
-ghost use Rattle.addr_book.specs.Exact.{ComputesBlanks, ComputesAddrs};
+ghost use Rattle.text_parts.specs.Exact.{ComputesLines};
+ghost use Rattle.addr_book.specs.Exact.{ComputesAddrs, ComputesBlanks, ComputesHosts};
+ghost use Rattle.addr_book.specs.Exact.{ComputesPorts};
 ghost use Rattle.addr_book.specs.Laws.{HasOwnSlots, SlotsStay};
 ghost use Rattle.addr_book.specs.Seated.{IsSeated};
 
 use crate::book::Book;
 use name_tree::computed_weights_are_exact;
+use text_parts::lines_are_exact;
 
 /// Two addresses of a book never share a slot.
 pub fn slots_are_apart(book: &Book)
@@ -37,5 +39,6 @@ pub fn computed_lines_are_exact()
     ensures blanks { ComputesBlanks }
     ensures addrs { ComputesAddrs }
 {
+    lines_are_exact();
     computed_weights_are_exact();
 }

@@ -4,8 +4,7 @@
 //! An [`Addr`] is an IPv4 address and a port, an [`AddrList`] the addresses of a service, no two
 //! alike, and a [`Name`] names a service. [`read_addrs`] reads an address file, line by line;
 //! [`read_ip`] and [`read_port`] read the parts of an address, and [`append_addr`] writes one.
-//! [`cut_line`], [`without_gap`] and [`split_word`] take other texts of lines and words apart in
-//! the same way. A [`Book`] maps names to lists of addresses and addresses to slots. A change is
+//! A [`Book`] maps names to lists of addresses and addresses to slots. A change is
 //! prepared as a [`ReadyBook`], or refused with a [`BookFault`], and then absorbed.
 //!
 //! # What is proved
@@ -59,17 +58,17 @@ mod slot_map;
 mod slot_set;
 mod slots;
 
-pub use addr::{Addr, ONE_WEIGHT, Weighted, append_addr};
+pub use addr::{Addr, ONE_WEIGHT, Weighted, append_addr, append_ip};
 pub use addr_file::{AddrFault, read_addrs};
 pub use addr_list::{AddrList, MOST_ADDRS};
 pub use book::{Book, ReadyBook};
 pub use bound::{Bound, BoundItem, BoundList};
 pub use fault::BookFault;
-pub use file_line::{Cut, cut_at_star, cut_line, read_line_weight, split_word, without_gap};
+pub use file_line::read_line_weight;
 pub use host::{read_ip, read_port};
 pub use laws::{addresses_are_seated, computed_lines_are_exact, slots_are_apart, slots_stay};
 pub use leaf::{Cluster, Leaf};
-pub use name::{MOST_NAME_BYTES, Name, NameFault};
+pub use name::{MOST_NAME_BYTES, Name, NameFault, is_name};
 pub use namer::name_answer;
 pub use parts::{MOST_SERVICES, MOST_SLOTS};
 

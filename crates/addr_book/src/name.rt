@@ -1,18 +1,20 @@
 //! Names of services.
 ghost use Rattle.std.specs.Prelude.{◌≡◌, ℕ, List, OnOk, IfOk, IfErr, IsTrue, ◌↔◌, nat_eq, refl};
-ghost use Rattle.std.specs.Prelude.{Some};
+ghost use Rattle.std.specs.Prelude.{IsFalse, None, Some};
 ghost use Rattle.std.specs.Cmp.{partial_equiv_from_equiv};
 ghost use Rattle.std.specs.Cmp.Lexicographic.{pointwise, slice_cmp, nat_list_eq_equiv};
 ghost use Rattle.std.specs.Cmp.Lexicographic.{nat_list_cmp_total, texts_po, texts_ties};
 ghost use Rattle.std.specs.Ordering.{nat_cmp};
 ghost use Rattle.std.specs.Arc.{arc_slice_items};
-ghost use Rattle.addr_book.specs.Name.{is_name_byte, IsName};
+ghost use Rattle.addr_book.specs.Name.{IsName, is_name_byte, name_of};
 
 use crate::Mem;
 use std::alloc::{AllocError, Global};
 use std::cmp::Ordering;
+use std::fmt;
 use std::marker::Model;
 use std::sync::ArcSlice;
+use thiserror::Error;
 
 /// The most bytes of a name.
 pub const MOST_NAME_BYTES: usize = 255;
@@ -34,11 +36,13 @@ impl Model for Name {
 }
 
 /// Why a text is no [`Name`].
-#[derive(Clone, Copy, Debug, PartialEq, Eq)]
+#[derive(Clone, Copy, Debug, PartialEq, Eq, Error)]
 pub enum NameFault {
     /// It is not 1 to 255 bytes of letters, digits and `_ : . -`.
+    #[error("the text is no name")]
     NotName,
     /// There was no memory for it.
+    #[error("out of memory")]
     OutOfMemory,
 }
 
@@ -59,7 +63,7 @@ impl Name {
         ensures name { OnOk result (IsName text.now) }
         ensures not_name { IfErr result (λ fault. fault ≡ NameFault.NotName → ¬ (IsName text.now)) }
     {
-        if !is_name(text) {
+        if !has_name_bytes(text) {
             return Err(NameFault::NotName);
         }
         Ok(Name {
@@ -73,6 +77,18 @@ impl Name {
         ensures name { IsName self.now }
     {
         self.bytes.as_slice()
+    }
+}
+
+impl fmt::Display for Name {
+    ghost output = { λ name. Some name };
+
+    #[tactic(auto, using(crate::proofs::NameBytes::name_is_text))]
+    fn fmt<W: fmt::Write>(&self, f: &mut fmt::Formatter<W>) -> fmt::Result {
+        match str::from_utf8(self.text()) {
+            Ok(text) => f.write_str(text),
+            Err(_) => unreachable!(),
+        }
     }
 }
 
@@ -125,8 +141,17 @@ impl Ord for Name {
     }
 }
 
-/// Whether a text is 1 to 255 bytes, each of which may stand in a name.
-fn is_name(text: &[u8]) -> bool
+/// Whether a text is a [`Name`]: 1 to 255 bytes, each an ASCII letter, a digit, or one of
+/// `_ : . -`.
+pub fn is_name(text: &[u8]) -> bool
+    ensures known { IsTrue result → name_of text.now ≡ Some text.now }
+    ensures unknown { IsFalse result → name_of text.now ≡ None }
+{
+    has_name_bytes(text)
+}
+
+/// Whether a text has 1 to 255 bytes, each of which may stand in a name.
+fn has_name_bytes(text: &[u8]) -> bool
     ensures { IsTrue result ↔ IsName text.now }
 {
     if text.is_empty() || text.len() > MOST_NAME_BYTES {

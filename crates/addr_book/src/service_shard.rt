@@ -1,6 +1,6 @@
 //! A part of the services, by their names.
 ghost use Rattle.std.specs.Prelude.{◌≡◌, ℕ, OnOk, OnErr, IfOk, IfErr, MatchOption, option_map};
-ghost use Rattle.std.specs.Prelude.{map as each, true, false};
+ghost use Rattle.std.specs.Prelude.{map as each, true, false, ◌++◌};
 ghost use Rattle.std.specs.Ordering.{nat_cmp};
 ghost use Rattle.std.specs.FinMap as map;
 ghost use Rattle.std.specs.Cmp.Lexicographic.{slice_cmp};
@@ -79,6 +79,16 @@ impl ServiceShard {
             Ok(at) => Some(&self.items[at].name),
             Err(_) => None,
         }
+    }
+
+    /// Puts the names of its services after some others, in their order. They share their bytes.
+    pub(crate) fn put_names(&self, names: &mut Vec<Name>) -> Mem<()>
+        ensures { OnOk result (names.new.items ≡ names.old.items ++ map.keys self.now) }
+    {
+        for item in self.items.as_slice() {
+            names.push(item.name.clone()?)?;
+        }
+        Ok(())
     }
 
     /// Puts a service with its addresses, in the place of its like, and says whether it was there.

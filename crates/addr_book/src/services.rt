@@ -1,10 +1,10 @@
 //! Services by their names.
 ghost use Rattle.std.specs.Prelude.{◌≡◌, ◌+◌, ◌-◌, ◌<◌, ◌^◌, if◌then◌else◌, length, map as each};
 ghost use Rattle.std.specs.Prelude.{OnOk, IfOk, None, MatchOption, option_map, slice_index_or};
-ghost use Rattle.std.specs.Prelude.{slice_set, true, false};
+ghost use Rattle.std.specs.Prelude.{slice_set, true, false, ◌++◌};
 ghost use Rattle.std.specs.FinMap as map;
-ghost use Rattle.addr_book.specs.Services.{hash_behind, mixed, name_place, service_shard};
-ghost use Rattle.addr_book.specs.Shards.{IsChanged};
+ghost use Rattle.addr_book.specs.Services.{name_place, service_shard};
+ghost use Rattle.addr_book.specs.Shards.{IsChanged, joined_keys};
 
 use crate::Mem;
 use crate::addr_list::AddrList;
@@ -13,6 +13,7 @@ use crate::service_shard::ServiceShard;
 use std::alloc::Global;
 use std::marker::Model;
 use std::sync::Arc;
+use text_parts::fnv_hash;
 
 /// How many shards there are: a prime, and in a full book about as many as services in one of them.
 const SHARDS: usize = 61;
@@ -88,6 +89,15 @@ impl Services {
         }
     }
 
+    /// The names of all, in the order of their bytes. They share their bytes.
+    pub(crate) fn names(&self, alloc: Global) -> Mem<Vec<Name>>
+        ensures { IfOk result (λ names. names.items ≡ map.keys self.now) }
+    {
+        let mut names = shard_names(alloc, self.len, self.shards.as_slice())?;
+        names.sort_unstable();
+        Ok(names)
+    }
+
     /// These services with one and its addresses, in the place of its like.
     pub(crate) fn with(self, service: &Name, list: &AddrList) -> Mem<Services>
         requires { map.len self < 2 ^ 32 }
@@ -124,31 +134,13 @@ impl Services {
     }
 }
 
-/// The number that FNV-1a begins with, on 64 bits.
-const BASIS: u64 = 14_695_981_039_346_656_037;
-
-/// The number by which FNV-1a multiplies, on 64 bits.
-const PRIME: u64 = 1_099_511_628_211;
-
 /// The place of the shard of a service, by its name's text.
 #[tactic(auto, unfolding(crate::specs::Services::name_place))]
 fn place_of(text: &[u8]) -> usize
     ensures place { result ≡ name_place text.now }
     ensures below { result < 61 }
 {
-    let mut hash = BASIS;
-    for byte in text {
-        hash = mix(hash, *byte);
-    }
-    (hash % SHARDS as u64) as usize
-}
-
-/// A hash, and then a byte.
-#[tactic(auto, unfolding(crate::specs::Services::mixed))]
-fn mix(hash: u64, byte: u8) -> u64
-    ensures { result ≡ mixed hash byte }
-{
-    (hash ^ u64::from(byte)).wrapping_mul(PRIME)
+    (fnv_hash(text) % SHARDS as u64) as usize
 }
 
 /// Puts a service with its addresses, in the place of its like, into the shard at a place, and says
@@ -210,6 +202,29 @@ fn len_without(len: usize, was_there: bool) -> usize
         len.saturating_sub(1)
     } else {
         len
+    }
+}
+
+/// The names of the services of some shards, shard by shard, in a list with room for so many.
+fn shard_names(alloc: Global, room: usize, shards: &[Option<Arc<ServiceShard>>]) -> Mem<Vec<Name>>
+    ensures { IfOk result
+        (λ names. names.items ≡ joined_keys (each service_shard shards.now)) }
+{
+    let mut names = Vec::with_capacity(alloc, room)?;
+    for shard in shards {
+        put_names(shard, &mut names)?;
+    }
+    Ok(names)
+}
+
+/// Puts the names of a shard's services after some others.
+fn put_names(shard: &Option<Arc<ServiceShard>>, names: &mut Vec<Name>) -> Mem<()>
+    ensures { OnOk result
+        (names.new.items ≡ names.old.items ++ map.keys (service_shard shard.now)) }
+{
+    match shard {
+        Some(shard) => shard.put_names(names),
+        None => Ok(()),
     }
 }
 

@@ -1,19 +1,15 @@
 -- By which number a delegation is filed: a hash of its path, and of the request's own rules as far
 -- as prefixes and single paths go.
-use Rattle.std.specs.Prelude.{ℕ, ◌*◌, ◌%◌, ◌^◌, List, fold, Some, None}
-use Rattle.std.specs.Int.Bits.{bit_xor}
+use Rattle.std.specs.Prelude.{ℕ, List, fold, Some, None}
+use Rattle.text_parts.specs.Hash.{basis, mixed, with_bytes}
 use Rattle.name_tree.specs.Path.{Label, Labels}
 use Rattle.name_tree.specs.Value.{TreeValue, leaf}
 use Rattle.dtab_table.specs.Pattern.{Pattern}
 use Rattle.dtab_table.specs.Rules.{Rule}
 
--- one step of FNV-1a on 64 bits
-unfoldable pub mixed : ℕ → ℕ → ℕ
-mixed hash word = (bit_xor hash word * 1099511628211) % 2 ^ 64
-
 -- a label, and a mark that no byte is
 unfoldable pub with_label : ℕ → Label → ℕ
-with_label hash label = mixed (fold mixed hash label) 256
+with_label hash label = mixed (with_bytes hash label) 256
 
 abbrev pub with_labels : ℕ → Labels → ℕ
 with_labels hash labels = fold with_label hash labels
@@ -38,4 +34,4 @@ with_rules hash rules = fold with_rule hash rules
 
 -- the number by which a delegation is filed
 unfoldable pub key_hash : Labels → List Rule → ℕ
-key_hash path local = with_rules (mixed (with_labels 14695981039346656037 path) 260) local
+key_hash path local = with_rules (mixed (with_labels basis path) 260) local

@@ -61,7 +61,7 @@ impl Cache {
     }
 
     /// No two bindings have one key, there are at most 1,024, and none cost more than 256 lookups.
-    pub fn is_cache(&self)
+    pub(crate) fn is_cache(&self)
         ensures { IsCache (bindings_of self.now) }
     {
         let _bindings = &self.bindings;

@@ -4,17 +4,12 @@ ghost use Rattle.name_tree.specs.Tree.{value_of};
 ghost use Rattle.dtab_table.specs.Pattern.{pattern_of};
 ghost use Rattle.dtab_table.specs.Rules.{rule_of};
 ghost use Rattle.dtab_table.specs.Dtab.{rules_of};
-ghost use Rattle.bind_cache.specs.Hash.{mixed, with_label, with_labels, with_pattern};
+ghost use Rattle.bind_cache.specs.Hash.{with_label, with_labels, with_pattern};
 ghost use Rattle.bind_cache.specs.Hash.{with_patterns, with_tree, with_rule, with_rules, key_hash};
 
 use dtab_table::{Dtab, Entry, PrefixLabel};
 use name_tree::{Path, Tree};
-
-/// The number that FNV-1a begins with, on 64 bits.
-const BASIS: u64 = 14_695_981_039_346_656_037;
-
-/// The number by which FNV-1a multiplies, on 64 bits.
-const PRIME: u64 = 1_099_511_628_211;
+use text_parts::{FNV_BASIS, fnv_mix, fnv_mix_bytes};
 
 /// What stands behind a label: no byte.
 const LABEL_END: u64 = 256;
@@ -38,7 +33,7 @@ const PATH_END: u64 = 260;
 pub(crate) fn key_hash(path: &Path, local: &Dtab) -> u64
     ensures { result ≡ key_hash path.now (rules_of local.now) }
 {
-    let hash = mix(mix_labels(BASIS, path), PATH_END);
+    let hash = fnv_mix(mix_labels(FNV_BASIS, path), PATH_END);
     mix_rules(hash, local.entries())
 }
 
@@ -59,7 +54,7 @@ fn mix_rule(hash: u64, entry: &Entry) -> u64
     ensures { result ≡ with_rule hash (rule_of entry.now) }
 {
     let all = mix_prefix(hash, entry.prefix.labels());
-    mix_tree(mix(all, PREFIX_END), &entry.tree)
+    mix_tree(fnv_mix(all, PREFIX_END), &entry.tree)
 }
 
 /// A hash, and then the labels of a prefix.
@@ -80,11 +75,11 @@ fn mix_tree(hash: u64, tree: &Tree) -> u64
 {
     match tree {
         Tree::Leaf(path) => mix_labels(hash, path),
-        Tree::Neg => mix(hash, OTHER_TREE),
-        Tree::Fail => mix(hash, OTHER_TREE),
-        Tree::Empty => mix(hash, OTHER_TREE),
-        Tree::Alt(_) => mix(hash, OTHER_TREE),
-        Tree::Union(_) => mix(hash, OTHER_TREE),
+        Tree::Neg => fnv_mix(hash, OTHER_TREE),
+        Tree::Fail => fnv_mix(hash, OTHER_TREE),
+        Tree::Empty => fnv_mix(hash, OTHER_TREE),
+        Tree::Alt(_) => fnv_mix(hash, OTHER_TREE),
+        Tree::Union(_) => fnv_mix(hash, OTHER_TREE),
     }
 }
 
@@ -94,7 +89,7 @@ fn mix_pattern(hash: u64, label: &PrefixLabel) -> u64
     ensures { result ≡ with_pattern hash (pattern_of label.now) }
 {
     match label {
-        PrefixLabel::Star => mix(hash, STAR),
+        PrefixLabel::Star => fnv_mix(hash, STAR),
         PrefixLabel::Label(bytes) => mix_label(hash, bytes.as_slice()),
     }
 }
@@ -115,17 +110,5 @@ fn mix_labels(hash: u64, path: &Path) -> u64
 fn mix_label(hash: u64, label: &[u8]) -> u64
     ensures { result ≡ with_label hash label.now }
 {
-    let mut all = hash;
-    for byte in label {
-        all = mix(all, u64::from(*byte));
-    }
-    mix(all, LABEL_END)
-}
-
-/// A hash, and then a byte or a mark.
-#[tactic(auto, unfolding(crate::specs::Hash::mixed))]
-fn mix(hash: u64, word: u64) -> u64
-    ensures { result ≡ mixed hash word }
-{
-    (hash ^ word).wrapping_mul(PRIME)
+    fnv_mix(fnv_mix_bytes(hash, label), LABEL_END)
 }

@@ -1,6 +1,18 @@
 //! What holds of all caches. The functions do nothing: their contracts are the laws.
+ghost use Rattle.bind_cache.specs.Bindings.{bindings_of};
+ghost use Rattle.bind_cache.specs.Cache.{IsCache};
 ghost use Rattle.bind_cache.specs.Laws.{NothingIsRight, KeepsRight, TableStaysRight};
 ghost use Rattle.bind_cache.specs.Laws.{ServiceStaysRight, ChangesOneService, AddressesNameNothing};
+
+use crate::cache::Cache;
+
+/// No two bindings of a cache have one key, there are at most 1,024, and none cost more than 256
+/// lookups.
+pub fn bindings_are_apart(cache: &Cache)
+    ensures { IsCache (bindings_of cache.now) }
+{
+    cache.is_cache();
+}
 
 /// A cache in which each binding is right stays so: when a right one is put in, and when it is told
 /// of a change. After a change of the namespace's table each binding that stays is right with the

@@ -11,8 +11,9 @@
 //! Clauses see a cache as a list, the oldest binding first (`specs/Cache.antt`). [`Cache::find`] is
 //! the look-up in that list, [`Cache::keep`] puts one behind the others, and the two touches are
 //! filters. No two bindings have one key, there are at most 1,024, and none cost more than 256
-//! lookups. What changed between two tables is what is left of them without the rules that both
-//! have at their fronts, and then without those that both have at their ends.
+//! lookups ([`bindings_are_apart`]). What changed between two tables is what is left of them
+//! without the rules that both have at their fronts, and then without those that both have at their
+//! ends.
 //!
 //! A binding is right where a delegation by the proxy's rules, the request's own behind them, and
 //! its services comes to the same outcome after the same lookups. [`caches_stay_right`] are the
@@ -44,7 +45,7 @@ mod touch;
 
 pub use binding::Binding;
 pub use cache::{Cache, MOST_COST, MOST_KEPT};
-pub use laws::{caches_stay_right, services_change_alone};
+pub use laws::{bindings_are_apart, caches_stay_right, services_change_alone};
 
 /// A value, unless there was no memory for it.
 pub type Mem<T> = Result<T, AllocError>;

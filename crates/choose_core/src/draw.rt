@@ -49,7 +49,7 @@ pub fn pair(
 ///
 /// Besides the passes of [`pair`] it goes over the list as far as each of the two where some of its
 /// addresses are dead and others alive.
-pub fn drawn_pair(
+pub fn pair_addrs(
     list: &[Weighted],
     marks: &Marks,
     moment: u64,

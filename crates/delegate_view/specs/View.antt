@@ -1,7 +1,8 @@
 -- The text of a delegation's view, a compact JSON object.
-use Rattle.std.specs.Prelude.{ℕ, ◌==◌, if◌then◌else◌, List, [], ◌∷◌, ◌++◌, codes}
+use Rattle.std.specs.Prelude.{ℕ, List, [], ◌∷◌, ◌++◌, codes}
 use Rattle.std.specs.List.{flat_map}
 use Rattle.std.specs.Fmt.{decimal}
+use Rattle.text_parts.specs.Json.{json_string}
 use Rattle.name_tree.specs.Path.{Labels, canon_path}
 use Rattle.bind_core.specs.Delegation.{Ending, negative, failing, no_replica, too_deep, too_wide}
 use Rattle.bind_core.specs.Delegation.{bound}
@@ -26,14 +27,9 @@ ended_word ended.Empty = codes "empty"
 ended_word ended.TooDeep = codes "too-deep"
 ended_word ended.Bound = codes "bound"
 
--- a byte of a path's canonical text in a JSON string. Of the bytes that stand in such a text, JSON
--- escapes the backslash alone, by another
-abbrev pub json_byte : ℕ → List ℕ
-json_byte b = if b == 92 then 92 ∷ 92 ∷ [] else b ∷ []
-
 -- a path's canonical text as a JSON string
 abbrev pub path_string : Labels → List ℕ
-path_string path = codes "\"" ++ flat_map json_byte (canon_path path) ++ codes "\""
+path_string path = json_string (canon_path path)
 
 -- a lookup as a JSON object
 abbrev pub lookup_text : TraceItem → List ℕ

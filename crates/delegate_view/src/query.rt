@@ -17,13 +17,16 @@ use form_urlencoded::{decode, raw_pairs};
 use name_tree::{Path, TextFault, read_path};
 use std::alloc::{AllocError, Global};
 use std::borrow::CowStr;
+use thiserror::Error;
 
 /// Why a query was not read.
-#[derive(Clone, Copy, Debug, PartialEq, Eq)]
+#[derive(Clone, Copy, Debug, PartialEq, Eq, Error)]
 pub enum ViewFault {
     /// It has no `path`, or its first `path` or `dtab` is none.
+    #[error("the path is no path, or the dtab no table")]
     BadView,
     /// There was no memory for it.
+    #[error("out of memory")]
     OutOfMemory,
 }
 

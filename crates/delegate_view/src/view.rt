@@ -1,15 +1,14 @@
 //! The text of a view.
 ghost use Rattle.std.specs.Prelude.{◌≡◌, ◌++◌, IfOk, OnOk};
-ghost use Rattle.std.specs.Fmt.{decimal};
-ghost use Rattle.std.specs.List.{flat_map};
 ghost use Rattle.bind_core.specs.Outcome.{ending_of};
-ghost use Rattle.delegate_view.specs.View.{json_byte, lookup_text, lookups_text, more_lookups};
+ghost use Rattle.delegate_view.specs.View.{lookup_text, lookups_text, more_lookups};
 ghost use Rattle.delegate_view.specs.View.{path_string, outcome_word, ended_word, view_of};
 
 use crate::{Bytes, Mem};
 use bind_core::{Ended, Outcome, Trace, TraceItem};
 use name_tree::{Path, write_path};
 use std::alloc::Global;
+use text_parts::{append_json_string, append_number};
 
 /// What a delegation came to and its lookups, as a compact JSON object: `lookups`, an array with
 /// `depth`, `outcome` and `path` of each lookup in the order in which they began, and `outcome`. A
@@ -82,7 +81,7 @@ fn append_lookup(item: &TraceItem, out: &mut Bytes) -> Mem<()>
     ensures { OnOk result (out.new.items ≡ out.old.items ++ lookup_text item.now) }
 {
     out.extend_from_slice(b"{\"depth\":")?;
-    append_number(item.depth, out)?;
+    append_number(u64::from(item.depth), out)?;
     out.extend_from_slice(b",\"outcome\":\"")?;
     out.extend_from_slice(ended_word(item.ended))?;
     out.extend_from_slice(b"\",\"path\":")?;
@@ -90,34 +89,10 @@ fn append_lookup(item: &TraceItem, out: &mut Bytes) -> Mem<()>
     out.extend_from_slice(b"}")
 }
 
-/// Puts a number behind some bytes, in decimal digits.
-fn append_number(number: u32, out: &mut Bytes) -> Mem<()>
-    ensures { OnOk result (out.new.items ≡ out.old.items ++ decimal number) }
-{
-    let text = format!(in *out.allocator(); "{number}")?;
-    out.extend_from_slice(text.as_bytes())
-}
-
 /// Puts a path's canonical text behind some bytes, as a JSON string.
 fn append_path_string(path: &Path, out: &mut Bytes) -> Mem<()>
     ensures { OnOk result (out.new.items ≡ out.old.items ++ path_string path.now) }
 {
     let text = write_path(*out.allocator(), path)?;
-    out.push(b'"')?;
-    append_escaped(text.as_slice(), out)?;
-    out.push(b'"')?;
-    Ok(())
-}
-
-/// Puts a text behind some bytes, each of its backslashes twice.
-fn append_escaped(text: &[u8], out: &mut Bytes) -> Mem<()>
-    ensures { OnOk result (out.new.items ≡ out.old.items ++ flat_map json_byte text.now) }
-{
-    for byte in text {
-        if *byte == b'\\' {
-            out.push(b'\\')?;
-        }
-        out.push(*byte)?;
-    }
-    Ok(())
+    append_json_string(text.as_slice(), out)
 }

@@ -1,4 +1,3 @@
-pub mod Hashing
 pub mod Hidden
 pub mod Indexed
 pub mod Laws

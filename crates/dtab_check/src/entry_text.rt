@@ -1,7 +1,7 @@
 //! The text of an entry.
 ghost use Rattle.std.specs.Prelude.{◌≡◌, IfOk};
 ghost use Rattle.std.specs.Str.{bytes_eq};
-ghost use Rattle.dtab_check.specs.Hashing.{mixed, text_hash};
+ghost use Rattle.text_parts.specs.Hash.{text_hash};
 ghost use Rattle.dtab_table.specs.Rules.{rule_of};
 ghost use Rattle.dtab_table.specs.TableCanon.{canon_rule};
 
@@ -9,12 +9,7 @@ use crate::Mem;
 use dtab_table::{Entry, write_prefix};
 use name_tree::append_tree;
 use std::alloc::Global;
-
-/// The number that FNV-1a begins with, on 64 bits.
-const BASIS: u64 = 14_695_981_039_346_656_037;
-
-/// The number by which FNV-1a multiplies, on 64 bits.
-const PRIME: u64 = 1_099_511_628_211;
+use text_parts::fnv_hash;
 
 /// The text of an entry, with its hash, which tells most texts apart that differ.
 #[derive(Drop)]
@@ -32,7 +27,7 @@ impl EntryText {
         let mut bytes = write_prefix(alloc, &entry.prefix)?;
         bytes.extend_from_slice(b"=>")?;
         append_tree(&entry.tree, &mut bytes)?;
-        let hash = hash_of(bytes.as_slice());
+        let hash = fnv_hash(bytes.as_slice());
         Ok(EntryText { bytes, hash })
     }
 
@@ -45,24 +40,4 @@ impl EntryText {
         }
         self.bytes.as_slice() == other.bytes.as_slice()
     }
-}
-
-/// The hash of a text.
-#[tactic(auto, unfolding(crate::specs::Hashing::text_hash))]
-fn hash_of(text: &[u8]) -> u64
-    ensures { result ≡ text_hash text.now }
-{
-    let mut hash = BASIS;
-    for byte in text {
-        hash = mix(hash, u64::from(*byte));
-    }
-    hash
-}
-
-/// A hash, and then a byte.
-#[tactic(auto, unfolding(crate::specs::Hashing::mixed))]
-fn mix(hash: u64, byte: u64) -> u64
-    ensures { result ≡ mixed hash byte }
-{
-    (hash ^ byte).wrapping_mul(PRIME)
 }

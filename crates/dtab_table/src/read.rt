@@ -15,33 +15,41 @@ use crate::prefix_text::PrefixTextReader;
 use crate::table_reader::TableReader;
 use name_tree::{MOST_BYTES, MOST_OPEN, Refused};
 use std::alloc::Global;
+use thiserror::Error;
 
 /// The most entries of a table that is read: 1,024.
 pub const MOST_ENTRIES: usize = 1_024;
 
 /// Why a text was not read as a prefix.
-#[derive(Clone, Copy, Debug, PartialEq, Eq)]
+#[derive(Clone, Copy, Debug, PartialEq, Eq, Error)]
 pub enum PrefixFault {
     /// It is none.
+    #[error("the text is no prefix")]
     NotPrefix,
     /// There was no memory for it.
+    #[error("out of memory")]
     OutOfMemory,
 }
 
 /// Why a text was not read as a table.
-#[derive(Clone, Copy, Debug, PartialEq, Eq)]
+#[derive(Clone, Copy, Debug, PartialEq, Eq, Error)]
 pub enum DtabFault {
     /// The text is longer than so many bytes.
+    #[error("table long")]
     TooLong(usize),
     /// The first `(` that stands inside 64 open parentheses stands here, and the text up to it and
     /// with it begins some table's text.
+    #[error("table nested {0}")]
     TooNested(usize),
     /// The text is no table, and its first so many bytes are the longest front of it that begins
     /// some table's text.
+    #[error("table syntax {0}")]
     Syntax(usize),
     /// The table has so many entries, more than 1,024.
+    #[error("table many {0}")]
     TooMany(usize),
     /// There was no memory for the table.
+    #[error("out of memory")]
     OutOfMemory,
 }
 

@@ -1,5 +1,5 @@
-//! Tests of the outside in memory, of the index of prefixes, and of the texts of paths, trees and
-//! tables.
+//! Tests of the outside in memory, of the index of prefixes, and of small texts and those of paths,
+//! trees and tables.
 #![tactic(auto)]
 
 #[cfg(test)]
@@ -10,3 +10,5 @@ mod names;
 mod outside;
 #[cfg(test)]
 mod tables;
+#[cfg(test)]
+mod texts;

@@ -72,6 +72,39 @@ fn refuses_texts_at_their_places(rt: HostRuntime) {
     }
 }
 
+/// Texts, and why each is no path and no table.
+const REASONS: [(&[u8], &str, &str); 2] = [
+    (
+        b"/a/",
+        "the text leaves the grammar at byte 3",
+        "table syntax 3",
+    ),
+    (
+        b"/*",
+        "the text leaves the grammar at byte 1",
+        "table syntax 2",
+    ),
+];
+
+/// Why a text is no path, and why it is no table.
+fn reasons(alloc: Global, text: &[u8]) -> Result<(String, String), Fail> {
+    let path = read_path(alloc, text).err().ok_or("a path")?;
+    let table = table_fault(alloc, text).ok_or("a table")?;
+    Ok((path.to_string(alloc)?, table.to_string(alloc)?))
+}
+
+#[test]
+fn tells_why_texts_are_refused(rt: HostRuntime) -> Result<(), Fail> {
+    for (text, of_path, of_table) in &REASONS {
+        let (path, table) = reasons(rt.alloc(), text)?;
+        assert!(rt;
+            path.as_str() == *of_path && table.as_str() == *of_table,
+            "{text:?}"
+        );
+    }
+    Ok(())
+}
+
 fn table_of(alloc: Global, text: &[u8]) -> Result<Dtab, Fail> {
     match read_dtab(alloc, text) {
         Ok(dtab) => Ok(dtab),

@@ -6,13 +6,16 @@ ghost use Rattle.name_tree.specs.Grammar.{is_blank, hex_value};
 ghost use Rattle.name_tree.specs.Taken.{Takes};
 
 use std::alloc::{AllocError, AllocFailed, Global};
+use thiserror::Error;
 
 /// Why a byte was not taken in.
-#[derive(Clone, Copy, Debug, PartialEq, Eq)]
+#[derive(Clone, Copy, Debug, PartialEq, Eq, Error)]
 pub enum Refused {
     /// No text goes on with it.
+    #[error("no text goes on with the byte")]
     Byte,
     /// There was no memory for what it adds.
+    #[error("out of memory")]
     OutOfMemory,
 }
 

@@ -61,7 +61,7 @@ pub use read::{MOST_BYTES, MOST_OPEN, TextFault, read_path, read_tree};
 pub use tree::{Branch, Branches, Tree, Trees};
 pub use tree_text::TreeReader;
 pub use weight_text::{computed_weights_are_exact, read_weight};
-pub use write::{append_label, append_path, append_tree, write_path, write_tree};
+pub use write::{append_label, append_path, append_tree, append_weight, write_path, write_tree};
 
 /// A value, unless there was no memory for it.
 pub type Mem<T> = Result<T, AllocError>;

@@ -15,6 +15,7 @@ use crate::path_text::PathTextReader;
 use crate::tree::Tree;
 use crate::tree_text::TreeReader;
 use std::alloc::Global;
+use thiserror::Error;
 
 /// The most bytes of a text that is read: 65,536.
 pub const MOST_BYTES: usize = 65_536;
@@ -23,17 +24,21 @@ pub const MOST_BYTES: usize = 65_536;
 pub const MOST_OPEN: usize = 64;
 
 /// Why a text was not read.
-#[derive(Clone, Copy, Debug, PartialEq, Eq)]
+#[derive(Clone, Copy, Debug, PartialEq, Eq, Error)]
 pub enum TextFault {
     /// The text is longer than so many bytes.
+    #[error("the text has more than {0} bytes")]
     TooLong(usize),
     /// The first `(` that stands inside 64 open parentheses stands here, and the text up to it and
     /// with it begins some text of the grammar.
+    #[error("the text nests too deep at byte {0}")]
     TooNested(usize),
     /// The text is not in the grammar, and its first so many bytes are the longest front of it that
     /// begins some text of the grammar.
+    #[error("the text leaves the grammar at byte {0}")]
     Syntax(usize),
     /// There was no memory for the value.
+    #[error("out of memory")]
     OutOfMemory,
 }
 

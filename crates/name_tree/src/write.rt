@@ -1,7 +1,7 @@
 //! Canonical texts, as the Finagle user guide writes paths and trees.
 ghost use Rattle.std.specs.Prelude.{◌≡◌, ◌+◌, ◌*◌, ◌<◌, ◌++◌, IfOk, OnErr, OnOk, map};
 ghost use Rattle.std.specs.Fmt.{decimal};
-ghost use Rattle.name_tree.specs.Path.{hex_digit, canon_byte, canon_label, canon_path};
+ghost use Rattle.name_tree.specs.Path.{canon_byte, canon_label, canon_path};
 ghost use Rattle.name_tree.specs.Growth.{Grows};
 ghost use Rattle.name_tree.specs.Value.{tree_values};
 ghost use Rattle.name_tree.specs.Canon.{decimals_text, canon_weight, grouped, is_alt, canon};
@@ -15,6 +15,7 @@ use crate::tree::{Branch, Branches, Tree, Trees};
 use crate::weight::ONE;
 use crate::{Bytes, Mem};
 use std::alloc::Global;
+use text_parts::{append_number, hex_digit};
 
 /// What the six decimals of a weight are worth, in millionths.
 const UNITS: [u64; 6] = [100_000, 10_000, 1_000, 100, 10, 1];
@@ -44,6 +45,20 @@ pub fn append_label(label: &[u8], out: &mut Bytes) -> Mem<()>
 {
     let before = out.len();
     let done = put_label(label, out);
+    if done.is_err() {
+        out.truncate(before);
+    }
+    done
+}
+
+/// Puts the canonical text of a weight in millionths behind some bytes: its whole part and, where
+/// there is more, a point and as many decimals as are needed. An `Err` changes nothing.
+pub fn append_weight(millionths: u64, out: &mut Bytes) -> Mem<()>
+    ensures ok { OnOk result (out.new.items ≡ out.old.items ++ canon_weight millionths) }
+    ensures err { OnErr result (out.new.items ≡ out.old.items) }
+{
+    let before = out.len();
+    let done = put_weight(millionths, out);
     if done.is_err() {
         out.truncate(before);
     }
@@ -95,20 +110,8 @@ fn put_byte(byte: u8, out: &mut Bytes) -> Mem<()>
         out.push(byte)?;
         return Ok(());
     }
-    let escape = [b'\\', b'x', digit(byte / 16), digit(byte % 16)];
+    let escape = [b'\\', b'x', hex_digit(byte / 16), hex_digit(byte % 16)];
     out.extend_from_slice(&escape)
-}
-
-/// A hexadecimal digit in lower case.
-fn digit(number: u8) -> u8
-    requires { number < 16 }
-    ensures { result ≡ hex_digit number }
-{
-    if number < 10 {
-        b'0' + number
-    } else {
-        b'a' + (number - 10)
-    }
 }
 
 /// Puts a number behind some bytes.
@@ -116,8 +119,8 @@ fn put_number(number: u64, out: &mut Bytes) -> Mem<()>
     ensures ok { OnOk result (out.new.items ≡ out.old.items ++ decimal number) }
     ensures grows { Grows out.old.items out.new.items }
 {
-    let text = format!(in *out.allocator(); "{number}")?;
-    out.extend_from_slice(text.as_bytes())
+    append_number(number, out)?;
+    Ok(())
 }
 
 /// Puts decimals behind some bytes, as many as are needed.

@@ -14,16 +14,18 @@ use Rattle.dtab_table.specs.Rules.{Rule}
 use Rattle.dtab_table.specs.Computed.{table_of, ComputesTables}
 use Rattle.addr_book.specs.declared.addr.Addr.{Addr}
 use Rattle.addr_book.specs.declared.addr.Weighted.{Weighted}
-use Rattle.addr_book.specs.AddrGrammar.{AreGaps, no_gap, gap}
+use Rattle.text_parts.specs.Words.{AreGaps, no_gap, gap}
 use Rattle.addr_book.specs.AddrList.{first_places}
-use Rattle.addr_book.specs.FileLine.{is_gap, is_empty, drop_gaps, word_of, behind_word, single_word}
-use Rattle.addr_book.proofs.GapWords.{Lacks, lacks_none, lacks, all_gaps, GapsCut, gaps_cut, NoGapFirst, first_byte, gaps_gone, word_first, GapFirst, gaps_first, word_cut, behind_first, word_is, behind_is, none_left}
+use Rattle.text_parts.specs.Words.{is_gap, is_empty, drop_gaps, word_of, behind_word, single_word}
+use Rattle.text_parts.proofs.GapWords.{Lacks, lacks_none, lacks, all_gaps, GapsCut, gaps_cut, NoGapFirst, first_byte, gaps_gone, word_first, GapFirst, gaps_first, word_cut, behind_first, word_is, behind_is, none_left}
 use Rattle.machine.specs.Values.{create, put, delete, set_addrs, drop_service, report, get_table, list_names, view}
 use Rattle.script.specs.declared.command.Command.{Command}
 use Rattle.script.specs.declared.command.Command.TheVariants as command
 use Rattle.script.specs.declared.line.Numbers.{Numbers}
 use Rattle.script.specs.Command.{command_of}
-use Rattle.script.specs.Words.{drop_blanks, behind, words_of, name_of, number_of, version_of, addr_in, addrs_in, list_in}
+use Rattle.text_parts.specs.Numbers.{number_of}
+use Rattle.addr_book.specs.Name.{name_of}
+use Rattle.script.specs.Words.{drop_blanks, behind, words_of, version_of, addr_in, addrs_in, list_in}
 use Rattle.script.specs.Line.{LineValue, blank, table, change, look, ask, bad, line_or_bad, create_line, put_line, delete_line, addrs_line, report_line, numbers_of, ask_line, plain_ask, create_in, put_in, delete_in, addrs_in_line, report_in, long_pick_in, pick_in, command_value, words_value, line_value}
 use Rattle.script.specs.Grammar.{NextWord, next, SpellsName, SpellsLong, SpellsVersion, SpellsPathWord, SpellsAddr, SpellsItems, SpellsRest, SpellsCommand, sets_table, creates, puts, deletes, gets, lists, sets_addrs, drops, fails, succeeds, picks, picks_at, views, SpellsLine, nothing, command as command_line}
 use Rattle.script.proofs.NextWords.{gaps_all, Reads, Cut, Last, next_gives, next_read, next_first, next_full, last_gives, last_read}

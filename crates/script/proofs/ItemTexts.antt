@@ -7,9 +7,9 @@ use Rattle.dtab_table.specs.Rules.{Rule}
 use Rattle.dtab_table.specs.Answers.{IsTable}
 use Rattle.dtab_table.specs.Computed.{table_of, ComputesTables}
 use Rattle.addr_book.specs.declared.addr.Weighted.{Weighted}
-use Rattle.addr_book.specs.AddrGrammar.{AreGaps}
-use Rattle.addr_book.specs.FileLine.{is_gap, drop_gaps, word_of, behind_word}
-use Rattle.addr_book.proofs.GapWords.{all_gaps, GapsCut, gaps_cut, NoGapFirst, first_none, first_byte, gaps_gone, word_first, GapFirst, gaps_first, some_gap_first, behind_first, append_none}
+use Rattle.text_parts.specs.Words.{AreGaps}
+use Rattle.text_parts.specs.Words.{is_gap, drop_gaps, word_of, behind_word}
+use Rattle.text_parts.proofs.GapWords.{all_gaps, GapsCut, gaps_cut, NoGapFirst, first_none, first_byte, gaps_gone, word_first, GapFirst, gaps_first, some_gap_first, behind_first, append_none}
 use Rattle.script.specs.Words.{behind, words_of, put_first, weighted_in, addrs_in}
 use Rattle.script.specs.Grammar.{NextWord, next, SpellsItem, SpellsItems, no_item, more_items, SpellsRest, no_table, rest_table}
 use Rattle.script.proofs.NextWords.{dropped_first, gaps_all, SomeGaps, gaps_from, Reads, Cut, next_gives, next_read, next_first}

@@ -1,7 +1,5 @@
-pub mod Colons
 pub mod CommandTexts
 pub mod ItemTexts
-pub mod Naming
 pub mod NextWords
 pub mod Tables
 pub mod Turning

@@ -4,9 +4,9 @@ use Rattle.std.specs.Prelude.{◌||◌, ◌==◌, if◌then◌else◌, All}
 use Rattle.std.specs.Option.{option_and_then}
 use Rattle.std.proofs.lemmas.List.Elements.{All-head, All-tail, All-nil, All-cons}
 use Rattle.std.proofs.lemmas.Option.{same_Some, option_and_then_some}
-use Rattle.addr_book.specs.FileLine.{is_gap, is_empty, drop_gaps, word_of, behind_word, single_word}
-use Rattle.addr_book.specs.AddrGrammar.{AreGaps, no_gap, gap}
-use Rattle.addr_book.proofs.GapWords.{Lacks, lacks_none, lacks, all_gaps, GapsCut, gaps_cut, NoGapFirst, first_none, first_byte, gaps_gone, word_first, GapFirst, end_first, gap_first, gaps_first, some_gap_first, word_cut, behind_first, word_is, behind_is, append_none, none_left, single_is}
+use Rattle.text_parts.specs.Words.{is_gap, is_empty, drop_gaps, word_of, behind_word, single_word}
+use Rattle.text_parts.specs.Words.{AreGaps, no_gap, gap}
+use Rattle.text_parts.proofs.GapWords.{Lacks, lacks_none, lacks, all_gaps, GapsCut, gaps_cut, NoGapFirst, first_none, first_byte, gaps_gone, word_first, GapFirst, end_first, gap_first, gaps_first, some_gap_first, word_cut, behind_first, word_is, behind_is, append_none, none_left, single_is}
 use Rattle.script.specs.Grammar.{NextWord, next}
 
 pub lacks_from_all : (p : ℕ → Bool) (s : List ℕ) → All (λ b. p b ≡ false) s → Lacks p s

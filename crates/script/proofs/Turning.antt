@@ -7,6 +7,7 @@ use Rattle.rand_pcg.specs.Pcg.{pcg64}
 use Rattle.machine.specs.Values.{SettingsValue, StateValue, ChangeValue, create, put, delete, set_addrs, drop_service, report, AskValue, ChosenValue, picked, not_picked}
 use Rattle.machine.specs.State.{changed, after, is_accepted}
 use Rattle.machine.specs.Choosing.{pick_of, chosen_of}
+use Rattle.turn_parts.specs.Parts.{drawn_ask}
 use Rattle.script.specs.Turns.{changing, picking, change_by, pick_by, turn_by, next_turn, turns_from}
 use Rattle.script.specs.Storm.{RunValue, with_answer, after_turn, after_turns}
 use Rattle.script.specs.Ran.{IsWithin}
@@ -19,13 +20,13 @@ changing_turn number word words left c drawn few is =
     let turn : turn_by number word left ≡ (changing (change_by (word % 8) (word / 8 % 16) (word / 128 % 4096) number), left) = rw (lt-ltb (word % 8) 4 few) refl in
     ap (λ (d : ChangeValue). (changing d, left)) is ∙ sym turn ∙ ap (λ (d : ℕ × Lcg). turn_by number d.0 d.1) drawn
 
-pub picking_turn : (number word : ℕ) (words left rest : Lcg) (ask : AskValue) → (word, left) ≡ pcg64 words → 4 ≤ word % 8 → (picking ask, rest) ≡ pick_by (word / 8 % 16) number left
+pub picking_turn : (number word : ℕ) (words left rest : Lcg) (ask : AskValue) → (word, left) ≡ pcg64 words → 4 ≤ word % 8 → (ask, rest) ≡ drawn_ask (word / 8 % 16) number left
     → (picking ask, rest) ≡ next_turn number words
 unfolding next_turn
 picking_turn number word words left rest ask drawn many is =
     let later : nat_lt (word % 8) 4 ≡ false = grind (arith, nat_tests) in
     let turn : turn_by number word left ≡ pick_by (word / 8 % 16) number left = rw later refl in
-    is ∙ sym turn ∙ ap (λ (d : ℕ × Lcg). turn_by number d.0 d.1) drawn
+    ap (λ (d : AskValue × Lcg). (picking d.0, d.1)) is ∙ sym turn ∙ ap (λ (d : ℕ × Lcg). turn_by number d.0 d.1) drawn
 
 -- ---- accepted changes
 one_on : (settings : SettingsValue) (state : StateValue) (c : ChangeValue) → (changed settings state c).place ≡ state.place + 1

@@ -6,7 +6,8 @@ use Rattle.std.proofs.lemmas.List.{append-nil, length_push}
 use Rattle.std.proofs.lemmas.List.Elements.{All-push, All-nil}
 use Rattle.addr_book.specs.declared.addr.Weighted.{Weighted}
 use Rattle.addr_book.specs.AddrList.{first_places, HaveWeights, IsWeight}
-use Rattle.addr_book.specs.FileLine.{is_gap, joined, drop_gaps, behind_word, word_of}
+use Rattle.text_parts.specs.Lines.{joined}
+use Rattle.text_parts.specs.Words.{is_gap, drop_gaps, behind_word, word_of}
 use Rattle.script.specs.Words.{behind, goes_on, words_of, put_first, addrs_in, weighted_in, list_in}
 
 -- a gap has no word

@@ -16,19 +16,25 @@ use Rattle.name_tree.specs.Faults.{IsValue}
 use Rattle.name_tree.specs.Weight.{weight_of, ComputesWeights}
 use Rattle.addr_book.specs.declared.addr.Addr.{Addr}
 use Rattle.addr_book.specs.declared.addr.Weighted.{Weighted}
-use Rattle.addr_book.specs.Addr.{number_value, at_most, addr_of, host_value, port_value}
-use Rattle.addr_book.specs.AddrGrammar.{AreGaps, no_gap, gap, SpellsNumber, SpellsHost, SpellsPort}
-use Rattle.addr_book.specs.FileLine.{is_gap, single_word, some_weight, before_star, behind_star, line_weight}
-use Rattle.addr_book.specs.Name.{is_name_byte, IsName}
-use Rattle.addr_book.proofs.GapWords.{Lacks, lacks_none, lacks, lacks_append, InGaps, append_none, single_is}
-use Rattle.addr_book.proofs.HostTexts.{number_gives, number_read, number_first, number_lacks, some_digit, at_most_gives, at_most_read, fails, hosts, ports, host_read, port_read, host_lacks, host_no_gaps, port_lacks, some_host, digit_no_gap}
+use Rattle.text_parts.specs.Numbers.{number_value, at_most, number_of}
+use Rattle.text_parts.specs.Words.{AreGaps, no_gap, gap, is_gap, single_word}
+use Rattle.text_parts.proofs.Cuts.{ByteCut, byte_cut, before_all, behind_all, before_at, behind_at}
+use Rattle.text_parts.proofs.Digits.{at_most_gives, at_most_read}
+use Rattle.addr_book.specs.Addr.{addr_of, host_value, port_value}
+use Rattle.addr_book.specs.AddrGrammar.{SpellsNumber, SpellsHost, SpellsPort}
+use Rattle.addr_book.specs.FileLine.{some_weight, before_star, behind_star, line_weight}
+use Rattle.addr_book.specs.Name.{is_name_byte, IsName, name_of}
+use Rattle.text_parts.proofs.GapWords.{Lacks, lacks_none, lacks, lacks_append, InGaps, append_none, single_is}
+use Rattle.addr_book.proofs.HostTexts.{number_gives, number_read, number_first, number_lacks, some_digit, fails, hosts, ports, host_read, port_read, host_lacks, host_no_gaps, port_lacks, some_host, digit_no_gap}
 use Rattle.addr_book.proofs.LineTexts.{weight_lacks, some_weight_text, weight_stays, Weighs, weighs}
-use Rattle.addr_book.proofs.Stars.{is_star, StarCut, star_cut, before_all, behind_all, before_at as before_star_at, behind_at as behind_star_at}
-use Rattle.script.specs.Words.{name_of, number_of, version_of, before_colon, behind_colon, addr_in, with_weight, weighted_in}
+use Rattle.addr_book.proofs.Naming.{name_known, name_found}
+use Rattle.addr_book.proofs.Stars.{is_star}
+use Rattle.script.specs.Words.{version_of, before_colon, behind_colon, addr_in, with_weight, weighted_in}
 use Rattle.script.specs.Grammar.{SpellsName, name, SpellsLong, long, SpellsVersion, any_version, this_version, SpellsPathWord, path_word, SpellsAddr, host_port, SpellsItem, whole_item, weighed_item}
-use Rattle.script.proofs.Colons.{is_colon, ColonCut, colon_cut, before_at, behind_at}
-use Rattle.script.proofs.Naming.{name_known, name_found}
 use Rattle.script.proofs.NextWords.{lacks_from_all, all_from_lacks, Reads}
+
+abbrev is_colon : ℕ → Bool
+is_colon b = b == 58
 
 -- a gap passes no test that space and tab fail
 gap_fails : (p : ℕ → Bool) → p 32 ≡ false → p 9 ≡ false → (b : ℕ) → p b ≡ true → is_gap b ≡ false
@@ -170,9 +176,9 @@ parts_read host port ip number e f = rw (e, f) refl
 addr_gives : (w : List ℕ) (addr : Addr) → addr_in w ≡ Some addr → SpellsAddr w addr
 addr_gives w addr e =
     let parts = parts_give (host_value (before_colon w)) (option_and_then port_value (behind_colon w)) addr e in
-    go (behind_colon w) (colon_cut w) parts.ip parts.number parts.host_is parts.port_is parts.addr_is
+    go (behind_colon w) (byte_cut 58 w) parts.ip parts.number parts.host_is parts.port_is parts.addr_is
   where
-    go : (rest : Option (List ℕ)) → ColonCut w (before_colon w) rest → (ip number : ℕ) → host_value (before_colon w) ≡ Some ip → option_and_then port_value rest ≡ Some number
+    go : (rest : Option (List ℕ)) → ByteCut 58 w (before_colon w) rest → (ip number : ℕ) → host_value (before_colon w) ≡ Some ip → option_and_then port_value rest ≡ Some number
         → record { ip = ip; port = number } ≡ addr → SpellsAddr w addr
     go None cut ip number f g same = cc
     go (Some rest) cut ip number f g same =
@@ -203,7 +209,7 @@ addr_reads : (w : List ℕ) (addr : Addr) → SpellsAddr w addr → addr_in w �
 addr_reads w addr (host_port {h = h} {p = p} {ip = ip} {port = number} host to) =
     ap addr_in (append_assoc h (58 ∷ []) p)
     ∙ parts_read (host_value (before_colon (h ++ 58 ∷ p))) (option_and_then port_value (behind_colon (h ++ 58 ∷ p))) ip number
-    (ap host_value (before_at (host_no_colon host) p) ∙ host_read host) (ap (option_and_then port_value) (behind_at (host_no_colon host) p) ∙ port_read to)
+    (ap host_value (before_at 58 (host_no_colon host) p) ∙ host_read host) (ap (option_and_then port_value) (behind_at 58 (host_no_colon host) p) ∙ port_read to)
 
 addr_bare : (q : ℕ → Bool) → ((s : List ℕ) (ip : ℕ) → SpellsHost s ip → Lacks q s) → ((b : ℕ) → is_digit b ≡ true → q b ≡ false) → q 58 ≡ false
     → {w : List ℕ} {addr : Addr} → SpellsAddr w addr → Lacks q w
@@ -268,9 +274,9 @@ module _ (weights : ComputesWeights) where
   item_gives w item bare e =
       let parts = items_give (addr_in (before_star w)) (line_weight (behind_star w)) item e in
       let addr = addr_gives (before_star w) parts.at parts.addr_is in
-      subst (SpellsItem w) parts.item_is (go (behind_star w) (before_star w) (star_cut w) parts.at parts.number addr parts.weight_is)
+      subst (SpellsItem w) parts.item_is (go (behind_star w) (before_star w) (byte_cut 42 w) parts.at parts.number addr parts.weight_is)
     where
-      go : (rest : Option (List ℕ)) (front : List ℕ) → StarCut w front rest → (at : Addr) (number : ℕ) → SpellsAddr front at → line_weight rest ≡ Some number
+      go : (rest : Option (List ℕ)) (front : List ℕ) → ByteCut 42 w front rest → (at : Addr) (number : ℕ) → SpellsAddr front at → line_weight rest ≡ Some number
           → SpellsItem w (record { addr = at; weight = number })
       go None front cut at number addr f =
           let one : SpellsItem w (record { addr = at; weight = one_whole }) = whole_item (subst (λ (xs : List ℕ). SpellsAddr xs at) (sym cut) addr) in
@@ -295,12 +301,12 @@ module _ (weights : ComputesWeights) where
   item_reads : (w : List ℕ) (item : Weighted) → SpellsItem w item → weighted_in w ≡ Some item
   item_reads w item (whole_item {addr = at} r) =
       items_read (addr_in (before_star w)) (line_weight (behind_star w)) at one_whole
-      (ap addr_in (before_all (addr_no_star r)) ∙ addr_reads w at r) (ap line_weight (behind_all (addr_no_star r)))
+      (ap addr_in (before_all 42 (addr_no_star r)) ∙ addr_reads w at r) (ap line_weight (behind_all 42 (addr_no_star r)))
   item_reads w item (weighed_item {s = s} {w = text} {addr = at} {n = n} r weight least) =
       ap weighted_in (append_assoc s (42 ∷ []) text)
       ∙ items_read (addr_in (before_star (s ++ 42 ∷ text))) (line_weight (behind_star (s ++ 42 ∷ text))) at n
-      (ap addr_in (before_star_at (addr_no_star r) text) ∙ addr_reads s at r)
-      (ap line_weight (behind_star_at (addr_no_star r) text) ∙ weight_reads text n weight least)
+      (ap addr_in (before_at 42 (addr_no_star r) text) ∙ addr_reads s at r)
+      (ap line_weight (behind_at 42 (addr_no_star r) text) ∙ weight_reads text n weight least)
 
   item_lacks : (w : List ℕ) (item : Weighted) → SpellsItem w item → Lacks is_gap w
   item_lacks w item (whole_item {addr = at} r) = addr_lacks w at r

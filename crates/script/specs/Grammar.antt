@@ -1,6 +1,7 @@
 -- The lines that a script may have: a rule for each line of the grammar.
 use Rattle.std.specs.Prelude.{◌≡◌, ℕ, ◌-◌, ◌^◌, ◌≤◌, true, false, List, [], ◌∷◌, ◌++◌, length}
 use Rattle.std.specs.Prelude.{codes, Option, Some, None, All}
+use Rattle.text_parts.specs.Words.{AreGaps, is_gap}
 use Rattle.name_tree.specs.Path.{Labels}
 use Rattle.name_tree.specs.Value.{one_whole}
 use Rattle.name_tree.specs.Grammar.{AreBlanks, PathText, SpellsWeight}
@@ -11,8 +12,7 @@ use Rattle.addr_book.specs.declared.addr.Addr.{Addr}
 use Rattle.addr_book.specs.declared.addr.Weighted.{Weighted}
 use Rattle.addr_book.specs.Name.{IsName}
 use Rattle.addr_book.specs.AddrList.{first_places}
-use Rattle.addr_book.specs.FileLine.{is_gap}
-use Rattle.addr_book.specs.AddrGrammar.{AreGaps, SpellsNumber, SpellsHost, SpellsPort}
+use Rattle.addr_book.specs.AddrGrammar.{SpellsHost, SpellsNumber, SpellsPort}
 use Rattle.machine.specs.Values.{create, put, delete, set_addrs, drop_service, report}
 use Rattle.machine.specs.Values.{get_table, list_names, view}
 use Rattle.script.specs.Line.{LineValue, blank, table, change, look, ask, plain_ask}

@@ -2,21 +2,22 @@
 use Rattle.std.specs.Prelude.{ℕ, Bool, true, false, if◌then◌else◌, List, [], ◌∷◌, Option, Some}
 use Rattle.std.specs.Prelude.{None, option_map}
 use Rattle.std.specs.Option.{option_and_then}
+use Rattle.text_parts.specs.Numbers.{number_of}
+use Rattle.text_parts.specs.Words.{behind_word, drop_gaps, is_empty, single_word, word_of}
 use Rattle.name_tree.specs.Path.{Labels}
 use Rattle.name_tree.specs.Computed.{path_of}
 use Rattle.dtab_table.specs.Rules.{Rule}
 use Rattle.dtab_table.specs.Computed.{table_of}
 use Rattle.addr_book.specs.declared.addr.Addr.{Addr}
 use Rattle.addr_book.specs.declared.addr.Weighted.{Weighted}
-use Rattle.addr_book.specs.FileLine.{is_empty, drop_gaps, word_of, behind_word, single_word}
+use Rattle.addr_book.specs.Name.{name_of}
 use Rattle.machine.specs.Values.{ChangeValue, create, put, delete, set_addrs, drop_service, report}
 use Rattle.machine.specs.Values.{LookValue, get_table, list_names, view, AskValue}
 use Rattle.script.specs.declared.command.Command.{Command}
 use Rattle.script.specs.declared.command.Command.TheVariants as command
 use Rattle.script.specs.declared.line.Numbers.{Numbers}
 use Rattle.script.specs.Command.{command_of}
-use Rattle.script.specs.Words.{drop_blanks, behind, words_of, name_of, number_of, version_of}
-use Rattle.script.specs.Words.{addr_in, list_in}
+use Rattle.script.specs.Words.{addr_in, behind, drop_blanks, list_in, version_of, words_of}
 
 pub data LineValue : Type 0 where
   -- nothing

@@ -1,7 +1,8 @@
 -- The replies to a script's lines, as texts.
-use Rattle.std.specs.Prelude.{ℕ, List, [], ◌∷◌, ◌++◌, codes}
+use Rattle.std.specs.Prelude.{ℕ, List, [], ◌∷◌, ◌++◌, codes, length}
 use Rattle.std.specs.List.{flat_map}
 use Rattle.std.specs.Fmt.{decimal}
+use Rattle.text_parts.specs.Words.{spaced}
 use Rattle.name_tree.specs.Path.{Labels, canon_path}
 use Rattle.dtab_table.specs.Rules.{Rule}
 use Rattle.dtab_table.specs.TableCanon.{canon_table}
@@ -13,7 +14,8 @@ use Rattle.machine.specs.declared.chosen.Why.TheVariants as why
 use Rattle.machine.specs.Values.{ReplyValue, version, exists_at, too_many_names, versions_spent}
 use Rattle.machine.specs.Values.{missing, stale_at, deleted, set_to, book_full, too_many_services}
 use Rattle.machine.specs.Values.{dropped, marked_as, not_kept, history_spent, table, namespaces}
-use Rattle.machine.specs.Values.{addrs, counts, viewed, ChosenValue, picked, not_picked}
+use Rattle.machine.specs.Values.{addrs, counts, services, viewed, ChosenValue, picked}
+use Rattle.machine.specs.Values.{not_picked}
 use Rattle.delegate_view.specs.View.{view_of}
 
 -- what a line is answered
@@ -29,17 +31,12 @@ pub data SaidValue : Type 0 where
 abbrev pub with_number : List ℕ → ℕ → List ℕ
 with_number word n = word ++ 32 ∷ [] ++ decimal n
 
--- a space and a text, unless that is empty
-abbrev pub spaced : List ℕ → List ℕ
-spaced [] = []
-spaced (b ∷ text) = 32 ∷ b ∷ text
-
 -- a name and its number, for each thing that is counted
 abbrev pub counts_text : ℕ → ℕ → ℕ → ℕ → List ℕ
-counts_text changes marks spaces services =
+counts_text changes marks spaces served =
     with_number (with_number
     (with_number (with_number (codes "changes") changes ++ codes " marks") marks
-    ++ codes " namespaces") spaces ++ codes " services") services
+    ++ codes " namespaces") spaces ++ codes " services") served
 
 -- the text of a reply
 abbrev pub reply_text : ReplyValue → List ℕ
@@ -61,7 +58,9 @@ reply_text (table n rules) =
     with_number (codes "version") n ++ codes " dtab" ++ spaced (canon_table rules)
 reply_text (namespaces names) = codes "names" ++ flat_map (λ name. 32 ∷ name) names
 reply_text (addrs list) = codes "addrs" ++ flat_map (λ item. 32 ∷ addr_text item.addr) list
-reply_text (counts changes marks spaces services) = counts_text changes marks spaces services
+reply_text (counts changes marks spaces served) = counts_text changes marks spaces served
+reply_text (services changes marks spaces served) =
+    counts_text changes marks spaces (length served)
 reply_text (viewed ending items) = view_of ending items
 
 -- why there is no replica, in a word

@@ -3,8 +3,9 @@ use Rattle.std.specs.Prelude.{ℕ, ◌+◌, if◌then◌else◌, List, [], ◌�
 use Rattle.machine.specs.Values.{SettingsValue, StateValue, ChosenValue, picked, not_picked}
 use Rattle.machine.specs.State.{opening, after, is_accepted}
 use Rattle.machine.specs.Choosing.{pick_of, chosen_of}
+use Rattle.turn_parts.specs.Parts.{first_change}
 use Rattle.script.specs.Reply.{with_number}
-use Rattle.script.specs.Turns.{TurnValue, changing, picking, first_change, turns_from}
+use Rattle.script.specs.Turns.{TurnValue, changing, picking, turns_from}
 use Rattle.script.specs.Turns.{words_of_seed}
 
 -- how a run stands: its state, the changes that were refused, the picks with and without a replica,

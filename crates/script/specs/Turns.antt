@@ -1,14 +1,11 @@
 -- The turns of generated runs: changes and picks, made of a generator's words.
 use Rattle.std.specs.Prelude.{ℕ, zero, suc, ◌+◌, ◌/◌, ◌%◌, ◌==◌, nat_lt, false, if◌then◌else◌, List}
-use Rattle.std.specs.Prelude.{[], ◌∷◌, None}
+use Rattle.std.specs.Prelude.{[], ◌∷◌}
 use Rattle.rand_core.specs.Pcg32Seed.{pcg32_seed}
 use Rattle.rand_pcg.specs.Lcg.{Lcg}
 use Rattle.rand_pcg.specs.Pcg.{pcg64, pcg64_of_seed}
-use Rattle.machine.specs.Values.{ChangeValue, create, put, set_addrs, drop_service, report}
-use Rattle.machine.specs.Values.{AskValue}
-use Rattle.turn_parts.specs.Parts.{local_addr, addrs_from, service_name, service_path, namer_rule}
-use Rattle.turn_parts.specs.Parts.{table_by}
-use Rattle.script.specs.Carried.{default_name}
+use Rattle.machine.specs.Values.{ChangeValue, drop_service, report, AskValue}
+use Rattle.turn_parts.specs.Parts.{addrs_change, drawn_ask, local_addr, service_name, table_change}
 
 -- what a turn asks of a state
 pub data TurnValue : Type 0 where
@@ -19,35 +16,19 @@ pub data TurnValue : Type 0 where
 abbrev pub words_of_seed : ℕ → Lcg
 words_of_seed seed = pcg64_of_seed (pcg32_seed 32 seed)
 
--- a run's first change: the namespace `default`, whose table sends each service to the book
-abbrev pub first_change : ChangeValue
-first_change = create default_name (namer_rule ∷ [])
-
 -- the change of a kind, for a service and a number: up to four addresses, no such service any more,
 -- another table, or a failure
 abbrev pub change_by : ℕ → ℕ → ℕ → ℕ → ChangeValue
 change_by kind s q turn =
-    if kind == 0 then set_addrs (service_name s) (addrs_from (q % 5) (1024 + q)) else
+    if kind == 0 then addrs_change s q else
     if kind == 1 then drop_service (service_name s) else
-    if kind == 2 then put default_name None (table_by s)
-    else report (local_addr (1024 + q)) false turn
+    if kind == 2 then table_change s else report (local_addr (1024 + q)) false turn
 
 -- the pick of a service at the moment of its turn, by the next three words
 abbrev pub pick_by : ℕ → ℕ → Lcg → TurnValue × Lcg
 pick_by s turn words =
-    let branch = pcg64 words in
-    let first = pcg64 branch.1 in
-    let second = pcg64 first.1 in (
-      picking (record {
-        path = service_path s;
-        own = [];
-        moment = turn;
-        branch_word = branch.0;
-        first_draw = first.0;
-        second_draw = second.0;
-      }),
-      second.1,
-    )
+    let drawn = drawn_ask s turn words in
+    (picking drawn.0, drawn.1)
 
 -- the turn of a word, and the words behind it. The word's lowest three bits are the kind, of which
 -- 4 to 7 are picks, the next four bits a service, and the next twelve a number

@@ -1,17 +1,17 @@
 -- The words of a script's line, and what they stand for.
-use Rattle.std.specs.Prelude.{ℕ, ◌-◌, ◌^◌, ◌==◌, Bool, false, not, nat_le, ◌&&◌, if◌then◌else◌}
-use Rattle.std.specs.Prelude.{List, [], ◌∷◌, codes, length, Option, Some, None, option_map}
+use Rattle.std.specs.Prelude.{ℕ, Bool, false, not, nat_le, if◌then◌else◌, List, [], ◌∷◌, codes}
+use Rattle.std.specs.Prelude.{length, Option, Some, None, option_map}
 use Rattle.std.specs.Option.{option_and_then}
-use Rattle.std.specs.List.{list_all}
 use Rattle.std.specs.Str.{bytes_eq}
+use Rattle.text_parts.specs.Lines.{joined}
+use Rattle.text_parts.specs.Numbers.{number_of}
+use Rattle.text_parts.specs.Words.{before_byte, behind_byte, behind_word, drop_gaps, is_gap}
 use Rattle.name_tree.specs.Grammar.{is_blank}
 use Rattle.addr_book.specs.declared.addr.Addr.{Addr}
 use Rattle.addr_book.specs.declared.addr.Weighted.{Weighted}
-use Rattle.addr_book.specs.Addr.{number_value, at_most, addr_of, host_value, port_value}
+use Rattle.addr_book.specs.Addr.{addr_of, host_value, port_value}
 use Rattle.addr_book.specs.AddrList.{first_places}
-use Rattle.addr_book.specs.FileLine.{is_gap, joined, drop_gaps, behind_word, before_star}
-use Rattle.addr_book.specs.FileLine.{behind_star, line_weight}
-use Rattle.addr_book.specs.Name.{is_name_byte}
+use Rattle.addr_book.specs.FileLine.{before_star, behind_star, line_weight}
 
 -- a line behind its leading blanks: spaces, tabs, CRs and LFs
 abbrev pub drop_blanks : List ℕ → List ℕ
@@ -34,16 +34,6 @@ words_of (b ∷ bs) =
     if is_gap b then words_of bs else if goes_on bs then joined b (words_of bs)
     else (b ∷ []) ∷ words_of bs
 
--- the name that a word is: 1 to 255 bytes of letters, digits and `_ : . -`
-abbrev pub name_of : List ℕ → Option (List ℕ)
-name_of word =
-    if (nat_le 1 (length word) && nat_le (length word) 255) && list_all is_name_byte word
-    then Some word else None
-
--- a number of 64 bits: decimal digits without leading zeros
-abbrev pub number_of : List ℕ → Option ℕ
-number_of word = at_most (2 ^ 64 - 1) (number_value word)
-
 -- a version that a namespace must have, or `*` for any
 abbrev pub version_of : List ℕ → Option (Option ℕ)
 version_of word =
@@ -51,12 +41,10 @@ version_of word =
 
 -- the bytes before the first `:`, and those behind it, if there is one
 abbrev pub before_colon : List ℕ → List ℕ
-before_colon [] = []
-before_colon (b ∷ bs) = if b == 58 then [] else b ∷ before_colon bs
+before_colon word = before_byte 58 word
 
 abbrev pub behind_colon : List ℕ → Option (List ℕ)
-behind_colon [] = None
-behind_colon (b ∷ bs) = if b == 58 then Some bs else behind_colon bs
+behind_colon word = behind_byte 58 word
 
 -- the address of a word `host:port`
 abbrev pub addr_in : List ℕ → Option Addr

@@ -5,8 +5,9 @@ ghost use Rattle.addr_book.specs.AddrList.{HaveWeights};
 ghost use Rattle.script.specs.Words.{words_of, addrs_in, list_in};
 
 use crate::words::{LineFault, cut_word, read_weighted};
-use addr_book::{AddrList, MOST_ADDRS, Weighted, without_gap};
+use addr_book::{AddrList, MOST_ADDRS, Weighted};
 use std::alloc::Global;
+use text_parts::without_gap;
 
 /// The addresses that a line gives a service, in words between gaps: at most 1,024, each kept once,
 /// at its first place and with its first weight.

@@ -4,7 +4,7 @@
 //! [`read_line`] reads a line as a [`Line`], [`carry_out`] carries it out on a state of the router,
 //! and [`reply_text`] writes the reply to it. [`script_settings`] is what the router of scripts is
 //! set up with. [`storm`] makes a run of generated changes and picks, and sums it up in a line.
-//! [`read_number`] reads a word that is a number.
+//! [`read_addr`] reads a word that is an address.
 //!
 //! # Lines
 //! Words stand between spaces and tabs. TABLE goes from its first other byte to the end of the
@@ -55,7 +55,7 @@ pub use laws::computed_lines_are_exact;
 pub use line::{Line, read_line};
 pub use reply::{Said, reply_text};
 pub use run::storm;
-pub use words::{LineFault, read_number};
+pub use words::{LineFault, read_addr};
 
 /// A value, unless there was no memory for it.
 pub type Mem<T> = Result<T, AllocError>;

@@ -3,19 +3,19 @@ ghost use Rattle.std.specs.Prelude.{◌≡◌, MatchResult, IfOk};
 ghost use Rattle.script.specs.Line.{line_value, words_value, command_value, create_in, put_in};
 ghost use Rattle.script.specs.Line.{delete_in, addrs_in_line, report_in, pick_in, long_pick_in};
 ghost use Rattle.script.specs.Line.{numbers_of, bad};
-ghost use Rattle.script.specs.Words.{number_of};
+ghost use Rattle.text_parts.specs.Numbers.{number_of};
 ghost use Rattle.script.specs.Said.{line_said, IsSoundLine};
 
 use crate::addrs::read_list;
 use crate::command::{Command, read_command};
 use crate::words::{
-    LineFault, cut_word, is_blank_line, only_word, read_addr, read_name, read_number,
-    read_path_word, read_table, read_version,
+    LineFault, cut_word, is_blank_line, only_word, read_addr, read_name, read_path_word,
+    read_table, read_version,
 };
-use addr_book::{split_word, without_gap};
 use dtab_table::Dtab;
 use machine::{Ask, Change, Look};
 use std::alloc::Global;
+use text_parts::{read_number, split_word, without_gap};
 
 /// What a line of a script says.
 #[derive(Debug, Drop)]

@@ -2,12 +2,13 @@
 ghost use Rattle.std.specs.Prelude.{◌≡◌, ◌++◌, ◌∷◌, codes, IfOk, OnOk};
 ghost use Rattle.std.specs.Fmt.{decimal};
 ghost use Rattle.std.specs.List.{flat_map};
+ghost use Rattle.text_parts.specs.Words.{spaced};
 ghost use Rattle.addr_book.specs.Addr.{addr_text};
 ghost use Rattle.dtab_table.specs.Dtab.{rules_of};
 ghost use Rattle.dtab_table.specs.TableCanon.{canon_table};
 ghost use Rattle.machine.specs.Code.{reply_value, chosen_value};
 ghost use Rattle.script.specs.Reply.{reply_text, pick_text, said_text, why_word, with_number};
-ghost use Rattle.script.specs.Reply.{spaced, counts_text};
+ghost use Rattle.script.specs.Reply.{counts_text};
 ghost use Rattle.script.specs.Said.{said_of};
 
 use crate::{Bytes, Mem};
@@ -18,6 +19,7 @@ use dtab_table::{Dtab, write_dtab};
 use machine::{Chosen, Reply, Why};
 use name_tree::append_path;
 use std::alloc::Global;
+use text_parts::append_spaced;
 
 /// Room for the bytes of most answers to picks.
 const ROOM: usize = 128;
@@ -108,7 +110,13 @@ fn text_of_reply(alloc: Global, reply: &Reply) -> Mem<Bytes>
             marks,
             namespaces,
             services,
-        } => text_of_counts(alloc, *changes, *marks, *namespaces, *services),
+        } => text_of_counts(alloc, *changes, *marks, *namespaces, u64::from(*services)),
+        Reply::Services {
+            changes,
+            marks,
+            namespaces,
+            services,
+        } => text_of_counts(alloc, *changes, *marks, *namespaces, services.len() as u64),
         Reply::Viewed { outcome, trace } => view_text(alloc, outcome, trace),
     }
 }
@@ -117,8 +125,8 @@ fn text_of_reply(alloc: Global, reply: &Reply) -> Mem<Bytes>
 pub(crate) fn append_number(number: u64, out: &mut Bytes) -> Mem<()>
     ensures { OnOk result (out.new.items ≡ with_number out.old.items number) }
 {
-    let text = format!(in *out.allocator(); " {number}")?;
-    out.extend_from_slice(text.as_bytes())
+    out.push(b' ')?;
+    text_parts::append_number(number, out)
 }
 
 /// A word and a number.
@@ -151,17 +159,6 @@ fn text_of_table(alloc: Global, version: u64, dtab: &Dtab) -> Mem<Bytes>
     let table = write_dtab(alloc, dtab)?;
     append_spaced(table.as_slice(), &mut out)?;
     Ok(out)
-}
-
-/// Puts a space and a text behind some bytes, unless the text is empty.
-fn append_spaced(text: &[u8], out: &mut Bytes) -> Mem<()>
-    ensures { OnOk result (out.new.items ≡ out.old.items ++ spaced text.now) }
-{
-    if text.is_empty() {
-        return Ok(());
-    }
-    out.push(b' ')?;
-    out.extend_from_slice(text)
 }
 
 /// Names, each behind a space.
@@ -197,7 +194,7 @@ fn text_of_counts(
     changes: u64,
     marks: u32,
     namespaces: u32,
-    services: u32,
+    services: u64,
 ) -> Mem<Bytes>
     ensures { IfOk result (λ text. text.items ≡ counts_text changes marks namespaces services) }
 {
@@ -207,6 +204,6 @@ fn text_of_counts(
     out.extend_from_slice(b" namespaces")?;
     append_number(u64::from(namespaces), &mut out)?;
     out.extend_from_slice(b" services")?;
-    append_number(u64::from(services), &mut out)?;
+    append_number(services, &mut out)?;
     Ok(out)
 }

@@ -6,7 +6,6 @@ ghost use Rattle.script.specs.Turns.{turns_from, words_of_seed};
 ghost use Rattle.script.specs.Storm.{first_run, after_turns, storm_of};
 ghost use Rattle.script.specs.Ran.{run_of};
 
-use crate::carried::default_name;
 use crate::reply::{append_number, numbered};
 use crate::turn::{Turn, next_turn};
 use crate::{Bytes, Mem};
@@ -17,7 +16,7 @@ use std::alloc::Global;
 use std::marker::Brand;
 use std::sync::ledger::{Blank, Ledger};
 use step_count::Steps;
-use turn_parts::first_table;
+use turn_parts::first_change;
 
 /// How a run stands.
 #[derive(Debug, Drop)]
@@ -99,10 +98,7 @@ impl Run {
         ensures { IfOk result (λ run. run_of run ≡ first_run (settings_of settings.now)) }
     {
         let mut state = State::start(alloc)?;
-        let change = Change::Create {
-            name: default_name(alloc)?,
-            dtab: first_table(alloc)?,
-        };
+        let change = first_change(alloc)?;
         let _reply = state.apply(alloc, settings, &change)?;
         Ok(Run {
             state,

@@ -1,18 +1,16 @@
 //! The turns of generated runs.
 ghost use Rattle.std.specs.Prelude.{◌≡◌, ◌<◌, ◌^◌, IfOk};
-ghost use Rattle.machine.specs.Code.{change_of, ask_of};
+ghost use Rattle.machine.specs.Code.{change_of};
 ghost use Rattle.machine.specs.State.{IsSoundChange};
-ghost use Rattle.script.specs.Turns.{picking, change_by, pick_by, turn_by, next_turn};
+ghost use Rattle.script.specs.Turns.{change_by, next_turn, turn_by};
 ghost use Rattle.script.specs.Ran.{turn_value, IsSoundTurn};
 
 use crate::Mem;
-use crate::carried::default_name;
-use dtab_table::Dtab;
 use machine::{Ask, Change};
 use rand_core::utils::NextWord;
 use rand_pcg::Pcg64;
 use std::alloc::Global;
-use turn_parts::{addrs_from, local_addr, service_name, service_path, table_by};
+use turn_parts::{addrs_change, draw_ask, local_addr, service_name, table_change};
 
 /// What a turn asks of a state.
 #[derive(Debug, Drop)]
@@ -38,23 +36,7 @@ pub(crate) fn next_turn(alloc: Global, words: &mut Pcg64, number: u64) -> Mem<Tu
         let change = change_by(alloc, kind, service, word / 128 % 4096, number)?;
         return Ok(Turn::Change(change));
     }
-    Ok(Turn::Pick(pick_by(alloc, words, service, number)?))
-}
-
-/// The pick of a service, by the generator's next three words.
-fn pick_by(alloc: Global, words: &mut Pcg64, service: u64, number: u64) -> Mem<Ask>
-    ensures { IfOk result
-        (λ ask. (picking (ask_of ask), words.new) ≡ pick_by service number words.old) }
-{
-    let branch = words.next_word();
-    let first = words.next_word();
-    let second = words.next_word();
-    Ok(Ask {
-        path: service_path(alloc, service)?,
-        local: Dtab::empty(alloc),
-        moment: number,
-        words: [branch, first, second],
-    })
+    Ok(Turn::Pick(draw_ask(alloc, words, service, number)?))
 }
 
 /// The change of a kind.
@@ -66,18 +48,11 @@ fn change_by(alloc: Global, kind: u64, service: u64, number: u64, turn: u64) -> 
     ensures sound { IfOk result (λ change. IsSoundChange (change_of change)) }
 {
     match kind {
-        0 => Ok(Change::SetAddrs {
-            service: service_name(alloc, service)?,
-            list: addrs_from(alloc, number % 5, 1024 + number)?,
-        }),
+        0 => addrs_change(alloc, service, number),
         1 => Ok(Change::DropService {
             service: service_name(alloc, service)?,
         }),
-        2 => Ok(Change::Put {
-            name: default_name(alloc)?,
-            version: None,
-            dtab: table_by(alloc, service)?,
-        }),
+        2 => table_change(alloc, service),
         _ => Ok(Change::Report {
             addr: local_addr(1024 + number),
             good: false,

@@ -1,31 +1,32 @@
 //! The words of a script's line, and what they stand for.
-ghost use Rattle.std.specs.Prelude.{◌≡◌, ◌-◌, ◌^◌, None, Some, MatchResult, IfOk, IfErr, IfSome};
+ghost use Rattle.std.specs.Prelude.{◌≡◌, None, Some, MatchResult, IfOk, IfErr, IfSome};
 ghost use Rattle.std.specs.Prelude.{option_map};
 ghost use Rattle.std.specs.Option.{option_and_then};
-ghost use Rattle.addr_book.specs.Addr.{at_most, digits_behind, port_value};
+ghost use Rattle.text_parts.specs.Words.{is_empty, single_word, word_of};
+ghost use Rattle.addr_book.specs.Addr.{port_value};
 ghost use Rattle.addr_book.specs.AddrList.{IsWeight};
-ghost use Rattle.addr_book.specs.FileLine.{is_empty, word_of, single_word};
+ghost use Rattle.addr_book.specs.Name.{name_of};
 ghost use Rattle.name_tree.specs.Computed.{path_of};
 ghost use Rattle.dtab_table.specs.Computed.{table_of};
 ghost use Rattle.dtab_table.specs.Dtab.{rules_of};
 ghost use Rattle.dtab_table.specs.TableCanon.{AreSoundRules};
-ghost use Rattle.script.specs.Words.{drop_blanks, behind, name_of, number_of, version_of};
-ghost use Rattle.script.specs.Words.{before_colon, behind_colon, addr_in, weighted_in};
+ghost use Rattle.script.specs.Words.{addr_in, behind, drop_blanks, version_of, weighted_in};
 
-use addr_book::{
-    Addr, Name, NameFault, Weighted, cut_at_star, read_ip, read_line_weight, read_port, split_word,
-    without_gap,
-};
+use addr_book::{Addr, Name, NameFault, Weighted, read_ip, read_line_weight, read_port};
 use dtab_table::{Dtab, DtabFault, read_dtab};
 use name_tree::{Path, TextFault, is_blank_byte, read_path};
 use std::alloc::Global;
+use text_parts::{cut_at, read_number, single_word, split_word, without_gap};
+use thiserror::Error;
 
 /// Why a line was not read.
-#[derive(Clone, Copy, Debug, PartialEq, Eq)]
+#[derive(Clone, Copy, Debug, PartialEq, Eq, Error)]
 pub enum LineFault {
     /// It is no line of a script.
+    #[error("the line is none of a script")]
     BadLine,
     /// There was no memory for what it says.
+    #[error("out of memory")]
     OutOfMemory,
 }
 
@@ -55,11 +56,9 @@ pub(crate) fn only_word(text: &[u8]) -> Result<&[u8], LineFault>
     ensures word { IfOk result (λ word. single_word text.now ≡ Some word.now) }
     ensures more { IfErr result (λ fault. single_word text.now ≡ None) }
 {
-    let (word, more) = cut_word(without_gap(text));
-    if more.is_empty() {
-        Ok(word)
-    } else {
-        Err(LineFault::BadLine)
+    match single_word(text) {
+        Some(word) => Ok(word),
+        None => Err(LineFault::BadLine),
     }
 }
 
@@ -103,34 +102,6 @@ pub(crate) fn read_table(alloc: Global, text: &[u8]) -> Result<Dtab, LineFault>
     }
 }
 
-/// The number of 64 bits that a word is, in decimal digits without a sign or leading zeros.
-pub fn read_number(word: &[u8]) -> Option<u64>
-    ensures { result ≡ number_of word.now }
-{
-    match word {
-        [] | [b'0', _, ..] => None,
-        _ => read_digits(word),
-    }
-}
-
-/// The number of 64 bits that some decimal digits write.
-fn read_digits(text: &[u8]) -> Option<u64>
-    ensures { result ≡ at_most (2 ^ 64 - 1) (digits_behind 0 text.now) }
-{
-    let mut number: u64 = 0;
-    for byte in text {
-        if !byte.is_ascii_digit() {
-            return None;
-        }
-        let longer = 10 * u128::from(number) + u128::from(*byte - b'0');
-        if longer > u128::from(u64::MAX) {
-            return None;
-        }
-        number = longer as u64;
-    }
-    Some(number)
-}
-
 /// The version that a word says a namespace must have, none for `*`.
 pub(crate) fn read_version(word: &[u8]) -> Option<Option<u64>>
     ensures { result ≡ version_of word.now }
@@ -144,19 +115,6 @@ pub(crate) fn read_version(word: &[u8]) -> Option<Option<u64>>
     }
 }
 
-/// The bytes before the first `:`, and those behind it, if there is one.
-fn cut_at_colon(text: &[u8]) -> (&[u8], Option<&[u8]>)
-    ensures before { result.0.now ≡ before_colon text.now }
-    ensures behind { option_map (λ rest. rest.now) result.1 ≡ behind_colon text.now }
-{
-    for (at, byte) in text.iter().enumerate() {
-        if *byte == b':' {
-            return (&text[..at], Some(&text[at + 1..]));
-        }
-    }
-    (text, None)
-}
-
 /// The port of a text, if there is one.
 fn port_of(text: Option<&[u8]>) -> Option<u16>
     ensures { result ≡ option_and_then port_value (option_map (λ text. text.now) text.entry) }
@@ -164,11 +122,11 @@ fn port_of(text: Option<&[u8]>) -> Option<u16>
     read_port(text?)
 }
 
-/// The address that a word `host:port` is.
-pub(crate) fn read_addr(word: &[u8]) -> Option<Addr>
+/// The address that a word `host:port` is. `None` where it is none.
+pub fn read_addr(word: &[u8]) -> Option<Addr>
     ensures { result ≡ addr_in word.now }
 {
-    let (host, port) = cut_at_colon(word);
+    let (host, port) = cut_at(word, b':');
     match (read_ip(host), port_of(port)) {
         (Some(ip), Some(port)) => Some(Addr { ip, port }),
         _ => None,
@@ -180,7 +138,7 @@ pub(crate) fn read_weighted(word: &[u8]) -> Option<Weighted>
     ensures value { result ≡ weighted_in word.now }
     ensures weight { IfSome result (λ item. IsWeight item.weight) }
 {
-    let (addr, weight) = cut_at_star(word);
+    let (addr, weight) = cut_at(word, b'*');
     match (read_addr(addr), read_line_weight(weight)) {
         (Some(addr), Some(weight)) => Some(Weighted { addr, weight }),
         _ => None,

@@ -1,11 +1,14 @@
 -- What the turns of generated runs are made of.
-use Rattle.std.specs.Prelude.{ℕ, zero, suc, ◌+◌, ◌%◌, List, [], ◌∷◌, ◌++◌, codes, Some}
+use Rattle.std.specs.Prelude.{ℕ, zero, suc, ◌+◌, ◌%◌, List, [], ◌∷◌, ◌++◌, codes, Some, None}
 use Rattle.std.specs.Fmt.{decimal}
+use Rattle.rand_pcg.specs.Lcg.{Lcg}
+use Rattle.rand_pcg.specs.Pcg.{pcg64}
 use Rattle.name_tree.specs.Path.{Labels}
 use Rattle.name_tree.specs.Value.{leaf}
 use Rattle.dtab_table.specs.Rules.{Rule}
 use Rattle.addr_book.specs.declared.addr.Addr.{Addr}
 use Rattle.addr_book.specs.declared.addr.Weighted.{Weighted}
+use Rattle.machine.specs.Values.{AskValue, ChangeValue, create, put, set_addrs}
 
 -- an address of this machine
 abbrev pub local_addr : ℕ → Addr
@@ -41,3 +44,32 @@ service_rule n m =
 -- the table that also sends one service to the next of the 16
 abbrev pub table_by : ℕ → List Rule
 table_by s = namer_rule ∷ service_rule s ((s + 1) % 16) ∷ []
+
+-- the change that comes before all turns: the namespace `default`, whose table sends each service
+-- to the book
+abbrev pub first_change : ChangeValue
+first_change = create (codes "default") (namer_rule ∷ [])
+
+-- fewer than five addresses for a service, by a number
+abbrev pub addrs_change : ℕ → ℕ → ChangeValue
+addrs_change s q = set_addrs (service_name s) (addrs_from (q % 5) (1024 + q))
+
+-- a table that sends one service to the next
+abbrev pub table_change : ℕ → ChangeValue
+table_change s = put (codes "default") None (table_by s)
+
+-- the pick of a service at a moment, by the next three words, and the generator behind them
+abbrev pub drawn_ask : ℕ → ℕ → Lcg → AskValue × Lcg
+drawn_ask s moment words =
+    let branch = pcg64 words in
+    let first = pcg64 branch.1 in
+    let second = pcg64 first.1 in
+    let ask : AskValue = record {
+      path = service_path s;
+      own = [];
+      moment = moment;
+      branch_word = branch.0;
+      first_draw = first.0;
+      second_draw = second.0;
+    } in
+    (ask, second.1)

@@ -18,7 +18,7 @@ pub fn local_addr(port: u64) -> Addr
 }
 
 /// So many addresses of this machine, with ports that count up from one, each of the weight 1.
-pub fn addrs_from(alloc: Global, count: u64, port: u64) -> Mem<AddrList>
+pub(crate) fn addrs_from(alloc: Global, count: u64, port: u64) -> Mem<AddrList>
     requires count { count ≤ 1024 }
     requires port { port + count ≤ 65536 }
     ensures { IfOk result (λ list. list ≡ addrs_from count port) }

@@ -26,7 +26,7 @@ pub fn service_name(alloc: Global, service: u64) -> Mem<Name>
 }
 
 /// The path `/svc/sN`.
-pub fn service_path(alloc: Global, service: u64) -> Mem<Path>
+pub(crate) fn service_path(alloc: Global, service: u64) -> Mem<Path>
     ensures { IfOk result (λ path. path ≡ service_path service) }
 {
     let mut path = Path::new(alloc);

@@ -49,7 +49,7 @@ fn service_entry(alloc: Global, from: u64, to: u64) -> Mem<Entry>
 }
 
 /// The table that sends each service to the book: `/svc => /#/io.l5d.fs`.
-pub fn first_table(alloc: Global) -> Mem<Dtab>
+pub(crate) fn first_table(alloc: Global) -> Mem<Dtab>
     ensures table { IfOk result (λ dtab. rules_of dtab ≡ namer_rule ∷ []) }
     ensures sound { IfOk result (λ dtab. AreSoundRules (rules_of dtab)) }
 {
@@ -59,7 +59,7 @@ pub fn first_table(alloc: Global) -> Mem<Dtab>
 }
 
 /// The table that also sends one service to the next of the 16.
-pub fn table_by(alloc: Global, service: u64) -> Mem<Dtab>
+pub(crate) fn table_by(alloc: Global, service: u64) -> Mem<Dtab>
     requires { service < 16 }
     ensures table { IfOk result (λ dtab. rules_of dtab ≡ table_by service) }
     ensures sound { IfOk result (λ dtab. AreSoundRules (rules_of dtab)) }

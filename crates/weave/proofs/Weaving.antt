@@ -12,7 +12,8 @@ use Rattle.weave.specs.declared.world.World.{World}
 use Rattle.weave.specs.Code.{told_value}
 use Rattle.weave.specs.World.{WorldValue, StepValue, pick, publish, enter, answer, ToldValue, stepped, opening_world, run_from}
 use Rattle.weave.specs.Held.{world_of, ops_of, Holds, IsStep}
-use Rattle.weave.specs.Generated.{first_change, ask_of_turn, asking, turn_step, turn_by, turns_by, steps_of_seed, given_by, answers_given, weave_line, weave_of}
+use Rattle.turn_parts.specs.Parts.{drawn_ask, first_change}
+use Rattle.weave.specs.Generated.{asking, turn_step, turn_by, turns_by, steps_of_seed, given_by, answers_given, weave_line, weave_of}
 
 -- a generated run up to some step, and what is left of it
 pub record IsWeaving (settings : SettingsValue) (steps : List StepValue) (first : WorldValue) (w : World) (looks : ℕ) (ahead : List StepValue) : Type 0 where
@@ -101,10 +102,10 @@ unlike a b other =
     let each : P (a == b) = elim (a == b) as P [ true ↦ (λ has. absurd (other ((Decides-eqb a b).0 has))) | false ↦ (λ lacks. refl) ] in
     each refl
 
-pub turn_asks : (kind pass s q : ℕ) (words left : Lcg) (ask : AskValue) → kind ≢ 0 → kind ≢ 1 → kind ≢ 2 → kind ≢ 3 → kind < 6 → (ask, left) ≡ ask_of_turn s words
+pub turn_asks : (kind pass s q : ℕ) (words left : Lcg) (ask : AskValue) → kind ≢ 0 → kind ≢ 1 → kind ≢ 2 → kind ≢ 3 → kind < 6 → (ask, left) ≡ drawn_ask s 0 words
     → (enter pass (pick ask), left) ≡ turn_step kind pass s q words
 turn_asks kind pass s q words left ask a b c d few drawn =
-    let made : turn_step kind pass s q words ≡ asking pass (ask_of_turn s words) = rw (unlike kind 0 a, unlike kind 1 b, unlike kind 2 c, unlike kind 3 d, lt-ltb kind 6 few) refl in
+    let made : turn_step kind pass s q words ≡ asking pass (drawn_ask s 0 words) = rw (unlike kind 0 a, unlike kind 1 b, unlike kind 2 c, unlike kind 3 d, lt-ltb kind 6 few) refl in
     ap (asking pass) drawn ∙ sym made
 
 pub turn_answers : (kind pass s q : ℕ) (words : Lcg) → kind ≢ 0 → kind ≢ 1 → kind ≢ 2 → kind ≢ 3 → 6 ≤ kind → (answer pass, words) ≡ turn_step kind pass s q words

@@ -1,45 +1,18 @@
 -- Generated schedules: the steps that the words of a seed give, and the line that sums up what they
 -- leave.
 use Rattle.std.specs.Prelude.{ℕ, zero, suc, ◌+◌, ◌/◌, ◌%◌, ◌==◌, nat_lt, if◌then◌else◌, List, []}
-use Rattle.std.specs.Prelude.{◌∷◌, ◌++◌, codes, None}
+use Rattle.std.specs.Prelude.{◌∷◌, ◌++◌, codes}
 use Rattle.std.specs.Fmt.{decimal}
 use Rattle.rand_core.specs.Pcg32Seed.{pcg32_seed}
 use Rattle.rand_pcg.specs.Lcg.{Lcg}
 use Rattle.rand_pcg.specs.Pcg.{pcg64, pcg64_of_seed}
-use Rattle.machine.specs.Values.{SettingsValue, ChangeValue, create, put, set_addrs, AskValue}
+use Rattle.machine.specs.Values.{SettingsValue, AskValue}
 use Rattle.router_log.specs.Operation.{place_of, kept_count}
-use Rattle.turn_parts.specs.Parts.{addrs_from, service_name, service_path, namer_rule, table_by}
+use Rattle.turn_parts.specs.Parts.{addrs_change, drawn_ask, first_change, table_change}
 use Rattle.weave.specs.World.{pick, StepValue, publish, enter, answer, remember, meet, ToldValue}
 use Rattle.weave.specs.World.{nothing, opening_world, run_from}
 
--- the change that comes before the turns: a table that sends each service to the book
-abbrev pub first_change : ChangeValue
-first_change = create (codes "default") (namer_rule ∷ [])
-
--- the change of a turn: fewer than five addresses for a service, or a table that sends one service
--- to the next
-abbrev pub addrs_change : ℕ → ℕ → ChangeValue
-addrs_change s q = set_addrs (service_name s) (addrs_from (q % 5) (1024 + q))
-
-abbrev pub table_change : ℕ → ChangeValue
-table_change s = put (codes "default") None (table_by s)
-
--- the pick of a turn, with three words more, and the generator after them
-abbrev pub ask_of_turn : ℕ → Lcg → AskValue × Lcg
-ask_of_turn s words =
-    let branch = pcg64 words in
-    let first = pcg64 branch.1 in
-    let second = pcg64 first.1 in
-    let ask : AskValue = record {
-      path = service_path s;
-      own = [];
-      moment = 0;
-      branch_word = branch.0;
-      first_draw = first.0;
-      second_draw = second.0;
-    } in
-    (ask, second.1)
-
+-- the step in which a pass asks for a pick
 abbrev pub asking : ℕ → AskValue × Lcg → StepValue × Lcg
 asking pass ask = (enter pass (pick ask.0), ask.1)
 
@@ -50,7 +23,7 @@ turn_step kind pass s q words =
     if kind == 1 then (publish pass (table_change s), words) else
     if kind == 2 then (meet pass ((pass + 1) % 4), words) else
     if kind == 3 then (remember pass, words) else
-    if nat_lt kind 6 then asking pass (ask_of_turn s words) else (answer pass, words)
+    if nat_lt kind 6 then asking pass (drawn_ask s 0 words) else (answer pass, words)
 
 -- the step of a turn by the generator: its word's lowest two bits are its pass, the next three its
 -- kind, the next four a service, the next twelve a number

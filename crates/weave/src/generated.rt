@@ -1,25 +1,23 @@
 //! Generated schedules.
 ghost use Rattle.std.specs.Prelude.{◌≡◌, ◌≤◌, IfOk};
-ghost use Rattle.machine.specs.Code.{settings_of, ask_of};
+ghost use Rattle.machine.specs.Code.{settings_of};
+ghost use Rattle.turn_parts.specs.Parts.{first_change};
 ghost use Rattle.weave.specs.Code.{step_of, told_value};
 ghost use Rattle.weave.specs.Held.{world_of, IsSoundStep, Holds};
 ghost use Rattle.weave.specs.World.{publish, stepped, opening_world};
-ghost use Rattle.weave.specs.Generated.{weave_of, first_change, weave_line, turn_by, ask_of_turn};
-ghost use Rattle.weave.specs.Generated.{given_by};
+ghost use Rattle.weave.specs.Generated.{given_by, turn_by, weave_line, weave_of};
 
 use crate::step::{Asked, Step, Told};
-use crate::turns::{addrs_change, first_change, table_change};
 use crate::world::World;
 use crate::{Bytes, Mem};
-use dtab_table::Dtab;
-use machine::{Ask, Settings};
+use machine::Settings;
 use rand_core::SeedableRng;
 use rand_core::utils::NextWord;
 use rand_pcg::Pcg64;
 use std::alloc::Global;
 use std::sync::ledger::Ledger;
 use step_count::Steps;
-use turn_parts::service_path;
+use turn_parts::{addrs_change, draw_ask, first_change, table_change};
 
 /// The passes of generated schedules.
 const PASSES: u32 = 4;
@@ -128,26 +126,11 @@ impl Turn {
             return Ok(Step::Remember(pass));
         }
         if self.kind < 6 {
-            let ask = turn_ask(alloc, self.service, words)?;
+            let ask = draw_ask(alloc, words, self.service, 0)?;
             return Ok(Step::Enter(pass, Asked::Pick(ask)));
         }
         Ok(Step::Answer(pass))
     }
-}
-
-/// A pick for a service, with the next three words.
-fn turn_ask(alloc: Global, service: u64, words: &mut Pcg64) -> Mem<Ask>
-    ensures { IfOk result (λ ask. (ask_of ask, words.new) ≡ ask_of_turn service words.old) }
-{
-    let branch = words.next_word();
-    let first = words.next_word();
-    let second = words.next_word();
-    Ok(Ask {
-        path: service_path(alloc, service)?,
-        local: Dtab::empty(alloc),
-        moment: 0,
-        words: [branch, first, second],
-    })
 }
 
 /// How many answers a step gave: one, or none where nothing was in flight.

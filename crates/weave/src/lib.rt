@@ -60,7 +60,6 @@ mod publishing;
 mod remembering;
 mod step;
 mod stepping;
-mod turns;
 mod world;
 
 pub use generated::weave;

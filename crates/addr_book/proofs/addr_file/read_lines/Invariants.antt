@@ -1,7 +1,7 @@
 use Rattle.std.proofs.Common.{length, ◌-◌, ◌≡◌, ◌+◌, ◌≤◌, drop}
 use Rattle.addr_book.specs.AddrFile.{file_from, file_value}
 use Rattle.addr_book.specs.AddrList.{HaveWeights}
-use Rattle.addr_book.specs.FileLine.{lines_of}
+use Rattle.text_parts.specs.Lines.{lines_of}
 use Rattle.addr_book.proofs.Files.{behind}
 use Rattle.addr_book.proofs.addr_file.read_lines.Given as goal
 

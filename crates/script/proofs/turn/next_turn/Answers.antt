@@ -9,5 +9,5 @@ returns-then-kind-lt4-clause-turn c =
 
 pub returns-clause-turn : goal.returns-clause-turn
 returns-clause-turn c =
-    picking_turn c.args.number c.next_word-word.result c.args.words.now c.next_word-word.new.self c.pick_by.new.words (ask_of c.in_ok-pick_by.field-0) c.next_word-word.ensures
-    c.if-kind-lt4.false c.in_ok-pick_by.ensures
+    picking_turn c.args.number c.next_word-word.result c.args.words.now c.next_word-word.new.self c.draw_ask.new.words (ask_of c.in_ok-draw_ask.field-0) c.next_word-word.ensures
+    c.if-kind-lt4.false c.in_ok-draw_ask.ensures

@@ -1,0 +1,6 @@
+pub mod Exact
+pub mod Hash
+pub mod Json
+pub mod Lines
+pub mod Numbers
+pub mod Words

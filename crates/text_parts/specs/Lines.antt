@@ -1,0 +1,39 @@
+-- The lines of a text.
+use Rattle.std.specs.Prelude.{◌≡◌, ◌≢◌, ℕ, ◌≤◌, ◌==◌, ◌&&◌, Bool, false, if◌then◌else◌, List, []}
+use Rattle.std.specs.Prelude.{◌∷◌, ◌++◌, length}
+
+-- a byte at the front of the first line
+abbrev pub joined : ℕ → List (List ℕ) → List (List ℕ)
+joined b [] = (b ∷ []) ∷ []
+joined b (l ∷ ls) = (b ∷ l) ∷ ls
+
+abbrev pub begins_feed : List ℕ → Bool
+begins_feed [] = false
+begins_feed (b ∷ bs) = b == 10
+
+-- the lines of a text, each to its line feed and without it. The last may lack it. A carriage
+-- return right before a line feed is dropped
+abbrev pub lines_of : List ℕ → List (List ℕ)
+lines_of [] = []
+lines_of (b ∷ bs) =
+    if b == 10 then [] ∷ lines_of bs
+    else (if b == 13 && begins_feed bs then lines_of bs else joined b (lines_of bs))
+
+-- a text without a line feed
+pub data HasNoFeed : List ℕ → Type 0 where
+  no_byte : HasNoFeed []
+  no_feed : {b : ℕ} {s : List ℕ} → b ≢ 10 → HasNoFeed s → HasNoFeed (b ∷ s)
+
+-- the last byte of a text, if there is one, is no carriage return
+abbrev pub EndsPlain : List ℕ → Type 0
+EndsPlain s = (front : List ℕ) → s ≡ front ++ 13 ∷ [] → ⊥
+
+-- the lines of a text. Each ends with a line feed, or a carriage return and a line feed; the last
+-- may end with the text, where it has a byte
+pub data SpellsLines : List ℕ → List (List ℕ) → Type 0 where
+  no_line : SpellsLines [] []
+  last_line : {l : List ℕ} → HasNoFeed l → 1 ≤ length l → SpellsLines l (l ∷ [])
+  line : {l t : List ℕ} {ls : List (List ℕ)} → HasNoFeed l → EndsPlain l → SpellsLines t ls
+      → SpellsLines (l ++ 10 ∷ t) (l ∷ ls)
+  returned_line : {l t : List ℕ} {ls : List (List ℕ)} → HasNoFeed l → SpellsLines t ls
+      → SpellsLines (l ++ 13 ∷ 10 ∷ t) (l ∷ ls)
