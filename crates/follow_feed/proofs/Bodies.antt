@@ -1,6 +1,8 @@
 -- What the calls that pass bodies on come to, for a request without a body and a reply with a
 -- length.
-use Rattle.std.proofs.Common.{◌≡◌, ℕ, ◌+◌, length, List, [], ◌++◌, Some, Result, Ok, Err, true, false, refl, sym, ap, ◌∙◌, inl, inr, arith, append-nil, length-append}
+use Rattle.std.proofs.Common.{◌≡◌, ℕ, ◌+◌, length, List, [], ◌++◌, Some, Result, Ok, Err, true}
+use Rattle.std.proofs.Common.{false, refl, sym, subst, ap, ◌∙◌, inl, inr, arith, append-nil}
+use Rattle.std.proofs.Common.{length-append}
 use Rattle.std.specs.List.{concat}
 use Rattle.std.specs.Io.KnownBytes.{Appends}
 use Rattle.http_wire.specs.declared.frames.Framing.{Framing}
@@ -17,12 +19,13 @@ use Rattle.follow_feed.specs.Reading.{Reads, feed_in}
 pub whole_body : (head : ReplyHead) (n m : ℕ) (before kept kept_after sent start gathered : List ℕ)
     (pieces : List (List ℕ))
     (result : Result Feed PollEnd) → IsFeedHead head n → before ≡ []
+    → (count : ℕ)
     → PassesOn (Framing.Length n) (form_of false) most_passed before kept pieces sent kept_after
-    (Ok m)
+    count (Ok m)
     → start ≡ [] → Appends (Some start) (Some gathered) sent → Reads (feed_in gathered) result
     → SaysBehind head kept pieces (given result)
-whole_body head n m before kept kept_after sent start gathered pieces result good none passes fresh
-    gives reads =
+whole_body head n m before kept kept_after sent start gathered pieces result good none counted
+    passes fresh gives reads =
     by result reads
   where
     body : gathered ≡ passes.taken
@@ -57,16 +60,33 @@ whole_body head n m before kept kept_after sent start gathered pieces result goo
     by (Err PollEnd.OutOfMemory) h = tt
 
 -- or it did not
+-- the same where it is known how the reply's body ended
+pub whole_body_by : (head : ReplyHead) (n m : ℕ)
+    (before kept kept_after sent start gathered : List ℕ) (pieces : List (List ℕ))
+    (result : Result Feed PollEnd) → IsFeedHead head n → before ≡ []
+    → (count : ℕ) (end : Result ℕ BodyEnd) → end ≡ Ok m
+    → PassesOn (Framing.Length n) (form_of false) most_passed before kept pieces sent kept_after
+    count end
+    → start ≡ [] → Appends (Some start) (Some gathered) sent → Reads (feed_in gathered) result
+    → SaysBehind head kept pieces (given result)
+whole_body_by head n m before kept kept_after sent start gathered pieces result good none count end
+    is passes fresh gives reads =
+    let whole = subst (λ (e : Result ℕ BodyEnd). PassesOn (Framing.Length n) (form_of false)
+    most_passed before kept pieces sent kept_after count e) is passes in
+    whole_body head n m before kept kept_after sent start gathered pieces result good none count
+    whole fresh gives reads
+
 pub cut_body : (head : ReplyHead) (n : ℕ) (before kept kept_after sent : List ℕ)
     (pieces : List (List ℕ)) (end : BodyEnd)
     → IsFeedHead head n
+    → (count : ℕ)
     → PassesOn (Framing.Length n) (form_of false) most_passed before kept pieces sent kept_after
-    (Err end)
+    count (Err end)
     → EndsPieces (Framing.Length n) pieces (Err end)
     → SaysBehind head kept pieces (Err (end_of_body end))
-cut_body head n before kept kept_after sent pieces (BodyEnd.BadChunk m) good passes ends =
+cut_body head n before kept kept_after sent pieces (BodyEnd.BadChunk m) good counted passes ends =
     absurd passes.ends.1
-cut_body head n before kept kept_after sent pieces BodyEnd.Cut good passes ends =
+cut_body head n before kept kept_after sent pieces BodyEnd.Cut good counted passes ends =
     let few = passes.ends.1.1 in
     let nothing : length kept_after ≡ 0 = ap length passes.ends.1.2 in
     let total = passes.ends.1.0.total in
@@ -78,23 +98,49 @@ cut_body head n before kept kept_after sent pieces BodyEnd.Cut good passes ends 
       short = omega (arith, few, nothing, total, size);
       ended = ends refl;
     }))
-cut_body head n before kept kept_after sent pieces BodyEnd.TooLong good passes ends =
+cut_body head n before kept kept_after sent pieces BodyEnd.TooLong good counted passes ends =
     let long = passes.ends.0 in
     let short = good.short in
     absurd (omega (arith, long, short))
-cut_body head n before kept kept_after sent pieces BodyEnd.ReadFault good passes ends = tt
-cut_body head n before kept kept_after sent pieces BodyEnd.WriteFault good passes ends = tt
-cut_body head n before kept kept_after sent pieces BodyEnd.SendFault good passes ends = tt
-cut_body head n before kept kept_after sent pieces BodyEnd.RecvFault good passes ends = tt
-cut_body head n before kept kept_after sent pieces BodyEnd.OutOfMemory good passes ends = tt
+cut_body head n before kept kept_after sent pieces BodyEnd.ReadFault good counted passes ends = tt
+cut_body head n before kept kept_after sent pieces BodyEnd.WriteFault good counted passes ends = tt
+cut_body head n before kept kept_after sent pieces BodyEnd.SendFault good counted passes ends = tt
+cut_body head n before kept kept_after sent pieces BodyEnd.RecvFault good counted passes ends = tt
+cut_body head n before kept kept_after sent pieces BodyEnd.OutOfMemory good counted passes ends = tt
+
+-- the same where it is known how the reply's body ended
+pub cut_body_by : (head : ReplyHead) (n : ℕ) (before kept kept_after sent : List ℕ)
+    (pieces : List (List ℕ)) (why : BodyEnd)
+    → IsFeedHead head n
+    → (count : ℕ) (end : Result ℕ BodyEnd) → end ≡ Err why
+    → PassesOn (Framing.Length n) (form_of false) most_passed before kept pieces sent kept_after
+    count end
+    → EndsPieces (Framing.Length n) pieces end
+    → SaysBehind head kept pieces (Err (end_of_body why))
+cut_body_by head n before kept kept_after sent pieces why good count end is passes ends =
+    let cut = subst (λ (e : Result ℕ BodyEnd). PassesOn (Framing.Length n) (form_of false)
+    most_passed before kept pieces sent kept_after count e) is passes in
+    let ended = subst (λ (e : Result ℕ BodyEnd). EndsPieces (Framing.Length n) pieces e) is ends in
+    cut_body head n before kept kept_after sent pieces why good count cut ended
 
 -- a request without a body went on whole
-pub whole_request : (request kept kept_after sent : List ℕ) (pieces : List (List ℕ)) (n : ℕ)
-    → PassesOn Framing.Nothing (form_of true) most_passed request kept pieces sent kept_after (Ok n)
+pub whole_request : (request kept kept_after sent : List ℕ) (pieces : List (List ℕ)) (count n : ℕ)
+    → PassesOn Framing.Nothing (form_of true) most_passed request kept pieces sent kept_after count
+    (Ok n)
     → sent ≡ request
-whole_request request kept kept_after sent pieces n passes =
+whole_request request kept kept_after sent pieces count n passes =
     passes.sends ∙ (ap (λ l. request ++ l) (passes.ends.1.0.same ∙ passes.ends.1.1)
     ∙ append-nil request)
+
+pub whole_request_by : (request kept kept_after sent : List ℕ) (pieces : List (List ℕ))
+    (count n : ℕ) (end : Result ℕ BodyEnd) → end ≡ Ok n
+    → PassesOn Framing.Nothing (form_of true) most_passed request kept pieces sent kept_after count
+    end
+    → sent ≡ request
+whole_request_by request kept kept_after sent pieces count n end is passes =
+    let whole = subst (λ (e : Result ℕ BodyEnd). PassesOn Framing.Nothing (form_of true)
+    most_passed request kept pieces sent kept_after count e) is passes in
+    whole_request request kept kept_after sent pieces count n whole
 
 pub sent_whole : (request sent : List ℕ) (result : Result FeedValue PollEnd) → sent ≡ request
     → IsSent request sent result

@@ -6,7 +6,8 @@ use Rattle.ns_api.specs.declared.verb.Methods.TheVariants.{Reads}
 use Rattle.ns_api.specs.declared.verb.Verb.{Verb}
 use Rattle.ns_api.specs.declared.verb.Verb.TheVariants as verbs
 use Rattle.ns_api.specs.Demand.{bad_name, no_path, not_allowed}
-use Rattle.ns_api.specs.Request.{name_of, path_in, segment_behind}
+use Rattle.addr_book.specs.Name.{name_of}
+use Rattle.ns_api.specs.Request.{path_in, segment_behind}
 use Rattle.ns_api.specs.Response.{ResponseValue, response_value}
 use Rattle.ns_api.specs.Verbs.{verb_of}
 use Rattle.follow_feed.specs.declared.demand.FeedDemand.{FeedDemand}

@@ -1,21 +1,17 @@
 -- The lines that tell what polls came to.
 use Rattle.std.specs.Prelude.{ℕ, List, [], ◌∷◌, ◌++◌, codes, Option, Some, None}
 use Rattle.std.specs.Fmt.{decimal}
+use Rattle.text_parts.specs.Words.{spaced}
 use Rattle.dtab_table.specs.TableCanon.{canon_table}
 use Rattle.ns_store.specs.Contents.{Space}
 use Rattle.follow_feed.specs.Feeds.{FeedValue}
-
--- a text behind a blank, and nothing for the empty one
-abbrev pub behind_blank : List ℕ → List ℕ
-behind_blank [] = []
-behind_blank (b ∷ bs) = 32 ∷ b ∷ bs
 
 -- a namespace: its version and its table, or that it is gone
 abbrev pub space_words : Option Space → List ℕ
 space_words None = codes " gone"
 space_words (Some space) =
     codes " version " ++ decimal space.version ++ codes " dtab"
-    ++ behind_blank (canon_table space.rules)
+    ++ spaced (canon_table space.rules)
 
 -- the line of a feed
 abbrev pub feed_line : FeedValue → List ℕ

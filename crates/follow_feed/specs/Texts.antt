@@ -2,11 +2,11 @@
 use Rattle.std.specs.Prelude.{ℕ, ◌++◌, nat_lt, if◌then◌else◌, List, length, codes, Option, Some}
 use Rattle.std.specs.Prelude.{None}
 use Rattle.std.specs.Fmt.{decimal}
+use Rattle.text_parts.specs.Json.{json_string}
 use Rattle.name_tree.specs.Faults.{most_bytes}
 use Rattle.dtab_table.specs.TableCanon.{canon_table}
 use Rattle.ns_store.specs.Contents.{Space}
 use Rattle.ns_api.specs.Response.{ResponseValue, filled, plain}
-use Rattle.ns_api.specs.Texts.{json_string}
 use Rattle.ns_api.specs.declared.response.Media.TheVariants as media
 use Rattle.ns_api.specs.declared.response.Status.TheVariants as status
 use Rattle.follow_feed.specs.Feeds.{FeedValue}

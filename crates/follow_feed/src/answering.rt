@@ -4,7 +4,6 @@ ghost use Rattle.machine.specs.Code.{look_value, reply_value};
 ghost use Rattle.machine.specs.Values.{get_table};
 ghost use Rattle.router.specs.Passes.{number_in};
 ghost use Rattle.ns_api.specs.Answering.{delivery_of, IsTaken, IsWritten, MayHaveLooked};
-ghost use Rattle.ns_api.specs.Response.{response_value};
 ghost use Rattle.follow_feed.specs.Answering.{space_in, AnswersFeed, IsFed, IsSaidAt, IsShown};
 ghost use Rattle.follow_feed.specs.Answering.{LeavesFed, LeavesFeed};
 ghost use Rattle.follow_feed.specs.Demand.{feed_demand, feed_demand_value};
@@ -18,24 +17,13 @@ use crate::texts::feed_response;
 use addr_book::Name;
 use http_wire::{Head, TargetFault, read_target};
 use machine::{Look, Reply};
-use ns_api::{ApiReply, Delivery, Response, delivery_of};
+use ns_api::{ApiReply, Delivery, delivery_of, write};
 use router::{Looked, Naming, Pass, Router};
 use std::alloc::{AllocError, Global};
 use std::marker::Brand;
 use std::sync::Wait;
 use std::sync::ledger::{Blank, Ledger};
 use step_count::Steps;
-
-/// The reply with the bytes of a response.
-fn write(alloc: Global, response: &Response, delivery: Delivery) -> Mem<ApiReply>
-    ensures { IfOk result (IsWritten (response_value response.now) delivery false) }
-{
-    let bytes = response.bytes(alloc, delivery.closing, delivery.with_body)?;
-    Ok(ApiReply {
-        bytes,
-        stops: false,
-    })
-}
 
 /// The namespace that a reply shows, if it shows one.
 fn shown(said: Reply) -> Option<Versioned>
@@ -47,7 +35,7 @@ fn shown(said: Reply) -> Option<Versioned>
         Reply::Missing | Reply::Stale(_) | Reply::Deleted | Reply::Set(_) => None,
         Reply::BookFull(_) | Reply::TooManyServices | Reply::Dropped | Reply::Marked(_) => None,
         Reply::NotKept | Reply::HistorySpent | Reply::Names(_) | Reply::Addrs(_) => None,
-        Reply::Counts { .. } | Reply::Viewed { .. } => None,
+        Reply::Counts { .. } | Reply::Services { .. } | Reply::Viewed { .. } => None,
     }
 }
 

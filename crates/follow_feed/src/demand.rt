@@ -4,7 +4,7 @@ ghost use Rattle.std.specs.Option.{option_copied};
 ghost use Rattle.ns_api.specs.Demand.{no_path, not_allowed, bad_name};
 ghost use Rattle.follow_feed.specs.Demand.{answer, feed_demand, feed_demand_value, name_demand};
 ghost use Rattle.follow_feed.specs.Demand.{segment_demand, space_demand};
-ghost use Rattle.ns_api.specs.Request.{name_of};
+ghost use Rattle.addr_book.specs.Name.{name_of};
 
 use crate::Mem;
 use addr_book::{Name, NameFault};

@@ -18,15 +18,19 @@ use crate::{Bytes, Mem};
 use addr_book::{Addr, Name};
 use line_base::{Dialer, Sink};
 use std::alloc::Global;
+use thiserror::Error;
 
 /// How following ended.
-#[derive(Clone, Copy, Debug, PartialEq, Eq)]
+#[derive(Clone, Copy, Debug, PartialEq, Eq, Error)]
 pub enum FollowEnd {
     /// All polls were made, and all was written.
+    #[error("all polls were made")]
     Done,
     /// A line could not be written, and the sink's count of faults rose.
+    #[error("a line could not be written")]
     WriteFault,
     /// There was no memory for a poll or a line.
+    #[error("out of memory")]
     OutOfMemory,
 }
 

@@ -1,7 +1,7 @@
 //! The body of a reply, gathered in memory.
 ghost use Rattle.std.specs.Prelude.{◌≡◌, []};
 
-use line_base::{Failed, Next, Peer};
+use line_base::{Failed, Next, Peer, SocketAddress};
 use std::alloc::Global;
 
 /// Gathers the bytes that are written to it, and gives none: the peer behind a reply that is read
@@ -38,6 +38,12 @@ impl Peer for Gathered {
       closings = 0;
       quiets = 0;
     } };
+
+    ghost address = { λ g. None };
+
+    fn address(&self) -> Option<SocketAddress> {
+        None
+    }
 
     fn read(&mut self, into: &mut [u8]) -> Result<usize, Failed> {
         if !into.is_empty() {

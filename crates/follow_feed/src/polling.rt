@@ -20,18 +20,22 @@ use http_wire::{
 };
 use line_base::Dialer;
 use std::alloc::Global;
+use thiserror::Error;
 
 /// The most bytes of the body of a reply.
 const MOST_BODY: u64 = 1_048_576;
 
 /// Why a poll gave no feed.
-#[derive(Clone, Copy, Debug, PartialEq, Eq)]
+#[derive(Clone, Copy, Debug, PartialEq, Eq, Error)]
 pub enum PollEnd {
     /// A call of the dialer failed, and its count of faults rose.
+    #[error("the reply is lost")]
     Lost,
     /// What came is no good reply, or ended before it was one.
+    #[error("the reply is none of a feed")]
     Strange,
     /// There was no memory for the request or the reply.
+    #[error("out of memory")]
     OutOfMemory,
 }
 
@@ -141,7 +145,7 @@ fn converse<D: Dialer>(alloc: Global, dialer: &mut D, request: &mut Bytes) -> Re
         return Err(PollEnd::OutOfMemory);
     };
     let mut nobody = Gathered::new(alloc);
-    match pass_body(&mut nobody, &mut rest, Framing::Nothing, request, dialer) {
+    match pass_body(&mut nobody, &mut rest, Framing::Nothing, request, dialer).end {
         Ok(_) => receive(alloc, dialer, &mut rest),
         Err(BodyEnd::SendFault) => Err(PollEnd::Lost),
         Err(_) => Err(PollEnd::OutOfMemory),
@@ -185,7 +189,7 @@ fn receive_body<D: Dialer>(
     let framing = Framing::Length(length);
     let mut before = Vec::new(alloc);
     let mut body = Gathered::new(alloc);
-    match pass_back(dialer, rest, framing, false, &mut before, &mut body) {
+    match pass_back(dialer, rest, framing, false, &mut before, &mut body).end {
         Ok(_) => read_feed(alloc, body.bytes.as_slice()),
         Err(end) => Err(PollEnd::of_body(end)),
     }

@@ -99,14 +99,12 @@ fn full_feed(alloc: Global, tree: &Value) -> Result<Feed, PollEnd>
     let Some(version) = number_at(tree, "version") else {
         return Err(PollEnd::Strange);
     };
-    match table_at(alloc, tree) {
-        Ok(dtab) => Ok(Feed {
-            run,
-            place,
-            table: Some(Versioned { version, dtab }),
-        }),
-        Err(end) => Err(end),
-    }
+    let dtab = table_at(alloc, tree)?;
+    Ok(Feed {
+        run,
+        place,
+        table: Some(Versioned { version, dtab }),
+    })
 }
 
 /// The table whose text stands under `dtab`.

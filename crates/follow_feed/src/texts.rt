@@ -9,8 +9,9 @@ use crate::feed::{Feed, Versioned};
 use crate::{Bytes, Mem};
 use dtab_table::write_dtab;
 use name_tree::MOST_BYTES;
-use ns_api::{Media, Response, Status, put_number, put_string};
+use ns_api::{Media, Response, Status};
 use std::alloc::Global;
+use text_parts::{append_json_string, append_number};
 
 /// The response that tells a feed.
 pub(crate) fn feed_response(alloc: Global, feed: &Feed) -> Mem<Response>
@@ -53,11 +54,11 @@ fn full_text(alloc: Global, run: u64, place: u64, version: u64, table: &[u8]) ->
 {
     let mut out = Vec::new(alloc);
     out.extend_from_slice(b"{\"dtab\":")?;
-    put_string(table, &mut out)?;
+    append_json_string(table, &mut out)?;
     out.push(b',')?;
     put_numbers(place, run, &mut out)?;
     out.extend_from_slice(b",\"version\":")?;
-    put_number(version, &mut out)?;
+    append_number(version, &mut out)?;
     out.push(b'}')?;
     Ok(out)
 }
@@ -78,7 +79,7 @@ fn put_numbers(place: u64, run: u64, out: &mut Bytes) -> Mem<()>
     ensures { OnOk result (out.new.items ≡ out.old.items ++ numbers_text place run) }
 {
     out.extend_from_slice(b"\"place\":")?;
-    put_number(place, out)?;
+    append_number(place, out)?;
     out.extend_from_slice(b",\"run\":")?;
-    put_number(run, out)
+    append_number(run, out)
 }

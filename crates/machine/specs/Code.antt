@@ -19,11 +19,11 @@ use Rattle.machine.specs.Ready.{ReadyValue}
 use Rattle.machine.specs.Part.{part_value}
 use Rattle.machine.specs.Values.{SettingsValue, StateValue, ChangeValue, create, put, delete}
 use Rattle.machine.specs.Values.{set_addrs, drop_service, report, LookValue, get_table, list_names}
-use Rattle.machine.specs.Values.{get_addrs, count_all, view, AskValue, ReplyValue, version}
-use Rattle.machine.specs.Values.{exists_at, too_many_names, versions_spent, missing, stale_at}
-use Rattle.machine.specs.Values.{deleted, set_to, book_full, too_many_services, dropped, marked_as}
-use Rattle.machine.specs.Values.{not_kept, history_spent, table, namespaces, addrs, counts, viewed}
-use Rattle.machine.specs.Values.{ChosenValue, picked, not_picked}
+use Rattle.machine.specs.Values.{get_addrs, count_all, services_at, view, AskValue, ReplyValue}
+use Rattle.machine.specs.Values.{services, version, exists_at, too_many_names, versions_spent}
+use Rattle.machine.specs.Values.{missing, stale_at, deleted, set_to, book_full, too_many_services}
+use Rattle.machine.specs.Values.{dropped, marked_as, not_kept, history_spent, table, namespaces}
+use Rattle.machine.specs.Values.{addrs, counts, viewed, ChosenValue, picked, not_picked}
 
 abbrev pub settings_of : Settings → SettingsValue
 settings_of s = record { space = s.space; base = rules_of s.base; limits = s.limits }
@@ -41,6 +41,7 @@ look_value (look.Get name) = get_table name
 look_value look.List = list_names
 look_value (look.Addrs service) = get_addrs service
 look_value look.Counts = count_all
+look_value (look.Services moment) = services_at moment
 look_value (look.View path local) = view path (rules_of local)
 
 abbrev pub ask_of : Ask → AskValue
@@ -72,7 +73,9 @@ reply_value reply.HistorySpent = history_spent
 reply_value (reply.Table n dtab) = table n (rules_of dtab)
 reply_value (reply.Names names) = namespaces names
 reply_value (reply.Addrs list) = addrs list
-reply_value (reply.Counts changes marks spaces services) = counts changes marks spaces services
+reply_value (reply.Counts changes marks spaces served) = counts changes marks spaces served
+reply_value (reply.Services changes marks spaces served) =
+    services changes marks spaces served.items
 reply_value (reply.Viewed outcome trace) = viewed (ending_of outcome) trace
 
 abbrev pub chosen_value : Chosen → ChosenValue

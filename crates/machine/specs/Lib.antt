@@ -5,6 +5,7 @@ pub mod Decided
 pub mod Looking
 pub mod Part
 pub mod Ready
+pub mod Services
 pub mod Sound
 pub mod State
 pub mod Values

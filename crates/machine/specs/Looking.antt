@@ -9,8 +9,9 @@ use Rattle.ns_store.specs.Contents.{Space}
 use Rattle.bind_core.specs.Delegation.{outcome_of, trace_of}
 use Rattle.bind_core.specs.Outcome.{traced}
 use Rattle.machine.specs.Values.{SettingsValue, StateValue, LookValue, get_table, list_names}
-use Rattle.machine.specs.Values.{get_addrs, count_all, view, ReplyValue, missing, table, namespaces}
-use Rattle.machine.specs.Values.{addrs, counts, viewed}
+use Rattle.machine.specs.Values.{get_addrs, count_all, services_at, view, ReplyValue, missing}
+use Rattle.machine.specs.Values.{table, namespaces, addrs, counts, viewed}
+use Rattle.machine.specs.Services.{services_reply}
 
 -- the rules of a namespace, none where it is not there
 abbrev pub space_rules : Option Space → List Rule
@@ -46,4 +47,5 @@ look_of settings state (get_table name) = table_reply (get state.store.spaces na
 look_of settings state list_names = namespaces (keys state.store.spaces)
 look_of settings state (get_addrs service) = addrs_reply (get state.book.services service)
 look_of settings state count_all = counts_reply state
+look_of settings state (services_at moment) = services_reply settings.limits state moment
 look_of settings state (view path own) = view_reply state (effective settings state own) path

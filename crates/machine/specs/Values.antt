@@ -12,6 +12,7 @@ use Rattle.choose_core.specs.Marks.{MarkMap}
 use Rattle.bind_core.specs.Delegation.{Ending}
 use Rattle.bind_core.specs.declared.trace.TraceItem.{TraceItem}
 use Rattle.machine.specs.declared.chosen.Why.{Why}
+use Rattle.machine.specs.declared.reply.ServiceState.{ServiceState}
 
 -- what a router is set up with: the namespace whose table comes first, the configured table, and
 -- when a replica is left out
@@ -49,6 +50,8 @@ pub data LookValue : Type 0 where
   list_names : LookValue
   get_addrs : List ℕ → LookValue
   count_all : LookValue
+  -- at this moment
+  services_at : ℕ → LookValue
   view : Labels → List Rule → LookValue
 
 -- a path to pick a replica for, with the request's own table, at this moment, with three words of
@@ -83,6 +86,8 @@ pub data ReplyValue : Type 0 where
   -- how many changes were accepted, how many addresses have a mark, how many namespaces and
   -- services there are
   counts : ℕ → ℕ → ℕ → ℕ → ReplyValue
+  -- as in `counts`, but with the services one by one
+  services : ℕ → ℕ → ℕ → List ServiceState → ReplyValue
   viewed : Ending → List TraceItem → ReplyValue
 
 -- a replica that is picked: its address, its slot where it is one of a service, the labels that

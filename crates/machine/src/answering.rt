@@ -59,8 +59,8 @@ impl State {
         }
     }
 
-    /// Answers a look. A `Get` or an `Addrs` copies what it gives, and a `View` is a delegation
-    /// with its trace.
+    /// Answers a look. A `Get` or an `Addrs` copies what it gives, a `Services` goes over the book,
+    /// and a `View` is a delegation with its trace.
     pub fn answer<L: Ledger>(
         &self,
         alloc: Global,
@@ -77,6 +77,7 @@ impl State {
             Look::List => Ok(Reply::Names(self.names(alloc)?)),
             Look::Addrs { service } => self.addrs(alloc, service),
             Look::Counts => Ok(self.counts()),
+            Look::Services { moment } => self.services(alloc, settings.limits, *moment),
             Look::View { path, local } => {
                 let d = self.delegate(alloc, settings, path, local, Wanted::Trace, steps)?;
                 Ok(Reply::Viewed {

@@ -23,7 +23,8 @@
 //!
 //! # Cost
 //! No pick copies a table or a list of addresses: delegation reads tables where they lie, and
-//! [`State::candidates_of`] takes no memory.
+//! [`State::candidates_of`] takes no memory. Of the looks [`Look::Services`] alone goes over the
+//! whole book.
 //!
 //! # Example
 //! ```
@@ -55,6 +56,7 @@ mod part;
 mod picking;
 mod ready;
 mod reply;
+mod service_look;
 mod settings;
 mod state;
 
@@ -65,7 +67,7 @@ pub use chosen::{Chosen, Why};
 pub use laws::absorbing_is_changing;
 pub use look::Look;
 pub use ready::Ready;
-pub use reply::{NameList, Reply};
+pub use reply::{NameList, Reply, ServiceState};
 pub use settings::Settings;
 pub use state::State;
 

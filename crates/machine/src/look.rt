@@ -25,6 +25,15 @@ pub enum Look {
     },
     /// How much there is of each thing.
     Counts,
+    /// How much there is of each thing, and how many addresses of each service are alive.
+    ///
+    /// It goes over the whole book, and over nothing else: it sorts the names of the services,
+    /// looks each of them up, and looks each address of each service up among the marks, which ends
+    /// at once where no address has failures. The reply has one item for each service.
+    Services {
+        /// The moment at which an address is alive or not, in milliseconds.
+        moment: u64,
+    },
     /// How a path is delegated, lookup by lookup.
     View {
         /// The path.
@@ -48,6 +57,7 @@ impl Look {
                 service: service.clone()?,
             }),
             Look::Counts => Ok(Look::Counts),
+            Look::Services { moment } => Ok(Look::Services { moment: *moment }),
             Look::View { path, local } => Ok(Look::View {
                 path: path.part(alloc, 0, path.len())?,
                 local: local.copied(alloc)?,

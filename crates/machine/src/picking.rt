@@ -26,7 +26,7 @@ use crate::settings::Settings;
 use crate::state::State;
 use addr_book::{Addr, Bound, Cluster, Leaf, Name, ONE_WEIGHT, Weighted};
 use bind_core::{Outcome, Wanted};
-use choose_core::{Limits, branch, drawn_pair, is_open};
+use choose_core::{Limits, branch, is_open, pair_addrs};
 use std::alloc::Global;
 use std::sync::ledger::Ledger;
 use step_count::Steps;
@@ -227,7 +227,7 @@ impl State {
             None => unreachable!(),
             Some(list) => {
                 let [_, first, second] = ask.words;
-                drawn_pair(list, &self.marks, ask.moment, limits, first, second)
+                pair_addrs(list, &self.marks, ask.moment, limits, first, second)
             }
         }
     }

@@ -60,6 +60,18 @@ pub enum Reply {
         /// How many services there are.
         services: u32,
     },
+    /// How much there is of each thing, service by service.
+    Services {
+        /// How many changes were accepted.
+        changes: u64,
+        /// How many addresses have a count of failures above 0.
+        marks: u32,
+        /// How many namespaces there are.
+        namespaces: u32,
+        /// The services, in the order of their names' bytes: at most 4,096. The names share their
+        /// bytes with those of the book.
+        services: Vec<ServiceState>,
+    },
     /// How a path is delegated.
     Viewed {
         /// What it comes to, before branches without addresses are left out.
@@ -67,6 +79,18 @@ pub enum Reply {
         /// Its lookups, in the order in which they began.
         trace: Trace,
     },
+}
+
+/// How many addresses a service has at a moment.
+#[derive(Debug, Drop)]
+pub struct ServiceState {
+    /// The service.
+    pub name: Name,
+    /// How many addresses it has, at most 1,024.
+    pub addresses: u32,
+    /// How many of them are alive: not left out for their failures. Where none is, picks are made
+    /// among all of them.
+    pub alive: u32,
 }
 
 /// Some names, in order. Contracts see the list of their bytes.

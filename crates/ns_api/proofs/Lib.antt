@@ -1,4 +1,3 @@
-pub mod Naming
 pub mod Prefixes
 pub mod Rows
 pub mod Segments

@@ -16,7 +16,8 @@ use Rattle.ns_api.specs.declared.verb.Verb.{Verb}
 use Rattle.ns_api.specs.declared.verb.Verb.TheVariants.{Get, Head as HeadVerb, Post, Put, Delete}
 use Rattle.ns_api.specs.Demand.{DemandValue, IsSoundDemand, names_demand, named_asked, ns_demand, segment_demand, table_asked, table_demand, with_table}
 use Rattle.ns_api.specs.JsonTable.{are_few, body_rules, few_rules, json_of, json_rules, list_of, row_rules}
-use Rattle.ns_api.specs.Request.{is_json, name_of, path_in, segment_behind, version_asked}
+use Rattle.addr_book.specs.Name.{name_of}
+use Rattle.ns_api.specs.Request.{is_json, path_in, segment_behind, version_asked}
 use Rattle.ns_api.specs.Verbs.{verb_of}
 use Rattle.ns_api.proofs.Rows.{rows_sound}
 

@@ -15,7 +15,8 @@ use Rattle.ns_api.specs.declared.verb.Methods.TheVariants.{Reads, Tables}
 use Rattle.ns_api.specs.declared.verb.Verb.{Verb}
 use Rattle.ns_api.specs.declared.verb.Verb.TheVariants as verbs
 use Rattle.ns_api.specs.JsonTable.{body_rules}
-use Rattle.ns_api.specs.Request.{name_of, path_in, segment_behind, version_asked}
+use Rattle.addr_book.specs.Name.{name_of}
+use Rattle.ns_api.specs.Request.{path_in, segment_behind, version_asked}
 use Rattle.ns_api.specs.Response.{ResponseValue, plain, response_value}
 use Rattle.ns_api.specs.Verbs.{verb_of}
 

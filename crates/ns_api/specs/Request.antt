@@ -1,15 +1,14 @@
 -- The parts of a request that the interfaces look at.
-use Rattle.std.specs.Prelude.{ℕ, ◌+◌, ◌-◌, ◌^◌, ◌==◌, ◌&&◌, ◌||◌, Bool, not, nat_le, if◌then◌else◌}
+use Rattle.std.specs.Prelude.{ℕ, ◌-◌, ◌==◌, ◌&&◌, ◌||◌, Bool, not, nat_le, if◌then◌else◌}
 use Rattle.std.specs.Prelude.{List, [], ◌∷◌, length, take, drop, codes, slice_index, slice_range}
 use Rattle.std.specs.Prelude.{bytes_eq, Option, Some, None}
 use Rattle.std.specs.Option.{unwrap_or}
-use Rattle.std.specs.List.{before_first, after_first, list_any, list_all}
+use Rattle.std.specs.List.{before_first, after_first, list_any}
 use Rattle.http_uri.specs.ByteClasses.{question_mark, slash}
 use Rattle.http_wire.specs.declared.head.Field.{Field}
 use Rattle.http_wire.specs.declared.head.Head.{Head}
 use Rattle.http_wire.specs.Fields.{first_value, is_named, names_close, same_ignoring_case}
-use Rattle.addr_book.specs.Addr.{number_value, at_most}
-use Rattle.addr_book.specs.Name.{is_name_byte}
+use Rattle.text_parts.specs.Numbers.{number_of}
 
 -- the path of a target: what stands before its query
 abbrev pub path_in : List ℕ → List ℕ
@@ -28,16 +27,6 @@ unfoldable pub segment_behind : List ℕ → List ℕ → Option (List ℕ)
 segment_behind front path =
     if bytes_eq (take (length front) path) front then one_segment (drop (length front) path)
     else None
-
--- the name that a segment is: 1 to 255 bytes of letters, digits and `_ : . -`
-abbrev pub name_of : List ℕ → Option (List ℕ)
-name_of segment =
-    if (nat_le 1 (length segment) && nat_le (length segment) 255) && list_all is_name_byte segment
-    then Some segment else None
-
--- a number of 64 bits: decimal digits without leading zeros
-abbrev pub number_of : List ℕ → Option ℕ
-number_of text = at_most (2 ^ 64 - 1) (number_value text)
 
 -- a text without the quotation marks that it stands between
 abbrev pub unquoted : List ℕ → List ℕ

@@ -70,6 +70,7 @@ abbrev pub media_text : Media → List ℕ
 media_text media.Plain = codes "text/plain"
 media_text media.Json = codes "application/json"
 media_text media.Dtab = codes "application/dtab"
+media_text media.Metrics = codes "text/plain; version=0.0.4; charset=utf-8"
 
 -- the status line (RFC 9112 section 4)
 abbrev pub status_line : Status → List ℕ

@@ -1,5 +1,5 @@
 -- How the replies of a router's state are told over HTTP.
-use Rattle.std.specs.Prelude.{ℕ, Bool, true, false, List, codes, None, Some}
+use Rattle.std.specs.Prelude.{ℕ, Bool, true, false, List, codes, length, None, Some}
 use Rattle.name_tree.specs.Path.{Labels}
 use Rattle.dtab_table.specs.Rules.{Rule}
 use Rattle.dtab_table.specs.TableCanon.{canon_table}
@@ -7,7 +7,7 @@ use Rattle.delegate_view.specs.View.{view_of}
 use Rattle.machine.specs.Values.{ReplyValue, version, exists_at, too_many_names, versions_spent}
 use Rattle.machine.specs.Values.{missing, stale_at, deleted, set_to, book_full, too_many_services}
 use Rattle.machine.specs.Values.{dropped, marked_as, not_kept, history_spent, table, namespaces}
-use Rattle.machine.specs.Values.{addrs, counts, viewed}
+use Rattle.machine.specs.Values.{addrs, counts, services, viewed}
 use Rattle.ns_api.specs.declared.response.Status.TheVariants as status
 use Rattle.ns_api.specs.declared.response.Media.TheVariants as media
 use Rattle.ns_api.specs.Response.{ResponseValue, empty, filled, plain}
@@ -39,7 +39,9 @@ response_to as_dtab history_spent = plain status.InsufficientStorage None (codes
 response_to as_dtab (table n rules) = table_response as_dtab n rules
 response_to as_dtab (namespaces names) = filled status.Success None media.Json (names_text names)
 response_to as_dtab (addrs items) = filled status.Success None media.Plain (addrs_text items)
-response_to as_dtab (counts changes marks spaces services) =
-    filled status.Success None media.Json (counts_text changes marks spaces services)
+response_to as_dtab (counts changes marks spaces served) =
+    filled status.Success None media.Json (counts_text changes marks spaces served)
+response_to as_dtab (services changes marks spaces served) =
+    filled status.Success None media.Json (counts_text changes marks spaces (length served))
 response_to as_dtab (viewed ending items) =
     filled status.Success None media.Json (view_of ending items)

@@ -1,18 +1,14 @@
 -- The bodies of responses.
-use Rattle.std.specs.Prelude.{ℕ, ◌/◌, ◌%◌, ◌==◌, if◌then◌else◌, List, [], ◌∷◌, ◌++◌, codes}
+use Rattle.std.specs.Prelude.{ℕ, ◌==◌, if◌then◌else◌, List, [], ◌∷◌, ◌++◌, codes}
 use Rattle.std.specs.Fmt.{decimal}
 use Rattle.std.specs.List.{flat_map}
+use Rattle.text_parts.specs.Json.{json_string}
 use Rattle.name_tree.specs.Canon.{canon, canon_weight}
 use Rattle.name_tree.specs.Value.{one_whole}
 use Rattle.dtab_table.specs.Rules.{Rule}
 use Rattle.dtab_table.specs.TableCanon.{canon_prefix}
 use Rattle.addr_book.specs.declared.addr.Weighted.{Weighted}
-use Rattle.delegate_view.specs.View.{json_byte}
-
--- A text as a JSON string. The texts here are names and canonical ones, which have visible ASCII
--- bytes and blanks, and no quotation mark: of these JSON escapes the backslash alone, by another
-abbrev pub json_string : List ℕ → List ℕ
-json_string text = codes "\"" ++ flat_map json_byte text ++ codes "\""
+use Rattle.addr_book.specs.Addr.{ip_text}
 
 -- a rule as a JSON object
 abbrev pub rule_text : Rule → List ℕ
@@ -45,12 +41,6 @@ names_text names = codes "[" ++ listed_names names ++ codes "]"
 -- a weight in an address file, left out where it is one
 abbrev pub weight_part : ℕ → List ℕ
 weight_part weight = if weight == one_whole then [] else codes " * " ++ canon_weight weight
-
--- an IPv4 address: four numbers with points between them
-abbrev pub ip_text : ℕ → List ℕ
-ip_text ip =
-    decimal (ip / 16777216) ++ codes "." ++ decimal (ip / 65536 % 256) ++ codes "."
-    ++ decimal (ip / 256 % 256) ++ codes "." ++ decimal (ip % 256)
 
 -- a line of an address file
 abbrev pub addr_line : Weighted → List ℕ

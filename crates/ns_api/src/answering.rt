@@ -37,8 +37,8 @@ pub fn delivery_of(head: &Head, last: bool) -> Delivery
     }
 }
 
-/// The reply with the bytes of a response.
-fn write(alloc: Global, response: &Response, delivery: Delivery) -> Mem<ApiReply>
+/// The reply with the bytes of a response, as they go out.
+pub fn write(alloc: Global, response: &Response, delivery: Delivery) -> Mem<ApiReply>
     ensures { IfOk result (IsWritten (response_value response.now) delivery false) }
 {
     let bytes = response.bytes(alloc, delivery.closing, delivery.with_body)?;
@@ -108,28 +108,43 @@ fn look_up<J: Naming, R: Wait, L: Ledger>(
     unreachable!()
 }
 
-/// Looks, and tells the reply, over a count of steps of its own.
-fn ask_counted<J: Naming, R: Wait, L: Ledger>(
+/// Looks, over a count of steps of its own.
+fn look_counted<J: Naming, R: Wait, L: Ledger>(
     rt: &R,
     alloc: Global,
     router: &Router<J>,
     pass: &mut Pass<J>,
     look: &Look,
-    delivery: Delivery,
     blank: Blank,
-) -> Mem<ApiReply>
+) -> Mem<Reply>
     requires name { blank.name ≡ L.name }
     requires parts { blank.parts ≡ L.parts }
     requires some { 0 < blank.parts }
     ensures number { number_in pass.new ≡ number_in pass.old }
-    ensures asked { IfOk result (IsAsked (look_value look.now) delivery pass.old pass.new) }
+    ensures said { IfOk result (IsSaid (look_value look.now) pass.old pass.new) }
     ensures want { OnErr result (MayHaveLooked (look_value look.now) pass.old pass.new) }
 {
     let mut steps = Steps::<L>::start(blank);
-    match look_up(rt, alloc, router, pass, look, &mut steps) {
-        Ok(said) => tell(alloc, &said, delivery),
-        Err(want) => Err(want),
-    }
+    look_up(rt, alloc, router, pass, look, &mut steps)
+}
+
+/// Looks at one point of the history, which is not before what the pass had seen. It asks again as
+/// long as the router does not let it in.
+///
+/// # Errors
+/// Out of memory. The look was made then, or not.
+pub fn look_at<J: Naming, R: Wait>(
+    rt: &R,
+    alloc: Global,
+    router: &Router<J>,
+    pass: &mut Pass<J>,
+    look: &Look,
+) -> Mem<Reply>
+    ensures number { number_in pass.new ≡ number_in pass.old }
+    ensures said { IfOk result (IsSaid (look_value look.now) pass.old pass.new) }
+    ensures want { OnErr result (MayHaveLooked (look_value look.now) pass.old pass.new) }
+{
+    look_counted::<J, R, Brand>(rt, alloc, router, pass, look, Blank::new(1))
 }
 
 /// Looks, and tells the reply.
@@ -145,7 +160,10 @@ fn ask<J: Naming, R: Wait>(
     ensures asked { IfOk result (IsAsked (look_value look.now) delivery pass.old pass.new) }
     ensures want { OnErr result (MayHaveLooked (look_value look.now) pass.old pass.new) }
 {
-    ask_counted::<J, R, Brand>(rt, alloc, router, pass, look, delivery, Blank::new(1))
+    match look_at(rt, alloc, router, pass, look) {
+        Ok(said) => tell(alloc, &said, delivery),
+        Err(want) => Err(want),
+    }
 }
 
 /// Does what is asked for, and answers it. After want of memory it was done, or nothing was.

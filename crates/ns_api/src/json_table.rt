@@ -22,13 +22,16 @@ use http_wire::FieldList;
 use name_tree::{MOST_BYTES, TextFault, Tree, read_tree};
 use serde_json::Value;
 use std::alloc::{AllocError, AllocFailed, Global};
+use thiserror::Error;
 
 /// Why a body was not read as a table.
-#[derive(Clone, Copy, Debug, PartialEq, Eq)]
+#[derive(Clone, Copy, Debug, PartialEq, Eq, Error)]
 pub enum TableFault {
     /// It is none.
+    #[error("the body is no table")]
     NoTable,
     /// There was no memory for it.
+    #[error("out of memory")]
     OutOfMemory,
 }
 

@@ -34,7 +34,7 @@ mod telling;
 mod texts;
 mod verb;
 
-pub use answering::{carry_out, delivery_of, ns_answer};
+pub use answering::{carry_out, delivery_of, look_at, ns_answer, write};
 pub use delivery::Delivery;
 pub use demand::{Demand, bad_name, no_path, not_allowed};
 pub use json_table::{TableFault, read_body_table};
@@ -42,7 +42,6 @@ pub use reply::ApiReply;
 pub use request::{closes, has_body, is_path, path_in, query_in, read_name, segment_behind};
 pub use response::{Content, Media, Response, Status};
 pub use telling::response_to;
-pub use texts::{put_number, put_string};
 pub use verb::{Methods, Verb, verb_of};
 
 /// A value, unless there was no memory for it.

@@ -1,18 +1,19 @@
 //! The parts of a request that the interfaces look at.
-ghost use Rattle.std.specs.Prelude.{◌≡◌, ◌==◌, ◌-◌, ◌^◌, bytes_eq, codes, position, MatchResult};
-ghost use Rattle.std.specs.Prelude.{None, Some, option_map};
+ghost use Rattle.std.specs.Prelude.{◌≡◌, ◌==◌, bytes_eq, codes, position, MatchResult, None, Some};
+ghost use Rattle.std.specs.Prelude.{option_map};
 ghost use Rattle.std.specs.Option.{option_copied};
 ghost use Rattle.std.specs.List.{list_any};
 ghost use Rattle.http_uri.specs.ByteClasses.{slash};
-ghost use Rattle.addr_book.specs.Addr.{at_most, digits_behind};
+ghost use Rattle.addr_book.specs.Name.{name_of};
 ghost use Rattle.ns_api.specs.Request.{accepts_dtab, begins_with, closes, has_body, has_in_it};
-ghost use Rattle.ns_api.specs.Request.{is_json, name_of, number_of, one_segment, path_in, query_in};
+ghost use Rattle.ns_api.specs.Request.{is_json, one_segment, path_in, query_in};
 ghost use Rattle.ns_api.specs.Request.{segment_behind, unquoted, value_begins, version_asked};
 ghost use Rattle.ns_api.specs.Request.{version_for};
 
 use addr_book::{Name, NameFault};
 use http_wire::{FieldList, Head, names_close, same_bytes};
 use std::alloc::Global;
+use text_parts::read_number;
 
 /// The path of a target: what stands before its query.
 pub fn path_in(line: &[u8]) -> &[u8]
@@ -112,34 +113,6 @@ fn unquoted(text: &[u8]) -> &[u8]
         return &text[1..text.len() - 1];
     }
     text
-}
-
-/// The number of 64 bits that a text is, in decimal digits without leading zeros.
-fn read_number(text: &[u8]) -> Option<u64>
-    ensures { result ≡ number_of text.now }
-{
-    match text {
-        [] | [b'0', _, ..] => None,
-        _ => read_digits(text),
-    }
-}
-
-/// The number of 64 bits that some decimal digits write.
-fn read_digits(text: &[u8]) -> Option<u64>
-    ensures { result ≡ at_most (2 ^ 64 - 1) (digits_behind 0 text.now) }
-{
-    let mut number: u64 = 0;
-    for byte in text {
-        if !byte.is_ascii_digit() {
-            return None;
-        }
-        let longer = 10 * u128::from(number) + u128::from(*byte - b'0');
-        if longer > u128::from(u64::MAX) {
-            return None;
-        }
-        number = longer as u64;
-    }
-    Some(number)
 }
 
 /// Whether a text begins with a media type.

@@ -11,6 +11,7 @@ use crate::verb::Methods;
 use crate::{Bytes, Mem};
 use http_wire::{end_line, push_line};
 use std::alloc::Global;
+use text_parts::append_number;
 
 /// The status of a response.
 #[derive(Clone, Copy, Debug, PartialEq, Eq)]
@@ -80,6 +81,8 @@ pub enum Media {
     Json,
     /// The text of a table.
     Dtab,
+    /// Metrics in the text format that Prometheus scrapes.
+    Metrics,
 }
 
 impl Media {
@@ -91,6 +94,7 @@ impl Media {
             Media::Plain => "text/plain",
             Media::Json => "application/json",
             Media::Dtab => "application/dtab",
+            Media::Metrics => "text/plain; version=0.0.4; charset=utf-8",
         }
     }
 }
@@ -187,10 +191,8 @@ impl Response {
 fn put_status_line(status: Status, out: &mut Bytes) -> Mem<()>
     ensures { OnOk result (out.new.items ≡ out.old.items ++ ended (status_line status ∷ [])) }
 {
-    let code = status.code();
-    let digits = format!(in *out.allocator(); "{code}")?;
     out.extend_from_slice(b"HTTP/1.1 ")?;
-    out.extend_from_slice(digits.as_bytes())?;
+    append_number(u64::from(status.code()), out)?;
     out.extend_from_slice(b" ")?;
     out.extend_from_slice(status.reason().as_bytes())?;
     end_line(out)

@@ -14,7 +14,7 @@ use machine::Reply;
 use std::alloc::Global;
 
 /// The response that tells a reply. A table is told as its canonical text where `as_dtab`, and else
-/// as JSON.
+/// as JSON. Services are told by their number alone, as among the counts.
 pub fn response_to(alloc: Global, reply: &Reply, as_dtab: bool) -> Mem<Response>
     ensures { IfOk result
         (λ response. response_value response ≡ response_to as_dtab (reply_value reply.now)) }
@@ -49,7 +49,19 @@ pub fn response_to(alloc: Global, reply: &Reply, as_dtab: bool) -> Mem<Response>
             marks,
             namespaces,
             services,
-        } => Ok(json(counts_text(alloc, *changes, *marks, *namespaces, *services)?)),
+        } => {
+            let services = u64::from(*services);
+            Ok(json(counts_text(alloc, *changes, *marks, *namespaces, services)?))
+        }
+        Reply::Services {
+            changes,
+            marks,
+            namespaces,
+            services,
+        } => {
+            let services = services.len() as u64;
+            Ok(json(counts_text(alloc, *changes, *marks, *namespaces, services)?))
+        }
         Reply::Viewed { outcome, trace } => Ok(json(view_text(alloc, outcome, trace)?)),
     }
 }

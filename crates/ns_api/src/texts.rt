@@ -1,25 +1,18 @@
 //! The bodies of responses.
-ghost use Rattle.std.specs.Prelude.{◌≡◌, ◌+◌, ◌-◌, ◌*◌, ◌<◌, ◌++◌, IfOk, OnOk, map};
+ghost use Rattle.std.specs.Prelude.{◌≡◌, ◌++◌, IfOk, OnOk, map};
 ghost use Rattle.std.specs.Fmt.{decimal};
-ghost use Rattle.std.specs.List.{flat_map};
-ghost use Rattle.name_tree.specs.Canon.{canon, canon_weight, decimals_text};
-ghost use Rattle.name_tree.specs.Tree.{value_of};
 ghost use Rattle.dtab_table.specs.Dtab.{rules_of};
 ghost use Rattle.dtab_table.specs.Rules.{rule_of};
-ghost use Rattle.dtab_table.specs.TableCanon.{canon_prefix};
-ghost use Rattle.delegate_view.specs.View.{json_byte};
-ghost use Rattle.ns_api.specs.Texts.{addr_line, addrs_text, counts_text, ip_text, json_string};
-ghost use Rattle.ns_api.specs.Texts.{listed_names, more_names, more_rules, names_text, rule_text};
-ghost use Rattle.ns_api.specs.Texts.{rules_text, table_text, weight_part};
+ghost use Rattle.ns_api.specs.Texts.{addr_line, addrs_text, counts_text, listed_names};
+ghost use Rattle.ns_api.specs.Texts.{more_names, more_rules, names_text, rule_text, rules_text};
+ghost use Rattle.ns_api.specs.Texts.{table_text, weight_part};
 
 use crate::{Bytes, Mem};
-use addr_book::{Name, ONE_WEIGHT, Weighted};
+use addr_book::{Name, ONE_WEIGHT, Weighted, append_ip};
 use dtab_table::{Dtab, Entry, write_prefix};
-use name_tree::write_tree;
+use name_tree::{append_weight, write_tree};
 use std::alloc::Global;
-
-/// What the six decimals of a weight are worth, in millionths.
-const UNITS: [u64; 6] = [100_000, 10_000, 1_000, 100, 10, 1];
+use text_parts::{append_json_string, append_number};
 
 /// A table as JSON: an array of objects with the canonical texts of its trees and prefixes, in
 /// order.
@@ -63,34 +56,10 @@ fn put_rule(entry: &Entry, out: &mut Bytes) -> Mem<()>
     let tree = write_tree(alloc, &entry.tree)?;
     let prefix = write_prefix(alloc, &entry.prefix)?;
     out.extend_from_slice(b"{\"dst\":")?;
-    put_string(tree.as_slice(), out)?;
+    append_json_string(tree.as_slice(), out)?;
     out.extend_from_slice(b",\"prefix\":")?;
-    put_string(prefix.as_slice(), out)?;
+    append_json_string(prefix.as_slice(), out)?;
     out.extend_from_slice(b"}")
-}
-
-/// Puts a text behind some bytes, as a JSON string. The text has no quotation mark. An `Err` may
-/// leave a part there.
-pub fn put_string(text: &[u8], out: &mut Bytes) -> Mem<()>
-    ensures { OnOk result (out.new.items ≡ out.old.items ++ json_string text.now) }
-{
-    out.push(b'"')?;
-    put_escaped(text, out)?;
-    out.push(b'"')?;
-    Ok(())
-}
-
-/// Puts a text behind some bytes, each of its backslashes twice.
-fn put_escaped(text: &[u8], out: &mut Bytes) -> Mem<()>
-    ensures { OnOk result (out.new.items ≡ out.old.items ++ flat_map json_byte text.now) }
-{
-    for byte in text {
-        if *byte == b'\\' {
-            out.push(b'\\')?;
-        }
-        out.push(*byte)?;
-    }
-    Ok(())
 }
 
 /// Names as a JSON array, in order.
@@ -111,7 +80,7 @@ fn put_names(names: &[Name], out: &mut Bytes) -> Mem<()>
     let Some((first, others)) = names.split_first() else {
         return Ok(());
     };
-    put_string(first.text(), out)?;
+    append_json_string(first.text(), out)?;
     put_more_names(others, out)
 }
 
@@ -121,7 +90,7 @@ fn put_more_names(names: &[Name], out: &mut Bytes) -> Mem<()>
 {
     for name in names {
         out.push(b',')?;
-        put_string(name.text(), out)?;
+        append_json_string(name.text(), out)?;
     }
     Ok(())
 }
@@ -141,25 +110,12 @@ pub fn addrs_text(alloc: Global, items: &[Weighted]) -> Mem<Bytes>
 fn put_addr(item: Weighted, out: &mut Bytes) -> Mem<()>
     ensures { OnOk result (out.new.items ≡ out.old.items ++ addr_line item) }
 {
-    put_ip(item.addr.ip, out)?;
+    append_ip(item.addr.ip, out)?;
     out.push(b' ')?;
-    put_number(u64::from(item.addr.port), out)?;
+    append_number(u64::from(item.addr.port), out)?;
     put_weight_part(item.weight, out)?;
     out.push(b'\n')?;
     Ok(())
-}
-
-/// Puts an IPv4 address behind some bytes. An `Err` may leave a part there.
-fn put_ip(ip: u32, out: &mut Bytes) -> Mem<()>
-    ensures { OnOk result (out.new.items ≡ out.old.items ++ ip_text ip) }
-{
-    put_number(u64::from(ip / 0x0100_0000), out)?;
-    out.push(b'.')?;
-    put_number(u64::from(ip / 0x0001_0000 % 0x100), out)?;
-    out.push(b'.')?;
-    put_number(u64::from(ip / 0x0000_0100 % 0x100), out)?;
-    out.push(b'.')?;
-    put_number(u64::from(ip % 0x100), out)
 }
 
 /// Puts the weight of an address behind some bytes, unless it is one.
@@ -170,44 +126,7 @@ fn put_weight_part(weight: u64, out: &mut Bytes) -> Mem<()>
         return Ok(());
     }
     out.extend_from_slice(b" * ")?;
-    put_weight(weight, out)
-}
-
-/// Puts the canonical text of a weight in millionths behind some bytes.
-fn put_weight(millionths: u64, out: &mut Bytes) -> Mem<()>
-    ensures { OnOk result (out.new.items ≡ out.old.items ++ canon_weight millionths) }
-{
-    put_number(millionths / ONE_WEIGHT, out)?;
-    let rest = millionths % ONE_WEIGHT;
-    if rest > 0 {
-        out.push(b'.')?;
-        put_decimals(rest, out)?;
-    }
-    Ok(())
-}
-
-/// Puts decimals behind some bytes, as many as are needed.
-fn put_decimals(millionths: u64, out: &mut Bytes) -> Mem<()>
-    requires { millionths < 1000000 }
-    ensures { OnOk result (out.new.items ≡ out.old.items ++ decimals_text 6 millionths) }
-{
-    let mut rest = millionths;
-    for unit in UNITS {
-        if rest == 0 {
-            break;
-        }
-        out.push(b'0' + (rest / unit) as u8)?;
-        rest %= unit;
-    }
-    Ok(())
-}
-
-/// Puts a number behind some bytes, in decimal digits.
-pub fn put_number(number: u64, out: &mut Bytes) -> Mem<()>
-    ensures { OnOk result (out.new.items ≡ out.old.items ++ decimal number) }
-{
-    let text = format!(in *out.allocator(); "{number}")?;
-    out.extend_from_slice(text.as_bytes())
+    append_weight(weight, out)
 }
 
 /// How much there is of each thing, as a JSON object.
@@ -216,7 +135,7 @@ pub fn counts_text(
     changes: u64,
     marks: u32,
     namespaces: u32,
-    services: u32,
+    services: u64,
 ) -> Mem<Bytes>
     ensures { IfOk result (λ text. text.items ≡ counts_text changes marks namespaces services) }
 {
@@ -224,7 +143,7 @@ pub fn counts_text(
     put_count(b"{\"changes\":", changes, &mut out)?;
     put_count(b",\"marks\":", u64::from(marks), &mut out)?;
     put_count(b",\"namespaces\":", u64::from(namespaces), &mut out)?;
-    put_count(b",\"services\":", u64::from(services), &mut out)?;
+    put_count(b",\"services\":", services, &mut out)?;
     out.push(b'}')?;
     Ok(out)
 }
@@ -234,5 +153,5 @@ fn put_count(before: &[u8], number: u64, out: &mut Bytes) -> Mem<()>
     ensures { OnOk result (out.new.items ≡ out.old.items ++ before.now ++ decimal number) }
 {
     out.extend_from_slice(before)?;
-    put_number(number, out)
+    append_number(number, out)
 }

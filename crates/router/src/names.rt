@@ -1,11 +1,12 @@
 //! Room for the names of a replica.
-ghost use Rattle.std.specs.Prelude.{◌≡◌, ◌≤◌, ◌+◌, ◌<◌, ◌++◌, length, vec_len, vec_capacity};
-ghost use Rattle.name_tree.specs.Path.{canon_byte, canon_label, canon_path, hex_digit};
+ghost use Rattle.std.specs.Prelude.{◌≡◌, ◌≤◌, ◌+◌, ◌++◌, length, vec_len, vec_capacity};
+ghost use Rattle.name_tree.specs.Path.{canon_byte, canon_label, canon_path};
 
 use crate::Mem;
 use addr_book::Leaf;
 use name_tree::{Path, is_plain_byte};
 use std::alloc::Global;
+use text_parts::hex_digit;
 
 /// The bytes of a name's text.
 type Bytes = Vec<u8>;
@@ -110,18 +111,6 @@ fn put_byte(byte: u8, out: &mut Bytes)
     }
     out.push_reserved(b'\\');
     out.push_reserved(b'x');
-    out.push_reserved(digit(byte / 16));
-    out.push_reserved(digit(byte % 16));
-}
-
-/// A hexadecimal digit in lower case.
-fn digit(number: u8) -> u8
-    requires { number < 16 }
-    ensures { result ≡ hex_digit number }
-{
-    if number < 10 {
-        b'0' + number
-    } else {
-        b'a' + (number - 10)
-    }
+    out.push_reserved(hex_digit(byte / 16));
+    out.push_reserved(hex_digit(byte % 16));
 }

@@ -1,5 +1,5 @@
-//! Tests of delegation, of what is kept of it, of a router's state, of the lines of scripts, and of
-//! schedules.
+//! Tests of delegation, of what is kept of it, of a router's state, of its services one by one, of
+//! the lines of scripts, and of schedules.
 #![tactic(auto)]
 
 #[cfg(test)]
@@ -14,6 +14,8 @@ mod history;
 mod lines;
 #[cfg(test)]
 mod schedule;
+#[cfg(test)]
+mod services;
 #[cfg(test)]
 mod state;
 #[cfg(test)]

@@ -16,7 +16,7 @@ type Mem<T> = Result<T, AllocError>;
 
 /// How a line is carried out.
 #[derive(Clone, Copy)]
-enum By {
+pub(crate) enum By {
     /// Its change is applied.
     Apply,
     /// Its change is prepared, and absorbed where it is accepted.
@@ -67,11 +67,20 @@ fn answer<L: Ledger>(
     state.answer(alloc, settings, look, &mut Steps::<L>::start(blank))
 }
 
+/// The reply to a look, over a count of steps of its own.
+pub(crate) fn reply_to(
+    alloc: Global,
+    settings: &Settings,
+    state: &State,
+    look: &Look,
+) -> Mem<Reply> {
+    answer::<Brand>(alloc, state, settings, look, Blank::new(1))
+}
+
 /// The answer to a copy of the question of a line.
 fn answered(alloc: Global, settings: &Settings, state: &State, line: &str) -> Result<Said, Fail> {
     let look = look(alloc, line)?.copied(alloc)?;
-    let reply = answer::<Brand>(alloc, state, settings, &look, Blank::new(1))?;
-    Ok(Said::Reply(reply))
+    Ok(Said::Reply(reply_to(alloc, settings, state, &look)?))
 }
 
 fn choose<L: Ledger>(
@@ -112,7 +121,7 @@ fn said(
 }
 
 /// The text of what a line is answered.
-fn told(alloc: Global, state: &mut State, by: By, line: &str) -> Result<Vec<u8>, Fail> {
+pub(crate) fn told(alloc: Global, state: &mut State, by: By, line: &str) -> Result<Vec<u8>, Fail> {
     let settings = script_settings(alloc)?;
     Ok(reply_text(alloc, &said(alloc, &settings, state, by, line)?)?)
 }

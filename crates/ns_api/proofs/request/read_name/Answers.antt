@@ -1,5 +1,5 @@
 use Rattle.std.proofs.Common.{Some, sym, ◌∙◌, ap}
-use Rattle.ns_api.proofs.Naming.{name_known, name_unknown}
+use Rattle.addr_book.proofs.Naming.{name_known, name_unknown}
 use Rattle.ns_api.proofs.request.read_name.Goals as goal
 
 pub returns-in-Ok : goal.returns-in-Ok
