@@ -1,5 +1,5 @@
 -- How turns add up to a body that is read.
-use Rattle.std.proofs.Common.{◌≡◌, ℕ, ◌+◌, ◌-◌, ◌<◌, List, [], ◌++◌, length, refl, sym, ap, ◌∙◌, subst, arith, append_assoc, append-nil, length-append, Result, Ok, Err, Vec, Global}
+use Rattle.std.proofs.Common.{◌≡◌, ℕ, ◌+◌, ◌-◌, ◌<◌, ◌≤◌, List, [], ◌++◌, length, refl, sym, ap, ◌∙◌, subst, arith, append_assoc, append-nil, length-append, Result, Ok, Err, Vec, Global, inl, inr}
 use Rattle.http_wire.specs.declared.frames.Framing.{Framing}
 use Rattle.http_wire.specs.declared.frames.Framing.TheVariants.{Nothing, Length, Chunked, ToEnd}
 use Rattle.body_wire.specs.declared.decoder.Decoder.{Decoder}
@@ -7,7 +7,7 @@ use Rattle.body_wire.specs.declared.decoder.Stop.TheVariants.{More, Whole, Bad, 
 use Rattle.body_wire.specs.declared.end.BodyEnd.{BodyEnd}
 use Rattle.body_wire.specs.declared.form.Form.{Form}
 use Rattle.body_wire.specs.Bodies.{IsWholeBody, IsUnfinished, IsBadBody, IsTooLong, IsFrontBody}
-use Rattle.body_wire.specs.Passing.{most_read, ReadEnds, ReadsBody}
+use Rattle.body_wire.specs.Passing.{most_piece, most_read, IsPrompt, ReadEnds, ReadsBody}
 use Rattle.body_wire.specs.Stands.{Holds, Stops, most_left}
 use Rattle.body_wire.specs.Turns.{Taken, read_at_end}
 use Rattle.body_wire.proofs.Fronts.{front_body}
@@ -20,6 +20,7 @@ pub record Reads (framing : Framing) (d : Decoder) (kept came content rest : Lis
   pub limit_is : d.limit ≡ most_read
   pub holds : Holds framing d taken content
   pub bytes : kept ++ came ≡ taken ++ rest
+  pub prompt : IsPrompt framing kept came
 
 pub begins : (framing : Framing) (d : Decoder) (kept content : List ℕ) → Holds framing d [] [] → d.form ≡ Form.Content → d.limit ≡ most_read → content ≡ []
     → Reads framing d kept [] content kept
@@ -29,6 +30,7 @@ begins framing d kept content holds form_is limit_is none = record {
   limit_is = limit_is;
   holds = subst (λ (xs : List ℕ). Holds framing d [] xs) (sym none) holds;
   bytes = append-nil kept;
+  prompt = inl refl;
 }
 
 pub goes_on : (framing : Framing) (d0 d1 : Decoder) (kept came c0 c1 r0 r1 : List ℕ) → Reads framing d0 kept came c0 r0 → Taken d0 d1 r0 r1 c0 c1
@@ -39,17 +41,7 @@ goes_on framing d0 d1 kept came c0 c1 r0 r1 reads t = record {
   limit_is = t.goes.limit ∙ reads.limit_is;
   holds = subst (λ (xs : List ℕ). Holds framing d1 (reads.taken ++ t.took) xs) (sym t.out) (t.goes.holds framing reads.taken c0 reads.holds);
   bytes = reads.bytes ∙ ap (λ xs. reads.taken ++ xs) t.kept ∙ sym (append_assoc reads.taken t.took r1);
-}
-
-pub piece_came : (framing : Framing) (d : Decoder) (kept came content r0 piece r1 : List ℕ) → Reads framing d kept came content r0 → r1 ≡ r0 ++ piece
-    → Reads framing d kept (came ++ piece) content r1
-piece_came framing d kept came content r0 piece r1 reads is = record {
-  taken = reads.taken;
-  form_is = reads.form_is;
-  limit_is = reads.limit_is;
-  holds = reads.holds;
-  bytes =
-      sym (append_assoc kept came piece) ∙ ap (λ xs. xs ++ piece) reads.bytes ∙ append_assoc reads.taken r0 piece ∙ ap (λ xs. reads.taken ++ xs) (sym is);
+  prompt = reads.prompt;
 }
 
 module _ (framing : Framing) (d : Decoder) (kept came content rest : List ℕ) (reads : Reads framing d kept came content rest) where
@@ -57,14 +49,18 @@ module _ (framing : Framing) (d : Decoder) (kept came content rest : List ℕ) (
   pub shown : (P : Form → ℕ → Type 0) → P d.form d.limit → P Form.Content most_read
   shown P p = subst (λ (f : Form). P f most_read) reads.form_is (subst (λ (n : ℕ). P d.form n) reads.limit_is p)
 
+  few : d.count ≤ most_read
+  few = let w = d.within in let limit_is = reads.limit_is in omega arith
+
   ended_as : (result : Result (Vec ℕ Global) BodyEnd) → ReadEnds framing reads.taken content d.count rest result → ReadsBody framing kept came rest result
   ended_as result ends = record {
     taken = reads.taken;
     passed = content;
     count = d.count;
     bytes = reads.bytes;
-    within = let w = d.within in let limit_is = reads.limit_is in omega arith;
+    within = few;
     ends = ends;
+    prompt = reads.prompt;
   }
 
   pub whole : (body : Vec ℕ Global) → body.items ≡ content → Stops d rest Whole → ReadsBody framing kept came rest (Ok body)
@@ -89,6 +85,33 @@ module _ (framing : Framing) (d : Decoder) (kept came content rest : List ℕ) (
 
   unfinished : Stops d rest More → IsUnfinished framing Form.Content most_read reads.taken content d.count rest
   unfinished stops = shown (λ f n. IsUnfinished framing f n reads.taken content d.count rest) (stops.shows framing reads.taken content reads.holds)
+
+  -- a piece came where more was wanted
+  pub piece_came : (piece rest1 : List ℕ) → rest1 ≡ rest ++ piece → length rest1 ≤ most_piece
+      → Stops d rest More → Reads framing d kept (came ++ piece) content rest1
+  piece_came piece rest1 is short stops =
+      let long : length rest1 ≡ length rest + length piece = ap length is ∙ length-append rest piece in
+      record {
+        taken = reads.taken;
+        form_is = reads.form_is;
+        limit_is = reads.limit_is;
+        holds = reads.holds;
+        bytes =
+            sym (append_assoc kept came piece) ∙ ap (λ xs. xs ++ piece) reads.bytes ∙ append_assoc reads.taken rest piece ∙ ap (λ xs. reads.taken ++ xs) (sym is);
+        prompt = inr (record {
+          earlier = came;
+          piece = piece;
+          cut = refl;
+          short = omega arith;
+          taken = reads.taken;
+          passed = content;
+          count = d.count;
+          waiting = rest;
+          bytes = reads.bytes;
+          within = few;
+          open_ = unfinished stops;
+        });
+      }
 
   pub fault : (rest1 : List ℕ) → rest1 ≡ rest → Stops d rest More → ReadsBody framing kept came rest1 (Err BodyEnd.ReadFault)
   fault rest1 is stops =

@@ -97,11 +97,10 @@ module _ (framing : Framing) (form : Form) (limit : ℕ) (d0 d1 : Decoder) (head
   ended_as : (turn : Result Stop TurnFault) (result : Result ℕ BodyEnd) → (t : Turns d0 d1 rest0 rest1 waiting now turn)
       → IsSent (head ++ (way.passed ++ t.put)) (sent ++ now) result
       → Ends framing form limit (way.taken ++ t.took) (way.passed ++ t.put) d1.count rest1 result
-      → PassesOn framing form limit head kept pieces (sent ++ now) rest1 result
+      → PassesOn framing form limit head kept pieces (sent ++ now) rest1 d1.count result
   ended_as turn result t sends ends = record {
     taken = way.taken ++ t.took;
     passed = way.passed ++ t.put;
-    count = d1.count;
     bytes = turn_bytes t.took t.kept;
     within = let w = d1.within in let limit_is = t.goes.limit ∙ way.limit_is in omega arith;
     sends = sends;
@@ -127,29 +126,29 @@ module _ (framing : Framing) (form : Form) (limit : ℕ) (d0 d1 : Decoder) (head
       → ((all went : List ℕ) → IsFrontOf all went → IsSent all went (Err fault))
       → ((taken passed rest : List ℕ) → IsFrontBody framing form limit taken passed d1.count → Ends framing form limit taken passed d1.count rest (Err fault))
       → Turns d0 d1 rest0 rest1 waiting now turn → answer_of d1.count fault turn ≡ Some result
-      → PassesOn framing form limit head kept pieces (sent ++ now) rest1 result
+      → PassesOn framing form limit head kept pieces (sent ++ now) rest1 d1.count result
   answered fault (Ok More) result front says t is = cc
   answered fault (Ok Whole) result front says t is =
-      subst (PassesOn framing form limit head kept pieces (sent ++ now) rest1) (some_is _ result is)
+      subst (PassesOn framing form limit head kept pieces (sent ++ now) rest1 d1.count) (some_is _ result is)
       (ended_as (Ok Whole) (Ok d1.count) t (turn_sends t.put t.sends.0)
       (at_form (λ f n. Ends framing f n (way.taken ++ t.took) (way.passed ++ t.put) d1.count rest1 (Ok d1.count)) (Ok Whole) t
       (refl, t.sends.1.shows framing (way.taken ++ t.took) (way.passed ++ t.put) (holds_now (Ok Whole) t))))
   answered fault (Ok Bad) result front says t is =
-      subst (PassesOn framing form limit head kept pieces (sent ++ now) rest1) (some_is _ result is)
+      subst (PassesOn framing form limit head kept pieces (sent ++ now) rest1 d1.count) (some_is _ result is)
       (ended_as (Ok Bad) (Err (BodyEnd.BadChunk d1.count)) t (turn_sends t.put t.sends.0)
       (at_form (λ f n. Ends framing f n (way.taken ++ t.took) (way.passed ++ t.put) d1.count rest1 (Err (BodyEnd.BadChunk d1.count))) (Ok Bad) t
       (refl, t.sends.1.shows framing (way.taken ++ t.took) (way.passed ++ t.put) (holds_now (Ok Bad) t))))
   answered fault (Ok TooLong) result front says t is =
-      subst (PassesOn framing form limit head kept pieces (sent ++ now) rest1) (some_is _ result is)
+      subst (PassesOn framing form limit head kept pieces (sent ++ now) rest1 d1.count) (some_is _ result is)
       (ended_as (Ok TooLong) (Err BodyEnd.TooLong) t (turn_sends t.put t.sends.0)
       (at_form (λ f n. Ends framing f n (way.taken ++ t.took) (way.passed ++ t.put) d1.count rest1 (Err BodyEnd.TooLong)) (Ok TooLong) t
       (t.sends.1.shows framing (way.taken ++ t.took) (way.passed ++ t.put) (holds_now (Ok TooLong) t))))
   answered fault (Err TurnFault.Failed) result front says t is =
-      subst (PassesOn framing form limit head kept pieces (sent ++ now) rest1) (some_is _ result is)
+      subst (PassesOn framing form limit head kept pieces (sent ++ now) rest1 d1.count) (some_is _ result is)
       (ended_as (Err TurnFault.Failed) (Err fault) t (front _ _ (turn_front t.put t.sends))
       (says (way.taken ++ t.took) (way.passed ++ t.put) rest1 (front_now (Err TurnFault.Failed) t)))
   answered fault (Err TurnFault.OutOfMemory) result front says t is =
-      subst (PassesOn framing form limit head kept pieces (sent ++ now) rest1) (some_is _ result is)
+      subst (PassesOn framing form limit head kept pieces (sent ++ now) rest1 d1.count) (some_is _ result is)
       (ended_as (Err TurnFault.OutOfMemory) (Err BodyEnd.OutOfMemory) t (turn_front t.put t.sends)
       (front_now (Err TurnFault.OutOfMemory) t))
 
@@ -245,11 +244,10 @@ module _ (framing : Framing) (form : Form) (limit : ℕ) (d : Decoder) (head kep
 
   ended_here : (result : Result ℕ BodyEnd) (rest1 : List ℕ) (more : List (List ℕ)) → kept ++ concat more ≡ way.taken ++ rest1
       → IsSent (head ++ way.passed) sent result → Ends framing form limit way.taken way.passed d.count rest1 result → InTurn framing form limit head kept more sent
-      → PassesOn framing form limit head kept more sent rest1 result
+      → PassesOn framing form limit head kept more sent rest1 d.count result
   ended_here result rest1 more bytes sends ends turns = record {
     taken = way.taken;
     passed = way.passed;
-    count = d.count;
     bytes = bytes;
     within = let w = d.within in let limit_is = way.limit_is in omega arith;
     sends = sends;
@@ -258,18 +256,18 @@ module _ (framing : Framing) (form : Form) (limit : ℕ) (d : Decoder) (head kep
   }
 
   -- none did, since there was a fault
-  pub no_piece : (rest1 : List ℕ) → rest1 ≡ rest → PassesOn framing form limit head kept pieces sent rest1 (Err BodyEnd.ReadFault)
-      × PassesOn framing form limit head kept pieces sent rest1 (Err BodyEnd.RecvFault)
+  pub no_piece : (rest1 : List ℕ) → rest1 ≡ rest → PassesOn framing form limit head kept pieces sent rest1 d.count (Err BodyEnd.ReadFault)
+      × PassesOn framing form limit head kept pieces sent rest1 d.count (Err BodyEnd.RecvFault)
   no_piece rest1 is = (
-    subst (λ (xs : List ℕ). PassesOn framing form limit head kept pieces sent xs (Err BodyEnd.ReadFault)) (sym is)
+    subst (λ (xs : List ℕ). PassesOn framing form limit head kept pieces sent xs d.count (Err BodyEnd.ReadFault)) (sym is)
         (ended_here (Err BodyEnd.ReadFault) rest pieces way.bytes all_went unfinished way.turns),
-    subst (λ (xs : List ℕ). PassesOn framing form limit head kept pieces sent xs (Err BodyEnd.RecvFault)) (sym is)
+    subst (λ (xs : List ℕ). PassesOn framing form limit head kept pieces sent xs d.count (Err BodyEnd.RecvFault)) (sym is)
         (ended_here (Err BodyEnd.RecvFault) rest pieces way.bytes all_went unfinished way.turns),
   )
 
   -- the end came
   pub end_came : (piece rest1 : List ℕ) → length piece ≡ 0 → rest1 ≡ rest ++ piece
-      → PassesOn framing form limit head kept (pieces ++ piece ∷ []) sent rest1 (end_answer framing d.count)
+      → PassesOn framing form limit head kept (pieces ++ piece ∷ []) sent rest1 d.count (end_answer framing d.count)
   end_came piece rest1 none is =
       let same : rest1 ≡ rest = is ∙ ap (λ xs. rest ++ xs) (no_bytes piece none) ∙ append-nil rest in
       ended_here (end_answer framing d.count) rest1 (pieces ++ piece ∷ []) (came piece ∙ ap (λ xs. way.taken ++ xs) (sym is))
@@ -307,13 +305,13 @@ module _ (framing : Framing) (form : Form) (limit : ℕ) (d0 d1 : Decoder) (head
       (piece_came framing form limit d1 head kept pieces (sent ++ now) rest1 way_on wanting.sends.1 piece rest2 (omega arith) is)
 
   pub on_end : (piece rest2 : List ℕ) (result : Result ℕ BodyEnd) → length piece ≡ 0 → rest2 ≡ rest1 ++ piece → result ≡ end_answer framing d1.count
-      → PassesOn framing form limit head kept (pieces ++ piece ∷ []) (sent ++ now) rest2 result
+      → PassesOn framing form limit head kept (pieces ++ piece ∷ []) (sent ++ now) rest2 d1.count result
   on_end piece rest2 result none is answer =
-      subst (PassesOn framing form limit head kept (pieces ++ piece ∷ []) (sent ++ now) rest2) (sym answer)
+      subst (PassesOn framing form limit head kept (pieces ++ piece ∷ []) (sent ++ now) rest2 d1.count) (sym answer)
       (end_came framing form limit d1 head kept pieces (sent ++ now) rest1 way_on wanting.sends.1 piece rest2 none is)
 
-  pub on_fault : (rest2 : List ℕ) → rest2 ≡ rest1 → PassesOn framing form limit head kept pieces (sent ++ now) rest2 (Err BodyEnd.ReadFault)
-      × PassesOn framing form limit head kept pieces (sent ++ now) rest2 (Err BodyEnd.RecvFault)
+  pub on_fault : (rest2 : List ℕ) → rest2 ≡ rest1 → PassesOn framing form limit head kept pieces (sent ++ now) rest2 d1.count (Err BodyEnd.ReadFault)
+      × PassesOn framing form limit head kept pieces (sent ++ now) rest2 d1.count (Err BodyEnd.RecvFault)
   on_fault rest2 is = no_piece framing form limit d1 head kept pieces (sent ++ now) rest1 way_on wanting.sends.1 rest2 is
 
   pub on_no_fault : turn ≢ Err TurnFault.Failed

@@ -1,6 +1,7 @@
 -- What a call that passes a body on, or reads it, answers and leaves.
 use Rattle.std.specs.Prelude.{◌≡◌, ◌≢◌, ◌⊎◌, ℕ, ◌-◌, ◌^◌, ◌≤◌, Bool, true, false, List, [], ◌∷◌}
 use Rattle.std.specs.Prelude.{◌++◌, length, map, Option, Some, None, Result, Ok, Err}
+use Rattle.std.specs.Io.KnownBytes.{IsAtEnd}
 use Rattle.std.specs.List.{concat}
 use Rattle.line_base.specs.Counts.{raised}
 use Rattle.line_base.specs.declared.dialer.DialEvent.{DialEvent}
@@ -88,14 +89,13 @@ InTurn framing form limit head kept pieces sent =
     (pieces ≡ []) ⊎ LastPiece framing form limit head kept pieces sent
 
 -- a body goes on behind `head`: `kept` are the bytes that were there, `pieces` those that came, and
--- `kept_after` those that are kept
+-- `kept_after` those that are kept. `count` is the number of the content bytes that were taken
 pub record PassesOn
     (framing : Framing) (form : Form) (limit : ℕ) (head kept : List ℕ) (pieces : List (List ℕ))
-    (sent kept_after : List ℕ) (result : Result ℕ BodyEnd)
+    (sent kept_after : List ℕ) (count : ℕ) (result : Result ℕ BodyEnd)
     : Type 0 where
   pub taken : List ℕ
   pub passed : List ℕ
-  pub count : ℕ
   pub bytes : kept ++ concat pieces ≡ taken ++ kept_after
   pub within : count ≤ limit
   pub sends : IsSent (head ++ passed) sent result
@@ -125,6 +125,10 @@ is_at_end framing (Err OutOfMemory) = false
 pub record CountsEnd (framing : Framing) (before now : ℕ) (result : Result ℕ BodyEnd) : Type 0 where
   pub ended : is_at_end framing result ≡ true → now ≡ raised before
   pub others : is_at_end framing result ≡ false → now ≡ before
+
+-- where the call ended at the end of the connection, a peer that tells its bytes has none left
+abbrev pub HasNoneBehind : Framing → Option (List ℕ) → Result ℕ BodyEnd → Type 0
+HasNoneBehind framing left result = is_at_end framing result ≡ true → IsAtEnd left
 
 -- a count rose exactly where the call ended so
 pub record RaisedAt (end : Result ℕ BodyEnd) (before now : ℕ) (result : Result ℕ BodyEnd) : Type 0
@@ -164,6 +168,25 @@ ReadEnds framing taken passed count kept (Ok body) =
 ReadEnds framing taken passed count kept (Err e) =
     Ends framing Form.Content most_read taken passed count kept (Err e)
 
+-- the last read for a body that is read: it gave a piece of at most 16,384 bytes, and began while
+-- the bytes before showed a body that had not ended, within the limit by all that it announced
+pub record EndsInPiece (framing : Framing) (kept came : List ℕ) : Type 0 where
+  pub earlier : List ℕ
+  pub piece : List ℕ
+  pub cut : came ≡ earlier ++ piece
+  pub short : length piece ≤ most_piece
+  pub taken : List ℕ
+  pub passed : List ℕ
+  pub count : ℕ
+  pub waiting : List ℕ
+  pub bytes : kept ++ earlier ≡ taken ++ waiting
+  pub within : count ≤ most_read
+  pub open_ : IsUnfinished framing Form.Content most_read taken passed count waiting
+
+-- no more was read than was needed: nothing, or a last piece behind an unfinished body
+abbrev pub IsPrompt : Framing → List ℕ → List ℕ → Type 0
+IsPrompt framing kept came = (came ≡ []) ⊎ EndsInPiece framing kept came
+
 -- a body is read: `kept` are the bytes that were there, `came` those that came, and `kept_after`
 -- those that are kept
 pub record ReadsBody (framing : Framing) (kept came kept_after : List ℕ)
@@ -174,6 +197,7 @@ pub record ReadsBody (framing : Framing) (kept came kept_after : List ℕ)
   pub bytes : kept ++ came ≡ taken ++ kept_after
   pub within : count ≤ most_read
   pub ends : ReadEnds framing taken passed count kept_after result
+  pub prompt : IsPrompt framing kept came
 
 -- as a count of content bytes
 abbrev pub unread : Result (Vec ℕ Global) BodyEnd → Result ℕ BodyEnd

@@ -12,13 +12,14 @@ use crate::answer::{MOST_PASSED, answer, at_end};
 use crate::decoder::Decoder;
 use crate::end::BodyEnd;
 use crate::form::Form;
+use crate::passed::Passed;
 use crate::writing::write_turn;
 use http_wire::{Framing, Rest};
 use line_base::{Dialer, Peer};
 
 /// Passes the body of a reply back to a client, piece by piece, and gives the number of its content
-/// bytes, up to 2^63 - 1. A chunked body goes back in chunks where `chunked`, and else as its
-/// content.
+/// bytes, up to 2^63 - 1, whether all of it went back or not. A chunked body goes back in chunks
+/// where `chunked`, and else as its content.
 ///
 /// `out` holds what goes first, the reply's head, as in [`pass_body`](crate::pass_body). What one
 /// receive gave is written before the next one, so that events go through as they come, and at most
@@ -37,20 +38,20 @@ pub fn pass_back<P: Peer, D: Dialer>(
     chunked: bool,
     out: &mut Bytes,
     peer: &mut P,
-) -> Result<u64, BodyEnd>
+) -> Passed
     requires { IsSome (D.upstream dialer.old).open_to }
     ensures body { (pieces : List (List ℕ)) × (sent : List ℕ)
         × Consumes (D.upstream dialer.old).left (D.upstream dialer.new).left (concat pieces)
         × ReceivesPieces (D.upstream dialer.old).log (D.upstream dialer.new).log pieces
         × Appends (P.line peer.old).given (P.line peer.new).given sent
-        × EndsPieces framing pieces result
+        × EndsPieces framing pieces result.end
         × PassesOn framing (form_of chunked) most_passed out.old.items rest.old pieces sent rest.new
-        result }
+        result.count result.end }
     ensures receives { RaisedAt (Err BodyEnd.RecvFault) (D.upstream dialer.old).faults
-        (D.upstream dialer.new).faults result }
+        (D.upstream dialer.new).faults result.end }
     ensures writes { RaisedAt (Err BodyEnd.WriteFault) (P.line peer.old).write_faults
-        (P.line peer.new).write_faults result }
-    ensures never { (result ≢ Err BodyEnd.ReadFault) × (result ≢ Err BodyEnd.SendFault) }
+        (P.line peer.new).write_faults result.end }
+    ensures never { (result.end ≢ Err BodyEnd.ReadFault) × (result.end ≢ Err BodyEnd.SendFault) }
     ensures peer_stays { IsUnread (P.line peer.old) (P.line peer.new) }
     ensures dialer_stays { HasSameLinks (D.upstream dialer.old) (D.upstream dialer.new) }
     ensures out { out.new.items ≡ [] }
@@ -59,13 +60,28 @@ pub fn pass_back<P: Peer, D: Dialer>(
     'pieces: loop {
         let turn = write_turn(&mut decoder, rest, out, peer);
         match answer(decoder.count, BodyEnd::WriteFault, turn) {
-            Some(end) => return end,
+            Some(end) => {
+                return Passed {
+                    count: decoder.count,
+                    end,
+                };
+            }
             None => {}
         }
         match rest.pull_from(dialer) {
-            Ok(0) => return at_end(framing, decoder.count),
+            Ok(0) => {
+                return Passed {
+                    count: decoder.count,
+                    end: at_end(framing, decoder.count),
+                };
+            }
             Ok(_) => {}
-            Err(_) => return Err(BodyEnd::RecvFault),
+            Err(_) => {
+                return Passed {
+                    count: decoder.count,
+                    end: Err(BodyEnd::RecvFault),
+                };
+            }
         }
     }
 }

@@ -11,16 +11,18 @@
 //! # What is proved
 //! For every cutting of the bytes and every failing call: what was sent is the head and what goes
 //! on for the bytes that were taken, chunk for chunk, by definitions over the whole body
-//! (`specs/`); the answer says what these bytes show, with the number of content bytes; where
-//! sending fails or memory is wanting, they are a front of the body, and what lies behind them is
-//! kept; each fault and each end comes only where its count rose. Before each piece that is read,
-//! the body had not ended and had not announced more than the limit, and all that goes on for what
-//! came before it had been sent.
+//! (`specs/`); the answer says what these bytes show, and always the number of content bytes
+//! ([`Passed`]); where sending fails or memory is wanting, they are a front of the body, and what
+//! lies behind them is kept; each fault and each end comes only where its count rose, and at an end
+//! a client that tells its bytes has none left. Before each piece that is read, the body had not
+//! ended and had not announced more than the limit, and all that goes on for what came before it
+//! had been sent.
 //!
 //! # Example
 //! ```
 //! let mut out = forward_head(alloc, &head, &going)?;
-//! let count = pass_body(&mut peer, &mut rest, framing(&head)?, &mut out, &mut dialer)?;
+//! let passed = pass_body(&mut peer, &mut rest, framing(&head)?, &mut out, &mut dialer);
+//! let count = passed.end?;
 //! ```
 #![tactic(auto)]
 
@@ -33,6 +35,7 @@ mod end;
 mod form;
 mod line;
 mod onward;
+mod passed;
 mod read;
 mod sending;
 mod size;
@@ -43,6 +46,7 @@ mod writing;
 pub use back::pass_back;
 pub use end::BodyEnd;
 pub use onward::pass_body;
+pub use passed::Passed;
 pub use read::read_body;
 pub use writing::write_all;
 

@@ -5,19 +5,21 @@ ghost use Rattle.std.specs.Io.KnownBytes.{Consumes, Keeps};
 ghost use Rattle.line_base.specs.Dials.{HasSameLinks};
 ghost use Rattle.line_base.specs.Lines.{IsUnwritten};
 ghost use Rattle.body_wire.specs.declared.form.Form.{Form};
-ghost use Rattle.body_wire.specs.Passing.{CountsEnd, PassesOn, RaisedAt, Sends, most_passed};
+ghost use Rattle.body_wire.specs.Passing.{CountsEnd, HasNoneBehind, PassesOn, RaisedAt, Sends};
+ghost use Rattle.body_wire.specs.Passing.{most_passed};
 
 use crate::Bytes;
 use crate::answer::{MOST_PASSED, answer, at_end};
 use crate::decoder::Decoder;
 use crate::end::BodyEnd;
 use crate::form::Form;
+use crate::passed::Passed;
 use crate::sending::send_turn;
 use http_wire::{Framing, Rest};
 use line_base::{Dialer, Peer};
 
 /// Passes the body of a request on to an upstream, piece by piece, and gives the number of its
-/// content bytes, up to 2^63 - 1.
+/// content bytes, up to 2^63 - 1, whether all of it went on or not.
 ///
 /// `out` holds what goes first, the request's head: what of the body lies in `rest` leaves with it,
 /// in one call of [`Dialer::send`] where the dialer takes all. It is empty afterwards, and may be
@@ -38,19 +40,20 @@ pub fn pass_body<P: Peer, D: Dialer>(
     framing: Framing,
     out: &mut Bytes,
     dialer: &mut D,
-) -> Result<u64, BodyEnd>
+) -> Passed
     requires { IsSome (D.upstream dialer.old).open_to }
     ensures body { (pieces : List (List ℕ)) × (sent : List ℕ)
         × Consumes (P.line peer.old).left (P.line peer.new).left (concat pieces)
         × Sends (D.upstream dialer.old).log (D.upstream dialer.new).log sent
         × PassesOn framing Form.Chunks most_passed out.old.items rest.old pieces sent rest.new
-        result }
-    ensures ends { CountsEnd framing (P.line peer.old).ends (P.line peer.new).ends result }
+        result.count result.end }
+    ensures ends { CountsEnd framing (P.line peer.old).ends (P.line peer.new).ends result.end }
+    ensures none_left { HasNoneBehind framing (P.line peer.new).left result.end }
     ensures reads { RaisedAt (Err BodyEnd.ReadFault) (P.line peer.old).read_faults
-        (P.line peer.new).read_faults result }
+        (P.line peer.new).read_faults result.end }
     ensures sends { RaisedAt (Err BodyEnd.SendFault) (D.upstream dialer.old).faults
-        (D.upstream dialer.new).faults result }
-    ensures never { (result ≢ Err BodyEnd.WriteFault) × (result ≢ Err BodyEnd.RecvFault) }
+        (D.upstream dialer.new).faults result.end }
+    ensures never { (result.end ≢ Err BodyEnd.WriteFault) × (result.end ≢ Err BodyEnd.RecvFault) }
     ensures peer_stays { IsUnwritten (P.line peer.old) (P.line peer.new) }
     ensures dialer_stays { HasSameLinks (D.upstream dialer.old) (D.upstream dialer.new)
         × Keeps (D.upstream dialer.old).left (D.upstream dialer.new).left }
@@ -60,13 +63,28 @@ pub fn pass_body<P: Peer, D: Dialer>(
     'pieces: loop {
         let turn = send_turn(&mut decoder, rest, out, dialer);
         match answer(decoder.count, BodyEnd::SendFault, turn) {
-            Some(end) => return end,
+            Some(end) => {
+                return Passed {
+                    count: decoder.count,
+                    end,
+                };
+            }
             None => {}
         }
         match rest.pull(peer) {
-            Ok(0) => return at_end(framing, decoder.count),
+            Ok(0) => {
+                return Passed {
+                    count: decoder.count,
+                    end: at_end(framing, decoder.count),
+                };
+            }
             Ok(_) => {}
-            Err(_) => return Err(BodyEnd::ReadFault),
+            Err(_) => {
+                return Passed {
+                    count: decoder.count,
+                    end: Err(BodyEnd::ReadFault),
+                };
+            }
         }
     }
 }

@@ -2,7 +2,7 @@
 ghost use Rattle.std.specs.Prelude.{◌≡◌, ◌≢◌, ℕ, List, Err};
 ghost use Rattle.std.specs.Io.KnownBytes.{Consumes};
 ghost use Rattle.line_base.specs.Lines.{IsUnwritten};
-ghost use Rattle.body_wire.specs.Passing.{CountsEnd, RaisedAt, ReadsBody, unread};
+ghost use Rattle.body_wire.specs.Passing.{CountsEnd, HasNoneBehind, RaisedAt, ReadsBody, unread};
 ghost use Rattle.body_wire.specs.Turns.{read_at_end};
 
 use crate::Bytes;
@@ -33,6 +33,7 @@ pub fn read_body<P: Peer>(
     ensures body { (came : List ℕ) × Consumes (P.line peer.old).left (P.line peer.new).left came
         × ReadsBody framing rest.old came rest.new result }
     ensures ends { CountsEnd framing (P.line peer.old).ends (P.line peer.new).ends (unread result) }
+    ensures none_left { HasNoneBehind framing (P.line peer.new).left (unread result) }
     ensures reads { RaisedAt (Err BodyEnd.ReadFault) (P.line peer.old).read_faults
         (P.line peer.new).read_faults (unread result) }
     ensures never { (result ≢ Err BodyEnd.WriteFault) × (result ≢ Err BodyEnd.SendFault)

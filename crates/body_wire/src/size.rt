@@ -1,9 +1,10 @@
 //! The line that goes on for a chunk.
-ghost use Rattle.std.specs.Prelude.{◌≡◌, false, ◌<◌, ◌≤◌, ◌++◌, OnErr, OnOk, drop};
-ghost use Rattle.std.specs.Fmt.{digits, digit_glyph};
+ghost use Rattle.std.specs.Prelude.{◌≡◌, false, ◌≤◌, ◌++◌, OnErr, OnOk, drop};
+ghost use Rattle.std.specs.Fmt.{digits};
 ghost use Rattle.httparse.specs.Ascii.{crlf_bytes};
 
 use crate::{Bytes, Mem};
+use text_parts::hex_digit;
 
 /// Where the line end stands behind the digits of a size. A `u64` has at most 16; there is room for
 /// those of base 2.
@@ -40,16 +41,4 @@ fn write_line(line: &mut [u8; 66], size: u64) -> usize
         }
     }
     start
-}
-
-/// The digit of this value.
-fn hex_digit(value: u8) -> u8
-    requires { value < 16 }
-    ensures { result ≡ digit_glyph false value }
-{
-    if value < 10 {
-        b'0' + value
-    } else {
-        b'a' + (value - 10)
-    }
 }

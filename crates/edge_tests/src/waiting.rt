@@ -1,14 +1,10 @@
 //! A client that waits is told by its number, to whichever listener is asked.
+use crate::clients::at;
 use line_base::{Event, Failed, Listener, Net, Next, Peer, Stop};
 use net_edge::SocketNet;
 use std::io::Write;
-use std::net::{Ipv4Addr, SocketAddr, SocketAddrV4, TcpStream};
+use std::net::TcpStream;
 use std::test::Fail;
-
-/// A port of this machine.
-fn at(port: u16) -> SocketAddr {
-    SocketAddr::V4(SocketAddrV4::new(Ipv4Addr::from_bits(0x7f00_0001), port))
-}
 
 /// The next event of a listener that is no tick, as text; and the peer that came, if one did.
 fn told<L: Listener>(listener: &mut L) -> (u8, Option<L::P>) {

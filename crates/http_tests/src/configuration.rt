@@ -158,11 +158,19 @@ const IDENTIFIER: &str = r#"[] => routers[0].identifier bad
 {"kind":"io.l5d.static","path":"a//b"} => routers[0].identifier.path bad
 "#;
 
-/// What is told of a text: `ok`, or the line of its fault.
+/// What is told of a text: `ok`, or the line of its fault, which is `error ` and the fault as it is
+/// shown.
 fn told(alloc: Global, text: &[u8]) -> Mem<Bytes> {
     match read_config(alloc, text) {
         Ok(_) => Vec::from_slice(alloc, b"ok"),
-        Err(fault) => fault_line(alloc, &fault),
+        Err(fault) => {
+            let line = fault_line(alloc, &fault)?;
+            let shown = format!(in alloc; "error {fault}\n")?;
+            if line.as_slice() == shown.as_bytes() {
+                return Ok(line);
+            }
+            Vec::from_slice(alloc, b"two texts")
+        }
     }
 }
 

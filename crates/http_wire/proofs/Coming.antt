@@ -1,6 +1,6 @@
 -- What comes of a wait for the next request of a connection.
 use Rattle.std.proofs.Common.{◌≡◌, ◌<◌, ◌≤◌, ℕ, true, inl, List, [], ◌∷◌, ◌++◌, length, take, refl, sym, ap, ◌∙◌, subst, arith, Option, Some, None, Result, Ok, Err, append-nil}
-use Rattle.std.specs.Io.KnownBytes.{Consumes, Keeps}
+use Rattle.std.specs.Io.KnownBytes.{Consumes, IsAtEnd, Keeps}
 use Rattle.std.proofs.KnownBytes.{Consumes-nil, Keeps-refl, Keeps-trans}
 use Rattle.line_base.specs.Counts.{raised}
 use Rattle.line_base.specs.declared.outside.Failed.{Failed}
@@ -67,16 +67,19 @@ piece_given old new buffer kept kept_after count most (some, read) room grown = 
 
 pub end_given : (old new : Line) (buffer kept kept_after : List ℕ) → 0 < length buffer
     → IsRead old new buffer (Ok 0) → kept_after ≡ kept
-    → GivesNone old new kept kept_after (raised old.ends) old.read_faults
-end_given old new buffer kept kept_after some read same = record {
-  given = subst (λ (bs : List ℕ). Consumes old.left new.left bs) (no_bytes buffer) read.bytes.0;
-  same = same;
-  ends = read.end.ended refl some;
-  ends_later = read.end.later;
-  faults = read.cause.kept;
-  faults_later = read.cause.later;
-  others = read.others;
-}
+    → GivesNone old new kept kept_after (raised old.ends) old.read_faults × IsAtEnd new.left
+end_given old new buffer kept kept_after some read same = (
+  record {
+    given = subst (λ (bs : List ℕ). Consumes old.left new.left bs) (no_bytes buffer) read.bytes.0;
+    same = same;
+    ends = read.end.ended refl some;
+    ends_later = read.end.later;
+    faults = read.cause.kept;
+    faults_later = read.cause.later;
+    others = read.others;
+  },
+  read.bytes.1 refl some,
+)
 
 pub fault_given : (old new : Line) (buffer kept kept_after : List ℕ) (failed : Failed)
     → IsRead old new buffer (Err failed) → kept_after ≡ kept
@@ -112,7 +115,7 @@ filled old new held kept kept_after most (Bytes count) is few x = record {
   others = x.others;
 }
 filled old new held kept kept_after most End is few x =
-    none_given old new held kept kept_after (raised old.ends) old.read_faults is x
+    (none_given old new held kept kept_after (raised old.ends) old.read_faults is x.0, x.1)
 filled old new held kept kept_after most Closing is few x =
     record { same = x.same ∙ is; closing = x.closing }
 filled old new held kept kept_after most Quiet is few x =
@@ -148,10 +151,10 @@ begins old new kept kept_after (Ok (Bytes count)) none x = record {
   faults = x.faults;
   others = x.others;
 }
-begins old new kept kept_after (Ok End) none x = record {
+begins old new kept kept_after (Ok End) none (x, at_end) = record {
   head =
       ended_at_once old.left new.left kept kept_after (Err HeadEnd.Ended) x.given
-      (nothing_unfinished kept (ap length none), nothing_lies kept none, x.same);
+      (nothing_unfinished kept (ap length none), nothing_lies kept none, x.same) at_end;
   causes = record {
     ends = x.ends;
     faults = x.faults;
@@ -167,7 +170,7 @@ begins old new kept kept_after (Ok Quiet) none x =
 begins old new kept kept_after (Err ReadFault) none x = record {
   head =
       ended_at_once old.left new.left kept kept_after (Err HeadEnd.ReadFault) x.given
-      (nothing_unfinished kept (ap length none), x.same);
+      (nothing_unfinished kept (ap length none), x.same) tt;
   causes = record {
     ends = x.ends;
     faults = x.faults;
@@ -179,7 +182,7 @@ begins old new kept kept_after (Err ReadFault) none x = record {
 begins old new kept kept_after (Err OutOfMemory) none x = record {
   head =
       ended_at_once old.left new.left kept kept_after (Err HeadEnd.OutOfMemory)
-      (subst (λ (l : Line). Consumes old.left l.left []) (sym x.0) (Consumes-nil old.left)) x.1;
+      (subst (λ (l : Line). Consumes old.left l.left []) (sym x.0) (Consumes-nil old.left)) x.1 tt;
   causes = record {
     ends = ap (λ (l : Line). l.ends) x.0;
     faults = ap (λ (l : Line). l.read_faults) x.0;

@@ -14,7 +14,7 @@ use Rattle.http_wire.specs.declared.watch.Progress.{Progress}
 use Rattle.http_wire.specs.declared.watch.Watch.{Watch}
 use Rattle.http_wire.specs.FirstLine.{first_line}
 use Rattle.http_wire.specs.Places.{Follows, StandsAt}
-use Rattle.http_wire.specs.Reading.{Answers, AnswersTurn, Grows, HasCauses, IsPrompt, Looks, LooksFirst, ReadsHead, Trusts, is_end, is_fault, raised_at}
+use Rattle.http_wire.specs.Reading.{Answers, AnswersTurn, Grows, HasCauses, HasNoneLeft, IsPrompt, Looks, LooksFirst, ReadsHead, Trusts, is_end, is_fault, raised_at}
 use Rattle.http_wire.proofs.Standing.{stands_first}
 
 pub take_within : (n : ℕ) (bytes : List ℕ) → length (take n bytes) ≤ length bytes
@@ -46,14 +46,14 @@ looked left bytes kept result ends faults looks = by_result result looks
     }
 
     by_result : (r : Result Head HeadEnd) → Looks bytes kept (Answered r) → AnswersTurn left left bytes kept ends ends faults faults r
-    by_result (Ok head) l = record { given = nothing_read left; answers = l; causes = quiet (Ok head) refl refl }
+    by_result (Ok head) l = record { given = nothing_read left; answers = l; causes = quiet (Ok head) refl refl; end = tt }
     by_result (Err HeadEnd.Ended) never = absurd never
     by_result (Err HeadEnd.Cut) never = absurd never
     by_result (Err HeadEnd.ReadFault) never = absurd never
-    by_result (Err HeadEnd.Bad) l = record { given = nothing_read left; answers = l; causes = quiet (Err HeadEnd.Bad) refl refl }
-    by_result (Err HeadEnd.Version) l = record { given = nothing_read left; answers = l; causes = quiet (Err HeadEnd.Version) refl refl }
-    by_result (Err HeadEnd.TooLarge) l = record { given = nothing_read left; answers = l; causes = quiet (Err HeadEnd.TooLarge) refl refl }
-    by_result (Err HeadEnd.OutOfMemory) l = record { given = nothing_read left; answers = l; causes = quiet (Err HeadEnd.OutOfMemory) refl refl }
+    by_result (Err HeadEnd.Bad) l = record { given = nothing_read left; answers = l; causes = quiet (Err HeadEnd.Bad) refl refl; end = tt }
+    by_result (Err HeadEnd.Version) l = record { given = nothing_read left; answers = l; causes = quiet (Err HeadEnd.Version) refl refl; end = tt }
+    by_result (Err HeadEnd.TooLarge) l = record { given = nothing_read left; answers = l; causes = quiet (Err HeadEnd.TooLarge) refl refl; end = tt }
+    by_result (Err HeadEnd.OutOfMemory) l = record { given = nothing_read left; answers = l; causes = quiet (Err HeadEnd.OutOfMemory) refl refl; end = tt }
 
 -- what an answer's causes are, where the counts stood as they were before
 pub causes_after : (e0 e1 e2 f0 f1 f2 : ℕ) (result : Result Head HeadEnd) → e1 ≡ e0 → f1 ≡ f0 → HasCauses e1 e2 f1 f2 result → HasCauses e0 e2 f0 f2 result
@@ -78,6 +78,7 @@ reads_after l0 l1 l2 k0 k1 k2 taken e0 e1 f0 f1 result first prompt grown later 
   given = subst (Consumes l0 l2) (append-nil taken) (Consumes-trans l0 l1 l2 taken [] first later.given);
   prompt = prompt;
   answers = subst (λ (all : List ℕ). Answers all k2 result) grown later.answers;
+  end = later.end;
 }
 
 -- ---- what a watch is trusted with
@@ -182,14 +183,16 @@ reads_behind l0 l1 l2 k0 k1 k2 piece result first prompt grown later = record {
   answers =
       subst (λ (all : List ℕ). Answers all k2 result)
       (ap (λ (xs : List ℕ). xs ++ later.taken) grown ∙ append_assoc k0 piece later.taken) later.answers;
+  end = later.end;
 }
 
 -- no piece came where nothing was kept
 pub ended_at_once : (l0 l1 : Option (List ℕ)) (k0 k1 : List ℕ) (result : Result Head HeadEnd) → Consumes l0 l1 []
-    → Answers k0 k1 result → ReadsHead l0 l1 k0 k1 result
-ended_at_once l0 l1 k0 k1 result given answers = record {
+    → Answers k0 k1 result → HasNoneLeft l1 result → ReadsHead l0 l1 k0 k1 result
+ended_at_once l0 l1 k0 k1 result given answers end = record {
   taken = [];
   given = given;
   prompt = inl refl;
   answers = subst (λ (all : List ℕ). Answers all k1 result) (sym (append-nil k0)) answers;
+  end = end;
 }

@@ -1,7 +1,7 @@
 -- What a call that reads a head answers, and what it leaves.
 use Rattle.std.specs.Prelude.{◌≡◌, ◌≢◌, ◌<◌, ◌≤◌, ◌⊎◌, Bool, true, false, if◌then◌else◌, ℕ, List}
 use Rattle.std.specs.Prelude.{[], ◌++◌, length, drop, Option, Result, Ok, Err}
-use Rattle.std.specs.Io.KnownBytes.{Consumes}
+use Rattle.std.specs.Io.KnownBytes.{Consumes, IsAtEnd}
 use Rattle.http_wire.specs.declared.head.Head.{Head}
 use Rattle.http_wire.specs.declared.seen.Seen.{Seen}
 use Rattle.http_wire.specs.declared.seen.Seen.TheVariants.{Whole, Bad, Version, TooLarge, NotYet}
@@ -56,6 +56,17 @@ pub record EndsInPiece (kept taken : List ℕ) : Type 0 where
 abbrev pub IsPrompt : List ℕ → List ℕ → Type 0
 IsPrompt kept taken = (taken ≡ []) ⊎ EndsInPiece kept taken
 
+-- a peer that tells its bytes has none left where the answer is that they ended
+abbrev pub HasNoneLeft : Option (List ℕ) → Result Head HeadEnd → Type 0
+HasNoneLeft left (Ok head) = Unit {0}
+HasNoneLeft left (Err HeadEnd.Ended) = IsAtEnd left
+HasNoneLeft left (Err HeadEnd.Cut) = IsAtEnd left
+HasNoneLeft left (Err HeadEnd.Bad) = Unit {0}
+HasNoneLeft left (Err HeadEnd.Version) = Unit {0}
+HasNoneLeft left (Err HeadEnd.TooLarge) = Unit {0}
+HasNoneLeft left (Err HeadEnd.ReadFault) = Unit {0}
+HasNoneLeft left (Err HeadEnd.OutOfMemory) = Unit {0}
+
 -- the bytes that a peer gave, behind those that were kept, and the answer to them all, which is
 -- given as soon as they show it
 pub record ReadsHead
@@ -66,6 +77,7 @@ pub record ReadsHead
   pub given : Consumes left_before left_after taken
   pub prompt : IsPrompt kept_before taken
   pub answers : Answers (kept_before ++ taken) kept_after result
+  pub end : HasNoneLeft left_after result
 
 -- what a look at the bytes shows; it reads nothing, so that neither an end nor a fault is answered
 abbrev pub Looks : List ℕ → List ℕ → Turn → Type 0
@@ -132,6 +144,7 @@ pub record AnswersTurn
   pub given : Consumes left_before left_after []
   pub answers : Answers kept_before kept_after result
   pub causes : HasCauses ends_before ends_now faults_before faults_now result
+  pub end : HasNoneLeft left_after result
 
 -- a piece that came behind an unfinished head
 pub record Grows (left_before left_after : Option (List ℕ)) (kept_before kept_after : List ℕ) : Type

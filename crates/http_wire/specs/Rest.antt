@@ -18,18 +18,17 @@ use Rattle.http_wire.specs.declared.room.Room.{Room}
 abbrev pub held : Room → List ℕ
 held room = slice_range room.bytes.items room.at room.end
 
--- the bytes that came stand behind those that were kept, so many as are told; a fault changes
--- nothing
+-- the bytes that came stand behind those that were kept, so many as are told, and none come only at
+-- the end; a fault changes nothing
 abbrev pub Fills : {E : Type 0} → Option (List ℕ) → Option (List ℕ) → List ℕ → List ℕ
     → Result ℕ E → Type 0
 Fills left_before left_after kept_before kept_after (Ok count) =
     (taken : List ℕ) × Consumes left_before left_after taken × (length taken ≡ count)
-    × (kept_after ≡ kept_before ++ taken)
+    × (count ≡ 0 → IsAtEnd left_after) × (kept_after ≡ kept_before ++ taken)
 Fills left_before left_after kept_before kept_after (Err fault) =
     Keeps left_before left_after × (kept_after ≡ kept_before)
 
--- the same for bytes that are received: the log gains them, where it is told, and none come only at
--- the end
+-- the same for bytes that are received: the log gains them too, where it is told
 abbrev pub Receives : {E : Type 0} → Option (List ℕ) → Option (List ℕ) → Option (List DialEvent)
     → Option (List DialEvent) → List ℕ → List ℕ → Result ℕ E → Type 0
 Receives left_before left_after log_before log_after kept_before kept_after (Ok count) =
@@ -78,7 +77,7 @@ pub record TellsQuiet (old new : Line) (kept kept_after : List ℕ) : Type 0 whe
 abbrev pub FillsNext : Line → Line → List ℕ → List ℕ → ℕ → Result Next Failed → Type 0
 FillsNext old new kept kept_after most (Ok (Bytes count)) = GivesPiece old new kept kept_after most
 FillsNext old new kept kept_after most (Ok End) =
-    GivesNone old new kept kept_after (raised old.ends) old.read_faults
+    GivesNone old new kept kept_after (raised old.ends) old.read_faults × IsAtEnd new.left
 FillsNext old new kept kept_after most (Ok Closing) = TellsClosing old new kept kept_after
 FillsNext old new kept kept_after most (Ok Quiet) = TellsQuiet old new kept kept_after
 FillsNext old new kept kept_after most (Err failed) =
@@ -89,7 +88,7 @@ abbrev pub FillsNextIn : Line → Line → List ℕ → List ℕ → ℕ → Res
 FillsNextIn old new kept kept_after most (Ok (Bytes count)) =
     GivesPiece old new kept kept_after most
 FillsNextIn old new kept kept_after most (Ok End) =
-    GivesNone old new kept kept_after (raised old.ends) old.read_faults
+    GivesNone old new kept kept_after (raised old.ends) old.read_faults × IsAtEnd new.left
 FillsNextIn old new kept kept_after most (Ok Closing) = TellsClosing old new kept kept_after
 FillsNextIn old new kept kept_after most (Ok Quiet) = TellsQuiet old new kept kept_after
 FillsNextIn old new kept kept_after most (Err ReadFault) =

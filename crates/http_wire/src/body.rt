@@ -47,11 +47,11 @@ pub fn reply_framing(method: &Method, head: &ReplyHead) -> Result<Framing, Frami
     ensures { result ≡ reply_framing_of method.now head.now.status
         (framing_of head.now.version head.now.fields) }
 {
-    match by_fields(head.version, &head.fields) {
-        Ok(_) if has_no_body(method, head.status) => Ok(Framing::Nothing),
-        Ok(framing) => Ok(or_to_end(framing)),
-        Err(fault) => Err(fault),
+    let framing = by_fields(head.version, &head.fields)?;
+    if has_no_body(method, head.status) {
+        return Ok(Framing::Nothing);
     }
+    Ok(or_to_end(framing))
 }
 
 /// The framing of a reply that has a body: one that no field frames goes up to the end of the

@@ -1,5 +1,7 @@
 //! The kinds of framing.
 
+use thiserror::Error;
+
 /// How the bytes behind a head become a body.
 #[derive(Clone, Copy, Debug, PartialEq, Eq)]
 pub enum Framing {
@@ -14,10 +16,12 @@ pub enum Framing {
 }
 
 /// Why the framing of a body is refused.
-#[derive(Clone, Copy, Debug, PartialEq, Eq)]
+#[derive(Clone, Copy, Debug, PartialEq, Eq, Error)]
 pub enum FramingFault {
     /// Where the body ends is in doubt.
+    #[error("the length of the body is in doubt")]
     Length,
     /// A transfer coding other than `chunked` alone.
+    #[error("a transfer coding other than chunked")]
     Coding,
 }

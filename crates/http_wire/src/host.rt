@@ -8,13 +8,16 @@ use crate::Bytes;
 use crate::head::Head;
 use crate::target::Target;
 use std::alloc::Global;
+use thiserror::Error;
 
 /// Why a request has no host.
-#[derive(Clone, Copy, Debug, PartialEq, Eq)]
+#[derive(Clone, Copy, Debug, PartialEq, Eq, Error)]
 pub enum HostFault {
     /// Its Host fields don't fit its version.
+    #[error("the Host fields don't fit the version")]
     NoHost,
     /// There was no memory for the host.
+    #[error("out of memory")]
     OutOfMemory,
 }
 

@@ -13,23 +13,31 @@ use crate::seen::{MOST_HEAD, Seen, look};
 use crate::watch::Watch;
 use line_base::Peer;
 use std::alloc::Global;
+use thiserror::Error;
 
 /// Why no head was read. What was read is then kept in the [`Rest`].
-#[derive(Clone, Copy, Debug, PartialEq, Eq)]
+#[derive(Clone, Copy, Debug, PartialEq, Eq, Error)]
 pub enum HeadEnd {
     /// The peer's bytes ended before a request began: only empty lines came.
+    #[error("the connection ended before a head")]
     Ended,
     /// The peer's bytes ended inside a head.
+    #[error("the connection ended inside a head")]
     Cut,
     /// The bytes are no head, whatever may follow.
+    #[error("the bytes are no head")]
     Bad,
     /// The first line names a version other than HTTP/1.0 and HTTP/1.1.
+    #[error("the version is neither HTTP/1.0 nor HTTP/1.1")]
     Version,
     /// The first 65,536 bytes hold no whole head.
+    #[error("the head is too large")]
     TooLarge,
     /// A read failed: the peer's count of read faults rose.
+    #[error("a read failed")]
     ReadFault,
     /// There was no memory for the head.
+    #[error("out of memory")]
     OutOfMemory,
 }
 

@@ -12,6 +12,7 @@ use crate::list::position_of;
 use crate::{Bytes, Mem};
 use http_uri::{Uri, UriError};
 use std::alloc::Global;
+use thiserror::Error;
 
 /// A request target that is served (RFC 9112 section 3.2).
 #[derive(Debug, Drop)]
@@ -23,13 +24,16 @@ pub struct Target {
 }
 
 /// Why a request target is refused.
-#[derive(Clone, Copy, Debug, PartialEq, Eq)]
+#[derive(Clone, Copy, Debug, PartialEq, Eq, Error)]
 pub enum TargetFault {
     /// The method is CONNECT, which asks for a tunnel.
+    #[error("the method is CONNECT")]
     Connect,
     /// The target is of no form that is served.
+    #[error("the target is of no form that is served")]
     NoTarget,
     /// There was no memory for the target.
+    #[error("out of memory")]
     OutOfMemory,
 }
 

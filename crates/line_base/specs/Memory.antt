@@ -15,6 +15,7 @@ use Rattle.line_base.specs.declared.event.Event.TheVariants.{Closed}
 use Rattle.line_base.specs.declared.memory.link.MemLink.{MemLink}
 use Rattle.line_base.specs.declared.outside.Failed.{Failed}
 use Rattle.line_base.specs.declared.outside.Next.{Next}
+use Rattle.line_base.specs.declared.socket_address.SocketAddress.{SocketAddress}
 use Rattle.line_base.specs.declared.outside.Next.TheVariants as next
 
 -- when calls are to fail, and how many bytes each may move: calls are numbered from 0, and `calls`
@@ -112,12 +113,13 @@ awaited (Ok next.Closing) n = questioned n
 awaited (Ok next.Quiet) n = quieted (questioned n)
 awaited (Err e) n = questioned n
 
--- a peer: the source that it gives from, the sink that it takes into, and when it says that its
--- listeners are closing
+-- a peer: the source that it gives from, the sink that it takes into, when it says that its
+-- listeners are closing, and where its other end is, where it tells that
 pub record Meeting : Type 0 where
   pub source : Giving
   pub sink : Taking
   pub notice : Noticing
+  pub address : Option SocketAddress
 
 -- a dialer: its log, where the open connection leads, the bytes that its other end has yet to give,
 -- the connections that are kept, whether it keeps any, the replies of those to come, its plan, the

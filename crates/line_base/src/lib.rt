@@ -1,7 +1,8 @@
 //! The outside as traits: what a program reads from, writes to, dials and asks, with the counts
 //! that say why a call failed.
 //!
-//! A [`Source`] gives bytes, a [`Sink`] takes them, and a [`Peer`] does both. A [`Listener`] hands
+//! A [`Source`] gives bytes, a [`Sink`] takes them, and a [`Peer`] does both, and may tell where
+//! its other end is ([`SocketAddress`]). A [`Listener`] hands
 //! out the peers that connect to an address, tells which of those that it watches have something to
 //! say ([`Event`]), and takes them back. A [`Dialer`] opens connections of its own, a [`Folder`]
 //! has files, a [`Clock`] tells the moment, a [`Stop`] ends what listens, and a [`Gate`] is told of
@@ -40,6 +41,7 @@ mod net;
 mod outside;
 mod piece;
 mod signals;
+mod socket_address;
 
 pub use clock::Clock;
 pub use dialer::{ConnectionPool, DialEvent, Dialer};
@@ -54,6 +56,7 @@ pub use net::{BROKEN_RUN, Net, NetFault};
 pub use outside::{Failed, Next, Peer, Sink, Source};
 pub use piece::Piece;
 pub use signals::{Gate, Stop};
+pub use socket_address::SocketAddress;
 
 /// A value, unless there was no memory for it.
 pub type Mem<T> = Result<T, AllocError>;

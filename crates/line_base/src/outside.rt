@@ -4,6 +4,8 @@ ghost use Rattle.std.specs.Io.{ReadsAtMost, WritesAtMost};
 ghost use Rattle.std.specs.Io.KnownBytes.{ReadConsumes, WriteAppends};
 ghost use Rattle.line_base.specs.Counts.{HasCause, CountsEnds, MovesNothing};
 
+use crate::socket_address::SocketAddress;
+
 /// A call on the outside failed, and raised that object's count of faults.
 #[derive(Clone, Copy, Debug, PartialEq, Eq)]
 pub struct Failed;
@@ -70,11 +72,21 @@ pub trait Sink {
 pub trait Peer {
     ghost use Rattle.line_base.specs.Lines.{Line, IsUnread, IsUnwritten, WaitsForNext};
     ghost use Rattle.line_base.specs.Lines.{told_closing};
+    ghost use Rattle.std.specs.Prelude.{Option};
+    ghost use Rattle.line_base.specs.declared.socket_address.SocketAddress.{SocketAddress};
 
     /// What it tells of itself: the bytes that it has yet to give, those that were given to it, how
     /// often a read and a write failed, how many reads gave the end, how often it said that its
     /// listeners are closing, and how often that nothing came for a while.
     ghost line: { Self → Line };
+
+    /// Where its other end is, where it tells that. No clause says that a call keeps it: what needs
+    /// the address later asks for it once, when the peer comes, and keeps the answer.
+    ghost address: { Self → Option SocketAddress };
+
+    /// Where its other end is, where it tells that. It waits for nothing.
+    fn address(&self) -> Option<SocketAddress>
+        ensures { result ≡ address self.now };
 
     /// Reads some bytes to the front of `into`, and gives their number. 0 is the end, where `into`
     /// has room.

@@ -25,8 +25,8 @@ use Rattle.linker_config.specs.Router.{routers_told}
 
 -- what a configuration says: where to listen, the folder of the services, how requests are named,
 -- what is said of clearing their context, the router's settings, which connections to replicas are
--- kept, how often a request may be tried again, the number of the workers, the seed of the choices,
--- and where the feed of the namespaces is served
+-- kept, how often a request may be tried again, the file of the access log, the number of the
+-- workers, the seed of the choices, and where the feed of the namespaces is served
 pub record Configured : Type 0 where
   pub admin : Port
   pub namerd : Port
@@ -39,6 +39,7 @@ pub record Configured : Type 0 where
   pub limits : Limits
   pub pool : Option ConnectionPool
   pub retries : Option Tries
+  pub access_log : Option (List ℕ)
   pub workers : ℕ
   pub seed : ℕ
   pub feed : Option FeedAt
@@ -57,6 +58,7 @@ said_of c = record {
   limits = c.settings.limits;
   pool = c.pool;
   retries = c.retries;
+  access_log = c.access_log;
   workers = c.workers;
   seed = c.seed;
   feed = c.feed;
@@ -98,6 +100,7 @@ config_of d =
       limits = routed.limits;
       pool = routed.pool;
       retries = routed.retries;
+      access_log = routed.access_log;
       workers = workers;
       seed = seed;
       feed = feed;

@@ -12,6 +12,7 @@ pub mod Loading
 pub mod Namers
 pub mod Pool
 pub mod Retries
+pub mod Logging
 pub mod Router
 pub mod Server
 pub mod Trusting

@@ -21,6 +21,7 @@ use Rattle.linker_config.specs.Server.{servers_told, usual_server}
 use Rattle.linker_config.specs.Identifier.{identifier_told}
 use Rattle.linker_config.specs.Client.{client_told, usual_client}
 use Rattle.linker_config.specs.Retries.{retries_told}
+use Rattle.linker_config.specs.Logging.{log_of}
 
 -- what a router says
 pub record Routed : Type 0 where
@@ -32,6 +33,7 @@ pub record Routed : Type 0 where
   pub limits : Limits
   pub pool : Option ConnectionPool
   pub retries : Option Tries
+  pub access_log : Option (List ℕ)
 
 abbrev pub routed_of : code.Routed → Routed
 routed_of r =
@@ -44,6 +46,7 @@ routed_of r =
       limits = r.limits;
       pool = r.pool;
       retries = r.retries;
+      access_log = r.access_log;
     }
 
 abbrev pub router_place : List ℕ
@@ -53,7 +56,7 @@ abbrev pub router_keys : List (List ℕ)
 router_keys =
     codes "protocol" ∷ codes "dtab" ∷ codes "dstPrefix" ∷ codes "identifier" ∷ codes "servers"
     ∷ codes "client" ∷ codes "retries"
-    -- these two say nothing
+    -- a label says nothing, and so may the last one
     ∷ codes "label" ∷ codes "httpAccessLog" ∷ []
 
 unfoldable pub router_told : Data → Told Routed
@@ -76,6 +79,7 @@ router_told d =
       limits = client.limits;
       pool = client.pool;
       retries = retries;
+      access_log = log_of d;
     })))))))))
 
 unfoldable pub routers_told : Data → Told Routed

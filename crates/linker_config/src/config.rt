@@ -84,6 +84,8 @@ pub struct Config {
     pub pool: Option<ConnectionPool>,
     /// How often a request may be tried again on another replica, if it may be.
     pub retries: Option<Tries>,
+    /// The file of the access log, if there is one: a text of one or more bytes.
+    pub access_log: Option<Text>,
     /// How many connections are served at a time, 1 to 256.
     pub workers: u32,
     /// What the random words of the router's choices begin with.

@@ -3,7 +3,9 @@ ghost use Rattle.std.specs.Prelude.{◌≡◌};
 
 use crate::Bytes;
 use std::alloc::AllocError;
+use std::fmt;
 use std::marker::Model;
+use thiserror::Error;
 
 /// A key of a configuration, from the top, as `routers[0].servers[0].port`; `top` is the whole.
 /// Contracts see the list of its bytes.
@@ -36,18 +38,36 @@ impl Key {
     }
 }
 
+impl fmt::Display for Key {
+    /// Bytes that are no UTF-8 are shown as U+FFFD.
+    fn fmt<W: fmt::Write>(&self, f: &mut fmt::Formatter<W>) -> fmt::Result {
+        for chunk in self.bytes().utf8_chunks() {
+            f.write_str(chunk.valid())?;
+            if !chunk.invalid().is_empty() {
+                f.write_char(char::REPLACEMENT_CHARACTER)?;
+            }
+        }
+        Ok(())
+    }
+}
+
 /// Why a configuration is refused: the first fault of it.
-#[derive(Debug, Drop)]
+#[derive(Debug, Drop, Error)]
 pub enum ConfigFault {
     /// The text is no JSON.
+    #[error("config json")]
     BadJson,
     /// There is no such key.
+    #[error("config {0} unknown")]
     Unknown(Key),
     /// The value under this key is of a wrong type, out of its range, or refused by its reader.
+    #[error("config {0} bad")]
     Bad(Key),
     /// This key has to be there, and is not.
+    #[error("config {0} missing")]
     Missing(Key),
     /// There was no memory for it.
+    #[error("out of memory")]
     OutOfMemory,
 }
 

@@ -38,10 +38,8 @@ pub fn load_folder<F: Folder>(
         Err(FolderFault::Failed) => return Err(LoadFault::FolderFault),
         Err(FolderFault::OutOfMemory) => return Err(LoadFault::OutOfMemory),
     };
-    match load_names(alloc, folder, root, names.items()) {
-        Ok(items) => Ok(Loaded::of(items)),
-        Err(fault) => Err(fault),
-    }
+    let items = load_names(alloc, folder, root, names.items())?;
+    Ok(Loaded::of(items))
 }
 
 /// The services of some names of a folder, in the names' order.
@@ -117,12 +115,10 @@ fn add_file(
     requires { length text.now ≤ 1048576 }
     ensures { Adds (file_told service text.now) items.old.items items.new.items result }
 {
-    match read_file(alloc, service, text) {
-        Ok(item) => match items.push(item) {
-            Ok(()) => Ok(()),
-            Err(_) => Err(LoadFault::OutOfMemory),
-        },
-        Err(fault) => Err(fault),
+    let item = read_file(alloc, service, text)?;
+    match items.push(item) {
+        Ok(()) => Ok(()),
+        Err(_) => Err(LoadFault::OutOfMemory),
     }
 }
 

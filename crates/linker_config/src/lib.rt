@@ -44,6 +44,7 @@ mod keys;
 mod lines;
 mod listening;
 mod loaded;
+mod logging;
 mod namers;
 mod naming;
 mod pool;

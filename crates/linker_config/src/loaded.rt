@@ -4,6 +4,7 @@ ghost use Rattle.std.specs.Prelude.{◌≡◌};
 use addr_book::{AddrList, Name};
 use std::alloc::AllocError;
 use std::marker::Model;
+use thiserror::Error;
 
 /// A service and its addresses.
 #[derive(Debug, Drop)]
@@ -54,15 +55,17 @@ impl Loaded {
 }
 
 /// Why the services of a folder were not loaded: the first cause in the order of the files' names.
-#[derive(Debug, Drop)]
+#[derive(Debug, Drop, Error)]
 pub enum LoadFault {
     /// The file of this service has more than 1,048,576 bytes, or it has no bad line and more than
     /// 1,024 lines with an address.
+    #[error("the file of the service {name} is too long")]
     LongFile {
         /// The service, whose name is the file's.
         name: Name,
     },
     /// The file of this service has a bad line.
+    #[error("the file of the service {name} is bad at line {line}")]
     BadFile {
         /// The service, whose name is the file's.
         name: Name,
@@ -70,8 +73,10 @@ pub enum LoadFault {
         line: u32,
     },
     /// The folder could not be read. Its count of faults rose.
+    #[error("the folder of services could not be read")]
     FolderFault,
     /// There was no memory for the services.
+    #[error("out of memory")]
     OutOfMemory,
 }
 

@@ -89,6 +89,7 @@ fn config(alloc: Global, tree: &Value) -> Result<Config, ConfigFault>
         },
         pool: routed.pool,
         retries: routed.retries,
+        access_log: routed.access_log,
         workers: workers as u32,
         seed,
         feed,

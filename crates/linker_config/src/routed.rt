@@ -6,7 +6,7 @@ ghost use Rattle.dtab_table.specs.Dtab.{rules_of};
 ghost use Rattle.dtab_table.specs.TableCanon.{AreSoundRules};
 ghost use Rattle.machine.specs.Sound.{AreSoundRules-prop};
 
-use crate::config::Port;
+use crate::config::{Port, Text};
 use choose_core::Limits;
 use dtab_table::Dtab;
 use identifier::Kind;
@@ -33,6 +33,8 @@ pub(crate) struct Routed {
     pub(crate) pool: Option<ConnectionPool>,
     /// How often a request may be tried again, if it may be.
     pub(crate) retries: Option<Tries>,
+    /// The file of the access log, if there is one.
+    pub(crate) access_log: Option<Text>,
     ghost sound: { AreSoundRules (rules_of base) } by { AreSoundRules-prop (rules_of base) },
     ghost failures: { 1 ≤ limits.failures },
     ghost allowed: { ForSome retries (λ tries. AreAllowed tries) },

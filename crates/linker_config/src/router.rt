@@ -21,6 +21,7 @@ ghost use Rattle.linker_config.specs.Answers.{Says, SaysBy};
 use crate::client::{ClientSettings, USUAL_CLIENT, client};
 use crate::fault::ConfigFault;
 use crate::keys::check_keys;
+use crate::logging::access_log;
 use crate::naming::identifier;
 use crate::retries::retries;
 use crate::routed::Routed;
@@ -61,6 +62,7 @@ fn router(alloc: Global, value: &Value) -> Result<Routed, ConfigFault>
     let server = server_or_usual(alloc, value)?;
     let client = client_or_usual(alloc, value)?;
     let retries = retries_or_none(alloc, value)?;
+    let access_log = access_log(alloc, value)?;
     Ok(Routed {
         base,
         prefix,
@@ -70,6 +72,7 @@ fn router(alloc: Global, value: &Value) -> Result<Routed, ConfigFault>
         limits: client.limits,
         pool: client.pool,
         retries,
+        access_log,
     })
 }
 

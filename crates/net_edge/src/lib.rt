@@ -13,12 +13,13 @@
 //! a client was accepted, so that another listener accepts the one behind it.
 //!
 //! Once a client was answered, its next request is waited for a few milliseconds, but only where
-//! another listener of the address waits for whoever comes. A busy client has sent it by then, and
-//! costs one call for it, as if it had a listener of its own. Where no other is free the client is
-//! found quiet at once, and can be watched: then its next request costs three calls more, to find
-//! it quiet, to watch it and to be told of it. That is the case of more busy clients than
-//! listeners. So the last listener that is free does not wait for one client while others come;
-//! whoever comes while it serves waits for the next that is free, and that is after those few
+//! another listener of the address waits for whoever comes, and where the client was prompt before.
+//! A busy client has sent it by then, and costs one call for it, as if it had a listener of its
+//! own. Where no other is free, or the client paused before its last request, it is found quiet at
+//! once, and can be watched: then its next request costs three calls more, to find it quiet, to
+//! watch it and to be told of it. So the last listener that is free does not wait for one client
+//! while others come, and clients that pause hold no listener, however many they are. Whoever comes
+//! while the last one serves waits for the next that is free, and that is after those few
 //! milliseconds at the latest where one waits for a client.
 //!
 //! A client that stops in the middle of a request holds its listener, which waits for it a second

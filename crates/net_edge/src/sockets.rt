@@ -10,6 +10,7 @@ mod idle;
 mod listener;
 mod net;
 mod options;
+mod pace;
 mod peer;
 mod pool;
 mod queue;

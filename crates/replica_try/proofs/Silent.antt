@@ -1,6 +1,6 @@
 -- Over a silent visit not a byte of a reply was got, and its connection was ended.
 use Rattle.std.proofs.Common.{◌≡◌, ℕ, Bool, true, false, eqb, List, [], ◌∷◌, ◌++◌, length}
-use Rattle.std.proofs.Common.{refl, sym, ap, subst, ◌∙◌, inl, inr, Result, Ok, Err, arith}
+use Rattle.std.proofs.Common.{refl, sym, ap, subst, ◌∙◌, inl, inr, None, Result, Ok, Err, arith}
 use Rattle.std.proofs.lemmas.Bool.Decides.{nat_tests}
 use Rattle.std.specs.List.{concat}
 use Rattle.line_base.specs.declared.dialer.DialEvent.TheVariants.{Hung}
@@ -15,29 +15,31 @@ use Rattle.body_wire.specs.declared.end.BodyEnd.TheVariants.{BadChunk, Cut, TooL
 use Rattle.body_wire.specs.declared.end.BodyEnd.TheVariants.{WriteFault, SendFault, RecvFault}
 use Rattle.body_wire.specs.declared.end.BodyEnd.TheVariants.{OutOfMemory}
 use Rattle.replica_try.specs.declared.final_head.HeadFault.{HeadFault}
+use Rattle.replica_try.specs.declared.moved.Moved.{Moved}
 use Rattle.replica_try.specs.declared.tried.Tried.{Tried}
 use Rattle.replica_try.specs.declared.tried.Tried.TheVariants as tried
 use Rattle.replica_try.specs.Heads.{Decides, Hears, Interims, fault_of, is_nothing, no_reply}
-use Rattle.replica_try.specs.Trying.{Converses, Replies, is_silent, stop_of, tried_of_back}
+use Rattle.replica_try.specs.Trying.{Converses, Replies, is_silent, only_sent, stop_of}
+use Rattle.replica_try.specs.Trying.{tried_of_back}
 use Rattle.replica_try.specs.Trying.{tried_of_head}
 use Rattle.replica_try.proofs.BothHold.{and_left, and_right}
 
 -- the connection is ended
 pub silent_hung : (keeps : Bool) (how : Tried) → is_silent how ≡ true → stop_of keeps how ≡ Hung
-silent_hung true tried.NotSent silent = refl
-silent_hung false tried.NotSent silent = refl
-silent_hung true tried.Silent silent = refl
-silent_hung false tried.Silent silent = refl
+silent_hung true (tried.NotSent moved) silent = refl
+silent_hung false (tried.NotSent moved) silent = refl
+silent_hung true (tried.Silent moved) silent = refl
+silent_hung false (tried.Silent moved) silent = refl
 silent_hung keeps tried.NotDialed silent = absurd (cc)
-silent_hung keeps tried.BadBody silent = absurd (cc)
-silent_hung keeps tried.LongBody silent = absurd (cc)
-silent_hung keeps tried.BodyCut silent = absurd (cc)
-silent_hung keeps tried.BodyFault silent = absurd (cc)
-silent_hung keeps tried.NoReply silent = absurd (cc)
-silent_hung keeps tried.ReplyCut silent = absurd (cc)
-silent_hung keeps tried.WrittenShort silent = absurd (cc)
-silent_hung keeps (tried.Whole status closes reusable) silent = absurd (cc)
-silent_hung keeps tried.OutOfMemory silent = absurd (cc)
+silent_hung keeps (tried.BadBody moved) silent = absurd (cc)
+silent_hung keeps (tried.LongBody moved) silent = absurd (cc)
+silent_hung keeps (tried.BodyCut moved) silent = absurd (cc)
+silent_hung keeps (tried.BodyFault moved) silent = absurd (cc)
+silent_hung keeps (tried.NoReply moved) silent = absurd (cc)
+silent_hung keeps (tried.ReplyCut moved status) silent = absurd (cc)
+silent_hung keeps (tried.WrittenShort moved status) silent = absurd (cc)
+silent_hung keeps (tried.Whole moved status closes reusable) silent = absurd (cc)
+silent_hung keeps (tried.OutOfMemory moved status) silent = absurd (cc)
 
 -- ---- no final head came
 
@@ -115,41 +117,43 @@ heard_nothing method kept pieces f0 f1 h =
     heard_by method h.interims h.mid kept h.before h.last pieces h.shown h.dropped h.whole
     h.decides h.shows.answers
 
-silent_head : (fault : HeadFault) → is_silent (tried_of_head fault) ≡ true
+silent_head : (sent : ℕ) (fault : HeadFault) → is_silent (tried_of_head sent fault) ≡ true
     → fault ≡ HeadFault.Silent
-silent_head HeadFault.Silent silent = refl
-silent_head HeadFault.NoReply silent = absurd (cc)
-silent_head HeadFault.OutOfMemory silent = absurd (cc)
+silent_head sent HeadFault.Silent silent = refl
+silent_head sent HeadFault.NoReply silent = absurd (cc)
+silent_head sent HeadFault.OutOfMemory silent = absurd (cc)
 
 -- ---- a reply that went back is none
 
-never_back : (status : ℕ) (closes reusable : Bool) (r : Result ℕ BodyEnd)
-    → is_silent (tried_of_back status closes reusable r) ≡ true → ⊥
-never_back status closes reusable (Ok n) silent = cc
-never_back status closes reusable (Err (BadChunk n)) silent = cc
-never_back status closes reusable (Err Cut) silent = cc
-never_back status closes reusable (Err TooLong) silent = cc
-never_back status closes reusable (Err ReadFault) silent = cc
-never_back status closes reusable (Err WriteFault) silent = cc
-never_back status closes reusable (Err SendFault) silent = cc
-never_back status closes reusable (Err RecvFault) silent = cc
-never_back status closes reusable (Err OutOfMemory) silent = cc
+never_back : (moved : Moved) (status : ℕ) (closes reusable : Bool) (r : Result ℕ BodyEnd)
+    → is_silent (tried_of_back moved status closes reusable r) ≡ true → ⊥
+never_back moved status closes reusable (Ok n) silent = cc
+never_back moved status closes reusable (Err (BadChunk n)) silent = cc
+never_back moved status closes reusable (Err Cut) silent = cc
+never_back moved status closes reusable (Err TooLong) silent = cc
+never_back moved status closes reusable (Err ReadFault) silent = cc
+never_back moved status closes reusable (Err WriteFault) silent = cc
+never_back moved status closes reusable (Err SendFault) silent = cc
+never_back moved status closes reusable (Err RecvFault) silent = cc
+never_back moved status closes reusable (Err OutOfMemory) silent = cc
 
 abbrev IsQuiet : Tried → Type 0
 IsQuiet how = is_silent how ≡ true
 
-replied_nothing : (head : Head) (last : Bool) (old new : Line) (f0 f1 : ℕ) (got : List (List ℕ))
-    (how : Tried) → IsQuiet how → Replies head last old new f0 f1 got how → concat got ≡ []
-replied_nothing head last old new f0 f1 got how silent (inl (fault, kept, hears, rests, is)) =
+replied_nothing : (head : Head) (last : Bool) (sent : ℕ) (old new : Line) (f0 f1 : ℕ)
+    (got : List (List ℕ)) (how : Tried) → IsQuiet how
+    → Replies head last sent old new f0 f1 got how → concat got ≡ []
+replied_nothing head last sent old new f0 f1 got how silent (inl (fault, kept, hears, rests, is)) =
     heard_nothing head.method kept got f0 f1
     (subst (λ (f : HeadFault). Hears head.method [] kept got f0 f1 (Err f))
-    (silent_head fault (subst IsQuiet is silent)) hears)
-replied_nothing head last old new f0 f1 got how silent
+    (silent_head sent fault (subst IsQuiet is silent)) hears)
+replied_nothing head last sent old new f0 f1 got how silent
     (inr (reply, framing, kept, between, before, behind, hears, inl none, is)) =
-    let never : IsQuiet tried.OutOfMemory = subst IsQuiet none.3 silent in absurd (cc)
-replied_nothing head last old new f0 f1 got how silent
+    let never : IsQuiet (tried.OutOfMemory (only_sent sent) None) = subst IsQuiet none.3 silent in
+    absurd (cc)
+replied_nothing head last sent old new f0 f1 got how silent
     (inr (reply, framing, kept, between, before, behind, hears, inr (after, r, goes, way), is)) =
-    absurd (never_back _ _ _ r (subst IsQuiet way silent))
+    absurd (never_back _ _ _ _ r (subst IsQuiet way silent))
 
 -- not a byte of a reply was got
 pub silent_got : (head : Head) (onward : List ℕ) (framing : Framing) (last : Bool) (old new : Line)
@@ -162,4 +166,4 @@ silent_got head onward framing last old new kept kept_after f0 f1 sent got how s
     ap concat none
 silent_got head onward framing last old new kept kept_after f0 f1 sent got how silent
     (inr (n, mid, between, goes, replies)) =
-    replied_nothing head last mid new between f1 got how silent replies
+    replied_nothing head last n mid new between f1 got how silent replies

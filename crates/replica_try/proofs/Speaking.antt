@@ -13,9 +13,10 @@ use Rattle.http_wire.specs.declared.head.Head.{Head}
 use Rattle.http_wire.specs.declared.head.ReplyHead.{ReplyHead}
 use Rattle.http_wire.specs.ReplyReading.{LogsGot}
 use Rattle.body_wire.specs.declared.end.BodyEnd.{BodyEnd}
-use Rattle.body_wire.specs.Passing.{Sends}
+use Rattle.body_wire.specs.Passing.{PassesOn, Sends, form_of, most_passed}
 use Rattle.forward.specs.Returned.{returned}
 use Rattle.replica_try.specs.declared.final_head.HeadFault.{HeadFault}
+use Rattle.replica_try.specs.declared.moved.Moved.{Moved}
 use Rattle.replica_try.specs.declared.tried.Tried.{Tried}
 use Rattle.replica_try.specs.Heads.{Hears}
 use Rattle.line_base.specs.Counts.{raised}
@@ -38,39 +39,67 @@ Talks head onward framing last old new kept kept_after f0 f1 l0 l1 how =
     × Converses head onward framing last old new kept kept_after f0 f1 (concat sent) got how
 
 -- what a reply comes to
-abbrev pub Hearkens : Head → Bool → Line → Line → ℕ → ℕ → Option (List DialEvent)
+abbrev pub Hearkens : Head → Bool → ℕ → Line → Line → ℕ → ℕ → Option (List DialEvent)
     → Option (List DialEvent) → Tried → Type 0
-Hearkens head last old new f0 f1 l0 l1 how =
-    (got : List (List ℕ)) × Grows l0 l1 (map Got got) × Replies head last old new f0 f1 got how
+Hearkens head last n old new f0 f1 l0 l1 how =
+    (got : List (List ℕ)) × Grows l0 l1 (map Got got) × Replies head last n old new f0 f1 got how
+
+-- the same request, by what a list of sends sent
+abbrev pub goes_so : (onward : List ℕ) (framing : Framing) (old new : Line)
+    (kept kept_after : List ℕ) (f0 f1 : ℕ) (a b : List ℕ) (r : Result ℕ BodyEnd) → a ≡ b
+    → GoesOn onward framing old new kept kept_after f0 f1 a r
+    → GoesOn onward framing old new kept kept_after f0 f1 b r
+goes_so onward framing old new kept kept_after f0 f1 a b r same goes = record {
+  came = goes.came;
+  count = goes.count;
+  taken = goes.taken;
+  passes =
+      subst (λ (sent : List ℕ). PassesOn framing (form_of true) most_passed onward kept goes.came
+      sent kept_after goes.count r) same goes.passes;
+  ends = goes.ends;
+  none_left = goes.none_left;
+  reads = goes.reads;
+  sends = goes.sends;
+  never = goes.never;
+  given = goes.given;
+  writes = goes.writes;
+  closings = goes.closings;
+  quiets = goes.quiets;
+}
+
+same_end : (a b : BodyEnd) (r : Result ℕ BodyEnd) → r ≡ Err a → r ≡ Err b → a ≡ b
+same_end a b r p q = cc
 
 module _ (head : Head) (onward : List ℕ) (framing : Framing) (last : Bool) (old : Line)
     (kept kept_after : List ℕ) (f0 f1 : ℕ) (l0 l1 : Option (List DialEvent)) (bytes : List ℕ) where
   -- the request did not go on whole
-  pub stops_in_body : (new : Line) (end : BodyEnd) (how : Tried) → Sends l0 l1 bytes
-      → GoesOn onward framing old new kept kept_after f0 f1 bytes (Err end)
-      → how ≡ tried_of_body end → Talks head onward framing last old new kept kept_after f0 f1 l0 l1
-      how
-  stops_in_body new end how sends goes is =
+  pub stops_in_body : (new : Line) (end : BodyEnd) (how : Tried) (r : Result ℕ BodyEnd)
+      → Sends l0 l1 bytes
+      → (goes : GoesOn onward framing old new kept kept_after f0 f1 bytes r) → r ≡ Err end
+      → how ≡ tried_of_body goes.count end
+      → Talks head onward framing last old new kept kept_after f0 f1 l0 l1 how
+  stops_in_body new end how (Ok n) sends goes at is = absurd (cc)
+  stops_in_body new end how (Err e) sends goes at is =
       let s = grows_by_sends l0 l1 bytes sends in (
         s.0,
         [],
         subst (Grows l0 l1) (sym (append-nil (map Sent s.0))) s.1,
         inl (
-          end,
-          subst (λ (b : List ℕ). GoesOn onward framing old new kept kept_after f0 f1 b
-              (Err end)) (sym s.2) goes,
+          e,
+          goes_so onward framing old new kept kept_after f0 f1 bytes (concat s.0) (Err e)
+              (sym s.2) goes,
           refl,
-          is,
+          is ∙ ap (λ (x : BodyEnd). tried_of_body goes.count x) (same_end end e (Err e) at refl),
         ),
       )
 
   -- it did, and then the reply came
   pub speaks_on : (mid new : Line) (n f2 : ℕ) (l2 : Option (List DialEvent)) (how : Tried)
-      → Sends l0 l1 bytes
-      → GoesOn onward framing old mid kept kept_after f0 f1 bytes (Ok n)
-      → Hearkens head last mid new f1 f2 l1 l2 how
+      (r : Result ℕ BodyEnd) → Sends l0 l1 bytes
+      → GoesOn onward framing old mid kept kept_after f0 f1 bytes r → r ≡ Ok n
+      → Hearkens head last n mid new f1 f2 l1 l2 how
       → Talks head onward framing last old new kept kept_after f0 f2 l0 l2 how
-  speaks_on mid new n f2 l2 how sends goes replies =
+  speaks_on mid new n f2 l2 how r sends goes at replies =
       let s = grows_by_sends l0 l1 bytes sends in (
         s.0,
         replies.0,
@@ -79,19 +108,21 @@ module _ (head : Head) (onward : List ℕ) (framing : Framing) (last : Bool) (ol
           n,
           mid,
           f1,
-          subst (λ (b : List ℕ). GoesOn onward framing old mid kept kept_after f0 f1
-              b (Ok n)) (sym s.2) goes,
+          subst (λ (x : Result ℕ BodyEnd). GoesOn onward framing old mid kept kept_after f0 f1
+              (concat s.0) x) at
+              (goes_so onward framing old mid kept kept_after f0 f1 bytes (concat s.0) r (sym s.2)
+              goes),
           replies.2,
         ),
       )
 
-module _ (head : Head) (last : Bool) (old : Line) (f0 f1 : ℕ) (l0 l1 : Option (List DialEvent))
-    (k0 k1 : List ℕ) (none : k0 ≡ []) where
+module _ (head : Head) (last : Bool) (n : ℕ) (old : Line) (f0 f1 : ℕ)
+    (l0 l1 : Option (List DialEvent)) (k0 k1 : List ℕ) (none : k0 ≡ []) where
   -- no final head came
   pub hears_none : (new : Line) (fault : HeadFault) (how : Tried) → (pieces : List (List ℕ))
       → LogsGot l0 l1 pieces
-      → Hears head.method k0 k1 pieces f0 f1 (Err fault) → Rests old new → how ≡ tried_of_head fault
-      → Hearkens head last old new f0 f1 l0 l1 how
+      → Hears head.method k0 k1 pieces f0 f1 (Err fault) → Rests old new
+      → how ≡ tried_of_head n fault → Hearkens head last n old new f0 f1 l0 l1 how
   hears_none new fault how pieces logs hears rests is = (
     pieces,
     grows_by_heads l0 l1 pieces logs,
@@ -110,8 +141,8 @@ module _ (head : Head) (last : Bool) (old : Line) (f0 f1 : ℕ) (l0 l1 : Option 
       (l2 : Option (List DialEvent)) (how : Tried) → (pieces : List (List ℕ)) → LogsGot l0 l1 pieces
       → Hears head.method k0 k1 pieces f0 f1 (Ok (reply, framing)) → (got : List (List ℕ))
       → Grows l1 l2 (map Got got)
-      → Backs head last reply framing old new k1 f1 f2 got how
-      → Hearkens head last old new f0 f2 l0 l2 how
+      → Backs head last n reply framing old new k1 f1 f2 got how
+      → Hearkens head last n old new f0 f2 l0 l2 how
   hears_one new reply framing f2 l2 how pieces logs hears got grows backs = (
     pieces ++ got,
     grows_by_more l0 l1 l2 pieces got (grows_by_heads l0 l1 pieces logs) grows,
@@ -274,28 +305,45 @@ module _ (head : Head) (onward : List ℕ) (framing : Framing) (last : Bool) (ad
 
 -- the reply goes back behind the head that was made for it
 pub backs_by :
-    (head : Head) (last : Bool) (reply : ReplyHead) (framing : Framing) (old new : Line)
+    (head : Head) (last : Bool) (n : ℕ) (reply : ReplyHead) (framing : Framing) (old new : Line)
     (kept kept_after : List ℕ) (f0 f1 : ℕ) (got : List (List ℕ))
     (chunked closes closing reusable : Bool) (bytes : List ℕ) → chunked ≡ knows_chunks head → closes
     ≡ closes_behind head framing → closing ≡ (closes || last)
     → bytes ≡ returned reply framing chunked closing → (r : Result ℕ BodyEnd)
-    → GoesBack bytes framing chunked old new kept kept_after f0 f1 got r
+    → (back : GoesBack bytes framing chunked old new kept kept_after f0 f1 got r)
     → reusable ≡ is_reusable reply framing kept_after
-    → (how : Tried) → how ≡ tried_of_back reply.status closes reusable r
-    → Backs head last reply framing old new kept f0 f1 got how
-backs_by head last reply framing old new kept kept_after f0 f1 got chunked closes closing reusable
+    → (how : Tried)
+    → how ≡ tried_of_back (record { sent = n; given = back.count }) reply.status closes reusable r
+    → Backs head last n reply framing old new kept f0 f1 got how
+backs_by head last n reply framing old new kept kept_after f0 f1 got chunked closes closing reusable
     bytes k c l b r back u how is =
-    let one = subst (λ (x : List ℕ). GoesBack x framing chunked old new kept kept_after f0 f1 got r)
-    b back in
-    let two = subst (λ (x : Bool). GoesBack (returned reply framing chunked x) framing chunked old
-    new kept kept_after f0 f1 got r) (l ∙ ap (λ (y : Bool). y || last) c) one in
-    let three =
-    subst (λ (x : Bool). GoesBack (returned reply framing x (closes_behind head framing || last))
-    framing x old new kept kept_after f0 f1 got r) k two in
+    let moved : Moved = record { sent = n; given = back.count } in
+    let one = subst (λ (x : List ℕ). PassesOn framing (form_of chunked) most_passed x kept got
+    back.written kept_after back.count r) b back.passes in
+    let two = subst (λ (x : Bool). PassesOn framing (form_of chunked) most_passed
+    (returned reply framing chunked x) kept got back.written kept_after back.count r)
+    (l ∙ ap (λ (y : Bool). y || last) c) one in
+    let three = subst (λ (x : Bool). PassesOn framing (form_of x) most_passed
+    (returned reply framing x (closes_behind head framing || last)) kept got back.written kept_after
+    back.count r) k two in
     inr (
       kept_after,
       r,
-      three,
-      is ∙ ap (λ (y : Bool). tried_of_back reply.status y reusable r) c
-          ∙ ap (λ (y : Bool). tried_of_back reply.status (closes_behind head framing) y r) u,
+      record {
+        written = back.written;
+        count = back.count;
+        given = back.given;
+        passes = three;
+        ended = back.ended;
+        receives = back.receives;
+        writes = back.writes;
+        never = back.never;
+        left = back.left;
+        reads = back.reads;
+        ends = back.ends;
+        closings = back.closings;
+        quiets = back.quiets;
+      },
+      is ∙ ap (λ (y : Bool). tried_of_back moved reply.status y reusable r) c
+          ∙ ap (λ (y : Bool). tried_of_back moved reply.status (closes_behind head framing) y r) u,
     )

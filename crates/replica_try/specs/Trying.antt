@@ -1,7 +1,7 @@
 -- A try of a replica: the request goes on, and the reply goes back.
 use Rattle.std.specs.Prelude.{◌≡◌, ◌≢◌, ◌⊎◌, ℕ, ◌==◌, ◌&&◌, ◌||◌, Bool, true, false, not}
-use Rattle.std.specs.Prelude.{if◌then◌else◌, List, [], ◌∷◌, ◌++◌, length, map, None, Result, Ok}
-use Rattle.std.specs.Prelude.{Err}
+use Rattle.std.specs.Prelude.{if◌then◌else◌, List, [], ◌∷◌, ◌++◌, length, map, Option, Some, None}
+use Rattle.std.specs.Prelude.{Result, Ok, Err}
 use Rattle.std.specs.List.{concat}
 use Rattle.std.specs.Option.{IsSome}
 use Rattle.std.specs.Io.KnownBytes.{Appends, Consumes, Keeps}
@@ -19,10 +19,11 @@ use Rattle.body_wire.specs.declared.end.BodyEnd.{BodyEnd}
 use Rattle.body_wire.specs.declared.end.BodyEnd.TheVariants.{BadChunk, Cut, TooLong, ReadFault}
 use Rattle.body_wire.specs.declared.end.BodyEnd.TheVariants.{WriteFault, SendFault, RecvFault}
 use Rattle.body_wire.specs.declared.end.BodyEnd.TheVariants.{OutOfMemory}
-use Rattle.body_wire.specs.Passing.{CountsEnd, EndsPieces, PassesOn, RaisedAt, form_of, most_passed}
-use Rattle.body_wire.specs.Passing.{runs_to_end}
+use Rattle.body_wire.specs.Passing.{CountsEnd, EndsPieces, HasNoneBehind, PassesOn, RaisedAt}
+use Rattle.body_wire.specs.Passing.{form_of, most_passed, runs_to_end}
 use Rattle.forward.specs.Returned.{returned}
 use Rattle.replica_try.specs.declared.final_head.HeadFault.{HeadFault}
+use Rattle.replica_try.specs.declared.moved.Moved.{Moved}
 use Rattle.replica_try.specs.declared.tried.Tried.{Tried}
 use Rattle.replica_try.specs.declared.tried.Tried.TheVariants as tried
 use Rattle.replica_try.specs.Heads.{Hears}
@@ -31,15 +32,23 @@ use Rattle.line_base.specs.Lines.{Line, Rests}
 
 -- ---- the request goes on
 
--- its head and its body were sent to a connection, behind one another, or a front of them
+-- of the request so many content bytes were taken to go on, and none of a reply
+abbrev pub only_sent : ℕ → Moved
+only_sent n = record { sent = n; given = 0 }
+
+-- its head and its body were sent to a connection, behind one another, or a front of them. `count`
+-- is the number of the content bytes
 pub record GoesOn
     (head : List ℕ) (framing : Framing) (old new : Line) (kept kept_after : List ℕ)
     (faults faults_now : ℕ) (sent : List ℕ) (result : Result ℕ BodyEnd)
     : Type 0 where
   pub came : List (List ℕ)
+  pub count : ℕ
   pub taken : Consumes old.left new.left (concat came)
-  pub passes : PassesOn framing (form_of true) most_passed head kept came sent kept_after result
+  pub passes :
+      PassesOn framing (form_of true) most_passed head kept came sent kept_after count result
   pub ends : CountsEnd framing old.ends new.ends result
+  pub none_left : HasNoneBehind framing new.left result
   pub reads : RaisedAt (Err ReadFault) old.read_faults new.read_faults result
   pub sends : RaisedAt (Err SendFault) faults faults_now result
   pub never : (result ≢ Err WriteFault) × (result ≢ Err RecvFault)
@@ -49,27 +58,29 @@ pub record GoesOn
   pub quiets : new.quiets ≡ old.quiets
 
 -- how a try ends whose body did not go on whole
-abbrev pub tried_of_body : BodyEnd → Tried
-tried_of_body (BadChunk n) = tried.BadBody
-tried_of_body Cut = tried.BodyCut
-tried_of_body TooLong = tried.LongBody
-tried_of_body ReadFault = tried.BodyFault
-tried_of_body WriteFault = tried.OutOfMemory
-tried_of_body SendFault = tried.NotSent
-tried_of_body RecvFault = tried.OutOfMemory
-tried_of_body OutOfMemory = tried.OutOfMemory
+abbrev pub tried_of_body : ℕ → BodyEnd → Tried
+tried_of_body sent (BadChunk n) = tried.BadBody (only_sent sent)
+tried_of_body sent Cut = tried.BodyCut (only_sent sent)
+tried_of_body sent TooLong = tried.LongBody (only_sent sent)
+tried_of_body sent ReadFault = tried.BodyFault (only_sent sent)
+tried_of_body sent WriteFault = tried.OutOfMemory (only_sent sent) None
+tried_of_body sent SendFault = tried.NotSent (only_sent sent)
+tried_of_body sent RecvFault = tried.OutOfMemory (only_sent sent) None
+tried_of_body sent OutOfMemory = tried.OutOfMemory (only_sent sent) None
 
 -- ---- the reply goes back
 
--- its head and its body were written to the client, or a front of them, while these pieces were got
+-- its head and its body were written to the client, or a front of them, while these pieces were
+-- got. `count` is the number of the content bytes
 pub record GoesBack
     (head : List ℕ) (framing : Framing) (chunked : Bool) (old new : Line) (kept kept_after : List ℕ)
     (faults faults_now : ℕ) (got : List (List ℕ)) (result : Result ℕ BodyEnd)
     : Type 0 where
   pub written : List ℕ
+  pub count : ℕ
   pub given : Appends old.given new.given written
   pub passes :
-      PassesOn framing (form_of chunked) most_passed head kept got written kept_after result
+      PassesOn framing (form_of chunked) most_passed head kept got written kept_after count result
   pub ended : EndsPieces framing got result
   pub receives : RaisedAt (Err RecvFault) faults faults_now result
   pub writes : RaisedAt (Err WriteFault) old.write_faults new.write_faults result
@@ -82,16 +93,17 @@ pub record GoesBack
 
 -- how a try ends whose reply went back whole, or not. `closes` says whether the client's connection
 -- closes behind it, and `reusable` whether the replica's may carry another request
-abbrev pub tried_of_back : ℕ → Bool → Bool → Result ℕ BodyEnd → Tried
-tried_of_back status closes reusable (Ok n) = tried.Whole status closes reusable
-tried_of_back status closes reusable (Err (BadChunk n)) = tried.ReplyCut
-tried_of_back status closes reusable (Err Cut) = tried.ReplyCut
-tried_of_back status closes reusable (Err TooLong) = tried.ReplyCut
-tried_of_back status closes reusable (Err ReadFault) = tried.OutOfMemory
-tried_of_back status closes reusable (Err WriteFault) = tried.WrittenShort
-tried_of_back status closes reusable (Err SendFault) = tried.OutOfMemory
-tried_of_back status closes reusable (Err RecvFault) = tried.ReplyCut
-tried_of_back status closes reusable (Err OutOfMemory) = tried.OutOfMemory
+abbrev pub tried_of_back : Moved → ℕ → Bool → Bool → Result ℕ BodyEnd → Tried
+tried_of_back moved status closes reusable (Ok n) = tried.Whole moved status closes reusable
+tried_of_back moved status closes reusable (Err (BadChunk n)) = tried.ReplyCut moved status
+tried_of_back moved status closes reusable (Err Cut) = tried.ReplyCut moved status
+tried_of_back moved status closes reusable (Err TooLong) = tried.ReplyCut moved status
+tried_of_back moved status closes reusable (Err ReadFault) = tried.OutOfMemory moved (Some status)
+tried_of_back moved status closes reusable (Err WriteFault) = tried.WrittenShort moved status
+tried_of_back moved status closes reusable (Err SendFault) = tried.OutOfMemory moved (Some status)
+tried_of_back moved status closes reusable (Err RecvFault) = tried.ReplyCut moved status
+tried_of_back moved status closes reusable (Err OutOfMemory) =
+    tried.OutOfMemory moved (Some status)
 
 -- a request behind which its connection closes, whatever the reply is: one of HTTP/1.0, and one
 -- that asks for that
@@ -114,33 +126,36 @@ is_reusable reply framing left =
 abbrev pub knows_chunks : Head → Bool
 knows_chunks head = not (head.version == 0)
 
--- the reply to a request goes back behind its own head, unless there was no memory for that
-abbrev pub Backs : Head → Bool → ReplyHead → Framing → Line → Line → List ℕ → ℕ → ℕ → List (List ℕ)
-    → Tried → Type 0
-Backs head last reply framing old new kept faults faults_now got how =
-    (Rests old new × (faults_now ≡ faults) × (got ≡ []) × (how ≡ tried.OutOfMemory))
+-- the reply to a request goes back behind its own head, unless there was no memory for that. Of the
+-- request `sent` content bytes went on
+abbrev pub Backs : Head → Bool → ℕ → ReplyHead → Framing → Line → Line → List ℕ → ℕ → ℕ
+    → List (List ℕ) → Tried → Type 0
+Backs head last sent reply framing old new kept faults faults_now got how =
+    (Rests old new × (faults_now ≡ faults) × (got ≡ [])
+    × (how ≡ tried.OutOfMemory (only_sent sent) None))
     ⊎ ((kept_after : List ℕ) × (result : Result ℕ BodyEnd)
-    × GoesBack (returned reply framing (knows_chunks head) (closes_behind head framing || last))
-    framing (knows_chunks head) old new kept kept_after faults faults_now got result
-    × (how ≡ tried_of_back reply.status (closes_behind head framing)
-    (is_reusable reply framing kept_after) result))
+    × (back : GoesBack
+    (returned reply framing (knows_chunks head) (closes_behind head framing || last))
+    framing (knows_chunks head) old new kept kept_after faults faults_now got result)
+    × (how ≡ tried_of_back (record { sent = sent; given = back.count }) reply.status
+    (closes_behind head framing) (is_reusable reply framing kept_after) result))
 
 -- how a try ends whose reply has no final head
-abbrev pub tried_of_head : HeadFault → Tried
-tried_of_head HeadFault.Silent = tried.Silent
-tried_of_head HeadFault.NoReply = tried.NoReply
-tried_of_head HeadFault.OutOfMemory = tried.OutOfMemory
+abbrev pub tried_of_head : ℕ → HeadFault → Tried
+tried_of_head sent HeadFault.Silent = tried.Silent (only_sent sent)
+tried_of_head sent HeadFault.NoReply = tried.NoReply (only_sent sent)
+tried_of_head sent HeadFault.OutOfMemory = tried.OutOfMemory (only_sent sent) None
 
 -- a final head was got, and the reply goes back; or none was
-abbrev pub Replies : Head → Bool → Line → Line → ℕ → ℕ → List (List ℕ) → Tried → Type 0
-Replies head last old new faults faults_now got how =
+abbrev pub Replies : Head → Bool → ℕ → Line → Line → ℕ → ℕ → List (List ℕ) → Tried → Type 0
+Replies head last sent old new faults faults_now got how =
     ((fault : HeadFault) × (kept : List ℕ)
     × Hears head.method [] kept got faults faults_now (Err fault) × Rests old new
-    × (how ≡ tried_of_head fault))
+    × (how ≡ tried_of_head sent fault))
     ⊎ ((reply : ReplyHead) × (framing : Framing) × (kept : List ℕ) × (between : ℕ)
     × (before : List (List ℕ)) × (behind : List (List ℕ))
     × Hears head.method [] kept before faults between (Ok (reply, framing))
-    × Backs head last reply framing old new kept between faults_now behind how
+    × Backs head last sent reply framing old new kept between faults_now behind how
     × (got ≡ before ++ behind))
 
 -- ---- over an open connection
@@ -149,28 +164,28 @@ Replies head last old new faults faults_now got how =
 abbrev pub Converses : Head → List ℕ → Framing → Bool → Line → Line → List ℕ → List ℕ → ℕ → ℕ
     → List ℕ → List (List ℕ) → Tried → Type 0
 Converses head onward framing last old new kept kept_after faults faults_now sent got how =
-    ((end : BodyEnd) × GoesOn onward framing old new kept kept_after faults faults_now sent
-    (Err end) × (got ≡ []) × (how ≡ tried_of_body end))
+    ((end : BodyEnd) × (goes : GoesOn onward framing old new kept kept_after faults faults_now sent
+    (Err end)) × (got ≡ []) × (how ≡ tried_of_body goes.count end))
     ⊎ ((n : ℕ) × (mid : Line) × (between : ℕ)
     × GoesOn onward framing old mid kept kept_after faults between sent (Ok n)
-    × Replies head last mid new between faults_now got how)
+    × Replies head last n mid new between faults_now got how)
 
 -- ---- what becomes of the connection
 
 -- the connection may carry another request behind a try that went so
 abbrev pub leaves_reusable : Tried → Bool
-leaves_reusable (tried.Whole status closes reusable) = reusable
+leaves_reusable (tried.Whole moved status closes reusable) = reusable
 leaves_reusable tried.NotDialed = false
-leaves_reusable tried.NotSent = false
-leaves_reusable tried.BadBody = false
-leaves_reusable tried.LongBody = false
-leaves_reusable tried.BodyCut = false
-leaves_reusable tried.BodyFault = false
-leaves_reusable tried.Silent = false
-leaves_reusable tried.NoReply = false
-leaves_reusable tried.ReplyCut = false
-leaves_reusable tried.WrittenShort = false
-leaves_reusable tried.OutOfMemory = false
+leaves_reusable (tried.NotSent moved) = false
+leaves_reusable (tried.BadBody moved) = false
+leaves_reusable (tried.LongBody moved) = false
+leaves_reusable (tried.BodyCut moved) = false
+leaves_reusable (tried.BodyFault moved) = false
+leaves_reusable (tried.Silent moved) = false
+leaves_reusable (tried.NoReply moved) = false
+leaves_reusable (tried.ReplyCut moved status) = false
+leaves_reusable (tried.WrittenShort moved status) = false
+leaves_reusable (tried.OutOfMemory moved status) = false
 
 -- so it is kept, where the dialer keeps any, and else ended
 abbrev pub stop_of : Bool → Tried → DialEvent
@@ -178,18 +193,48 @@ stop_of keeps how = if keeps && leaves_reusable how then Kept else Hung
 
 -- no byte of a reply came: the request could not be sent, or what was received is nothing
 abbrev pub is_silent : Tried → Bool
-is_silent tried.NotSent = true
-is_silent tried.Silent = true
+is_silent (tried.NotSent moved) = true
+is_silent (tried.Silent moved) = true
 is_silent tried.NotDialed = false
-is_silent tried.BadBody = false
-is_silent tried.LongBody = false
-is_silent tried.BodyCut = false
-is_silent tried.BodyFault = false
-is_silent tried.NoReply = false
-is_silent tried.ReplyCut = false
-is_silent tried.WrittenShort = false
-is_silent (tried.Whole status closes reusable) = false
-is_silent tried.OutOfMemory = false
+is_silent (tried.BadBody moved) = false
+is_silent (tried.LongBody moved) = false
+is_silent (tried.BodyCut moved) = false
+is_silent (tried.BodyFault moved) = false
+is_silent (tried.NoReply moved) = false
+is_silent (tried.ReplyCut moved status) = false
+is_silent (tried.WrittenShort moved status) = false
+is_silent (tried.Whole moved status closes reusable) = false
+is_silent (tried.OutOfMemory moved status) = false
+
+-- how much of both bodies moved
+abbrev pub moved_in : Tried → Moved
+moved_in tried.NotDialed = only_sent 0
+moved_in (tried.NotSent moved) = moved
+moved_in (tried.BadBody moved) = moved
+moved_in (tried.LongBody moved) = moved
+moved_in (tried.BodyCut moved) = moved
+moved_in (tried.BodyFault moved) = moved
+moved_in (tried.Silent moved) = moved
+moved_in (tried.NoReply moved) = moved
+moved_in (tried.ReplyCut moved status) = moved
+moved_in (tried.WrittenShort moved status) = moved
+moved_in (tried.Whole moved status closes reusable) = moved
+moved_in (tried.OutOfMemory moved status) = moved
+
+-- the status of the reply that went back, whole or in part
+abbrev pub status_in : Tried → Option ℕ
+status_in tried.NotDialed = None
+status_in (tried.NotSent moved) = None
+status_in (tried.BadBody moved) = None
+status_in (tried.LongBody moved) = None
+status_in (tried.BodyCut moved) = None
+status_in (tried.BodyFault moved) = None
+status_in (tried.Silent moved) = None
+status_in (tried.NoReply moved) = None
+status_in (tried.ReplyCut moved status) = Some status
+status_in (tried.WrittenShort moved status) = Some status
+status_in (tried.Whole moved status closes reusable) = Some status
+status_in (tried.OutOfMemory moved status) = status
 
 -- no byte of the client's connection is read for a body that is framed so
 abbrev pub is_without_body : Framing → Bool

@@ -8,19 +8,23 @@ use http::Method;
 use http_wire::{Framing, HeadEnd, ReplyHead, Rest, read_reply_head, reply_framing};
 use line_base::Dialer;
 use std::alloc::Global;
+use thiserror::Error;
 
 /// The most heads that are received for one reply: eight interim ones, which are dropped, and the
 /// final one.
 const MOST_HEADS: u32 = 9;
 
 /// Why the final head of a reply did not come.
-#[derive(Clone, Copy, Debug, PartialEq, Eq)]
+#[derive(Clone, Copy, Debug, PartialEq, Eq, Error)]
 pub enum HeadFault {
     /// No byte came: the end did, or a receive failed.
+    #[error("no byte of a reply came")]
     Silent,
     /// What came is no reply that can be passed on, or no more of it came.
+    #[error("what came is no reply that can be passed on")]
     NoReply,
     /// There was no memory for the head.
+    #[error("out of memory")]
     OutOfMemory,
 }
 

@@ -4,7 +4,8 @@
 //! A caller that has found a replica writes the head that goes on into the [`Way`], says by a
 //! [`Try`] which request goes where, and runs it ([`Try::run`]). The request's body is passed on as
 //! it comes, the final head of the reply is received, and the reply goes back to the client. What
-//! became of it is a [`Tried`]; the caller reports, answers or tries again by that. A worker has
+//! became of it is a [`Tried`], with how much content moved both ways ([`Moved`]); the caller
+//! reports, answers or tries again by that. A worker has
 //! one way for all its tries, so that a try takes no memory for its bytes again.
 //!
 //! Where the dialer keeps connections ([`Dialer::keeps`](line_base::Dialer::keeps)), a request that
@@ -23,7 +24,8 @@
 //! what was sent and got, and what was read from the client and written to it, and its outcome is
 //! the variant of [`Tried`] that these show: the body by `body_wire`'s definitions, the final head
 //! behind up to eight interim ones (`Hears` of `specs/Heads.antt`), and the reply behind the head
-//! of `forward`. Where memory runs out, or a call fails, what moved until then is a prefix of what
+//! of `forward`, with the number of content bytes that each of the two took ([`Moved`]). Where
+//! memory runs out, or a call fails, what moved until then is a prefix of what
 //! would have moved. Behind each try no connection is open: it was ended, or it was kept where
 //! `is_reusable` says so.
 //!
@@ -42,6 +44,7 @@
 
 mod closing;
 mod final_head;
+mod moved;
 mod repeatable;
 mod tried;
 mod trying;
@@ -49,6 +52,7 @@ mod way;
 
 pub use closing::asks_to_close;
 pub use final_head::HeadFault;
+pub use moved::Moved;
 use std::alloc::AllocError;
 pub use tried::Tried;
 pub use trying::Try;

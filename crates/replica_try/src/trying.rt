@@ -10,6 +10,7 @@ ghost use Rattle.replica_try.specs.Trying.{is_silent, leaves_reusable};
 
 use crate::closing::{closes_behind, is_closing, is_reusable, knows_chunks};
 use crate::final_head::receive_final;
+use crate::moved::Moved;
 use crate::tried::Tried;
 use crate::way::Way;
 use addr_book::Addr;
@@ -166,31 +167,33 @@ impl Try<'_> {
         ensures stays { HasSameLinks (D.upstream way.old.dialer) (D.upstream way.new.dialer)
             × (way.new.again.items ≡ way.old.again.items) }
     {
-        match pass_body(peer, rest, self.framing, &mut way.out, &mut way.dialer) {
-            Ok(_) => self.receive_reply(alloc, peer, way),
-            Err(end) => Tried::of_body(end),
+        let passed = pass_body(peer, rest, self.framing, &mut way.out, &mut way.dialer);
+        match passed.end {
+            Ok(sent) => self.receive_reply(alloc, peer, way, sent),
+            Err(end) => Tried::of_body(passed.count, end),
         }
     }
 
-    /// Receives the reply to the request, and passes it back.
+    /// Receives the reply to the request, of which so much content went on, and passes it back.
     fn receive_reply<P: Peer, D: Dialer>(
         &self,
         alloc: Global,
         peer: &mut P,
         way: &mut Way<D>,
+        sent: u64,
     ) -> Tried
         requires { IsSome (D.upstream way.old.dialer).open_to }
         ensures replies { (got : List (List ℕ)) × Grows (D.upstream way.old.dialer).log
             (D.upstream way.new.dialer).log (map Got got) × Replies self.now.head.now self.now.last
-            (P.line peer.old) (P.line peer.new) (D.upstream way.old.dialer).faults
+            sent (P.line peer.old) (P.line peer.new) (D.upstream way.old.dialer).faults
             (D.upstream way.new.dialer).faults got result }
         ensures stays { HasSameLinks (D.upstream way.old.dialer) (D.upstream way.new.dialer)
             × (way.new.again.items ≡ way.old.again.items) }
     {
         way.back.clear();
         match receive_final(alloc, &self.head.method, &mut way.dialer, &mut way.back) {
-            Ok((reply, framing)) => self.pass_reply(alloc, &reply, framing, peer, way),
-            Err(fault) => Tried::of_head(fault),
+            Ok((reply, framing)) => { self.pass_reply(alloc, &reply, framing, peer, way, sent) }
+            Err(fault) => Tried::of_head(sent, fault),
         }
     }
 
@@ -202,11 +205,12 @@ impl Try<'_> {
         framing: Framing,
         peer: &mut P,
         way: &mut Way<D>,
+        sent: u64,
     ) -> Tried
         requires { IsSome (D.upstream way.old.dialer).open_to }
         ensures backs { (got : List (List ℕ)) × Grows (D.upstream way.old.dialer).log
             (D.upstream way.new.dialer).log (map Got got) × Backs self.now.head.now self.now.last
-            reply.now framing (P.line peer.old) (P.line peer.new) way.old.back
+            sent reply.now framing (P.line peer.old) (P.line peer.new) way.old.back
             (D.upstream way.old.dialer).faults (D.upstream way.new.dialer).faults got result }
         ensures stays { HasSameLinks (D.upstream way.old.dialer) (D.upstream way.new.dialer)
             × (way.new.again.items ≡ way.old.again.items) }
@@ -222,7 +226,10 @@ impl Try<'_> {
             &mut way.out,
         );
         let Ok(()) = written else {
-            return Tried::OutOfMemory;
+            return Tried::OutOfMemory {
+                moved: Moved { sent, given: 0 },
+                status: None,
+            };
         };
         let passed = pass_back(
             &mut way.dialer,
@@ -233,7 +240,11 @@ impl Try<'_> {
             peer,
         );
         let reusable = is_reusable(reply, framing, &way.back);
-        Tried::of_back(reply.status, closes, reusable, passed)
+        let moved = Moved {
+            sent,
+            given: passed.count,
+        };
+        Tried::of_back(moved, reply.status, closes, reusable, passed.end)
     }
 }
 

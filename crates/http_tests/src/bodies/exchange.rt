@@ -171,7 +171,8 @@ pub(super) fn onward(
         framing,
         &mut ends.out,
         &mut ends.dialer,
-    );
+    )
+    .end;
     let (sent, sends) = sent_of(alloc, ends.dialer.log())?;
     Ok(Passed {
         answer,
@@ -201,7 +202,8 @@ pub(super) fn back(
         chunked,
         &mut ends.out,
         &mut ends.peer,
-    );
+    )
+    .end;
     Ok(Passed {
         answer,
         went: behind_head(alloc, ends.peer.sink().held())?,
@@ -240,7 +242,8 @@ pub(super) fn unsent(
         framing,
         &mut ends.out,
         &mut ends.dialer,
-    );
+    )
+    .end;
     Ok((answer, Vec::from_slice(alloc, ends.rest.kept())?))
 }
 

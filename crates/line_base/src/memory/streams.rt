@@ -1,6 +1,6 @@
 //! Sources, sinks and peers in memory.
 ghost use Rattle.std.specs.Prelude.{◌≡◌, ◌≤◌, ◌<◌, ◌+◌, ◌↔◌, ◌⊎◌, [], length, min, true, false};
-ghost use Rattle.std.specs.Prelude.{Ok, Some, IsErr, IfOk, OnErr};
+ghost use Rattle.std.specs.Prelude.{Ok, None, Some, IsErr, IfOk, OnErr};
 ghost use Rattle.std.specs.Io.{ReadsAtMost, WritesAtMost};
 ghost use Rattle.std.specs.Io.KnownBytes.{ReadConsumes, WriteAppends};
 ghost use Rattle.line_base.specs.Counts.{HasCause, CountsEnds, MovesNothing};
@@ -12,6 +12,7 @@ use crate::memory::notice::Notice;
 use crate::memory::plan::CallPlan;
 use crate::memory::unread::Unread;
 use crate::outside::{Failed, Next, Peer, Sink, Source};
+use crate::socket_address::SocketAddress;
 use std::alloc::Global;
 use std::marker::Model;
 
@@ -198,12 +199,14 @@ impl Sink for MemSink {
 /// A connection in memory: a source that it gives from and a sink that it takes into. Each has
 /// calls of its own. It may be told from which question on it says that its listeners are closing,
 /// and at which questions it says that nothing came: calls of `read_next` and `is_closing` are its
-/// questions, and are counted together from 0.
+/// questions, and are counted together from 0. It tells where its other end is only where it was
+/// told that.
 #[derive(Debug, Drop)]
 pub struct MemPeer {
     source: MemSource,
     sink: MemSink,
     notice: Notice,
+    address: Option<SocketAddress>,
 }
 
 impl Model for MemPeer {
@@ -211,18 +214,30 @@ impl Model for MemPeer {
 
     ghost Value = { Meeting };
 
-    ghost view = { λ p. record { source = p.source; sink = p.sink; notice = p.notice } };
+    ghost view = { λ p. record {
+      source = p.source;
+      sink = p.sink;
+      notice = p.notice;
+      address = p.address;
+    } };
 }
 
 impl MemPeer {
-    /// A peer that gives from the one and takes into the other. Its listeners stay open.
+    /// A peer that gives from the one and takes into the other. Its listeners stay open, and it
+    /// does not tell where its other end is.
     pub fn of(source: MemSource, sink: MemSink) -> MemPeer
-        ensures { result ≡ record { source = source; sink = sink; notice = no_notice } }
+        ensures { result ≡ record {
+          source = source;
+          sink = sink;
+          notice = no_notice;
+          address = None;
+        } }
     {
         MemPeer {
             notice: Notice::of(None, Vec::new(*sink.held.allocator())),
             source,
             sink,
+            address: None,
         }
     }
 
@@ -232,12 +247,14 @@ impl MemPeer {
           source = source;
           sink = sink;
           notice = record { from = Some question; quiet = []; asked = 0; told = 0; quiets = 0 };
+          address = None;
         } }
     {
         MemPeer {
             notice: Notice::of(Some(question), Vec::new(*sink.held.allocator())),
             source,
             sink,
+            address: None,
         }
     }
 
@@ -253,17 +270,43 @@ impl MemPeer {
             told = 0;
             quiets = 0;
           };
+          address = self.address;
         } }
     {
         let MemPeer {
             source,
             sink,
             notice,
+            address,
         } = self;
         MemPeer {
             source,
             sink,
             notice: Notice::of(notice.closing_from(), questions),
+            address,
+        }
+    }
+
+    /// The peer, whose other end is at this address.
+    pub fn at(self, address: SocketAddress) -> MemPeer
+        ensures { result ≡ record {
+          source = self.source;
+          sink = self.sink;
+          notice = self.notice;
+          address = Some address;
+        } }
+    {
+        let MemPeer {
+            source,
+            sink,
+            notice,
+            address: _,
+        } = self;
+        MemPeer {
+            source,
+            sink,
+            notice,
+            address: Some(address),
         }
     }
 
@@ -298,6 +341,14 @@ impl MemPeer {
 
 impl Peer for MemPeer {
     ghost line = { line_of };
+
+    ghost address = { λ p. p.address };
+
+    fn address(&self) -> Option<SocketAddress>
+        ensures { result ≡ self.now.address }
+    {
+        self.address
+    }
 
     /// A read of its source.
     fn read(&mut self, into: &mut [u8]) -> Result<usize, Failed>

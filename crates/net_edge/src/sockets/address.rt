@@ -1,5 +1,6 @@
 //! Addresses of sockets.
 use libc::net::{_SS_SIZE, AF_INET};
+use line_base::SocketAddress;
 use std::net::{Ipv4Addr, SocketAddr, SocketAddrV4};
 
 /// The bytes of an IPv4 address with its port as the C library has it.
@@ -11,6 +12,18 @@ pub(crate) const NO_ADDRESS: [u8; _SS_SIZE] = [0u8; _SS_SIZE];
 /// The address of a socket.
 pub(crate) fn address(ip: u32, port: u16) -> SocketAddr {
     SocketAddr::V4(SocketAddrV4::new(Ipv4Addr::from_bits(ip), port))
+}
+
+/// Where the other end of a socket is, by the address that the system tells of it. Sockets are of
+/// IPv4, so it tells no other.
+pub(crate) fn place_of(address: SocketAddr) -> Option<SocketAddress> {
+    match address {
+        SocketAddr::V4(at) => Some(SocketAddress {
+            ip: at.ip().to_bits(),
+            port: at.port(),
+        }),
+        SocketAddr::V6(_) => None,
+    }
 }
 
 /// The address as the C library has it: a `sockaddr_in`.

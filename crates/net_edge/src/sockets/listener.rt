@@ -34,11 +34,12 @@ pub struct SocketListener<'a, R> {
 
 /// The next client of a queue, if one waits to be accepted.
 fn next_client(queue: &Arc<Queue>, closing: &Closing) -> io::Result<Option<SocketPeer>> {
-    let Some(stream) = queue.accept()? else {
+    let Some((stream, address)) = queue.accept()? else {
         return Ok(None);
     };
     let queue = Arc::try_clone(queue)?;
-    Ok(Some(SocketPeer::over(stream, closing.share()?, queue)?))
+    let peer = SocketPeer::over(stream, address, closing.share()?, queue)?;
+    Ok(Some(peer))
 }
 
 /// What the sockets of an open address tell next.
@@ -161,6 +162,7 @@ impl<R: rt::Clock> Listener for SocketListener<'_, R> {
                 Ok(Event::Came(peer))
             }
             Ok(Event::Ready(number)) => {
+                self.queue.stamp(self.rt);
                 self.run = 0;
                 Ok(Event::Ready(number))
             }
@@ -185,6 +187,7 @@ impl<R: rt::Clock> Listener for SocketListener<'_, R> {
     }
 
     fn watch(&self, peer: &SocketPeer, number: u64) -> bool {
+        peer.leave(self.queue.stamp(self.rt));
         self.queue.watch(peer.stream(), number)
     }
 

@@ -2,10 +2,11 @@
 ghost use Rattle.std.specs.Prelude.{None};
 
 use super::flow::{Flow, IDLE_SECONDS};
+use super::pace::Pace;
 use super::queue::Queue;
 use super::stop::Closing;
-use super::waiting::{Heard, PROMPT_MILLISECONDS, read_in_slices, read_next};
-use line_base::{Failed, Next, Peer};
+use super::waiting::{Heard, PROMPT_MILLISECONDS, is_awaited, read_in_slices, read_next};
+use line_base::{Failed, Next, Peer, SocketAddress};
 use std::io::{self, Read};
 use std::net::{Shutdown, TcpStream};
 use std::rt;
@@ -24,13 +25,15 @@ const LINGER_READS: u32 = 65_536;
 /// Bytes of one such read.
 const LINGER_PIECE: usize = 16_384;
 
-/// A connection that was accepted. It tells no content.
+/// A connection that was accepted. It tells no content, and where the client is.
 #[derive(Drop)]
 pub struct SocketPeer {
     flow: Flow,
+    /// Where the client is, as accept(2) told it.
+    address: Option<SocketAddress>,
     closing: Closing,
     queue: Arc<Queue>,
-    heard: Heard,
+    pace: Pace,
     read_faults: u64,
     write_faults: u64,
     ends: u64,
@@ -39,10 +42,12 @@ pub struct SocketPeer {
 }
 
 impl SocketPeer {
-    /// A connection over this socket, with no fault and no end so far, which came to this queue,
-    /// and whose listeners are closed by `closing`. It ends its reads and writes in time.
+    /// A connection over this socket with a client at this address, with no fault and no end so
+    /// far, which came to this queue, and whose listeners are closed by `closing`. It ends its
+    /// reads and writes in time.
     pub(crate) fn over(
         stream: TcpStream,
+        address: Option<SocketAddress>,
         closing: Closing,
         queue: Arc<Queue>,
     ) -> io::Result<SocketPeer> {
@@ -52,9 +57,10 @@ impl SocketPeer {
         queue.count_opened();
         Ok(SocketPeer {
             flow,
+            address,
             closing,
             queue,
-            heard: Heard::Nothing,
+            pace: Pace::new(),
             read_faults: 0,
             write_faults: 0,
             ends: 0,
@@ -68,6 +74,11 @@ impl SocketPeer {
         &self.flow.stream
     }
 
+    /// It is left to be watched, at this moment of its queue.
+    pub(crate) fn leave(&self, moment: u64) {
+        self.pace.leave(moment);
+    }
+
     /// Ends the connection. What was written still arrives: the other end is told that no more
     /// comes, and what it has yet to say is read and dropped, since a socket that is closed before
     /// its bytes were read resets the connection. That is bounded in time. Where nothing has come
@@ -75,9 +86,10 @@ impl SocketPeer {
     pub(crate) fn end<R: rt::Clock>(self, rt: &R) {
         let SocketPeer {
             flow,
+            address: _,
             closing: _,
             queue,
-            heard,
+            pace,
             read_faults: _,
             write_faults: _,
             ends,
@@ -88,7 +100,7 @@ impl SocketPeer {
         let stream = flow.stream;
         let silence = Duration::from_millis(SILENCE_MILLISECONDS);
         let is_told = stream.shutdown(Shutdown::Write).is_ok();
-        let may_say_more = heard != Heard::Quiet && ends == 0;
+        let may_say_more = pace.heard() != Heard::Quiet && ends == 0;
         if is_told && may_say_more && stream.set_read_timeout(Some(silence)).is_ok() {
             drain(rt, stream);
         }
@@ -124,11 +136,17 @@ impl Peer for SocketPeer {
       quiets = p.quiets;
     } };
 
+    ghost address = { λ p. p.address };
+
+    fn address(&self) -> Option<SocketAddress> {
+        self.address
+    }
+
     fn read(&mut self, into: &mut [u8]) -> Result<usize, Failed> {
         if into.is_empty() {
             return Ok(0);
         }
-        self.heard = Heard::Bytes;
+        self.pace.go_on();
         match read_in_slices(&mut self.flow, into) {
             Ok(0) => {
                 self.ends = self.ends.saturating_add(1);
@@ -143,21 +161,22 @@ impl Peer for SocketPeer {
     }
 
     fn read_next(&mut self, into: &mut [u8]) -> Result<Next, Failed> {
-        let heard = self.heard;
-        self.heard = Heard::Bytes;
-        match read_next(&mut self.flow, &self.queue, heard, into) {
+        self.pace.resume(self.queue.moment());
+        let heard = self.pace.heard();
+        let is_awaited = is_awaited(&self.queue, heard, self.pace.is_slow());
+        let next = read_next(&mut self.flow, &self.queue, heard, is_awaited, into);
+        self.pace.hear(is_awaited, &next);
+        match next {
             Ok(Next::Bytes(count)) => Ok(Next::Bytes(count)),
             Ok(Next::End) => {
                 self.ends = self.ends.saturating_add(1);
                 Ok(Next::End)
             }
             Ok(Next::Closing) => {
-                self.heard = Heard::Quiet;
                 self.closings = self.closings.saturating_add(1);
                 Ok(Next::Closing)
             }
             Ok(Next::Quiet) => {
-                self.heard = Heard::Quiet;
                 self.quiets = self.quiets.saturating_add(1);
                 Ok(Next::Quiet)
             }

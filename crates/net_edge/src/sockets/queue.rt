@@ -2,9 +2,11 @@
 //! that were accepted and wait for their next request.
 ghost use Rattle.std.specs.Prelude.{◌≤◌};
 
+use super::address::place_of;
 use super::watched::Watched;
 use libc::net::{self, POLLIN, SHUT_RDWR};
 use libc::types::pollfd;
+use line_base::SocketAddress;
 use std::alloc::Global;
 use std::io::{self, ErrorKind};
 use std::net::{Net, SocketAddr, TcpListener, TcpStream};
@@ -51,6 +53,9 @@ pub(crate) struct Queue {
     begin: Instant,
     /// How many seconds were told since then.
     ticks: AtomicU64,
+    /// How many milliseconds after `begin` a client was last told or left, so that a client, which
+    /// has no clock, can see how long it was silent.
+    moment: AtomicU64,
     /// How many connections of its clients are open.
     open: AtomicU64,
     /// How many milliseconds after `begin` those who wait are heard no more; 0 as long as no listener
@@ -84,6 +89,7 @@ impl Queue {
             waiting: AtomicU64::new(0),
             begin: Instant::now(rt)?,
             ticks: AtomicU64::new(0),
+            moment: AtomicU64::new(0),
             open: AtomicU64::new(0),
             grace_end: AtomicU64::new(0),
             is_over: AtomicU64::new(0),
@@ -94,16 +100,17 @@ impl Queue {
         Ok(queue)
     }
 
-    /// The connection of the next client; none where nobody waits to be accepted by now. From then
-    /// on another listener hears of the client behind it. It waits for nobody.
+    /// The connection of the next client, and where the client is; none where nobody waits to be
+    /// accepted by now. From then on another listener hears of the client behind it. It waits for
+    /// nobody.
     ///
     /// # Errors
     /// Where the process has no descriptor for the client it stays in the queue, and no listener
     /// hears of it until [`Queue::listen_on`] is called: so one of them at a time tries again, once
     /// it has waited for a moment.
-    pub(crate) fn accept(&self) -> io::Result<Option<TcpStream>> {
+    pub(crate) fn accept(&self) -> io::Result<Option<(TcpStream, Option<SocketAddress>)>> {
         let accepted = match self.socket.accept() {
-            Ok((stream, _)) => Some(stream),
+            Ok((stream, address)) => Some((stream, place_of(address))),
             Err(error) if is_gone(error.kind()) => None,
             Err(error) => return Err(error),
         };
@@ -165,6 +172,28 @@ impl Queue {
         Some(seconds)
     }
 
+    /// The milliseconds since the queue was opened, where the clock can be read.
+    fn milliseconds<R: rt::Clock>(&self, rt: &R) -> Option<u64> {
+        let elapsed = self.begin.elapsed(rt).ok()?;
+        let seconds = elapsed.as_secs().saturating_mul(1_000);
+        Some(seconds.saturating_add(u64::from(elapsed.subsec_millis())))
+    }
+
+    /// Keeps the moment of now, and gives it, in milliseconds since the queue was opened; the one
+    /// that was kept before, where the clock can't be read.
+    pub(crate) fn stamp<R: rt::Clock>(&self, rt: &R) -> u64 {
+        let Some(now) = self.milliseconds(rt) else {
+            return self.moment();
+        };
+        self.moment.store(now, Ordering::SeqCst);
+        now
+    }
+
+    /// The moment that was kept last.
+    pub(crate) fn moment(&self) -> u64 {
+        self.moment.load(Ordering::SeqCst)
+    }
+
     /// Closes it. Those who wait in it can be accepted still; from now on the kernel lets nobody in
     /// while another waits.
     pub(crate) fn close(&self) {
@@ -197,13 +226,9 @@ impl Queue {
         if self.open.load(Ordering::SeqCst) == 0 {
             return false;
         }
-        let Ok(elapsed) = self.begin.elapsed(rt) else {
+        let Some(now) = self.milliseconds(rt) else {
             return false;
         };
-        let now = elapsed
-            .as_secs()
-            .saturating_mul(1_000)
-            .saturating_add(u64::from(elapsed.subsec_millis()));
         let end = now.saturating_add(GRACE_MILLISECONDS);
         let first = self
             .grace_end

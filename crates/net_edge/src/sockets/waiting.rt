@@ -7,9 +7,10 @@ use super::queue::Queue;
 use line_base::Next;
 use std::io::{self, ErrorKind};
 
-/// How many milliseconds one read of an accepted connection may wait. So long a connection is
-/// waited for where another listener is free; a busy one sends its next request by then, and costs
-/// no call more for it.
+/// How many milliseconds one read of an accepted connection may wait. So long a connection whose
+/// client was prompt is waited for where another listener is free; a busy one sends its next
+/// request by then, and costs no call more for it. The kernel counts in ticks of its own, and may
+/// wait for two of them more.
 pub(crate) const PROMPT_MILLISECONDS: u64 = 5;
 
 /// How many milliseconds a connection that is silent in the middle of a request is waited for
@@ -41,25 +42,30 @@ pub(crate) enum Heard {
     Quiet,
 }
 
-/// Reads the first bytes of a request, or sees that none have come.
-///
-/// A connection is waited for a moment, where another listener waits for whoever comes, and else
-/// not at all: so the last listener that is free waits for nobody in particular. One that was quiet
-/// has been waited for already. Once those who wait are heard no more nobody else comes, and one that
-/// is new may have a second for its only request.
+/// Whether a connection is waited for a moment, where its next request has not come: where another
+/// listener waits for whoever comes, and the client was prompt before. So the last listener that is
+/// free waits for nobody in particular, and none waits for a client that pauses. One that was quiet
+/// has been waited for already. Once those who wait are heard no more nobody else comes.
+pub(crate) fn is_awaited(queue: &Queue, heard: Heard, is_slow: bool) -> bool {
+    heard != Heard::Quiet && (queue.is_over() || (queue.has_waiting() && !is_slow))
+}
+
+/// Reads the first bytes of a request, or sees that none have come, once it was waited for a moment
+/// or at once. Where those who wait are heard no more, a connection that is new may have a second
+/// for its only request.
 pub(crate) fn read_next(
     flow: &mut Flow,
     queue: &Queue,
     heard: Heard,
+    is_awaited: bool,
     into: &mut [u8],
 ) -> io::Result<Next>
     ensures { NextAtMost result into.new }
 {
-    let is_over = queue.is_over();
-    if is_over && heard == Heard::Nothing {
+    if heard == Heard::Nothing && queue.is_over() {
         flow.wait(SLICE_MILLISECONDS);
     }
-    let read = if heard != Heard::Quiet && (is_over || queue.has_waiting()) {
+    let read = if is_awaited {
         flow.read(into)
     } else {
         flow.read_now(into)

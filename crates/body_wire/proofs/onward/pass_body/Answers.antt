@@ -51,6 +51,18 @@ returns-in-Some-clause-ends g c =
     c.pieces.rest c.send_turn-turn.new.rest t.0 BodyEnd.SendFault c.send_turn-turn.result c.in-Some.end w.4 refl t.2 (sym c.answer.ensures ∙ c.in-Some.is) in
     record { ended = λ at. cc; others = λ no. c.pieces.invariant.ends }
 
+pub returns-in-Some-clause-none_left : goal.returns-in-Some-clause-none_left
+returns-in-Some-clause-none_left g c =
+    let w = c.pieces.invariant.way in
+    let t = c.send_turn-turn.ensures.bytes in
+    let quiet =
+    answer_not_at_end c.args.framing Form.Chunks most_passed c.pieces.decoder c.send_turn-turn.new.decoder c.args.out.now.items c.args.rest.now w.0 w.1 c.pieces.out.items
+    c.pieces.rest c.send_turn-turn.new.rest t.0 BodyEnd.SendFault c.send_turn-turn.result c.in-Some.end w.4 refl t.2 (sym c.answer.ensures ∙ c.in-Some.is) in
+    λ at. cc
+
+pub returns-in-Ok-eq0-clause-none_left : goal.returns-in-Ok-eq0-clause-none_left
+returns-in-Ok-eq0-clause-none_left g c = λ at. c.in-Ok-eq0.ensures.bytes.3 c.in-Ok-eq0.field-0-test
+
 pub returns-in-Ok-eq0-clause-body : goal.returns-in-Ok-eq0-clause-body
 returns-in-Ok-eq0-clause-body g c =
     let w = c.pieces.invariant.way in
@@ -63,7 +75,7 @@ returns-in-Ok-eq0-clause-body g c =
       on_end c.args.framing Form.Chunks most_passed c.pieces.decoder c.send_turn-turn.new.decoder c.args.out.now.items c.args.rest.now w.0 w.1 c.pieces.out.items
           c.pieces.rest c.send_turn-turn.new.rest t.0 c.send_turn-turn.result w.4 t.2
           (no_answer c.send_turn-turn.new.decoder.count BodyEnd.SendFault c.send_turn-turn.result (sym c.answer.ensures ∙ c.in-None.is)) b.0 c.pull.new.self c.at_end.result
-          (b.2 ∙ c.in-Ok-eq0.field-0-test) b.3 c.at_end.ensures,
+          (b.2 ∙ c.in-Ok-eq0.field-0-test) b.4 c.at_end.ensures,
     )
 
 pub pieces-preserved : goal.pieces-preserved
@@ -81,7 +93,7 @@ pieces-preserved g c =
         came_piece (g.P.Peer.line c.args.peer.now).left (g.P.Peer.line c.pieces.peer).left (g.P.Peer.line c.pull.new.peer).left w.0 b.0 w.2 b.1,
         Sends-trans (g.D.Dialer.upstream c.args.dialer.now).log (g.D.Dialer.upstream c.pieces.dialer).log (g.D.Dialer.upstream c.send_turn-turn.new.dialer).log w.1 t.0 w.3 t.1,
         on_piece c.args.framing Form.Chunks most_passed c.pieces.decoder c.send_turn-turn.new.decoder c.args.out.now.items c.args.rest.now w.0 w.1 c.pieces.out.items
-            c.pieces.rest c.send_turn-turn.new.rest t.0 c.send_turn-turn.result w.4 t.2 more c.send_turn-turn.new.out.items b.0 c.pull.new.self c.send_turn-turn.ensures.out b.3
+            c.pieces.rest c.send_turn-turn.new.rest t.0 c.send_turn-turn.result w.4 t.2 more c.send_turn-turn.new.out.items b.0 c.pull.new.self c.send_turn-turn.ensures.out b.4
             c.in-Ok.ensures.most,
       );
       ends = c.in-Ok.ensures.end.given some ∙ i.ends;

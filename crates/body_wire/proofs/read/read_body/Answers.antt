@@ -27,6 +27,18 @@ returns-in-Ok-Whole-clause-ends g c =
     let quiet = whole_not_to_end c.args.framing c.take_all.new.decoder on.taken c.take_all.new.out.items c.take_all.new.rest on.holds stops in
     record { ended = λ at. cc; others = λ no. c.pieces.invariant.ends }
 
+pub returns-in-Ok-Whole-clause-none_left : goal.returns-in-Ok-Whole-clause-none_left
+returns-in-Ok-Whole-clause-none_left g c =
+    let r = c.pieces.invariant.reads in
+    let e = c.in-Ok-Whole.ensures in
+    let on = goes_on c.args.framing c.pieces.decoder c.take_all.new.decoder c.args.rest.now r.0 c.pieces.content.items c.take_all.new.out.items c.pieces.rest c.take_all.new.rest r.2 e.0 in
+    let stops = subst (λ (stop : Stop). Stops c.take_all.new.decoder c.take_all.new.rest stop) c.in-Ok-Whole.field-0-is e.1 in
+    let quiet = whole_not_to_end c.args.framing c.take_all.new.decoder on.taken c.take_all.new.out.items c.take_all.new.rest on.holds stops in
+    λ at. cc
+
+pub returns-in-Ok-eq0-clause-none_left : goal.returns-in-Ok-eq0-clause-none_left
+returns-in-Ok-eq0-clause-none_left g c = λ at. c.in-Ok-eq0.ensures.bytes.3 c.in-Ok-eq0.field-0-test
+
 pub returns-in-Ok-Bad-clause-body : goal.returns-in-Ok-Bad-clause-body
 returns-in-Ok-Bad-clause-body g c =
     let r = c.pieces.invariant.reads in
@@ -62,7 +74,7 @@ returns-in-Ok-eq0-clause-body g c =
       Consumes-trans (g.P.Peer.line c.args.peer.now).left (g.P.Peer.line c.pieces.peer).left (g.P.Peer.line c.pull.new.peer).left r.0 b.0 r.1 b.1,
       subst (λ (result : Result (Vec ℕ Global) BodyEnd). ReadsBody c.args.framing c.args.rest.now (r.0 ++ b.0) c.pull.new.self result) (sym c.content_at_end.ensures)
           (at_end c.args.framing c.take_all.new.decoder c.args.rest.now r.0 c.take_all.new.out.items c.take_all.new.rest on c.take_all.new.out b.0 c.pull.new.self refl
-          (b.2 ∙ c.in-Ok-eq0.field-0-test) b.3 stops),
+          (b.2 ∙ c.in-Ok-eq0.field-0-test) b.4 stops),
     )
 
 pub pieces-preserved : goal.pieces-preserved
@@ -73,11 +85,12 @@ pieces-preserved g c =
     let b = c.in-Ok.ensures.bytes in
     let some : 0 < c.in-Ok.field-0 = let none = c.in-Ok.field-0-test in omega arith in
     let on = goes_on c.args.framing c.pieces.decoder c.take_all.new.decoder c.args.rest.now r.0 c.pieces.content.items c.take_all.new.out.items c.pieces.rest c.take_all.new.rest r.2 e.0 in
+    let stops = subst (λ (stop : Stop). Stops c.take_all.new.decoder c.take_all.new.rest stop) c.in-Ok-More.field-0-is e.1 in
     record {
       reads = (
         r.0 ++ b.0,
         Consumes-trans (g.P.Peer.line c.args.peer.now).left (g.P.Peer.line c.pieces.peer).left (g.P.Peer.line c.pull.new.peer).left r.0 b.0 r.1 b.1,
-        piece_came c.args.framing c.take_all.new.decoder c.args.rest.now r.0 c.take_all.new.out.items c.take_all.new.rest b.0 c.pull.new.self on b.3,
+        piece_came c.args.framing c.take_all.new.decoder c.args.rest.now r.0 c.take_all.new.out.items c.take_all.new.rest on b.0 c.pull.new.self b.4 c.in-Ok.ensures.most stops,
       );
       ends = c.in-Ok.ensures.end.given some ∙ i.ends;
       closings = c.in-Ok.ensures.others.closings ∙ i.closings;

@@ -82,4 +82,5 @@ returns c =
       c.in_ok-server.ensures,
       c.in_ok-client.ensures.told,
       c.in_ok-retries.ensures.told,
+      c.in_ok-access_log.ensures,
     )

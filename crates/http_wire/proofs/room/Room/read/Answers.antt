@@ -18,6 +18,7 @@ returns-in-Ok-clause-bytes g c =
       take c.in-Ok.count c.read.new.into,
       c.in-Ok.ensures.bytes.0,
       sym c.in-Ok.ensures.bound.1,
+      λ none. c.in-Ok.ensures.bytes.1 none (omega (arith, given, c.requires.some)),
       ap (λ (xs : List ℕ). slice_range xs c.args.self.now.at (c.args.self.now.end + c.in-Ok.count)) (with_items_is c.args.self.now.bytes all long)
           ∙ read_behind bytes c.read.new.into tail c.args.self.now.at c.args.self.now.end c.in-Ok.count c.args.self.now.within.0 within c.in-Ok.ensures.bound.0
           ∙ ap (λ (xs : List ℕ). slice_range xs c.args.self.now.at c.args.self.now.end ++ take c.in-Ok.count c.read.new.into) c.deref_mut.ensures.value,

@@ -19,8 +19,8 @@ returns-clause-backs g c =
       b.0,
       grows_by_pieces (g.D.Dialer.upstream c.args.way.now.dialer).log
           (g.D.Dialer.upstream c.pass_back-passed.new.dialer).log b.0 b.3,
-      backs_by c.args.self.now.head.now c.args.self.now.last c.args.reply.now c.args.framing
-          (g.P.Peer.line c.args.peer.now) (g.P.Peer.line c.pass_back-passed.new.peer)
+      backs_by c.args.self.now.head.now c.args.self.now.last c.args.sent c.args.reply.now
+          c.args.framing (g.P.Peer.line c.args.peer.now) (g.P.Peer.line c.pass_back-passed.new.peer)
           c.args.way.now.back c.pass_back-passed.new.rest
           (g.D.Dialer.upstream c.args.way.now.dialer).faults
           (g.D.Dialer.upstream c.pass_back-passed.new.dialer).faults b.0
@@ -28,9 +28,10 @@ returns-clause-backs g c =
           c.is_reusable-reusable.result
           c.back_head_into-written.new.out.items c.knows_chunks-chunked.ensures
           c.closes_behind-closes.ensures c.is_closing.ensures c.in-Ok.ensures.ok
-          c.pass_back-passed.result
+          c.pass_back-passed.result.end
           (record {
             written = b.1;
+            count = c.pass_back-passed.result.count;
             given = b.4;
             passes = b.6;
             ended = b.5;

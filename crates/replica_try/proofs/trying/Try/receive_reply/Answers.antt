@@ -5,7 +5,8 @@ use Rattle.replica_try.proofs.trying.Try.receive_reply.Goals as goal
 pub returns-in-Err-clause-replies : goal.returns-in-Err-clause-replies
 returns-in-Err-clause-replies g c =
     let h = c.in-Err.ensures.hears in
-    hears_none c.args.self.now.head.now c.args.self.now.last (g.P.Peer.line c.args.peer.now)
+    hears_none c.args.self.now.head.now c.args.self.now.last c.args.sent
+    (g.P.Peer.line c.args.peer.now)
     (g.D.Dialer.upstream c.args.way.now.dialer).faults
     (g.D.Dialer.upstream c.receive_final.new.dialer).faults
     (g.D.Dialer.upstream c.args.way.now.dialer).log
@@ -17,7 +18,8 @@ pub returns-in-Ok-clause-replies : goal.returns-in-Ok-clause-replies
 returns-in-Ok-clause-replies g c =
     let h = c.in-Ok.ensures.hears in
     let b = c.pass_reply.ensures.backs in
-    hears_one c.args.self.now.head.now c.args.self.now.last (g.P.Peer.line c.args.peer.now)
+    hears_one c.args.self.now.head.now c.args.self.now.last c.args.sent
+    (g.P.Peer.line c.args.peer.now)
     (g.D.Dialer.upstream c.args.way.now.dialer).faults
     (g.D.Dialer.upstream c.receive_final.new.dialer).faults
     (g.D.Dialer.upstream c.args.way.now.dialer).log

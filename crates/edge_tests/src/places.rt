@@ -1,0 +1,83 @@
+//! A client is told to be where its own end of the connection is.
+use crate::clients::next_client;
+use libc::net::{self, _SS_SIZE, AF_INET, SOCK_CLOEXEC, SOCK_STREAM};
+use line_base::{Listener, Net, Peer, SocketAddress};
+use net_edge::SocketNet;
+use os::FromRawFd;
+use std::io::Write;
+use std::net::TcpStream;
+use std::test::Fail;
+
+/// Where the listener is: at an address of this machine that no client has.
+const LISTENING: (u32, u16) = (0x7f00_0003, 28_993);
+
+/// The bytes of an IPv4 address with its port as the C library has it.
+const ADDRESS_BYTES: u32 = 16;
+
+/// An address as the C library has it.
+fn raw_address(ip: u32, port: u16) -> [u8; _SS_SIZE] {
+    let mut raw = [0u8; _SS_SIZE];
+    raw[0..2].copy_from_slice(&(AF_INET as u16).to_ne_bytes());
+    raw[2..4].copy_from_slice(&port.to_be_bytes());
+    raw[4..8].copy_from_slice(&ip.to_be_bytes());
+    raw
+}
+
+/// A client at this address of this machine, with a port that was free, which has connected to the
+/// listener; none where it can't.
+fn client_at(ip: u32) -> Option<TcpStream> {
+    let descriptor = unsafe { net::socket(AF_INET, SOCK_STREAM | SOCK_CLOEXEC, 0) };
+    if descriptor < 0 {
+        return None;
+    }
+    let stream = unsafe { TcpStream::from_raw_fd(descriptor) };
+    let here = raw_address(ip, 0);
+    let there = raw_address(LISTENING.0, LISTENING.1);
+    if unsafe { net::bind(descriptor, &here, ADDRESS_BYTES) } != 0 {
+        return None;
+    }
+    if unsafe { net::connect(descriptor, &there, ADDRESS_BYTES) } != 0 {
+        return None;
+    }
+    Some(stream)
+}
+
+/// Where a client at this address is by its own socket; and where it is told to be when it comes,
+/// and behind the first byte that it says.
+fn places<L: Listener>(listener: &mut L, ip: u32) -> Result<[Option<SocketAddress>; 3], Fail>
+where
+    L::P: Drop,
+{
+    let (Some(mut client), Some(mut peer)) = (client_at(ip), next_client(listener)) else {
+        return Err(Fail::from("no client"));
+    };
+    let own = SocketAddress {
+        ip,
+        port: client.local_addr()?.port(),
+    };
+    let first = peer.address();
+    client.write(b"a")?;
+    let _ = peer.read(&mut [0u8; 1]);
+    let later = peer.address();
+    drop(client);
+    listener.finish(peer);
+    Ok([Some(own), first, later])
+}
+
+/// Two clients, one behind the other, at two addresses.
+#[test]
+fn a_client_is_where_its_own_end_is(rt: HostRuntime) -> Result<(), Fail> {
+    let mut net = SocketNet::of(&rt)?;
+    let Some(mut listener) = net
+        .listen(LISTENING.0, LISTENING.1, 1, 0)?
+        .into_items()
+        .pop()
+    else {
+        return Err(Fail::from("no listener"));
+    };
+    let one = places(&mut listener, 0x7f00_0002)?;
+    let other = places(&mut listener, 0x7f00_0104)?;
+    assert!(rt; one[1] == one[0] && one[2] == one[0]);
+    assert!(rt; other[1] == other[0] && other[2] == other[0]);
+    Ok(())
+}

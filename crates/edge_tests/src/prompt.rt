@@ -1,0 +1,140 @@
+//! A client is waited for behind a reply where it was prompt before, and not where it paused.
+use crate::clients::{at, next_client};
+use line_base::{Event, Listener, Net, Next, Peer, Stop};
+use net_edge::SocketNet;
+use std::io::Write;
+use std::net::TcpStream;
+use std::sync::atomic::{AtomicU64, Ordering};
+use std::test::Fail;
+use std::time::{Duration, Instant};
+use std::{rt, thread};
+
+const PORT: u16 = 28_995;
+
+/// How long a client pauses, in milliseconds: longer than any is waited for behind a reply.
+const PAUSE: u64 = 20;
+
+/// A client that is waited for is so for longer than this, in milliseconds.
+const LEAST_WAIT: u64 = 4;
+
+/// How often a client pauses, and how often it does not.
+const ROUNDS: u32 = 8;
+
+/// Counts how often a listener is told that a client has something to say, until it is closed. So
+/// there is a listener that waits for whoever comes.
+fn count_told<L: Listener>(listener: &mut L, told: &AtomicU64) {
+    for _ in 0..100_000 {
+        match listener.next_event() {
+            Ok(Event::Ready(_)) => {
+                told.fetch_add(1, Ordering::SeqCst);
+            }
+            Ok(Event::Came(peer)) => listener.finish(peer),
+            Ok(Event::Tick(_)) => {}
+            Ok(Event::Closed) | Err(_) => return,
+        }
+    }
+}
+
+/// Whether the listener is told once more than so often, within some seconds.
+fn is_told<R: rt::Clock>(rt: &R, told: &AtomicU64, before: u64) -> bool {
+    for _ in 0..10_000 {
+        if told.load(Ordering::SeqCst) > before {
+            return true;
+        }
+        thread::sleep(rt, Duration::from_millis(1));
+    }
+    false
+}
+
+/// How long it takes until a client that says nothing is found quiet.
+fn silence<R: rt::Clock, P: Peer>(rt: &R, peer: &mut P) -> Result<Duration, Fail> {
+    let begin = Instant::now(rt)?;
+    match peer.read_next(&mut [0u8; 8]) {
+        Ok(Next::Quiet) => Ok(begin.elapsed(rt)?),
+        _ => Err(Fail::from("not quiet")),
+    }
+}
+
+/// Leaves a client that was found quiet. It says something behind a pause, and that is read.
+fn hear<R: rt::Clock, L: Listener>(
+    rt: &R,
+    listener: &L,
+    peer: &mut L::P,
+    client: &mut TcpStream,
+    told: &AtomicU64,
+    pause: u64,
+) -> Result<(), Fail> {
+    let before = told.load(Ordering::SeqCst);
+    if !listener.watch(peer, 7) {
+        return Err(Fail::from("not watched"));
+    }
+    thread::sleep(rt, Duration::from_millis(pause));
+    client.write(b"a")?;
+    if !is_told(rt, told, before) {
+        return Err(Fail::from("not told"));
+    }
+    match peer.read_next(&mut [0u8; 8]) {
+        Ok(Next::Bytes(_)) => Ok(()),
+        _ => Err(Fail::from("not read")),
+    }
+}
+
+/// In how many rounds a client was waited for behind no pause, and in how many behind one.
+fn waits<R: rt::Clock, L: Listener>(
+    rt: &R,
+    listener: &L,
+    peer: &mut L::P,
+    client: &mut TcpStream,
+    told: &AtomicU64,
+) -> Result<(u32, u32), Fail> {
+    let least = Duration::from_millis(LEAST_WAIT);
+    let mut prompt = 0u32;
+    let mut paused = 0u32;
+    for _ in 0..ROUNDS {
+        if silence(rt, peer)? >= least {
+            prompt = prompt.saturating_add(1);
+        }
+        hear(rt, listener, peer, client, told, PAUSE)?;
+        if silence(rt, peer)? >= least {
+            paused = paused.saturating_add(1);
+        }
+        hear(rt, listener, peer, client, told, 0)?;
+    }
+    Ok((prompt, paused))
+}
+
+/// A client that speaks at once and behind a pause in turn, while another listener is free. One
+/// that is waited for is never found quiet sooner. But on a busy machine one that is not may be
+/// found so late, and one that speaks at once may be heard late: so not every round has to go as it
+/// should.
+#[test]
+fn only_a_prompt_client_is_waited_for(rt: HostRuntime) -> Result<(), Fail> {
+    let mut net = SocketNet::of(&rt)?;
+    let mut listeners = net.listen(0x7f00_0001, PORT, 2, 0)?.into_items();
+    let (Some(mut first), Some(mut second)) = (listeners.pop(), listeners.pop()) else {
+        return Err(Fail::from("no listener"));
+    };
+    let mut client = TcpStream::connect(&rt, at(PORT))?;
+    let Some(mut peer) = next_client(&mut first) else {
+        return Err(Fail::from("no client"));
+    };
+    client.write(b"a")?;
+    let begun = peer.read(&mut [0u8; 8]);
+    let mut stop = net.stopper();
+    let told = AtomicU64::new(0);
+    let (counts, ()) = thread::join(
+        &rt,
+        || {
+            let counts = waits(&rt, &first, &mut peer, &mut client, &told);
+            stop.stop();
+            counts
+        },
+        || count_told(&mut second, &told),
+    );
+    first.finish(peer);
+    let (prompt, paused) = counts?;
+    assert!(rt; begun == Ok(1));
+    assert!(rt; prompt > 1);
+    assert!(rt; paused < ROUNDS - 1);
+    Ok(())
+}
