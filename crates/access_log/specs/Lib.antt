@@ -1,0 +1,5 @@
+pub mod Calendar
+pub mod Ending
+pub mod Line
+pub mod Moments
+pub mod Shown

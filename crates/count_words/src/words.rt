@@ -1,0 +1,32 @@
+//! The words that threads share, and the seats.
+ghost use Rattle.std.specs.Prelude.{◌≡◌, ◌≤◌, [], length};
+
+use crate::rule::{Knowledge, Owned};
+use atomic_table::{Seat, Table};
+use std::alloc::Global;
+
+/// The words, 64 for each worker. Threads share them by reference.
+#[derive(Drop)]
+pub struct Counts {
+    pub(crate) table: Table<(), Knowledge, u32, Owned, Global>,
+    ghost size: { table.shared.table_id.words ≡ table.shared.key },
+    ghost few: { table.shared.key ≤ 65536 },
+    ghost some: { 1 ≤ table.shared.key },
+}
+
+/// The right to write the 64 words of a worker. It may go to another thread, and can't be copied.
+#[derive(Drop)]
+pub struct CountWriter {
+    pub(crate) seat: Seat<(), Knowledge>,
+    pub(crate) first: u32,
+    ghost told: { first ≡ seat.me.0.first },
+    ghost own: { length seat.me.0.counts ≡ 64 },
+    ghost bare: { seat.me.1 ≡ [] },
+}
+
+/// The right to read all words. It may go to another thread, and can't be copied.
+#[derive(Drop)]
+pub struct CountReader {
+    pub(crate) seat: Seat<(), Knowledge>,
+    ghost bare: { seat.me.1 ≡ [] },
+}

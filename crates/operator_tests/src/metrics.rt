@@ -1,0 +1,193 @@
+//! All metrics of a router, as Prometheus's text format (0.0.4) has them.
+
+use metrics_text::{Classes, Counts, Durations, OwnReplies, ServiceCounts, write_metrics};
+use std::alloc::{AllocError, Global};
+use std::test::Fail;
+
+/// Counts of which each has a number of its own.
+const COUNTS: Counts = Counts {
+    changes: 5,
+    marks: 1,
+    namespaces: 3,
+    services: 2,
+    requests: Classes {
+        success: 10,
+        redirection: 11,
+        client_error: 12,
+        server_error: 13,
+        other: 14,
+        no_reply: 15,
+    },
+    own_replies: OwnReplies {
+        version: 100,
+        bad_head: 101,
+        head_too_large: 102,
+        connect: 103,
+        target: 104,
+        length: 105,
+        coding: 106,
+        too_long: 107,
+        host: 108,
+        body: 109,
+        unidentified: 110,
+        dtab: 111,
+        negative: 112,
+        failing: 113,
+        empty: 114,
+        too_deep: 115,
+        too_wide: 116,
+        dial: 117,
+        upstream: 118,
+    },
+    tries: 20,
+    failures: 21,
+    accepted: 30,
+    open: 31,
+    waiting: 32,
+    request_bytes: 40,
+    reply_bytes: 41,
+    durations: Durations {
+        buckets: [1, 0, 2, 0, 0, 3, 0, 0, 0, 0, 0, 4, 0, 5],
+        milliseconds: 12_034,
+    },
+    hits: 51,
+    misses: 52,
+    log_lines: 60,
+    lost_lines: 61,
+};
+
+const SERVICES: [ServiceCounts<'static>; 2] = [
+    ServiceCounts {
+        name: b"web",
+        addresses: 3,
+        alive: 2,
+    },
+    ServiceCounts {
+        name: b"a\"b\\c\nd",
+        addresses: 18_446_744_073_709_551_615,
+        alive: 0,
+    },
+];
+
+/// The lines of their text.
+const LINES: [&str; 100] = [
+    "# HELP linker_changes_total Changes of tables, services and marks that were accepted.",
+    "# TYPE linker_changes_total counter",
+    "linker_changes_total 5",
+    "# HELP linker_marks Addresses with failures that count against them.",
+    "# TYPE linker_marks gauge",
+    "linker_marks 1",
+    "# HELP linker_namespaces Namespaces.",
+    "# TYPE linker_namespaces gauge",
+    "linker_namespaces 3",
+    "# HELP linker_services Services.",
+    "# TYPE linker_services gauge",
+    "linker_services 2",
+    "# HELP linker_requests_total Requests that ended, by the class of their reply's status.",
+    "# TYPE linker_requests_total counter",
+    "linker_requests_total{class=\"2xx\"} 10",
+    "linker_requests_total{class=\"3xx\"} 11",
+    "linker_requests_total{class=\"4xx\"} 12",
+    "linker_requests_total{class=\"5xx\"} 13",
+    "linker_requests_total{class=\"other\"} 14",
+    "linker_requests_total{class=\"none\"} 15",
+    "# HELP linker_own_replies_total Replies of the router's own, by their word.",
+    "# TYPE linker_own_replies_total counter",
+    "linker_own_replies_total{reason=\"version\"} 100",
+    "linker_own_replies_total{reason=\"bad-head\"} 101",
+    "linker_own_replies_total{reason=\"head-too-large\"} 102",
+    "linker_own_replies_total{reason=\"connect\"} 103",
+    "linker_own_replies_total{reason=\"target\"} 104",
+    "linker_own_replies_total{reason=\"length\"} 105",
+    "linker_own_replies_total{reason=\"coding\"} 106",
+    "linker_own_replies_total{reason=\"too-long\"} 107",
+    "linker_own_replies_total{reason=\"host\"} 108",
+    "linker_own_replies_total{reason=\"body\"} 109",
+    "linker_own_replies_total{reason=\"unidentified\"} 110",
+    "linker_own_replies_total{reason=\"dtab\"} 111",
+    "linker_own_replies_total{reason=\"negative\"} 112",
+    "linker_own_replies_total{reason=\"failing\"} 113",
+    "linker_own_replies_total{reason=\"empty\"} 114",
+    "linker_own_replies_total{reason=\"too-deep\"} 115",
+    "linker_own_replies_total{reason=\"too-wide\"} 116",
+    "linker_own_replies_total{reason=\"dial\"} 117",
+    "linker_own_replies_total{reason=\"upstream\"} 118",
+    "# HELP linker_tries_total Tries of replicas.",
+    "# TYPE linker_tries_total counter",
+    "linker_tries_total 20",
+    "# HELP linker_failures_reported_total Failures of replicas that were reported.",
+    "# TYPE linker_failures_reported_total counter",
+    "linker_failures_reported_total 21",
+    "# HELP linker_connections_accepted_total Connections of clients that were accepted.",
+    "# TYPE linker_connections_accepted_total counter",
+    "linker_connections_accepted_total 30",
+    "# HELP linker_connections_open Connections of clients that are open.",
+    "# TYPE linker_connections_open gauge",
+    "linker_connections_open 31",
+    "# HELP linker_connections_waiting Connections of clients that wait for their next request.",
+    "# TYPE linker_connections_waiting gauge",
+    "linker_connections_waiting 32",
+    "# HELP linker_request_body_bytes_total Bytes of requests' bodies that went on to replicas.",
+    "# TYPE linker_request_body_bytes_total counter",
+    "linker_request_body_bytes_total 40",
+    "# HELP linker_reply_body_bytes_total Bytes of replies' bodies that went back to clients.",
+    "# TYPE linker_reply_body_bytes_total counter",
+    "linker_reply_body_bytes_total 41",
+    "# HELP linker_delegation_hits_total Asks for which a delegation was kept.",
+    "# TYPE linker_delegation_hits_total counter",
+    "linker_delegation_hits_total 51",
+    "# HELP linker_delegation_misses_total Asks for which no delegation was kept.",
+    "# TYPE linker_delegation_misses_total counter",
+    "linker_delegation_misses_total 52",
+    "# HELP linker_access_log_lines_total Lines that were written to the access log.",
+    "# TYPE linker_access_log_lines_total counter",
+    "linker_access_log_lines_total 60",
+    "# HELP linker_access_log_lost_lines_total Lines that could not be written to the access log.",
+    "# TYPE linker_access_log_lost_lines_total counter",
+    "linker_access_log_lost_lines_total 61",
+    "# HELP linker_request_duration_seconds How long requests took, until the end of their reply.",
+    "# TYPE linker_request_duration_seconds histogram",
+    "linker_request_duration_seconds_bucket{le=\"0.001\"} 1",
+    "linker_request_duration_seconds_bucket{le=\"0.002\"} 1",
+    "linker_request_duration_seconds_bucket{le=\"0.005\"} 3",
+    "linker_request_duration_seconds_bucket{le=\"0.01\"} 3",
+    "linker_request_duration_seconds_bucket{le=\"0.02\"} 3",
+    "linker_request_duration_seconds_bucket{le=\"0.05\"} 6",
+    "linker_request_duration_seconds_bucket{le=\"0.1\"} 6",
+    "linker_request_duration_seconds_bucket{le=\"0.2\"} 6",
+    "linker_request_duration_seconds_bucket{le=\"0.5\"} 6",
+    "linker_request_duration_seconds_bucket{le=\"1\"} 6",
+    "linker_request_duration_seconds_bucket{le=\"2\"} 6",
+    "linker_request_duration_seconds_bucket{le=\"5\"} 10",
+    "linker_request_duration_seconds_bucket{le=\"10\"} 10",
+    "linker_request_duration_seconds_bucket{le=\"+Inf\"} 15",
+    "linker_request_duration_seconds_sum 12.034",
+    "linker_request_duration_seconds_count 15",
+    "# HELP linker_service_addresses Addresses of a service.",
+    "# TYPE linker_service_addresses gauge",
+    "linker_service_addresses{service=\"web\"} 3",
+    "linker_service_addresses{service=\"a\\\"b\\\\c\\nd\"} 18446744073709551615",
+    "# HELP linker_service_live_addresses Addresses of a service that are alive.",
+    "# TYPE linker_service_live_addresses gauge",
+    "linker_service_live_addresses{service=\"web\"} 2",
+    "linker_service_live_addresses{service=\"a\\\"b\\\\c\\nd\"} 0",
+];
+
+/// The lines, each with its line feed.
+fn text_of_lines(alloc: Global) -> Result<Vec<u8>, AllocError> {
+    let mut text = Vec::new(alloc);
+    for line in &LINES {
+        text.extend_from_slice(line.as_bytes())?;
+        text.push(b'\n')?;
+    }
+    Ok(text)
+}
+
+#[test]
+fn the_text_is_as_written_here(rt: HostRuntime) -> Result<(), Fail> {
+    let mut text = Vec::from_slice(rt.alloc(), b"earlier")?;
+    write_metrics(&COUNTS, &SERVICES, &mut text)?;
+    let lines = text_of_lines(rt.alloc())?;
+    assert!(rt; text == lines);
+    Ok(())
+}

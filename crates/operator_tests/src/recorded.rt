@@ -1,0 +1,304 @@
+//! What a worker records of exchanges of each way, over a clock and a journal in memory, and what is
+//! scraped of it.
+ghost use Rattle.std.specs.Prelude.{◌≡◌};
+ghost use Rattle.count_words.specs.Seats.{HasCountedNone, IsWriterOf, Reads, size_of};
+
+use access_log::{Answer, Break};
+use addr_book::Addr;
+use count_words::{CountReader, CountWriter, Counts, start};
+use exchange_record::{ConnectionStep, Exchange, Recorder};
+use exchange_tally::Done;
+use http::Method;
+use http_wire::{FieldList, Head, Text};
+use line_base::{MemClock, SocketAddress};
+use line_log::{Journals, MemJournals};
+use metrics_text::Counts as Numbers;
+use name_tree::{Path, read_path};
+use own_reply::OwnError;
+use scrape::{Scrape, Scraper, State};
+use std::alloc::Global;
+use std::test::Fail;
+use worker_record::WorkerRecord;
+
+const CLIENT: Option<SocketAddress> = Some(SocketAddress {
+    ip: 0x0a00_0007,
+    port: 51_234,
+});
+
+const REPLICA: Option<Addr> = Some(Addr {
+    ip: 0x0a00_0103,
+    port: 8_080,
+});
+
+/// A reply that was passed on whole behind a try that failed.
+const PASSED: Done = Done {
+    answer: Answer::Passed { status: 200 },
+    replica: REPLICA,
+    tries: 2,
+    failures: 1,
+    request_bytes: 100,
+    reply_bytes: 5_120,
+    hits: 1,
+    misses: 1,
+    broken: None,
+};
+
+/// Bytes that are no head were refused, and the reply could not be written.
+const UNREAD: Done = Done {
+    answer: Answer::Own(OwnError::BadHead),
+    replica: None,
+    tries: 0,
+    failures: 0,
+    request_bytes: 0,
+    reply_bytes: 9,
+    hits: 0,
+    misses: 0,
+    broken: Some(Break::WriteFault),
+};
+
+/// A replica's reply was cut.
+const REPLY_CUT: Done = Done {
+    answer: Answer::Passed { status: 404 },
+    replica: REPLICA,
+    tries: 1,
+    failures: 1,
+    request_bytes: 0,
+    reply_bytes: 12,
+    hits: 1,
+    misses: 0,
+    broken: Some(Break::UpstreamCut),
+};
+
+/// A request's body was cut.
+const REQUEST_CUT: Done = Done {
+    answer: Answer::Nothing,
+    replica: REPLICA,
+    tries: 1,
+    failures: 0,
+    request_bytes: 10,
+    reply_bytes: 0,
+    hits: 1,
+    misses: 0,
+    broken: Some(Break::Cut),
+};
+
+/// No replica answered.
+const FAILED: Done = Done {
+    answer: Answer::Own(OwnError::Upstream),
+    replica: REPLICA,
+    tries: 3,
+    failures: 3,
+    request_bytes: 0,
+    reply_bytes: 8,
+    hits: 0,
+    misses: 1,
+    broken: None,
+};
+
+/// The exchanges, in order.
+const EXCHANGES: [Done; 6] = [PASSED, PASSED, UNREAD, REPLY_CUT, REQUEST_CUT, FAILED];
+
+/// The moments at which each began and had ended.
+const MOMENTS: [u64; 12] = [
+    1_000, 1_011, 2_000, 2_001, 5_000, 4_999, 6_000, 6_500, 7_000, 17_001, 20_000, 20_000,
+];
+
+/// What becomes of two connections.
+const STEPS: [ConnectionStep; 5] = [
+    ConnectionStep::Came,
+    ConnectionStep::Left,
+    ConnectionStep::Came,
+    ConnectionStep::Taken,
+    ConnectionStep::Finished,
+];
+
+/// Their lines. The journal loses the second.
+const LINES: &str = "1970-01-01T00:00:01.000Z 10.0.0.7:51234 \"GET /a HTTP/1.1\" 200 5120 11 \
+    /svc/web 10.0.1.3:8080 -\n\
+    1970-01-01T00:00:05.000Z 10.0.0.7:51234 \"-\" 400 9 0 - - write-fault\n\
+    1970-01-01T00:00:06.000Z 10.0.0.7:51234 \"GET /a HTTP/1.1\" 404 12 500 \
+    /svc/web 10.0.1.3:8080 upstream-cut\n\
+    1970-01-01T00:00:07.000Z 10.0.0.7:51234 \"GET /a HTTP/1.1\" - 0 10001 \
+    /svc/web 10.0.1.3:8080 cut\n\
+    1970-01-01T00:00:20.000Z 10.0.0.7:51234 \"GET /a HTTP/1.1\" 502 8 0 \
+    /svc/web 10.0.1.3:8080 upstream\n";
+
+/// What is published of them, by places. Behind the figures stand the lines that were written and
+/// lost, and the connections that came, finished, were left and were taken up again.
+const COUNTS: [(u32, u64); 52] = [
+    (0, 2),
+    (1, 0),
+    (2, 2),
+    (3, 1),
+    (4, 0),
+    (5, 1),
+    (6, 0),
+    (7, 1),
+    (8, 0),
+    (9, 0),
+    (10, 0),
+    (11, 0),
+    (12, 0),
+    (13, 0),
+    (14, 0),
+    (15, 0),
+    (16, 0),
+    (17, 0),
+    (18, 0),
+    (19, 0),
+    (20, 0),
+    (21, 0),
+    (22, 0),
+    (23, 0),
+    (24, 1),
+    (25, 3),
+    (26, 0),
+    (27, 0),
+    (28, 0),
+    (29, 1),
+    (30, 0),
+    (31, 0),
+    (32, 0),
+    (33, 1),
+    (34, 0),
+    (35, 0),
+    (36, 0),
+    (37, 0),
+    (38, 1),
+    (39, 9),
+    (40, 6),
+    (41, 210),
+    (42, 10_269),
+    (43, 10_513),
+    (44, 4),
+    (45, 3),
+    (46, 5),
+    (47, 1),
+    (48, 2),
+    (49, 1),
+    (50, 1),
+    (51, 1),
+];
+
+/// The head of `GET /a`, without fields.
+fn head(alloc: Global) -> Result<Head, Fail> {
+    Ok(Head {
+        method: Method::GET,
+        target: Text::of(Vec::from_slice(alloc, b"/a")?),
+        version: 1,
+        fields: FieldList::of(Vec::new(alloc)),
+    })
+}
+
+/// The path `/svc/web`.
+fn path(alloc: Global) -> Result<Path, Fail> {
+    match read_path(alloc, b"/svc/web") {
+        Ok(path) => Ok(path),
+        Err(_) => Err("no path".into()),
+    }
+}
+
+/// What an exchange is told as: one whose bytes are no head has no head and no name.
+fn exchange_of<'a>(head: &'a Head, name: &'a Path, done: Done) -> Exchange<'a> {
+    let read = done.replica.is_some();
+    Exchange {
+        client: CLIENT,
+        head: if read { Some(head) } else { None },
+        name: if read { Some(name) } else { None },
+        done,
+    }
+}
+
+/// Tells a recorder of all exchanges and steps.
+fn tell<K: Recorder>(alloc: Global, recorder: &mut K) -> Result<(), Fail> {
+    let head = head(alloc)?;
+    let path = path(alloc)?;
+    for done in &EXCHANGES {
+        recorder.begin();
+        recorder.end(&exchange_of(&head, &path, *done));
+    }
+    for step in &STEPS {
+        recorder.step(*step);
+    }
+    Ok(())
+}
+
+/// Records all exchanges, and gives the lines of the journals that were closed.
+fn lines_of(alloc: Global, counts: &Counts, writer: CountWriter) -> Result<Vec<u8>, Fail>
+    requires writer { IsWriterOf counts.now writer }
+    requires none { HasCountedNone writer }
+{
+    let clock = MemClock::of(alloc, Vec::from_slice(alloc, &MOMENTS)?)?;
+    let mut journals = MemJournals::of(alloc, Vec::from_slice(alloc, &[1])?);
+    let journal = journals.open(alloc, "access.log")?;
+    let mut record = WorkerRecord::new(alloc, clock, counts, writer, Some(journal));
+    tell(alloc, &mut record)?;
+    if let Some(journal) = record.into_journal() {
+        journals.close(journal)?;
+    }
+    text_of(alloc, &journals)
+}
+
+/// The lines of all journals that were closed.
+fn text_of(alloc: Global, journals: &MemJournals) -> Result<Vec<u8>, Fail> {
+    let mut text = Vec::new(alloc);
+    for journal in journals.closed() {
+        for line in journal.lines() {
+            text.extend_from_slice(line.as_slice())?;
+        }
+    }
+    Ok(text)
+}
+
+/// The first count that is another than is wanted, with what was found.
+fn wrong_count(counts: &Counts, reader: &mut CountReader) -> Option<(u32, u64)>
+    requires reader { Reads counts.now reader.old }
+    requires size { size_of counts.now ≡ 64 }
+    ensures { Reads counts.now reader.new }
+{
+    for (place, count) in &COUNTS {
+        let found = counts.read(reader, place % 64);
+        if found != *count {
+            return Some((*place, found));
+        }
+    }
+    None
+}
+
+/// What the state tells at the scrape.
+const STATE: State = State {
+    changes: 5,
+    marks: 1,
+    namespaces: 3,
+    services: 2,
+};
+
+/// What is scraped, and when.
+fn scraped(alloc: Global, counts: &Counts, reader: CountReader) -> Result<(u64, Numbers), Fail>
+    requires reader { Reads counts.now reader }
+    requires size { size_of counts.now ≡ 64 }
+{
+    let clock = MemClock::of(alloc, Vec::from_slice(alloc, &[21_000])?)?;
+    let mut scraper = Scraper::new(clock, counts, reader, 1);
+    let moment = scraper.moment();
+    Ok((moment, scraper.sums().counts(&STATE)))
+}
+
+#[test]
+fn exchanges_are_counted_and_logged(rt: HostRuntime) -> Result<(), Fail> {
+    let (counts, mut writers, mut reader) = start(rt.alloc(), 1)?;
+    let Some(writer) = writers.pop() else {
+        panic!(rt; "a writer")
+    };
+    let lines = lines_of(rt.alloc(), &counts, writer)?;
+    assert!(rt; lines.as_slice() == LINES.as_bytes());
+    let wrong = wrong_count(&counts, &mut reader);
+    assert!(rt; wrong.is_none(), "{wrong:?}");
+    let (moment, found) = scraped(rt.alloc(), &counts, reader)?;
+    assert!(rt; moment == 21_000 && found.namespaces == 3);
+    assert!(rt; found.accepted == 2 && found.open == 1 && found.waiting == 0);
+    assert!(rt; found.requests.client_error == 2 && found.own_replies.upstream == 1);
+    assert!(rt; found.durations.buckets == [3, 0, 0, 0, 1, 0, 0, 0, 1, 0, 0, 0, 0, 1]);
+    assert!(rt; found.misses == 3 && found.log_lines == 5 && found.lost_lines == 1);
+    Ok(())
+}

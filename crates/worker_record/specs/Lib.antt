@@ -1,0 +1,4 @@
+pub mod Connections
+pub mod Laws
+pub mod Publishing
+pub mod Recording
