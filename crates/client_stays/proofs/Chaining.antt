@@ -1,11 +1,13 @@
 -- Stays one after another.
-use Rattle.std.proofs.Common.{◌≡◌, ℕ, ◌+◌, ◌<◌, ◌≤◌, List, [], ◌∷◌, ◌++◌, refl, sym, ap, subst, ◌∙◌, arith, append_assoc, Option, length, length-append}
+use Rattle.std.proofs.Common.{◌≡◌, ℕ, ◌+◌, ◌<◌, ◌≤◌, List, [], ◌∷◌, ◌++◌, refl, sym, ap, subst}
+use Rattle.std.proofs.Common.{◌∙◌, arith, append_assoc, Option, length, length-append}
 use Rattle.std.proofs.lemmas.List.{append-nil}
 use Rattle.std.proofs.lemmas.List.Elements.{All-weaker}
 use Rattle.std.specs.Prelude.{option_map}
 use mathlib.Core.List.{IsPrefix}
 use Rattle.http_wire.specs.declared.paused.Paused.TheVariants as paused
 use Rattle.identifier.specs.declared.rule.Rule.{Rule}
+use Rattle.line_base.specs.declared.socket_address.SocketAddress.{SocketAddress}
 use Rattle.line_base.specs.Lines.{Line}
 use Rattle.machine.specs.Values.{SettingsValue}
 use Rattle.retry_budget.specs.Budget.{BudgetValue, opening}
@@ -28,20 +30,20 @@ module _ (settings : SettingsValue) (rule : Rule) where
   pub stays_more : (vs : List Visit) (first last : Idle) (v : Visit)
       → HasStays settings rule vs first last → GoesOn last v
       → StaysTo settings rule v.from v.upto v.before v.behind v.old v.new paused.Quiet
-      → HasStays settings rule (vs ++ v ∷ []) first (idle_behind last.first v)
+      → HasStays settings rule (vs ++ v ∷ []) first (idle_behind last v)
   stays_more [] first last v same goes stay = (
     subst (λ (i : Idle). GoesOn i v) same goes,
     stay,
-    ap (λ (i : Idle). idle_behind i.first v) same,
+    ap (λ (i : Idle). idle_behind i v) same,
   )
   stays_more (w ∷ ws) first last v chain goes stay =
-      (chain.0, chain.1, stays_more ws (idle_behind first.first w) last v chain.2 goes stay)
+      (chain.0, chain.1, stays_more ws (idle_behind first w) last v chain.2 goes stay)
 
   -- behind any stays the client told the same when it came
   pub stays_first : (vs : List Visit) (first last : Idle) → HasStays settings rule vs first last
       → last.first ≡ first.first
   stays_first [] first last same = ap (λ (i : Idle). i.first) same
-  stays_first (v ∷ vs) first last chain = stays_first vs (idle_behind first.first v) last chain.2
+  stays_first (v ∷ vs) first last chain = stays_first vs (idle_behind first v) last chain.2
 
   -- the first of them, and those behind them
   stays_split : (us vs : List Visit) (first last : Idle)
@@ -49,7 +51,7 @@ module _ (settings : SettingsValue) (rule : Rule) where
       → (mid : Idle) × HasStays settings rule us first mid × HasStays settings rule vs mid last
   stays_split [] vs first last chain = (first, refl, chain)
   stays_split (u ∷ us) vs first last chain =
-      let rest = stays_split us vs (idle_behind first.first u) last chain.2 in
+      let rest = stays_split us vs (idle_behind first u) last chain.2 in
       (rest.0, (chain.0, chain.1, rest.1), rest.2)
 
   -- nothing that was seen is forgotten
@@ -61,7 +63,7 @@ module _ (settings : SettingsValue) (rule : Rule) where
       prefix_on first.seen v.old.caller.seen last.seen chain.0.seen
       (prefix_on v.old.caller.seen v.new.caller.seen last.seen
       (stay_saw settings rule v.from v.upto v.before v.behind v.old v.new paused.Quiet chain.1)
-      (stays_saw vs (idle_behind first.first v) last chain.2))
+      (stays_saw vs (idle_behind first v) last chain.2))
 
   -- so many requests paid in over all stays, and so many retries were taken out
   stays_account : (vs : List Visit) (first last : Idle) → HasStays settings rule vs first last
@@ -75,7 +77,7 @@ module _ (settings : SettingsValue) (rule : Rule) where
   )
   stays_account (v ∷ vs) first last chain =
       let stay = chain.1 in
-      let rest = stays_account vs (idle_behind first.first v) last chain.2 in
+      let rest = stays_account vs (idle_behind first v) last chain.2 in
       let count : v.upto ≡ v.from + stay.requests = stay.count refl in
       let paid : Accounts first.budget v.behind stay.requests stay.retries
       = subst (λ (b : Option BudgetValue). Accounts b v.behind stay.requests stay.retries)
@@ -87,14 +89,15 @@ module _ (settings : SettingsValue) (rule : Rule) where
             rest.3,
       )
 
-  -- the last of them took the connection up, and all that had been seen for it behind an earlier one
+  -- the last of them took the connection up, and all that had been seen for it behind an earlier
+  -- one
   last_goes_on : (us vs : List Visit) (u v : Visit) (first last : Idle)
       → HasStays settings rule (us ++ u ∷ (vs ++ v ∷ [])) first last
       → IsPrefix u.new.caller.seen v.old.caller.seen
       × StaysTo settings rule v.from v.upto v.before v.behind v.old v.new paused.Quiet
   last_goes_on us vs u v first last chain =
       let at_u = stays_split us (u ∷ (vs ++ v ∷ [])) first last chain in
-      let behind_u = idle_behind at_u.0.first u in
+      let behind_u = idle_behind at_u.0 u in
       let at_v = stays_split vs (v ∷ []) behind_u last at_u.2.2 in (
         prefix_on u.new.caller.seen at_v.0.seen v.old.caller.seen
             (stays_saw vs behind_u at_v.0 at_v.1) at_v.2.0.seen,
@@ -127,19 +130,24 @@ points_never_fall settings rule us vs u v first last chain =
 pub came_on : (settings : SettingsValue) (rule : Rule) (tries : Option Tries) (idle : Idle)
     (v : Visit) → CameTo settings rule tries idle → GoesOn idle v
     → StaysTo settings rule v.from v.upto v.before v.behind v.old v.new paused.Quiet
-    → CameTo settings rule tries (idle_behind idle.first v)
-came_on settings rule tries idle v (seen, vs, chain) goes stay =
-    (seen, vs ++ v ∷ [], stays_more settings rule vs (came tries idle.first seen) idle v chain goes stay)
+    → CameTo settings rule tries (idle_behind idle v)
+came_on settings rule tries idle v (seen, vs, chain) goes stay = (
+  seen,
+  vs ++ v ∷ [],
+  stays_more settings rule vs (came tries idle.first idle.client seen) idle v chain goes stay,
+)
 
 -- so the connection waits behind one more stay
 pub waits_on : (settings : SettingsValue) (rule : Rule) (tries : Option Tries) (idle : Idle)
     (v : Visit) (seen : List Operation) → CameTo settings rule tries idle → GoesOn idle v
     → StaysTo settings rule v.from v.upto v.before v.behind v.old v.new paused.Quiet
     → v.upto < 10000 → seen ≡ v.new.caller.seen
-    → IsWaiting settings rule tries (idle_by idle.first v.new.line v.upto v.behind seen)
+    → IsWaiting settings rule tries (idle_by idle.first v.new.line idle.client v.upto v.behind
+    seen)
 waits_on settings rule tries idle v seen chain goes stay few same =
     let By : List Operation → Type 0 =
-    λ ops. IsWaiting settings rule tries (idle_by idle.first v.new.line v.upto v.behind ops) in
+    λ ops. IsWaiting settings rule tries (idle_by idle.first v.new.line idle.client v.upto v.behind
+    ops) in
     let here : By v.new.caller.seen = record {
       few = few;
       chain = came_on settings rule tries idle v chain goes stay;
@@ -148,13 +156,13 @@ waits_on settings rule tries idle v seen chain goes stay few same =
 
 -- a client that came waits, before its first request
 pub new_waits : (settings : SettingsValue) (rule : Rule) (tries mine : Option Tries)
-    (first line : Line) (served : ℕ) (budget : Option BudgetValue) (seen : List Operation)
-    → line ≡ first → served ≡ 0 → budget ≡ option_map opening mine → mine ≡ tries
-    → IsWaiting settings rule tries (idle_by first line served budget seen)
-new_waits settings rule tries mine first line served budget seen same none opened tried =
+    (first line : Line) (client : Option SocketAddress) (served : ℕ) (budget : Option BudgetValue)
+    (seen : List Operation) → line ≡ first → served ≡ 0 → budget ≡ option_map opening mine
+    → mine ≡ tries → IsWaiting settings rule tries (idle_by first line client served budget seen)
+new_waits settings rule tries mine first line client served budget seen same none opened tried =
     record {
       few = omega (arith, none);
-      chain = (seen, [], λ i. idle_by first (same i) (none i) (path i) seen);
+      chain = (seen, [], λ i. idle_by first (same i) client (none i) (path i) seen);
     }
   where
     path : budget ≡ option_map opening tries

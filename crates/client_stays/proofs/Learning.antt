@@ -3,6 +3,7 @@ use Rattle.std.proofs.Common.{◌≡◌, ℕ, List, subst}
 use Rattle.std.specs.Prelude.{Option}
 use Rattle.http_wire.specs.declared.paused.Paused.{Paused}
 use Rattle.identifier.specs.declared.rule.Rule.{Rule}
+use Rattle.line_base.specs.declared.socket_address.SocketAddress.{SocketAddress}
 use Rattle.line_base.specs.Dials.{Upstream}
 use Rattle.machine.specs.Values.{SettingsValue}
 use Rattle.router.specs.declared.naming.Naming.{Ghosts}
@@ -10,7 +11,9 @@ use Rattle.router.specs.declared.pass.Pass.{Pass}
 use Rattle.router.specs.Passes.{SawMore, number_in, seen_in}
 use Rattle.router_log.specs.Operation.{Operation}
 use Rattle.snap_cell.specs.History.{longer}
+use Rattle.exchange_record.specs.Told.{Told}
 use Rattle.proxy_session.specs.Callers.{caller_of}
+use Rattle.proxy_session.specs.Recorded.{StaysToAs}
 use Rattle.proxy_session.specs.Session.{StaysTo}
 use Rattle.proxy_session.specs.declared.server.Server.{Server}
 use Rattle.client_stays.specs.Chains.{Visit}
@@ -56,3 +59,16 @@ stay_by settings rule mine v result out same is stay =
     in
     subst (λ (p : Paused). StaysTo settings mine v.from v.upto v.before v.behind v.old v.new p) is
     ruled
+
+-- the same, with what is told of it
+pub told_by_stay : (settings : SettingsValue) (rule mine : Rule) (v : Visit) (result out : Paused)
+    (client : Option SocketAddress) (told : List Told) → rule ≡ mine → result ≡ out
+    → StaysToAs settings rule client v.from v.upto v.before v.behind v.old v.new result told
+    → StaysToAs settings mine client v.from v.upto v.before v.behind v.old v.new out told
+told_by_stay settings rule mine v result out client told same is stay =
+    let ruled = subst
+    (λ (r : Rule). StaysToAs settings r client v.from v.upto v.before v.behind v.old v.new result
+    told) same stay in
+    subst
+    (λ (p : Paused). StaysToAs settings mine client v.from v.upto v.before v.behind v.old v.new p
+    told) is ruled

@@ -3,6 +3,7 @@ use Rattle.std.specs.Prelude.{◌≡◌, ℕ, ◌<◌, List, [], ◌∷◌, Opti
 use mathlib.Core.List.{IsPrefix}
 use Rattle.http_wire.specs.declared.paused.Paused.TheVariants as paused
 use Rattle.identifier.specs.declared.rule.Rule.{Rule}
+use Rattle.line_base.specs.declared.socket_address.SocketAddress.{SocketAddress}
 use Rattle.line_base.specs.Lines.{Line}
 use Rattle.machine.specs.Values.{SettingsValue}
 use Rattle.retry_budget.specs.declared.tries.Tries.{Tries}
@@ -12,21 +13,30 @@ use Rattle.proxy_session.specs.Exchange.{Standing}
 use Rattle.proxy_session.specs.Session.{StaysTo}
 
 -- a connection between two of its stays: what its client told when it came and what it tells now,
--- how many requests it has had, its budget of retries, and the operations that were seen for it
+-- where the client is, if it told that when it came, how many requests the connection has had, its
+-- budget of retries, and the operations that were seen for it
 pub record Idle : Type 0 where
   pub first : Line
   pub line : Line
+  pub client : Option SocketAddress
   pub served : ℕ
   pub budget : Option BudgetValue
   pub seen : List Operation
 
-abbrev pub idle_by : Line → Line → ℕ → Option BudgetValue → List Operation → Idle
-idle_by first line served budget seen =
-    record { first = first; line = line; served = served; budget = budget; seen = seen }
+abbrev pub idle_by : Line → Line → Option SocketAddress → ℕ → Option BudgetValue → List Operation
+    → Idle
+idle_by first line client served budget seen = record {
+  first = first;
+  line = line;
+  client = client;
+  served = served;
+  budget = budget;
+  seen = seen;
+}
 
--- that of a client that came to a server which had seen these
-abbrev pub came : Option Tries → Line → List Operation → Idle
-came tries line seen = idle_by line line 0 (option_map opening tries) seen
+-- that of a client at this address that came to a server which had seen these
+abbrev pub came : Option Tries → Line → Option SocketAddress → List Operation → Idle
+came tries line client seen = idle_by line line client 0 (option_map opening tries) seen
 
 -- one stay: how many requests the connection had had before it and behind it, its budget, and how
 -- it stood with its server
@@ -46,9 +56,11 @@ pub record GoesOn (idle : Idle) (v : Visit) : Type 0 where
   pub budget : v.before ≡ idle.budget
   pub seen : IsPrefix idle.seen v.old.caller.seen
 
--- the connection behind a stay, whose client told this when it came
-abbrev pub idle_behind : Line → Visit → Idle
-idle_behind first v = idle_by first v.new.line v.upto v.behind v.new.caller.seen
+-- the connection behind a stay. Where its client is, and what that told when it came, does not
+-- change
+abbrev pub idle_behind : Idle → Visit → Idle
+idle_behind idle v =
+    idle_by idle.first v.new.line idle.client v.upto v.behind v.new.caller.seen
 
 -- stays one after another, behind each of which the connection waits
 abbrev pub HasStays : SettingsValue → Rule → List Visit → Idle → Idle → Type 0
@@ -56,13 +68,13 @@ HasStays settings rule [] first last = last ≡ first
 HasStays settings rule (v ∷ vs) first last =
     GoesOn first v
     × StaysTo settings rule v.from v.upto v.before v.behind v.old v.new paused.Quiet
-    × HasStays settings rule vs (idle_behind first.first v) last
+    × HasStays settings rule vs (idle_behind first v) last
 
 -- some stays led there from a client that came
 abbrev pub CameTo : SettingsValue → Rule → Option Tries → Idle → Type 0
 CameTo settings rule tries idle =
     (seen : List Operation) × (vs : List Visit)
-    × HasStays settings rule vs (came tries idle.first seen) idle
+    × HasStays settings rule vs (came tries idle.first idle.client seen) idle
 
 -- a connection that waits: it may have a further request, and some stays led to it
 pub record IsWaiting (settings : SettingsValue) (rule : Rule) (tries : Option Tries) (idle : Idle)

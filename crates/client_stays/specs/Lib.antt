@@ -1,4 +1,5 @@
 pub mod Chains
 pub mod Codes
 pub mod Laws
+pub mod Recorded
 pub mod Servers

@@ -79,7 +79,7 @@ pub record StaysWith
       StaysTo settings rule visit.from visit.upto visit.before visit.behind visit.old visit.new
       result
   pub leaves : new ≡ server_in visit.new
-  pub behind_is : behind ≡ idle_behind idle.first visit
+  pub behind_is : behind ≡ idle_behind idle visit
 
 -- so it came out: it waits, or it has ended, and its client tells so much
 abbrev pub HasStayed : {P : Type 0} → (P → Line) → SettingsValue → Rule → Idle → ServerValue

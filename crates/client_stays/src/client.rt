@@ -1,13 +1,16 @@
 //! A connection between two of its requests.
-ghost use Rattle.std.specs.Prelude.{◌≡◌, None, option_map};
+ghost use Rattle.std.specs.Prelude.{◌≡◌, None, List, option_map};
 ghost use Rattle.std.specs.Option.{ForSome};
+ghost use Rattle.exchange_record.specs.Told.{Records, Told};
 ghost use Rattle.retry_budget.specs.Budget.{AreAllowed, opening};
 ghost use Rattle.router.specs.Passes.{number_in, seen_in, slot_in};
 ghost use Rattle.client_stays.specs.Chains.{CameTo, came};
+ghost use Rattle.client_stays.specs.Recorded.{HasStayedAs};
 ghost use Rattle.client_stays.specs.Servers.{HasStayed, server_value};
 
 use crate::handling::Handling;
 use crate::stayed::Stayed;
+use exchange_record::Recorder;
 use http_wire::Paused;
 use line_base::{Clock, Dialer, Gate, Peer};
 use proxy_session::{Connection, Context, Server};
@@ -21,8 +24,8 @@ use workers::Stay;
 /// The connection of a client that has nothing to say for now, with a ticket of what was seen for
 /// it. Any server of its router may serve it further.
 ///
-/// Contracts see what its client told when it came and what it tells now, its count of requests,
-/// its budget of retries, and what was seen for it. Its type keeps that some stays led to it from a
+/// Contracts see what its client told when it came and what it tells now, where the client is, if it
+/// told that when it came, its count of requests, its budget of retries, and what was seen for it. Its type keeps that some stays led to it from a
 /// client that came, each of which went on with what the one before it left, since nothing else is
 /// known of what comes out of a lock. It costs its socket and some hundred bytes.
 pub struct IdleClient<P: Peer, J: Handling> {
@@ -41,17 +44,17 @@ impl<P: Peer, J: Handling> Model for IdleClient<P, J> {
     ghost coded = { coded_idle };
 
     ghost view = { λ c. idle_by (P.line c.first.value) (P.line c.connection.peer)
-        c.connection.served c.connection.budget (told_in c.ticket) };
+        c.connection.client c.connection.served c.connection.budget (told_in c.ticket) };
 
     ghost invariant = { λ c. IsWaiting J.settings J.rule J.tries
-        (idle_by (P.line c.first.value) (P.line c.connection.peer) c.connection.served
-        c.connection.budget (told_in c.ticket)) };
+        (idle_by (P.line c.first.value) (P.line c.connection.peer) c.connection.client
+        c.connection.served c.connection.budget (told_in c.ticket)) };
 }
 
 /// A connection of a client that came, with a budget of its own where requests may be tried again.
-fn connection_of<P>(peer: P, tries: Option<Tries>) -> Connection<P>
+fn connection_of<P: Peer>(peer: P, tries: Option<Tries>) -> Connection<P>
     requires { ForSome tries (λ t. AreAllowed t) }
-    ensures { (result.peer ≡ peer) × (result.served ≡ 0)
+    ensures { (result.peer ≡ peer) × (result.client ≡ P.address peer) × (result.served ≡ 0)
         × (result.budget ≡ option_map opening tries) }
 {
     match tries {
@@ -65,7 +68,7 @@ impl<P: Peer, J: Handling> IdleClient<P, J> {
     pub fn came<D, C>(peer: P, tries: Option<Tries>, server: &Server<J, D, C>) -> IdleClient<P, J>
         requires tries { tries ≡ J.tries }
         requires allowed { ForSome tries (λ t. AreAllowed t) }
-        ensures { result ≡ came tries (P.line peer) (seen_in server.now.pass) }
+        ensures { result ≡ came tries (P.line peer) (P.address peer) (seen_in server.now.pass) }
     {
         let first = Snapshot::of(&peer);
         IdleClient {
@@ -76,13 +79,14 @@ impl<P: Peer, J: Handling> IdleClient<P, J> {
     }
 
     /// Serves it for a stay: until it has nothing to say for a while, or ends. The server learns
-    /// first what was seen for it.
-    pub fn serve<D: Dialer, C: Clock, G: Gate, R: Wait>(
+    /// first what was seen for it. The recorder is told of each of its requests.
+    pub fn serve<D: Dialer, C: Clock, G: Gate, R: Wait, K: Recorder>(
         self,
         server: &mut Server<J, D, C>,
         context: &Context<'_, J, R>,
         gate: &G,
         worker: u32,
+        recorder: &mut K,
     ) -> Stayed<IdleClient<P, J>, P>
         requires free { slot_in server.old.pass ≡ None }
         requires rule { context.now.rule.now ≡ J.rule }
@@ -90,6 +94,10 @@ impl<P: Peer, J: Handling> IdleClient<P, J> {
         ensures stays { HasStayed P.line J.settings J.rule self
             (server_value D.upstream C.to_come server.old)
             (server_value D.upstream C.to_come server.new) result }
+        ensures told { (told : List Told) × HasStayedAs P.line J.settings J.rule self
+            (server_value D.upstream C.to_come server.old)
+            (server_value D.upstream C.to_come server.new) result told
+            × Records K.begins K.ends recorder.old told recorder.new }
         ensures free { slot_in server.new.pass ≡ None }
         ensures number { number_in server.new.pass ≡ number_in server.old.pass }
         ensures closed { (D.upstream server.old.way.dialer).open_to ≡ None
@@ -103,7 +111,7 @@ impl<P: Peer, J: Handling> IdleClient<P, J> {
             first,
         } = self;
         server.learn(ticket);
-        match server.serve_stay(context, &mut connection, gate, worker) {
+        match server.serve_stay(context, &mut connection, gate, worker, recorder) {
             Paused::Quiet => Stayed::Waits(IdleClient {
                 connection,
                 ticket: server.ticket(),

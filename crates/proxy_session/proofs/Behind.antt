@@ -1,5 +1,6 @@
 -- What the parts of an ask come to.
-use Rattle.std.proofs.Common.{◌≡◌, [], append-nil, refl, sym, subst, inr, Option, Result, Ok, Err, IfOk, OnErr}
+use Rattle.std.proofs.Common.{◌≡◌, [], append-nil, refl, sym, subst, Option, Result, Ok, Err, IfOk}
+use Rattle.std.proofs.Common.{OnErr}
 use Rattle.std.specs.declared.alloc.AllocError.{AllocError}
 use Rattle.name_tree.specs.Path.{Labels, canon_path}
 use Rattle.bind_cache.specs.declared.binding.Binding.{Binding}
@@ -12,9 +13,10 @@ use Rattle.proxy_session.specs.declared.asking.Found.TheVariants as found
 use Rattle.proxy_session.specs.declared.asking.Picked.{Picked}
 use Rattle.proxy_session.specs.declared.asking.Picked.TheVariants as picked
 use Rattle.proxy_session.specs.declared.asking.Texts.{Texts}
-use Rattle.proxy_session.specs.Asking.{Finding, FindingAnew, StopsAnew, StopsAsking}
-use Rattle.proxy_session.specs.Callers.{Caller, Misses, SeesMore}
-use Rattle.proxy_session.specs.Found.{Picks, ReturnsSome, Says, client_in, fresh_in, residual_in, said_in}
+use Rattle.proxy_session.specs.Asking.{FindingAnew, StopsAnew}
+use Rattle.proxy_session.specs.Callers.{Caller, SeesMore}
+use Rattle.proxy_session.specs.Found.{Picks, ReturnsSome, Says, client_in, fresh_in, residual_in}
+use Rattle.proxy_session.specs.Found.{said_in}
 use Rattle.proxy_session.proofs.Calling.{finds_anew, stops_anew}
 
 pub sees_same : (a : Caller) → SeesMore a a
@@ -34,18 +36,6 @@ abbrev pub SaysAny : PickValue → Found → Type 0
 SaysAny said f = (names : Names) → Says said names f
 
 module _ (settings : SettingsValue) (old mid new : Caller) (ask : AskValue) where
-  -- behind an ask for which nothing was kept
-  pub found_behind : (names : Names) → Misses settings old mid ask → (r : Result Found AllocError)
-      → IfOk r (λ f. (said : PickValue) × FindingAnew settings mid new ask said × SaysAny said f)
-      → IfOk r (λ f. (said : PickValue) × Finding settings old new ask said × Says said names f)
-  found_behind names misses (Ok f) x = (x.0, inr (mid, misses, x.1), x.2 names)
-  found_behind names misses (Err e) x = tt
-
-  pub stopped_behind : Misses settings old mid ask → (r : Result Found AllocError)
-      → OnErr r (StopsAnew settings mid new ask) → OnErr r (StopsAsking settings old new ask)
-  stopped_behind misses (Ok f) x = tt
-  stopped_behind misses (Err e) x = (mid, misses, x)
-
   -- behind a second ask
   pub kept_behind : (p : Picked) → Picks settings old mid ask p → (r : Result Found AllocError)
       → IfOk r (λ f. ReturnsSome settings mid new (fresh_in p) × SaysAny (said_in p) f)

@@ -56,27 +56,27 @@ ends_quiet : (how : Tried) (head : Head) (last : Bool) (old new : Line) (result 
     → Ends how head last old new result → SaysNeither old new
 ends_quiet tried.NotDialed head last old new result done =
     refuses_quiet _ head last old new result done
-ends_quiet tried.NotSent head last old new result done =
+ends_quiet (tried.NotSent moved) head last old new result done =
     refuses_quiet _ head last old new result done
-ends_quiet tried.NoReply head last old new result done =
+ends_quiet (tried.NoReply moved) head last old new result done =
     refuses_quiet _ head last old new result done
-ends_quiet tried.Silent head last old new result done =
+ends_quiet (tried.Silent moved) head last old new result done =
     refuses_quiet _ head last old new result done
-ends_quiet tried.BadBody head last old new result done =
+ends_quiet (tried.BadBody moved) head last old new result done =
     refuses_quiet _ head last old new result done
-ends_quiet tried.LongBody head last old new result done =
+ends_quiet (tried.LongBody moved) head last old new result done =
     refuses_quiet _ head last old new result done
-ends_quiet tried.BodyCut head last old new result done =
+ends_quiet (tried.BodyCut moved) head last old new result done =
     record { closings = done.0.closings; quiets = done.0.quiets }
-ends_quiet tried.BodyFault head last old new result done =
+ends_quiet (tried.BodyFault moved) head last old new result done =
     record { closings = done.0.closings; quiets = done.0.quiets }
-ends_quiet tried.ReplyCut head last old new result done =
+ends_quiet (tried.ReplyCut moved status) head last old new result done =
     record { closings = done.0.closings; quiets = done.0.quiets }
-ends_quiet tried.WrittenShort head last old new result done =
+ends_quiet (tried.WrittenShort moved status) head last old new result done =
     record { closings = done.0.closings; quiets = done.0.quiets }
-ends_quiet tried.OutOfMemory head last old new result done =
+ends_quiet (tried.OutOfMemory moved status) head last old new result done =
     record { closings = done.0.closings; quiets = done.0.quiets }
-ends_quiet (tried.Whole status closes reusable) head last old new result done =
+ends_quiet (tried.Whole moved status closes reusable) head last old new result done =
     record { closings = done.0.closings; quiets = done.0.quiets }
 
 settles_quiet : (settings : SettingsValue) (head : Head) (last : Bool) (addr : Addr) (how : Tried)
@@ -87,15 +87,15 @@ settles_quiet settings head last addr how c d m n old new result (inl done) =
 settles_quiet settings head last addr how c d m n old new result (inr fails) =
     record { closings = fails.1.closings; quiets = fails.1.quiets }
 
-replies_quiet : (head : Head) (last : Bool) (old new : Line) (faults faults_now : ℕ)
-    (got : List (List ℕ)) (how : Tried) → Replies head last old new faults faults_now got how
+replies_quiet : (head : Head) (last : Bool) (n : ℕ) (old new : Line) (faults faults_now : ℕ)
+    (got : List (List ℕ)) (how : Tried) → Replies head last n old new faults faults_now got how
     → SaysNeither old new
-replies_quiet head last old new faults faults_now got how
+replies_quiet head last n old new faults faults_now got how
     (inl (fault, kept, hears, same, is)) = record { closings = same.closings; quiets = same.quiets }
-replies_quiet head last old new faults faults_now got how
+replies_quiet head last n old new faults faults_now got how
     (inr (reply, framing, kept, between, before, behind, hears, inl stops, is)) =
     record { closings = stops.0.closings; quiets = stops.0.quiets }
-replies_quiet head last old new faults faults_now got how
+replies_quiet head last n old new faults faults_now got how
     (inr (
       reply,
       framing,
@@ -120,7 +120,7 @@ converses_quiet head onward framing last old new kept kept_after faults faults_n
 converses_quiet head onward framing last old new kept kept_after faults faults_now sent got how
     (inr (n, mid, between, goes, came)) =
     neither_on old mid new (record { closings = goes.closings; quiets = goes.quiets })
-    (replies_quiet head last mid new between faults_now got how came)
+    (replies_quiet head last n mid new between faults_now got how came)
 
 anew_quiet : (head : Head) (onward : List ℕ) (framing : Framing) (last : Bool) (addr : Addr)
     (old new : Line) (kept kept_after : List ℕ) (before now : Upstream) (how : Tried)

@@ -5,6 +5,7 @@ use denote.Param.SendFields.{as_row_send, declared_send}
 use Rattle.std.proofs.Crossing.{crosses}
 use Rattle.std.specs.declared.sync.ledger.Ledger as ledger
 use Rattle.http_wire.proofs.rest.Rest.TheSendSync as rest
+use Rattle.line_base.proofs.socket_address.SocketAddress.TheSendSync as address
 use Rattle.retry_budget.proofs.budget.Budget.TheSendSync as budget
 use Rattle.router.specs.contracts.names.Names as Names
 use Rattle.router.specs.declared.naming.Naming as naming
@@ -40,7 +41,10 @@ pub connection_send : (P : RattleType) → IsSend P → IsSend (Connection.the_r
 connection_send P p = declared_send (Connection.the_type P) (
   own_send P p,
   (
-    search sendable,
-    (search (budget.the_send, as_row_send, sendable, crosses) depth 40, tt),
+    search (address.the_send, as_row_send, sendable, crosses) depth 40,
+    (
+      search sendable,
+      (search (budget.the_send, as_row_send, sendable, crosses) depth 40, tt),
+    ),
   ),
 )

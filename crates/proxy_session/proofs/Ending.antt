@@ -30,9 +30,10 @@ use Rattle.proxy_session.proofs.Draining.{serves_rose, served_quiet, served_quie
 use Rattle.proxy_session.proofs.Splitting.{request_cause, request_closed, request_fell}
 use Rattle.proxy_session.proofs.Splitting.{request_keeps, request_number}
 use Rattle.replica_try.proofs.Resting.{rests_same}
-use Rattle.proxy_session.proofs.Rising.{cause_on, later_below, later_raised, later_same}
-use Rattle.proxy_session.proofs.Rising.{none_fell_on, rests_fell, rose_before, rose_behind, rose_by}
-use Rattle.proxy_session.proofs.Rising.{writes_fell}
+use Rattle.proxy_session.proofs.Rising.{all_given, cause_on, ended_before, ended_behind}
+use Rattle.proxy_session.proofs.Rising.{later_below, later_raised, later_same, none_fell_on}
+use Rattle.proxy_session.proofs.Rising.{rests_fell, rose_before, rose_behind, rose_by}
+use Rattle.proxy_session.proofs.Rising.{tells_given, tells_same, writes_fell}
 
 -- what lasts from one moment of a session to a later one
 pub record Lasts (old new : Standing) : Type 0 where
@@ -65,6 +66,7 @@ reads_last old new r x = record {
     ends = later_below old.line.ends new.line.ends x.causes.ends_later;
     closings = later_same old.line.closings new.line.closings x.closings;
     quiets = later_same old.line.quiets new.line.quiets x.quiets;
+    tells = tells_given old.line.left new.line.left x.head.taken x.head.given;
   };
   closed = λ is. x.upstream.links.open_to ∙ is;
   keeps = x.upstream.links.keeps;
@@ -85,6 +87,7 @@ told_last true a = record {
     ends = later_same a.line.ends a.line.ends refl;
     closings = later_raised a.line.closings (raised a.line.closings) refl;
     quiets = later_same a.line.quiets a.line.quiets refl;
+    tells = tells_same a.line.left;
   };
   closed = λ is. is;
   keeps = refl;
@@ -150,24 +153,22 @@ some_never e is = cc
 some_same : {a b : Ended} → Some a ≡ Some b → a ≡ b
 some_same is = cc
 
--- a cause stands where no count fell before it or behind it
-cause_within : (e : Ended) (a b c d : Line) → NoneFell a b → NoneFell c d → CauseOf e b c
+-- a cause stands where no count fell before it, and nothing moved behind it
+cause_within : (e : Ended) (a b c d : Line) → NoneFell a b → Rests c d → CauseOf e b c
     → CauseOf e a d
-cause_within ended.PeerEnded a b c d p q x =
-    rose_before a.ends c.ends d.ends (rose_behind a.ends b.ends c.ends p.ends x) q.ends
-cause_within ended.Cut a b c d p q x =
-    rose_before a.ends c.ends d.ends (rose_behind a.ends b.ends c.ends p.ends x) q.ends
+cause_within ended.PeerEnded a b c d p q x = ended_before a c d (ended_behind a b c p x) q
+cause_within ended.Cut a b c d p q x = ended_before a c d (ended_behind a b c p x) q
 cause_within ended.ReadFault a b c d p q x =
     rose_before a.read_faults c.read_faults d.read_faults
-    (rose_behind a.read_faults b.read_faults c.read_faults p.reads x) q.reads
+    (rose_behind a.read_faults b.read_faults c.read_faults p.reads x) (rests_fell c d q).reads
 cause_within ended.WriteFault a b c d p q x =
     rose_before a.write_faults c.write_faults d.write_faults
-    (rose_behind a.write_faults b.write_faults c.write_faults p.writes x) q.writes
+    (rose_behind a.write_faults b.write_faults c.write_faults p.writes x) (rests_fell c d q).writes
 cause_within ended.Closed a b c d p q x = tt
 cause_within ended.Spent a b c d p q x = tt
 cause_within ended.Drained a b c d p q x =
     rose_before a.closings c.closings d.closings
-    (rose_behind a.closings b.closings c.closings p.closings x) q.closings
+    (rose_behind a.closings b.closings c.closings p.closings x) (rests_fell c d q).closings
 cause_within ended.UpstreamCut a b c d p q x = tt
 cause_within ended.OutOfMemory a b c d p q x = tt
 
@@ -182,8 +183,7 @@ quietly : (quiet result : Ended) (old mid new : Line) → NoneFell old mid → R
     → Without result old mid new
 quietly quiet result old mid new fell rests is cause other open_ =
     subst (λ (e : Ended). Without e old mid new) (sym is) (
-      cause_within quiet old old mid new (rests_fell old old (rests_same old))
-          (rests_fell mid new rests) cause,
+      cause_within quiet old old mid new (rests_fell old old (rests_same old)) rests cause,
       rests_fell mid new rests,
       other,
       open_,
@@ -227,10 +227,16 @@ ends_without : (end : HeadEnd) (old mid new : Standing) (result : Ended) → Rea
     → Without result old.line mid.line new.line
 ends_without HeadEnd.Ended old mid new result x a =
     quietly ended.PeerEnded result old.line mid.line new.line (reads_last old mid _ x).fell a.0 a.1
-    (rose_by old.line.ends mid.line.ends x.causes.ends) (λ no. cc) (λ no. cc)
+    (record {
+      rose = rose_by old.line.ends mid.line.ends x.causes.ends;
+      all = all_given old.line.left mid.line.left x.head.taken x.head.given x.head.end;
+    }) (λ no. cc) (λ no. cc)
 ends_without HeadEnd.Cut old mid new result x a =
     quietly ended.Cut result old.line mid.line new.line (reads_last old mid _ x).fell a.0 a.1
-    (rose_by old.line.ends mid.line.ends x.causes.ends) (λ no. cc) (λ no. cc)
+    (record {
+      rose = rose_by old.line.ends mid.line.ends x.causes.ends;
+      all = all_given old.line.left mid.line.left x.head.taken x.head.given x.head.end;
+    }) (λ no. cc) (λ no. cc)
 ends_without HeadEnd.ReadFault old mid new result x a =
     quietly ended.ReadFault result old.line mid.line new.line (reads_last old mid _ x).fell a.0 a.1
     (rose_by old.line.read_faults mid.line.read_faults x.causes.faults) (λ no. cc) (λ no. cc)
@@ -269,9 +275,10 @@ ending_by : (old mid new : Standing) (result : Ended) → Lasts old mid → Last
     → CauseOf result mid.line new.line → Ending old new.line new.upstream new.caller result
 ending_by old mid new result first second cause =
     let all = lasts_on old mid new first second in
-    let here = rests_fell new.line new.line (rests_same new.line) in
     record {
-      cause = cause_within result old.line mid.line new.line new.line first.fell here cause;
+      cause =
+          cause_within result old.line mid.line new.line new.line first.fell (rests_same new.line)
+          cause;
       closed = all.closed;
       keeps = all.keeps;
       number = all.number;

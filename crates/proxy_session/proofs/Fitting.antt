@@ -45,20 +45,21 @@ fits_as last e r is fits = subst (FitsLast last) (sym is) fits
 ends_fits : (how : Tried) (head : Head) (last : Bool) (old new : Line) (r : Option Ended)
     → Ends how head last old new r → FitsLast last r
 ends_fits tried.NotDialed head last old new r ends = refuses_fits _ head last old new r ends
-ends_fits tried.NotSent head last old new r ends = refuses_fits _ head last old new r ends
-ends_fits tried.Silent head last old new r ends = refuses_fits _ head last old new r ends
-ends_fits tried.NoReply head last old new r ends = refuses_fits _ head last old new r ends
-ends_fits tried.BadBody head last old new r ends = refuses_fits _ head last old new r ends
-ends_fits tried.LongBody head last old new r ends = refuses_fits _ head last old new r ends
-ends_fits tried.BodyCut head last old new r ends = fits_as last (Some ended.Cut) r ends.1 tt
-ends_fits tried.BodyFault head last old new r ends = fits_as last (Some ended.ReadFault) r ends.1 tt
-ends_fits tried.ReplyCut head last old new r ends =
+ends_fits (tried.NotSent moved) head last old new r ends = refuses_fits _ head last old new r ends
+ends_fits (tried.Silent moved) head last old new r ends = refuses_fits _ head last old new r ends
+ends_fits (tried.NoReply moved) head last old new r ends = refuses_fits _ head last old new r ends
+ends_fits (tried.BadBody moved) head last old new r ends = refuses_fits _ head last old new r ends
+ends_fits (tried.LongBody moved) head last old new r ends = refuses_fits _ head last old new r ends
+ends_fits (tried.BodyCut moved) head last old new r ends = fits_as last (Some ended.Cut) r ends.1 tt
+ends_fits (tried.BodyFault moved) head last old new r ends =
+    fits_as last (Some ended.ReadFault) r ends.1 tt
+ends_fits (tried.ReplyCut moved status) head last old new r ends =
     fits_as last (Some ended.UpstreamCut) r ends.1 tt
-ends_fits tried.WrittenShort head last old new r ends =
+ends_fits (tried.WrittenShort moved status) head last old new r ends =
     fits_as last (Some ended.WriteFault) r ends.1 tt
-ends_fits tried.OutOfMemory head last old new r ends =
+ends_fits (tried.OutOfMemory moved status) head last old new r ends =
     fits_as last (Some ended.OutOfMemory) r ends.1 tt
-ends_fits (tried.Whole status closes reusable) head last old new r ends =
+ends_fits (tried.Whole moved status closes reusable) head last old new r ends =
     fits_as last (end_of closes last) r ends.1 (end_fits closes last)
 
 settles_fits : (settings : SettingsValue) (head : Head) (last : Bool) (addr : Addr) (how : Tried)

@@ -6,6 +6,7 @@ pub mod Behind
 pub mod Untouched
 pub mod Slots
 pub mod Holding
+pub mod Along
 pub mod Exchanging
 pub mod Attempting
 pub mod Splitting

@@ -42,6 +42,7 @@ use Rattle.forward.specs.Laws.{table_texts, IsPlainWay, IsRequestFraming, ReadsB
 use Rattle.forward.proofs.CanonBytes.{path_text}
 use Rattle.forward.proofs.Written.{heads_read_back as written_reads_back}
 use Rattle.replica_try.specs.declared.final_head.HeadFault.{HeadFault}
+use Rattle.replica_try.specs.declared.moved.Moved.{Moved}
 use Rattle.replica_try.specs.declared.tried.Tried.{Tried}
 use Rattle.replica_try.specs.Heads.{Hears}
 use Rattle.proxy_session.specs.Attempts.{Failed, FailedAttempt}
@@ -266,34 +267,34 @@ front_of all sent (Err OutOfMemory) front = front
 -- ---- replies
 
 -- a reply that went back whole, over a connection that may carry another request
-went_whole : (status : ℕ) (closes reusable : Bool) (r : Result ℕ BodyEnd)
-    → leaves_reusable (tried_of_back status closes reusable r) ≡ true
+went_whole : (moved : Moved) (status : ℕ) (closes reusable : Bool) (r : Result ℕ BodyEnd)
+    → leaves_reusable (tried_of_back moved status closes reusable r) ≡ true
     → (n : ℕ) × (r ≡ Ok n) × (reusable ≡ true)
-went_whole status closes reusable (Ok n) is = (n, refl, is)
-went_whole status closes reusable (Err (BadChunk n)) is = absurd (cc)
-went_whole status closes reusable (Err Cut) is = absurd (cc)
-went_whole status closes reusable (Err TooLong) is = absurd (cc)
-went_whole status closes reusable (Err ReadFault) is = absurd (cc)
-went_whole status closes reusable (Err WriteFault) is = absurd (cc)
-went_whole status closes reusable (Err SendFault) is = absurd (cc)
-went_whole status closes reusable (Err RecvFault) is = absurd (cc)
-went_whole status closes reusable (Err OutOfMemory) is = absurd (cc)
+went_whole moved status closes reusable (Ok n) is = (n, refl, is)
+went_whole moved status closes reusable (Err (BadChunk n)) is = absurd (cc)
+went_whole moved status closes reusable (Err Cut) is = absurd (cc)
+went_whole moved status closes reusable (Err TooLong) is = absurd (cc)
+went_whole moved status closes reusable (Err ReadFault) is = absurd (cc)
+went_whole moved status closes reusable (Err WriteFault) is = absurd (cc)
+went_whole moved status closes reusable (Err SendFault) is = absurd (cc)
+went_whole moved status closes reusable (Err RecvFault) is = absurd (cc)
+went_whole moved status closes reusable (Err OutOfMemory) is = absurd (cc)
 
 -- no reply came, and no request went on whole
-never_by_head : (fault : HeadFault) → leaves_reusable (tried_of_head fault) ≡ true → ⊥
-never_by_head HeadFault.Silent is = cc
-never_by_head HeadFault.NoReply is = cc
-never_by_head HeadFault.OutOfMemory is = cc
+never_by_head : (n : ℕ) (fault : HeadFault) → leaves_reusable (tried_of_head n fault) ≡ true → ⊥
+never_by_head n HeadFault.Silent is = cc
+never_by_head n HeadFault.NoReply is = cc
+never_by_head n HeadFault.OutOfMemory is = cc
 
-never_by_body : (end : BodyEnd) → leaves_reusable (tried_of_body end) ≡ true → ⊥
-never_by_body (BadChunk n) is = cc
-never_by_body Cut is = cc
-never_by_body TooLong is = cc
-never_by_body ReadFault is = cc
-never_by_body WriteFault is = cc
-never_by_body SendFault is = cc
-never_by_body RecvFault is = cc
-never_by_body OutOfMemory is = cc
+never_by_body : (n : ℕ) (end : BodyEnd) → leaves_reusable (tried_of_body n end) ≡ true → ⊥
+never_by_body n (BadChunk m) is = cc
+never_by_body n Cut is = cc
+never_by_body n TooLong is = cc
+never_by_body n ReadFault is = cc
+never_by_body n WriteFault is = cc
+never_by_body n SendFault is = cc
+never_by_body n RecvFault is = cc
+never_by_body n OutOfMemory is = cc
 
 -- nothing is left behind a reply after which the connection may carry another request
 nothing_left : (reply : ReplyHead) (framing : Framing) (left : List ℕ)
@@ -309,27 +310,29 @@ all_taken : (kept taken kept_after : List ℕ) (behind : List (List ℕ))
 all_taken kept taken kept_after behind is none =
     sym (is ∙ ap (λ (k : List ℕ). taken ++ k) none ∙ append-nil taken)
 
-went_back : (head : Head) (last : Bool) (reply : ReplyHead) (framing : Framing) (old new : Line)
-    (kept : List ℕ) (f0 f1 f2 : ℕ) (before behind got : List (List ℕ)) (how : Tried)
+went_back : (head : Head) (last : Bool) (n : ℕ) (reply : ReplyHead) (framing : Framing)
+    (old new : Line) (kept : List ℕ) (f0 f1 f2 : ℕ) (before behind got : List (List ℕ))
+    (how : Tried)
     → leaves_reusable how ≡ true → Hears head.method [] kept before f0 f1 (Ok (reply, framing))
-    → got ≡ before ++ behind → Backs head last reply framing old new kept f1 f2 behind how
+    → got ≡ before ++ behind → Backs head last n reply framing old new kept f1 f2 behind how
     → IsWholeReply head.method got
-went_back head last reply framing old new kept f0 f1 f2 before behind got how is hears all
+went_back head last n reply framing old new kept f0 f1 f2 before behind got how is hears all
     (inl none) =
     let never = subst (λ (h : Tried). leaves_reusable h ≡ true) none.3 is in absurd (cc)
-went_back head last reply framing old new kept f0 f1 f2 before behind got how is hears all
+went_back head last n reply framing old new kept f0 f1 f2 before behind got how is hears all
     (inr (kept_after, r, goes, way)) =
     let reusable = is_reusable reply framing kept_after in
     let chunked = knows_chunks head in
     let p = goes.passes in
-    let whole = went_whole reply.status (closes_behind head framing) reusable r
+    let whole = went_whole (record { sent = n; given = goes.count }) reply.status
+    (closes_behind head framing) reusable r
     (subst (λ (h : Tried). leaves_reusable h ≡ true) way is) in
     let none = nothing_left reply framing kept_after whole.2 in
-    let ends : Ends framing (form_of chunked) most_passed p.taken p.passed p.count kept_after
+    let ends : Ends framing (form_of chunked) most_passed p.taken p.passed goes.count kept_after
     (Ok whole.0) = subst (λ (x : Result ℕ BodyEnd). Ends framing (form_of chunked) most_passed
-    p.taken p.passed p.count kept_after x) whole.1 p.ends in
-    let body = subst (λ (k : List ℕ). IsWholeBody framing (form_of chunked) p.taken p.passed p.count
-    k) none ends.1 in
+    p.taken p.passed goes.count kept_after x) whole.1 p.ends in
+    let body = subst (λ (k : List ℕ). IsWholeBody framing (form_of chunked) p.taken p.passed
+    goes.count k) none ends.1 in
     record {
       reply = reply;
       framing = framing;
@@ -342,22 +345,22 @@ went_back head last reply framing old new kept f0 f1 f2 before behind got how is
       heard = hears;
       chunked = chunked;
       passed = p.passed;
-      count = p.count;
+      count = goes.count;
       body =
-          subst (λ (t : List ℕ). IsWholeBody framing (form_of chunked) t p.passed p.count [])
+          subst (λ (t : List ℕ). IsWholeBody framing (form_of chunked) t p.passed goes.count [])
           (all_taken kept p.taken kept_after behind p.bytes none) body;
       lasts = subst (λ (k : List ℕ). is_reusable reply framing k ≡ true) none whole.2;
     }
 
-replied : (head : Head) (last : Bool) (old new : Line) (f0 f1 : ℕ) (got : List (List ℕ))
-    (how : Tried) → leaves_reusable how ≡ true → Replies head last old new f0 f1 got how
+replied : (head : Head) (last : Bool) (n : ℕ) (old new : Line) (f0 f1 : ℕ) (got : List (List ℕ))
+    (how : Tried) → leaves_reusable how ≡ true → Replies head last n old new f0 f1 got how
     → IsWholeReply head.method got
-replied head last old new f0 f1 got how is (inl (fault, kept, hears, rests, way)) =
-    absurd (never_by_head fault (subst (λ (h : Tried). leaves_reusable h ≡ true) way is))
-replied head last old new f0 f1 got how is
+replied head last n old new f0 f1 got how is (inl (fault, kept, hears, rests, way)) =
+    absurd (never_by_head n fault (subst (λ (h : Tried). leaves_reusable h ≡ true) way is))
+replied head last n old new f0 f1 got how is
     (inr (reply, framing, kept, between, before, behind, hears, backs, all)) =
-    went_back head last reply framing old new kept f0 between f1 before behind got how is hears all
-    backs
+    went_back head last n reply framing old new kept f0 between f1 before behind got how is hears
+    all backs
 
 -- ---- visits
 
@@ -405,14 +408,14 @@ goes_behind method onward framing old new kept kept_after faults faults_now sent
     record {
       taken = p.taken;
       behind = p.passed;
-      count = p.count;
+      count = goes.count;
       body =
-          front_of_body true most_passed p.taken p.passed p.count p.within kept_after framing result
-          p.ends;
+          front_of_body true most_passed p.taken p.passed goes.count p.within kept_after framing
+          result p.ends;
       front = front_of (onward ++ p.passed) sent result p.sends;
       lasts =
-          λ is. answered_whole method onward framing p.taken p.passed kept_after p.count sent result
-          got p.sends p.ends (lasts is);
+          λ is. answered_whole method onward framing p.taken p.passed kept_after goes.count sent
+          result got p.sends p.ends (lasts is);
     }
 
 conversed : (head : Head) (onward : List ℕ) (framing : Framing) (last : Bool) (old new : Line)
@@ -424,11 +427,12 @@ conversed head onward framing last old new kept kept_after faults faults_now sen
     (inl (end, goes, nothing, way)) =
     goes_behind head.method onward framing old new kept kept_after faults faults_now sent (Err end)
     got how goes
-    (λ is. absurd (never_by_body end (subst (λ (h : Tried). leaves_reusable h ≡ true) way is)))
+    (λ is. absurd (never_by_body goes.count end
+    (subst (λ (h : Tried). leaves_reusable h ≡ true) way is)))
 conversed head onward framing last old new kept kept_after faults faults_now sent got how
     (inr (n, mid, between, goes, replies)) =
     goes_behind head.method onward framing old mid kept kept_after faults between sent (Ok n) got
-    how goes (λ is. (n, refl, replied head last mid new between faults_now got how is replies))
+    how goes (λ is. (n, refl, replied head last n mid new between faults_now got how is replies))
 
 -- a connection is ended; or it is kept, and may carry another request
 stops_by : (keeps lasts t : Bool) → (keeps && lasts) ≡ t

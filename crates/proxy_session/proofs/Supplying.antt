@@ -78,17 +78,22 @@ rests old new all same = left_kept old.left new.left all same.left
 ends : (how : Tried) (head : Head) (last : Bool) (old new : Line) (result : Option Ended)
     → HasBytes old.left → Ends how head last old new result → HasBytes new.left
 ends tried.NotDialed head last old new result all done = refuses _ head last old new result all done
-ends tried.NotSent head last old new result all done = refuses _ head last old new result all done
-ends tried.Silent head last old new result all done = refuses _ head last old new result all done
-ends tried.NoReply head last old new result all done = refuses _ head last old new result all done
-ends tried.BadBody head last old new result all done = refuses _ head last old new result all done
-ends tried.LongBody head last old new result all done = refuses _ head last old new result all done
-ends tried.BodyCut head last old new result all done = rests old new all done.0
-ends tried.BodyFault head last old new result all done = rests old new all done.0
-ends tried.ReplyCut head last old new result all done = rests old new all done.0
-ends tried.WrittenShort head last old new result all done = rests old new all done.0
-ends tried.OutOfMemory head last old new result all done = rests old new all done.0
-ends (tried.Whole status closes reusable) head last old new result all done =
+ends (tried.NotSent moved) head last old new result all done =
+    refuses _ head last old new result all done
+ends (tried.Silent moved) head last old new result all done =
+    refuses _ head last old new result all done
+ends (tried.NoReply moved) head last old new result all done =
+    refuses _ head last old new result all done
+ends (tried.BadBody moved) head last old new result all done =
+    refuses _ head last old new result all done
+ends (tried.LongBody moved) head last old new result all done =
+    refuses _ head last old new result all done
+ends (tried.BodyCut moved) head last old new result all done = rests old new all done.0
+ends (tried.BodyFault moved) head last old new result all done = rests old new all done.0
+ends (tried.ReplyCut moved status) head last old new result all done = rests old new all done.0
+ends (tried.WrittenShort moved status) head last old new result all done = rests old new all done.0
+ends (tried.OutOfMemory moved status) head last old new result all done = rests old new all done.0
+ends (tried.Whole moved status closes reusable) head last old new result all done =
     rests old new all done.0
 
 settles : (settings : SettingsValue) (head : Head) (last : Bool) (addr : Addr) (how : Tried)
@@ -112,15 +117,15 @@ goes_on head framing old new kept kept_after faults faults_now sent result all g
     (All-append IsByte kept (concat goes.came) all.1 cut.1) in
     (cut.0, back IsByte goes.passes.taken kept_after whole)
 
-replies : (head : Head) (last : Bool) (old new : Line) (faults faults_now : ℕ) (got : List (List ℕ))
-    (how : Tried) → HasBytes old.left
-    → Replies head last old new faults faults_now got how → HasBytes new.left
-replies head last old new faults faults_now got how all (inl (fault, kept, hears, same, is)) =
+replies : (head : Head) (last : Bool) (n : ℕ) (old new : Line) (faults faults_now : ℕ)
+    (got : List (List ℕ)) (how : Tried) → HasBytes old.left
+    → Replies head last n old new faults faults_now got how → HasBytes new.left
+replies head last n old new faults faults_now got how all (inl (fault, kept, hears, same, is)) =
     rests old new all same
-replies head last old new faults faults_now got how all
+replies head last n old new faults faults_now got how all
     (inr (reply, framing, kept, between, before, behind, hears, inl stops, is)) =
     rests old new all stops.0
-replies head last old new faults faults_now got how all
+replies head last n old new faults faults_now got how all
     (inr (
       reply,
       framing,
@@ -145,7 +150,7 @@ converses head onward framing last old new kept kept_after faults faults_now sen
 converses head onward framing last old new kept kept_after faults faults_now sent got how all
     (inr (n, mid, between, goes, came)) =
     let gone = goes_on onward framing old mid kept kept_after faults between sent (Ok n) all goes in
-    (replies head last mid new between faults_now got how gone.0 came, gone.1)
+    (replies head last n mid new between faults_now got how gone.0 came, gone.1)
 
 tries_anew : (head : Head) (onward : List ℕ) (framing : Framing) (last : Bool) (addr : Addr)
     (old new : Line) (kept kept_after : List ℕ) (before now : Upstream) (how : Tried)

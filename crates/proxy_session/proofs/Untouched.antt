@@ -18,12 +18,13 @@ use Rattle.http_wire.specs.declared.head.Head.{Head}
 use Rattle.line_base.specs.Dials.{Upstream}
 use Rattle.line_base.specs.Lines.{Line, Rests}
 use Rattle.replica_try.specs.declared.final_head.HeadFault.{HeadFault}
+use Rattle.replica_try.specs.declared.moved.Moved.{Moved}
 use Rattle.replica_try.specs.declared.tried.Tried.{Tried}
 use Rattle.replica_try.specs.declared.tried.Tried.TheVariants as tried
 use Rattle.proxy_session.specs.Attempts.{may_repeat}
 use Rattle.replica_try.specs.Trying.{Converses, GoesOn, Replies, Tries, TriesAnew}
-use Rattle.replica_try.specs.Trying.{is_repeatable, is_silent, is_without_body, tried_of_back}
-use Rattle.replica_try.specs.Trying.{tried_of_body, tried_of_head}
+use Rattle.replica_try.specs.Trying.{is_repeatable, is_silent, is_without_body, only_sent}
+use Rattle.replica_try.specs.Trying.{tried_of_back, tried_of_body, tried_of_head}
 use Rattle.replica_try.proofs.BothHold.{and_left}
 use Rattle.proxy_session.proofs.Bodies.{front_of_body}
 
@@ -89,8 +90,8 @@ body_untouched onward framing old new kept kept_after f0 f1 sent result goes bar
     let none : goes.came ≡ [] = no_pieces framing true most_passed onward kept goes.came
     sent bare p.in_turn in
     let nothing : p.taken ≡ [] = none_taken framing true most_passed p.taken p.passed
-    p.count bare
-    (front_of_body true most_passed p.taken p.passed p.count p.within kept_after framing result
+    goes.count bare
+    (front_of_body true most_passed p.taken p.passed goes.count p.within kept_after framing result
     p.ends) in (
       record {
         left =
@@ -128,48 +129,50 @@ module _ (head : Head) (framing : Framing) where
   bare is = and_left (is_without_body framing) _ is
 
   stopped : (onward : List ℕ) (old new : Line) (kept kept_after : List ℕ) (f0 f1 : ℕ)
-      (sent : List ℕ) (end : BodyEnd) → Repeats (tried_of_body end)
+      (sent : List ℕ) (end : BodyEnd) (count : ℕ) → Repeats (tried_of_body count end)
       → GoesOn onward framing old new kept kept_after f0 f1 sent (Err end)
       → Untouched old new kept kept_after
-  stopped onward old new kept kept_after f0 f1 sent (BadChunk n) is goes = absurd (cc)
-  stopped onward old new kept kept_after f0 f1 sent Cut is goes = absurd (cc)
-  stopped onward old new kept kept_after f0 f1 sent TooLong is goes = absurd (cc)
-  stopped onward old new kept kept_after f0 f1 sent ReadFault is goes = absurd (cc)
-  stopped onward old new kept kept_after f0 f1 sent WriteFault is goes = absurd (cc)
-  stopped onward old new kept kept_after f0 f1 sent SendFault is goes =
+  stopped onward old new kept kept_after f0 f1 sent (BadChunk n) count is goes = absurd (cc)
+  stopped onward old new kept kept_after f0 f1 sent Cut count is goes = absurd (cc)
+  stopped onward old new kept kept_after f0 f1 sent TooLong count is goes = absurd (cc)
+  stopped onward old new kept kept_after f0 f1 sent ReadFault count is goes = absurd (cc)
+  stopped onward old new kept kept_after f0 f1 sent WriteFault count is goes = absurd (cc)
+  stopped onward old new kept kept_after f0 f1 sent SendFault count is goes =
       body_untouched onward framing old new kept kept_after f0 f1 sent (Err SendFault) goes
       (bare is) (λ no. cc) refl
-  stopped onward old new kept kept_after f0 f1 sent RecvFault is goes = absurd (cc)
-  stopped onward old new kept kept_after f0 f1 sent OutOfMemory is goes = absurd (cc)
+  stopped onward old new kept kept_after f0 f1 sent RecvFault count is goes = absurd (cc)
+  stopped onward old new kept kept_after f0 f1 sent OutOfMemory count is goes = absurd (cc)
 
-  no_head : (fault : HeadFault) → Repeats (tried_of_head fault) → is_without_body framing ≡ true
-  no_head HeadFault.Silent is = bare is
-  no_head HeadFault.NoReply is = bare is
-  no_head HeadFault.OutOfMemory is = absurd (cc)
+  no_head : (n : ℕ) (fault : HeadFault) → Repeats (tried_of_head n fault)
+      → is_without_body framing ≡ true
+  no_head n HeadFault.Silent is = bare is
+  no_head n HeadFault.NoReply is = bare is
+  no_head n HeadFault.OutOfMemory is = absurd (cc)
 
-  never_back : (status : ℕ) (closes reusable : Bool) (r : Result ℕ BodyEnd)
-      → Repeats (tried_of_back status closes reusable r) → ⊥
-  never_back status closes reusable (Ok n) is = cc
-  never_back status closes reusable (Err (BadChunk n)) is = cc
-  never_back status closes reusable (Err Cut) is = cc
-  never_back status closes reusable (Err TooLong) is = cc
-  never_back status closes reusable (Err ReadFault) is = cc
-  never_back status closes reusable (Err WriteFault) is = cc
-  never_back status closes reusable (Err SendFault) is = cc
-  never_back status closes reusable (Err RecvFault) is = cc
-  never_back status closes reusable (Err OutOfMemory) is = cc
+  never_back : (moved : Moved) (status : ℕ) (closes reusable : Bool) (r : Result ℕ BodyEnd)
+      → Repeats (tried_of_back moved status closes reusable r) → ⊥
+  never_back moved status closes reusable (Ok n) is = cc
+  never_back moved status closes reusable (Err (BadChunk n)) is = cc
+  never_back moved status closes reusable (Err Cut) is = cc
+  never_back moved status closes reusable (Err TooLong) is = cc
+  never_back moved status closes reusable (Err ReadFault) is = cc
+  never_back moved status closes reusable (Err WriteFault) is = cc
+  never_back moved status closes reusable (Err SendFault) is = cc
+  never_back moved status closes reusable (Err RecvFault) is = cc
+  never_back moved status closes reusable (Err OutOfMemory) is = cc
 
-  replied : (last : Bool) (old new : Line) (f0 f1 : ℕ) (got : List (List ℕ)) (how : Tried)
-      → Repeats how → Replies head last old new f0 f1 got how
+  replied : (last : Bool) (n : ℕ) (old new : Line) (f0 f1 : ℕ) (got : List (List ℕ)) (how : Tried)
+      → Repeats how → Replies head last n old new f0 f1 got how
       → Rests old new × (is_without_body framing ≡ true)
-  replied last old new f0 f1 got how repeats (inl (fault, kept, hears, rests, is)) =
-      (rests, no_head fault (subst Repeats is repeats))
-  replied last old new f0 f1 got how repeats
+  replied last n old new f0 f1 got how repeats (inl (fault, kept, hears, rests, is)) =
+      (rests, no_head n fault (subst Repeats is repeats))
+  replied last n old new f0 f1 got how repeats
       (inr (reply, fr, kept, between, before, behind, hears, inl none, is)) =
-      let never : Repeats tried.OutOfMemory = subst Repeats none.3 repeats in absurd (cc)
-  replied last old new f0 f1 got how repeats
+      let never : Repeats (tried.OutOfMemory (only_sent n) None) = subst Repeats none.3 repeats in
+      absurd (cc)
+  replied last n old new f0 f1 got how repeats
       (inr (reply, fr, kept, between, before, behind, hears, inr (after, r, goes, way), is)) =
-      absurd (never_back _ _ _ r (subst Repeats way repeats))
+      absurd (never_back _ _ _ _ r (subst Repeats way repeats))
 
   conversed : (onward : List ℕ) (last : Bool) (old new : Line) (kept kept_after : List ℕ)
       (f0 f1 : ℕ) (sent : List ℕ) (got : List (List ℕ)) (how : Tried) → Repeats how
@@ -177,10 +180,11 @@ module _ (head : Head) (framing : Framing) where
       → Untouched old new kept kept_after
   conversed onward last old new kept kept_after f0 f1 sent got how repeats
       (inl (end, goes, none, is)) =
-      stopped onward old new kept kept_after f0 f1 sent end (subst Repeats is repeats) goes
+      stopped onward old new kept kept_after f0 f1 sent end goes.count (subst Repeats is repeats)
+      goes
   conversed onward last old new kept kept_after f0 f1 sent got how repeats
       (inr (n, mid, between, goes, replies)) =
-      let behind = replied last mid new between f1 got how repeats replies in
+      let behind = replied last n mid new between f1 got how repeats replies in
       let body = body_untouched onward framing old mid kept kept_after f0 between sent (Ok n) goes
       behind.1 (λ no. cc) (ends_elsewhere framing behind.1) in
       (rests_on old mid new body.0 behind.0, body.1)
@@ -199,18 +203,18 @@ module _ (head : Head) (framing : Framing) where
   -- a silent try of a request that may be sent again is one that may be repeated
   silence_repeats : (how : Tried) → is_repeatable head framing ≡ true → is_silent how ≡ true
       → may_repeat head framing how ≡ true
-  silence_repeats tried.NotSent again silent = again
-  silence_repeats tried.Silent again silent = again
+  silence_repeats (tried.NotSent moved) again silent = again
+  silence_repeats (tried.Silent moved) again silent = again
   silence_repeats tried.NotDialed again silent = refl
-  silence_repeats tried.BadBody again silent = absurd (cc)
-  silence_repeats tried.LongBody again silent = absurd (cc)
-  silence_repeats tried.BodyCut again silent = absurd (cc)
-  silence_repeats tried.BodyFault again silent = absurd (cc)
-  silence_repeats tried.NoReply again silent = again
-  silence_repeats tried.ReplyCut again silent = absurd (cc)
-  silence_repeats tried.WrittenShort again silent = absurd (cc)
-  silence_repeats (tried.Whole status closes reusable) again silent = absurd (cc)
-  silence_repeats tried.OutOfMemory again silent = absurd (cc)
+  silence_repeats (tried.BadBody moved) again silent = absurd (cc)
+  silence_repeats (tried.LongBody moved) again silent = absurd (cc)
+  silence_repeats (tried.BodyCut moved) again silent = absurd (cc)
+  silence_repeats (tried.BodyFault moved) again silent = absurd (cc)
+  silence_repeats (tried.NoReply moved) again silent = again
+  silence_repeats (tried.ReplyCut moved status) again silent = absurd (cc)
+  silence_repeats (tried.WrittenShort moved status) again silent = absurd (cc)
+  silence_repeats (tried.Whole moved status closes reusable) again silent = absurd (cc)
+  silence_repeats (tried.OutOfMemory moved status) again silent = absurd (cc)
 
   pub tried_untouched : (onward : List ℕ) (last : Bool) (addr : Addr) (old new : Line)
       (kept kept_after : List ℕ) (before now : Upstream) (how : Tried)
@@ -229,6 +233,6 @@ module _ (head : Head) (framing : Framing) where
       let first = conversed onward last old t.line kept t.left before.faults t.mid.faults
       (concat t.visit.sent) t.visit.got t.first
       (silence_repeats t.first again (and_left (is_silent t.first) _ t.silent)) t.visit.spoke in
-      let second = anew_untouched onward last addr t.line new t.left kept_after t.mid now how repeats
-      t.anew in
+      let second = anew_untouched onward last addr t.line new t.left kept_after t.mid now how
+      repeats t.anew in
       (rests_on old t.line new first.0 second.0, second.1 ∙ first.1)

@@ -111,31 +111,35 @@ own_of_why why.TooWide = own.TooWide
 -- the report that each way of a try makes of its replica
 abbrev pub report_of : Tried → Option Bool
 report_of tried.NotDialed = Some false
-report_of tried.NotSent = Some false
-report_of tried.Silent = Some false
-report_of tried.NoReply = Some false
-report_of tried.ReplyCut = Some false
-report_of (tried.Whole status closes reusable) = Some (nat_lt status 500)
-report_of tried.BadBody = None
-report_of tried.LongBody = None
-report_of tried.BodyCut = None
-report_of tried.BodyFault = None
-report_of tried.WrittenShort = None
-report_of tried.OutOfMemory = None
+report_of (tried.NotSent moved) = Some false
+report_of (tried.Silent moved) = Some false
+report_of (tried.NoReply moved) = Some false
+report_of (tried.ReplyCut moved status) = Some false
+report_of (tried.Whole moved status closes reusable) = Some (nat_lt status 500)
+report_of (tried.BadBody moved) = None
+report_of (tried.LongBody moved) = None
+report_of (tried.BodyCut moved) = None
+report_of (tried.BodyFault moved) = None
+report_of (tried.WrittenShort moved status) = None
+report_of (tried.OutOfMemory moved status) = None
 
 -- what each way is answered behind the report: a refusal, an end, or nothing more, where the reply
 -- went back
 abbrev pub Ends : Tried → Head → Bool → Line → Line → Option Ended → Type 0
 Ends tried.NotDialed head last old new result = Refuses own.Dial head last old new result
-Ends tried.NotSent head last old new result = Refuses own.Upstream head last old new result
-Ends tried.Silent head last old new result = Refuses own.Upstream head last old new result
-Ends tried.NoReply head last old new result = Refuses own.Upstream head last old new result
-Ends tried.BadBody head last old new result = Refuses own.Body head last old new result
-Ends tried.LongBody head last old new result = Refuses own.TooLong head last old new result
-Ends tried.BodyCut head last old new result = Rests old new × (result ≡ Some ended.Cut)
-Ends tried.BodyFault head last old new result = Rests old new × (result ≡ Some ended.ReadFault)
-Ends tried.ReplyCut head last old new result = Rests old new × (result ≡ Some ended.UpstreamCut)
-Ends tried.WrittenShort head last old new result = Rests old new × (result ≡ Some ended.WriteFault)
-Ends tried.OutOfMemory head last old new result = Rests old new × (result ≡ Some ended.OutOfMemory)
-Ends (tried.Whole status closes reusable) head last old new result =
+Ends (tried.NotSent moved) head last old new result = Refuses own.Upstream head last old new result
+Ends (tried.Silent moved) head last old new result = Refuses own.Upstream head last old new result
+Ends (tried.NoReply moved) head last old new result = Refuses own.Upstream head last old new result
+Ends (tried.BadBody moved) head last old new result = Refuses own.Body head last old new result
+Ends (tried.LongBody moved) head last old new result = Refuses own.TooLong head last old new result
+Ends (tried.BodyCut moved) head last old new result = Rests old new × (result ≡ Some ended.Cut)
+Ends (tried.BodyFault moved) head last old new result =
+    Rests old new × (result ≡ Some ended.ReadFault)
+Ends (tried.ReplyCut moved status) head last old new result =
+    Rests old new × (result ≡ Some ended.UpstreamCut)
+Ends (tried.WrittenShort moved status) head last old new result =
+    Rests old new × (result ≡ Some ended.WriteFault)
+Ends (tried.OutOfMemory moved status) head last old new result =
+    Rests old new × (result ≡ Some ended.OutOfMemory)
+Ends (tried.Whole moved status closes reusable) head last old new result =
     Rests old new × (result ≡ end_of closes last)

@@ -27,17 +27,17 @@ use Rattle.replica_try.specs.Trying.{Tries, is_repeatable}
 -- no reply to a request that may be repeated
 abbrev pub may_repeat : Head → Framing → Tried → Bool
 may_repeat head framing tried.NotDialed = true
-may_repeat head framing tried.NotSent = is_repeatable head framing
-may_repeat head framing tried.Silent = is_repeatable head framing
-may_repeat head framing tried.NoReply = is_repeatable head framing
-may_repeat head framing tried.BadBody = false
-may_repeat head framing tried.LongBody = false
-may_repeat head framing tried.BodyCut = false
-may_repeat head framing tried.BodyFault = false
-may_repeat head framing tried.ReplyCut = false
-may_repeat head framing tried.WrittenShort = false
-may_repeat head framing (tried.Whole status closes reusable) = false
-may_repeat head framing tried.OutOfMemory = false
+may_repeat head framing (tried.NotSent moved) = is_repeatable head framing
+may_repeat head framing (tried.Silent moved) = is_repeatable head framing
+may_repeat head framing (tried.NoReply moved) = is_repeatable head framing
+may_repeat head framing (tried.BadBody moved) = false
+may_repeat head framing (tried.LongBody moved) = false
+may_repeat head framing (tried.BodyCut moved) = false
+may_repeat head framing (tried.BodyFault moved) = false
+may_repeat head framing (tried.ReplyCut moved status) = false
+may_repeat head framing (tried.WrittenShort moved status) = false
+may_repeat head framing (tried.Whole moved status closes reusable) = false
+may_repeat head framing (tried.OutOfMemory moved status) = false
 
 -- how many retries a request may have: none, where there is no budget
 abbrev pub most_of : Option BudgetValue → ℕ

@@ -8,9 +8,12 @@ pub mod Answering
 pub mod Exchange
 pub mod Attempts
 pub mod Requests
+pub mod Done
 pub mod Standing
 pub mod Sending
+pub mod Ways
 pub mod Session
+pub mod Recorded
 pub mod Idle
 pub mod Causes
 pub mod Laws

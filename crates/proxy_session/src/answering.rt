@@ -46,17 +46,20 @@ impl HeldTry<'_> {
     {
         match tried {
             Tried::NotDialed => refuse(alloc, self.to.head, self.to.last, OwnError::Dial, peer),
-            Tried::NotSent => refuse(alloc, self.to.head, self.to.last, OwnError::Upstream, peer),
-            Tried::Silent => refuse(alloc, self.to.head, self.to.last, OwnError::Upstream, peer),
-            Tried::NoReply => refuse(alloc, self.to.head, self.to.last, OwnError::Upstream, peer),
-            Tried::BadBody => refuse(alloc, self.to.head, self.to.last, OwnError::Body, peer),
-            Tried::LongBody => refuse(alloc, self.to.head, self.to.last, OwnError::TooLong, peer),
-            Tried::BodyCut => Some(Ended::Cut),
-            Tried::BodyFault => Some(Ended::ReadFault),
-            Tried::ReplyCut => Some(Ended::UpstreamCut),
-            Tried::WrittenShort => Some(Ended::WriteFault),
-            Tried::OutOfMemory => Some(Ended::OutOfMemory),
+            Tried::NotSent(_) | Tried::Silent(_) | Tried::NoReply(_) => {
+                refuse(alloc, self.to.head, self.to.last, OwnError::Upstream, peer)
+            }
+            Tried::BadBody(_) => refuse(alloc, self.to.head, self.to.last, OwnError::Body, peer),
+            Tried::LongBody(_) => {
+                refuse(alloc, self.to.head, self.to.last, OwnError::TooLong, peer)
+            }
+            Tried::BodyCut(_) => Some(Ended::Cut),
+            Tried::BodyFault(_) => Some(Ended::ReadFault),
+            Tried::ReplyCut { .. } => Some(Ended::UpstreamCut),
+            Tried::WrittenShort { .. } => Some(Ended::WriteFault),
+            Tried::OutOfMemory { .. } => Some(Ended::OutOfMemory),
             Tried::Whole {
+                moved: _,
                 status: _,
                 closes,
                 reusable: _,
@@ -66,23 +69,19 @@ impl HeldTry<'_> {
 }
 
 /// What is reported of the replica, if something is: whether it answered well.
-fn report_of(tried: Tried) -> Option<bool>
+pub(crate) fn report_of(tried: Tried) -> Option<bool>
     ensures { result ≡ report_of tried }
 {
     match tried {
-        Tried::NotDialed | Tried::NotSent | Tried::Silent | Tried::NoReply | Tried::ReplyCut => {
-            Some(false)
-        }
+        Tried::NotDialed | Tried::NotSent(_) | Tried::Silent(_) | Tried::NoReply(_) => Some(false),
+        Tried::ReplyCut { .. } => Some(false),
         Tried::Whole {
+            moved: _,
             status,
             closes: _,
             reusable: _,
         } => Some(status < 500),
-        Tried::BadBody
-        | Tried::LongBody
-        | Tried::BodyCut
-        | Tried::BodyFault
-        | Tried::WrittenShort
-        | Tried::OutOfMemory => None,
+        Tried::BadBody(_) | Tried::LongBody(_) | Tried::BodyCut(_) | Tried::BodyFault(_) => None,
+        Tried::WrittenShort { .. } | Tried::OutOfMemory { .. } => None,
     }
 }

@@ -13,6 +13,7 @@ ghost use Rattle.proxy_session.specs.Asking.{behind_draw, drawn};
 ghost use Rattle.proxy_session.specs.Callers.{SeesMore, caller_of};
 ghost use Rattle.proxy_session.specs.Found.{Picks, PicksOnce, ReturnsSome, Says, Sees, StopsPick};
 ghost use Rattle.proxy_session.specs.Found.{client_in, fresh_in, picked_of, residual_in, said_in};
+ghost use Rattle.proxy_session.specs.Ways.{is_first};
 
 use crate::context::Context;
 use crate::{Bytes, Mem};
@@ -55,6 +56,15 @@ pub(crate) enum Found {
     },
     /// There is none.
     None(Why),
+}
+
+/// An ask that was answered.
+#[derive(Drop)]
+pub(crate) struct Asked {
+    /// What it found.
+    pub(crate) found: Found,
+    /// Whether a delegation was kept for it.
+    pub(crate) hit: bool,
 }
 
 /// What a second ask was answered.
@@ -135,25 +145,35 @@ pub(crate) fn draw<C: Clock>(ask: &mut Ask, clock: &mut C, words: &mut Pcg64)
 }
 
 /// Finds a replica: by what is kept for the ask, and else by a second ask, which works it out. What
-/// that worked out is given back, to be kept.
+/// that worked out is given back, to be kept. An `Err` comes only where nothing was kept.
 pub(crate) fn find<J: Naming, R: Wait>(
     context: &Context<'_, J, R>,
     pass: &mut Pass<J>,
     ask: &Ask,
     names: &mut Names,
-) -> Mem<Found>
-    ensures ok { IfOk result (λ f. (said : PickValue) × Finding J.settings (caller_of pass.old)
-        (caller_of pass.new) (ask_of ask.now) said × Says said names.new f) }
+) -> Mem<Asked>
+    ensures ok { IfOk result (λ a. (said : PickValue) × (finds : Finding J.settings
+        (caller_of pass.old) (caller_of pass.new) (ask_of ask.now) said)
+        × Says said names.new a.found × (a.hit ≡ is_first finds)) }
     ensures err { OnErr result (StopsAsking J.settings (caller_of pass.old) (caller_of pass.new)
         (ask_of ask.now)) }
 {
     match peek(context, pass, ask, names) {
-        Seen::Hit(choice) => Ok(Found::Replica {
-            choice,
-            texts: Texts::Kept,
+        Seen::Hit(choice) => Ok(Asked {
+            found: Found::Replica {
+                choice,
+                texts: Texts::Kept,
+            },
+            hit: true,
         }),
-        Seen::None(why) => Ok(Found::None(why)),
-        Seen::Miss => find_anew(context, pass, ask),
+        Seen::None(why) => Ok(Asked {
+            found: Found::None(why),
+            hit: true,
+        }),
+        Seen::Miss => match find_anew(context, pass, ask) {
+            Ok(found) => Ok(Asked { found, hit: false }),
+            Err(want) => Err(want),
+        },
     }
 }
 

@@ -3,18 +3,22 @@ ghost use Rattle.std.specs.Prelude.{◌≡◌, ◌<◌, None, IfSome};
 ghost use Rattle.machine.specs.Code.{ask_of};
 ghost use Rattle.router.specs.Passes.{slot_in};
 ghost use Rattle.proxy_session.specs.Answering.{own_of_why};
-ghost use Rattle.proxy_session.specs.Sending.{AsksSo, HasWord, IsHeadOf, SendsFound, SendsSo};
+ghost use Rattle.proxy_session.specs.Done.{CountsUpTo};
+ghost use Rattle.proxy_session.specs.Sending.{HasWord, IsHeadOf};
 ghost use Rattle.proxy_session.specs.Sought.{sought_of};
 ghost use Rattle.proxy_session.specs.Standing.{standing};
+ghost use Rattle.proxy_session.specs.Ways.{AsksAs, FoundAs, SendsAs};
 
 use crate::asking::{Found, Texts, find};
 use crate::connection::Connection;
 use crate::context::Context;
+use crate::done::{stopped, unbound};
 use crate::held_try::HeldTry;
 use crate::onward::Onward;
 use crate::refusing::refuse;
 use crate::seeking::Request;
 use crate::server::Server;
+use exchange_tally::Done;
 use http_wire::{Ended, Head};
 use line_base::{Clock, Dialer, Peer};
 use machine::Why;
@@ -33,6 +37,15 @@ pub(crate) enum Attempt {
     Failed,
 }
 
+/// An attempt that was made.
+#[derive(Clone, Copy, Debug)]
+pub(crate) struct Made {
+    /// How it ends.
+    pub(crate) how: Attempt,
+    /// What it was, in numbers.
+    pub(crate) done: Done,
+}
+
 impl<J: Naming, D: Dialer, C: Clock> Server<J, D, C> {
     /// Makes one attempt: finds a replica for what was drawn, and tries it. Another one may follow
     /// where the request has `fewer` retries than it may have.
@@ -44,17 +57,19 @@ impl<J: Naming, D: Dialer, C: Clock> Server<J, D, C> {
         last: bool,
         fewer: bool,
         request: &Request,
-    ) -> Attempt
+    ) -> Made
         requires free { slot_in self.old.pass ≡ None }
-        ensures asks { let at = standing P.line D.upstream C.to_come in AsksSo J.settings head.now
+        ensures asks { let at = standing P.line D.upstream C.to_come in AsksAs J.settings head.now
             last (sought_of request.now) (ask_of request.now.ask) fewer connection.old.budget
             connection.new.budget (at connection.old self.old) (at connection.new self.new)
-            result }
+            result.how result.done }
+        ensures few { CountsUpTo 1 result.done }
         ensures slot { slot_in self.new.pass ≡ None }
+        ensures client { connection.new.client ≡ connection.old.client }
         ensures served { connection.new.served ≡ connection.old.served }
     {
         match find(context, &mut self.pass, &request.ask, &mut self.names) {
-            Ok(found) => {
+            Ok(asked) => {
                 let going = Onward {
                     head,
                     last,
@@ -64,10 +79,17 @@ impl<J: Naming, D: Dialer, C: Clock> Server<J, D, C> {
                     host: request.host.as_slice(),
                     ask: &request.ask,
                     closes: !self.way.dialer.keeps(),
+                    hit: asked.hit,
                 };
-                self.send_found(context, connection, &going, &found)
+                self.send_found(context, connection, &going, &asked.found)
             }
-            Err(_) => Attempt::Last(Some(Ended::OutOfMemory)),
+            Err(_) => {
+                let end = Some(Ended::OutOfMemory);
+                Made {
+                    how: Attempt::Last(end),
+                    done: stopped(false, end),
+                }
+            }
         }
     }
 
@@ -78,24 +100,33 @@ impl<J: Naming, D: Dialer, C: Clock> Server<J, D, C> {
         connection: &mut Connection<P>,
         going: &Onward<'_>,
         found: &Found,
-    ) -> Attempt
+    ) -> Made
         requires word { HasWord found.now }
         requires free { slot_in self.old.pass ≡ None }
-        ensures sends { let at = standing P.line D.upstream C.to_come in SendsFound J.settings
+        ensures sends { let at = standing P.line D.upstream C.to_come in FoundAs J.settings
             going.now self.old.names found.now connection.old.budget connection.new.budget
-            (at connection.old self.old) (at connection.new self.new) result }
+            (at connection.old self.old) (at connection.new self.new) result.how result.done }
+        ensures few { CountsUpTo 1 result.done }
         ensures slot { slot_in self.new.pass ≡ None }
         ensures words { self.new.words ≡ self.old.words }
+        ensures client { connection.new.client ≡ connection.old.client }
         ensures served { connection.new.served ≡ connection.old.served }
     {
         match found {
-            Found::None(why) => Attempt::Last(refuse(
-                context.alloc,
-                going.head,
-                going.last,
-                own_error(*why),
-                &mut connection.peer,
-            )),
+            Found::None(why) => {
+                let err = own_error(*why);
+                let end = refuse(
+                    context.alloc,
+                    going.head,
+                    going.last,
+                    err,
+                    &mut connection.peer,
+                );
+                Made {
+                    how: Attempt::Last(end),
+                    done: unbound(going.hit, err, going.head, end),
+                }
+            }
             Found::Replica { choice, texts } => {
                 self.send_to(context, connection, going, *choice, texts)
             }
@@ -111,16 +142,18 @@ impl<J: Naming, D: Dialer, C: Clock> Server<J, D, C> {
         going: &Onward<'_>,
         choice: Choice,
         texts: &Texts,
-    ) -> Attempt
+    ) -> Made
         requires word { IfSome choice.slot (λ word. word < 8192) }
         requires free { slot_in self.old.pass ≡ None }
-        ensures sends { let at = standing P.line D.upstream C.to_come in SendsSo J.settings
+        ensures sends { let at = standing P.line D.upstream C.to_come in SendsAs J.settings
             going.now choice.addr choice.slot
             (IsHeadOf going.now choice.addr self.old.names texts.now) connection.old.budget
             connection.new.budget (at connection.old self.old) (at connection.new self.new)
-            result }
+            result.how result.done }
+        ensures few { CountsUpTo 1 result.done }
         ensures slot { slot_in self.new.pass ≡ None }
         ensures words { self.new.words ≡ self.old.words }
+        ensures client { connection.new.client ≡ connection.old.client }
         ensures served { connection.new.served ≡ connection.old.served }
     {
         let written = going.write(
@@ -131,7 +164,11 @@ impl<J: Naming, D: Dialer, C: Clock> Server<J, D, C> {
             &mut self.way.out,
         );
         let Ok(()) = written else {
-            return Attempt::Last(Some(Ended::OutOfMemory));
+            let end = Some(Ended::OutOfMemory);
+            return Made {
+                how: Attempt::Last(end),
+                done: stopped(going.hit, end),
+            };
         };
         let to = HeldTry {
             to: Try {
@@ -150,12 +187,23 @@ impl<J: Naming, D: Dialer, C: Clock> Server<J, D, C> {
             &mut self.way,
         );
         let Ok(()) = to.report_on(context, &mut self.pass, tried, &mut self.clock) else {
-            return Attempt::Last(Some(Ended::OutOfMemory));
+            let end = Some(Ended::OutOfMemory);
+            return Made {
+                how: Attempt::Last(end),
+                done: to.done(tried, going.hit, false, end),
+            };
         };
         if to.charge_for_another(tried, going.fewer, &mut connection.budget) {
-            return Attempt::Failed;
+            return Made {
+                how: Attempt::Failed,
+                done: to.in_vain(tried, going.hit),
+            };
         }
-        Attempt::Last(to.answer(context.alloc, tried, &mut connection.peer))
+        let end = to.answer(context.alloc, tried, &mut connection.peer);
+        Made {
+            how: Attempt::Last(end),
+            done: to.done(tried, going.hit, true, end),
+        }
     }
 }
 

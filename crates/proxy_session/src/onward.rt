@@ -33,6 +33,8 @@ pub(crate) struct Onward<'a> {
     pub(crate) ask: &'a Ask,
     /// Whether the replica is asked to end the connection behind its reply: it is not kept.
     pub(crate) closes: bool,
+    /// Whether a delegation was kept for the ask.
+    pub(crate) hit: bool,
 }
 
 impl Onward<'_> {

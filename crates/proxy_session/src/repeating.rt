@@ -31,19 +31,12 @@ impl HeldTry<'_> {
     {
         match tried {
             Tried::NotDialed => true,
-            Tried::NotSent | Tried::Silent | Tried::NoReply => self.to.is_repeatable(),
-            Tried::BadBody
-            | Tried::LongBody
-            | Tried::BodyCut
-            | Tried::BodyFault
-            | Tried::ReplyCut
-            | Tried::WrittenShort
-            | Tried::OutOfMemory => false,
-            Tried::Whole {
-                status: _,
-                closes: _,
-                reusable: _,
-            } => false,
+            Tried::NotSent(_) | Tried::Silent(_) | Tried::NoReply(_) => self.to.is_repeatable(),
+            Tried::BadBody(_) | Tried::LongBody(_) | Tried::BodyCut(_) | Tried::BodyFault(_) => {
+                false
+            }
+            Tried::ReplyCut { .. } | Tried::WrittenShort { .. } => false,
+            Tried::OutOfMemory { .. } | Tried::Whole { .. } => false,
         }
     }
 }

@@ -32,6 +32,27 @@ pub(crate) struct Request {
     pub(crate) ask: Ask,
 }
 
+impl Request {
+    /// The path that it names.
+    pub(crate) fn into_path(self) -> Path
+        ensures { result ≡ self.ask.path }
+    {
+        let Request {
+            framing: _,
+            target: _,
+            host: _,
+            ask,
+        } = self;
+        let Ask {
+            path,
+            local: _,
+            moment: _,
+            words: _,
+        } = ask;
+        path
+    }
+}
+
 /// Why a request is not routed.
 #[derive(Clone, Copy, Debug, PartialEq, Eq)]
 pub(crate) enum Refusal {

@@ -1,5 +1,5 @@
 //! Two sessions beside one another, of which a request of the one is held until the other's is
-//! answered.
+//! answered, and what a worker's stack has room for.
 ghost use Rattle.std.specs.Prelude.{◌≡◌, None, Some, IfOk};
 ghost use Rattle.load_words.specs.Seats.{words_of};
 ghost use Rattle.router.specs.Passes.{slot_in};
@@ -7,9 +7,11 @@ ghost use Rattle.router.specs.Values.{settings_in};
 ghost use Rattle.snap_cell.specs.Writers.{cell_written, opening_written};
 
 use crate::scene::{Mem, Scene, by_host, client, clock, settings, spelling, spelt};
+use exchange_record::NoRecorder;
 use http_wire::{Ended, Paused};
 use identifier::Rule;
-use line_base::{Failed, Gate, MemClock, MemDialer, MemPeer, Next, Peer};
+use line_base::{Failed, Gate, MemClock, MemDialer, MemPeer, Next, Peer, SocketAddress};
+use name_tree::MOST_OPEN;
 use proxy_session::{Connection, Context, Parts, Room, Server};
 use rand_core::SeedableRng;
 use rand_pcg::Pcg64;
@@ -38,6 +40,13 @@ const SECOND: (&str, &str) = (
     "GET / HTTP/1.1|Host: web|l5d-dtab: /svc => !||",
     "HTTP/1.1 502 Bad Gateway|Content-Type: text/plain|l5d-err: failing|Content-Length: 8||failing~",
 );
+
+/// What a request is answered whose replica gives nothing.
+const NO_REPLY: &str =
+    "HTTP/1.1 502 Bad Gateway|Content-Type: text/plain|l5d-err: upstream|Content-Length: 9||upstream~";
+
+/// How many lookups a chain may have.
+const LOOKUPS: u32 = 100;
 
 /// Holds the first worker's request until the second worker's is answered, and that one until the
 /// first's has begun.
@@ -106,6 +115,12 @@ impl Peer for Client<'_> {
 
     ghost line = { λ c. line_of c.peer };
 
+    ghost address = { λ c. c.peer.address };
+
+    fn address(&self) -> Option<SocketAddress> {
+        self.peer.address()
+    }
+
     fn read(&mut self, into: &mut [u8]) -> Result<usize, Failed> {
         self.peer.read(into)
     }
@@ -155,9 +170,13 @@ impl<J: Naming> Job for Visit<'_, J> {
             rule: self.rule,
         };
         let mut connection = Connection::of(client);
-        let paused = self
-            .server
-            .serve_stay(&context, &mut connection, gate, self.number);
+        let paused = self.server.serve_stay(
+            &context,
+            &mut connection,
+            gate,
+            self.number,
+            &mut NoRecorder,
+        );
         self.client = Some(connection.into_peer());
         paused
     }
@@ -301,17 +320,15 @@ fn serve_named<J: Naming + Send + Sync, R: Wait + Threads + Abort + Sync>(
     Ok((first.1?, second.1?))
 }
 
-/// What comes of both requests, over a router without a table.
+/// What comes of the first request and of a second client's, over a router without a table.
 fn cross<R: Wait + Threads + Abort + Sync>(
     rt: &R,
     alloc: Global,
+    second: MemPeer,
     crossing: &Crossing,
 ) -> Result<(Told, Told), Fail> {
     let rule = by_host(alloc)?;
-    let clients = (
-        client(alloc, &Scene::of("", FIRST.0, &[]))?,
-        client(alloc, &Scene::of("", SECOND.0, &[]))?,
-    );
+    let clients = (client(alloc, &Scene::of("", FIRST.0, &[]))?, second);
     let opened = open(rt, alloc, settings(alloc, "")?, 2)?;
     Ok(serve_named::<Brand, R>(rt, alloc, opened, &rule, clients, crossing)?)
 }
@@ -322,12 +339,59 @@ fn cross<R: Wait + Threads + Abort + Sync>(
 fn a_request_is_held_until_another_is_answered(rt: HostRuntime) -> Result<(), Fail> {
     let alloc = rt.alloc();
     let crossing = Crossing::new();
-    let (first, second) = cross(&rt, alloc, &crossing)?;
+    let second = client(alloc, &Scene::of("", SECOND.0, &[]))?;
+    let (first, second) = cross(&rt, alloc, second, &crossing)?;
     assert_eq!(rt; crossing.released.load(Ordering::SeqCst), 2);
     let answer = spelt(alloc, SECOND.1)?.len() as u64;
     assert_eq!(rt; crossing.answered.load(Ordering::SeqCst), answer);
     let ended = Paused::Ended(Ended::PeerEnded);
     assert_eq!(rt; (first.0, first.1.as_str()), (ended, FIRST.1));
     assert_eq!(rt; (second.0, second.1.as_str()), (ended, SECOND.1));
+    Ok(())
+}
+
+/// Puts a leaf behind some text, in as many unions of one branch as a tree may nest.
+fn put_nested(text: &mut String, leaf: &str) -> Mem<()> {
+    for _open in 0..MOST_OPEN {
+        text.push_str("1*(")?;
+    }
+    text.push_str("1*")?;
+    text.push_str(leaf)?;
+    for _open in 0..MOST_OPEN {
+        text.push(')')?;
+    }
+    Ok(())
+}
+
+/// A request whose table nests the most unions in one another: each lookup of a chain leads to the
+/// next one by nested unions, and the last is of an address.
+fn nesting(alloc: Global) -> Mem<String> {
+    let mut text = String::new(alloc);
+    text.push_str("GET / HTTP/1.1|Host: web|l5d-dtab: /svc/web=>")?;
+    for number in 2..LOOKUPS {
+        let path = format!(in alloc; "/{number}")?;
+        put_nested(&mut text, path.as_str())?;
+        text.push(';')?;
+        text.push_str(path.as_str())?;
+        text.push_str("=>")?;
+    }
+    put_nested(&mut text, "/$/inet/127.0.0.1/1")?;
+    text.push_str("||")?;
+    Ok(text)
+}
+
+/// The stack of a worker's thread has room for the deepest outcome that a table can make: it is
+/// made, chosen from and let go of.
+#[test]
+fn a_worker_has_the_stack_for_nested_unions(rt: HostRuntime) -> Result<(), Fail> {
+    let alloc = rt.alloc();
+    let crossing = Crossing::new();
+    let request = nesting(alloc)?;
+    let second = client(alloc, &Scene::of("", request.as_str(), &[]))?;
+    let (_first, second) = cross(&rt, alloc, second, &crossing)?;
+    assert_eq!(rt;
+        (second.0, second.1.as_str()),
+        (Paused::Ended(Ended::PeerEnded), NO_REPLY)
+    );
     Ok(())
 }

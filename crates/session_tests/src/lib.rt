@@ -1,7 +1,8 @@
 //! Whole sessions over peers, dialers and clocks in memory: worked exchanges with the bytes on both
 //! sides, hostile and large requests, each failing call, limits, requests that are tried again, and
-//! connections that are kept; one request by itself; what a dialer sees of the router; two sessions
-//! beside one another; and a connection that another server goes on with.
+//! connections that are kept; one request by itself; what a dialer sees of the router; what a
+//! recorder is told of; two sessions beside one another; and a connection that another server goes
+//! on with.
 #![tactic(auto)]
 
 #[cfg(test)]
@@ -22,6 +23,8 @@ mod limits;
 mod moving;
 #[cfg(test)]
 mod played;
+#[cfg(test)]
+mod recorded;
 #[cfg(test)]
 mod replies;
 #[cfg(test)]

@@ -12,6 +12,7 @@ use crate::row::joined;
 use crate::scene::{
     BOOK, Failing, Mem, Scene, by_host, client, clock, one_address, settings, spelling, upstreams,
 };
+use exchange_record::NoRecorder;
 use http_wire::{Ended, Paused};
 use identifier::Rule;
 use line_base::{MemClock, MemDialer};
@@ -99,11 +100,11 @@ fn serve<J: Naming, R: Wait + Abort>(
         panic!(context.rt; "no memory for the servers")
     };
     let mut connection = scene.connection(peer);
-    let Paused::Quiet = first.serve_stay(context, &mut connection, &Free, 0) else {
+    let Paused::Quiet = first.serve_stay(context, &mut connection, &Free, 0, &mut NoRecorder) else {
         panic!(context.rt; "the connection ended")
     };
     second.learn(first.ticket());
-    let paused = second.serve_stay(context, &mut connection, &Free, 1);
+    let paused = second.serve_stay(context, &mut connection, &Free, 1, &mut NoRecorder);
     let moved = match spelling(alloc, connection.into_peer().sink().held()) {
         Ok(written) => Ok((paused, written)),
         Err(want) => Err(want),

@@ -7,6 +7,7 @@ ghost use Rattle.router.specs.Passes.{slot_in};
 ghost use Rattle.router.specs.Values.{settings_in};
 ghost use Rattle.snap_cell.specs.Writers.{cell_written, opening_written};
 
+use crate::recorded::Keeper;
 use crate::scene::{
     Bytes, Mem, Scene, Serving, by_host, client, clock, one_address, settings, spelling, upstreams,
 };
@@ -54,6 +55,8 @@ pub(crate) struct Played {
     pub(crate) reported: (u64, u32),
     /// The load of the replica, where something is kept for it.
     pub(crate) load: Option<u64>,
+    /// What was told of its exchanges.
+    pub(crate) told: String,
 }
 
 /// What the tries of a dialer sent.
@@ -162,13 +165,14 @@ fn serve_all<J: Naming, R: Wait>(
     context: &Context<'_, J, R>,
     server: &mut Server<J, MemDialer, MemClock>,
     connection: &mut Connection<MemPeer>,
+    keeper: &mut Keeper,
 ) -> Option<Ended>
     requires free { slot_in server.old.pass ≡ None }
     requires few { connection.old.served < 10000 }
 {
-    match server.serve_stay(context, connection, &Free, 0) {
+    match server.serve_stay(context, connection, &Free, 0, keeper) {
         Paused::Ended(ended) => Some(ended),
-        Paused::Quiet => match server.serve_stay(context, connection, &Free, 0) {
+        Paused::Quiet => match server.serve_stay(context, connection, &Free, 0, keeper) {
             Paused::Ended(ended) => Some(ended),
             Paused::Quiet => None,
         },
@@ -186,7 +190,7 @@ fn serve_first<J: Naming, R: Wait>(
     let NextHead::Head(head) = server.next_head(context.alloc, connection) else {
         return Some(Ended::Cut);
     };
-    server.proxy_once(context, connection, &head, false)
+    server.proxy_once(context, connection, &head, false).end
 }
 
 /// Gives `web` its address, which then fails once.
@@ -210,7 +214,13 @@ fn prepare<J: Naming, R: Wait>(
 }
 
 /// What the outside was told of a session that ended so.
-fn told(alloc: Global, peer: &MemPeer, dialer: &MemDialer, ended: Option<Ended>) -> Mem<Played> {
+fn told(
+    alloc: Global,
+    peer: &MemPeer,
+    dialer: &MemDialer,
+    keeper: Keeper,
+    ended: Option<Ended>,
+) -> Mem<Played> {
     let sent = sent_of(alloc, dialer.log())?;
     Ok(Played {
         written: spelling(alloc, peer.sink().held())?,
@@ -220,6 +230,7 @@ fn told(alloc: Global, peer: &MemPeer, dialer: &MemDialer, ended: Option<Ended>)
         ended,
         reported: (0, 0),
         load: None,
+        told: keeper.into_text(),
     })
 }
 
@@ -248,8 +259,9 @@ fn play_on<J: Naming, R: Wait>(
     };
     let mut server = Server::of(room, parts);
     let mut connection = scene.connection(peer);
+    let mut keeper = Keeper::new(alloc);
     let ended = match scene.serving {
-        Serving::Session => serve_all(context, &mut server, &mut connection),
+        Serving::Session => serve_all(context, &mut server, &mut connection, &mut keeper),
         Serving::FirstRequest => serve_first(context, &mut server, &mut connection),
     };
     let Parts {
@@ -259,7 +271,7 @@ fn play_on<J: Naming, R: Wait>(
         words: _,
     } = server.into_parts();
     let peer = connection.into_peer();
-    (pass, told(alloc, &peer, &dialer, ended))
+    (pass, told(alloc, &peer, &dialer, keeper, ended))
 }
 
 /// What a scene left at the router that was played over it.

@@ -8,7 +8,7 @@ use choose_core::Limits;
 use dtab_table::read_dtab;
 use http_wire::FieldName;
 use identifier::{Kind, Rule};
-use line_base::{MemClock, MemDialer, MemPeer, MemSink, MemSource};
+use line_base::{MemClock, MemDialer, MemPeer, MemSink, MemSource, Peer, SocketAddress};
 use machine::{Change, Settings};
 use name_tree::read_path;
 use proxy_session::Connection;
@@ -96,7 +96,7 @@ impl<'a> Scene<'a> {
     }
 
     /// The connection to its client.
-    pub(crate) fn connection<P>(&self, peer: P) -> Connection<P>
+    pub(crate) fn connection<P: Peer>(&self, peer: P) -> Connection<P>
         ensures { result.served ≡ 0 }
     {
         match self.tries {
@@ -219,6 +219,12 @@ fn given(alloc: Global, scene: &Scene<'_>) -> Mem<Bytes> {
     Ok(gives)
 }
 
+/// Where the client of a scene is.
+const CLIENT: SocketAddress = SocketAddress {
+    ip: 0x7f000001,
+    port: 4711,
+};
+
 /// The client of a scene.
 pub(crate) fn client(alloc: Global, scene: &Scene<'_>) -> Mem<MemPeer> {
     let (read, write) = match scene.failing {
@@ -236,6 +242,7 @@ pub(crate) fn client(alloc: Global, scene: &Scene<'_>) -> Mem<MemPeer> {
         Some(question) => MemPeer::closing(source, sink, question),
         None => MemPeer::of(source, sink),
     };
+    let peer = peer.at(CLIENT);
     Ok(peer.quiet(Vec::from_slice(alloc, scene.quiet)?))
 }
 

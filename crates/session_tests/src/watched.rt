@@ -13,6 +13,7 @@ use crate::scene::{
     upstreams,
 };
 use addr_book::Name;
+use exchange_record::NoRecorder;
 use identifier::Rule;
 use line_base::{Dialer, Failed, MemClock, MemDialer};
 use machine::Change;
@@ -174,7 +175,7 @@ fn serve<J: Naming, R: Wait + Abort>(
         panic!(context.rt; "no server")
     };
     let mut connection = scene.connection(peer);
-    let _paused = server.serve_stay(context, &mut connection, &Free, 0);
+    let _paused = server.serve_stay(context, &mut connection, &Free, 0, &mut NoRecorder);
     let Parts {
         pass,
         dialer,

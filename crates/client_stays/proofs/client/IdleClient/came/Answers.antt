@@ -10,5 +10,6 @@ invariant_of-result g c =
     let made = c.connection_of.ensures in
     new_waits g.J.Naming.settings g.J.Handling.rule g.J.Handling.tries c.args.tries
     (line_of c.of-first.result.value) (line_of c.connection_of.result.peer)
-    c.connection_of.result.served c.connection_of.result.budget (told_in c.ticket.result)
-    (ap line_of (made.0 ∙ sym c.of-first.ensures)) made.1 made.2 c.requires.tries
+    c.connection_of.result.client c.connection_of.result.served c.connection_of.result.budget
+    (told_in c.ticket.result) (ap line_of (made.0 ∙ sym c.of-first.ensures)) made.2 made.3
+    c.requires.tries

@@ -12,7 +12,7 @@ use Rattle.proxy_session.proofs.server.Server.attempt.Goals as goal
 pub send_found-requires-clause-word : goal.send_found-requires-clause-word
 send_found-requires-clause-word g c =
     let f = c.in-Ok.ensures.ok in
-    word_found f.0 c.find.new.names c.in-Ok.found f.2
+    word_found f.0 c.find.new.names c.in-Ok.asked.found f.2
     (finding_word g.J.Naming.settings (caller_of c.args.self.now.pass) (caller_of c.find.new.pass)
     (ask_of c.args.request.now.ask) f.0 f.1)
 
@@ -35,6 +35,7 @@ returns-in-Ok-clause-asks g c =
       host = c.as_slice-in-Ok.result;
       ask = record { ref_ptr = c.args.head.ref_ptr; now = c.args.request.now.ask };
       closes = not c.keeps.result;
+      hit = c.in-Ok.asked.hit;
     } in
     asks_sent g.J.Naming.settings (sought_of c.args.request.now) going
     (at c.args.connection.now c.args.self.now) (at c.send_found.new.connection
@@ -46,23 +47,26 @@ returns-in-Ok-clause-asks g c =
       closes = ap not c.keeps.ensures;
     }) (caller_of c.find.new.pass)
     c.args.connection.now.budget c.send_found.new.connection.budget refl refl
-    f.0 c.find.new.names c.in-Ok.found c.send_found.result f.1 f.2 c.send_found.ensures.words
-    c.send_found.ensures.sends
+    f.0 c.find.new.names c.in-Ok.asked.found c.send_found.result.how c.send_found.result.done f.1
+    f.2 f.3 c.send_found.ensures.words c.send_found.ensures.sends
 
 pub returns-in-Err-clause-asks : goal.returns-in-Err-clause-asks
 returns-in-Err-clause-asks g c = (
-  refl,
-  refl,
-  inl (record {
-    asks = inl c.in-Err.ensures.err;
-    moments_are = refl;
-    away = record {
-      kept = refl;
-      upstream = idle_same (g.D.Dialer.upstream c.args.self.now.way.dialer);
-    };
-    line = rests_same (g.P.Peer.line c.args.connection.now.peer);
-    ends = refl;
-  }),
+  (
+    refl,
+    refl,
+    inl (record {
+      asks = inl c.in-Err.ensures.err;
+      moments_are = refl;
+      away = record {
+        kept = refl;
+        upstream = idle_same (g.D.Dialer.upstream c.args.self.now.way.dialer);
+      };
+      line = rests_same (g.P.Peer.line c.args.connection.now.peer);
+      ends = refl;
+    }),
+  ),
+  c.stopped.ensures.done,
 )
 
 pub returns-in-Err-clause-slot : goal.returns-in-Err-clause-slot

@@ -14,8 +14,9 @@ returns-in-Ok-clause-exchange g c =
     routed_request g.J.Naming.settings c.args.context.now.rule.now c.args.head.now c.args.last
     c.args.connection.now.budget c.pay.new.budget c.route.new.connection.budget
     (at c.args.connection.now c.args.self.now)
-    (at c.route.new.connection c.route.new.self) c.route.result (sought_of c.in-Ok.request)
-    c.pay.ensures c.in-Ok.ensures.seeks c.route.ensures.routes
+    (at c.route.new.connection c.route.new.self) c.route.result.end c.route.result.name
+    c.route.result.done (sought_of c.in-Ok.request) c.pay.ensures c.in-Ok.ensures.seeks
+    c.route.ensures.name c.route.ensures.routes
 
 pub returns-in-Ok-clause-cause : goal.returns-in-Ok-clause-cause
 returns-in-Ok-clause-cause g c =
@@ -24,7 +25,7 @@ returns-in-Ok-clause-cause g c =
     request_cause g.J.Naming.settings c.args.context.now.rule.now c.args.head.now c.args.last r.0
     c.args.connection.now.budget c.route.new.connection.budget
     (at c.args.connection.now c.args.self.now)
-    (at c.route.new.connection c.route.new.self) c.route.result r.1
+    (at c.route.new.connection c.route.new.self) c.route.result.end r.1.0
 
 pub returns-in-Ok-clause-last : goal.returns-in-Ok-clause-last
 returns-in-Ok-clause-last g c =
@@ -33,7 +34,7 @@ returns-in-Ok-clause-last g c =
     request_fits g.J.Naming.settings c.args.context.now.rule.now c.args.head.now c.args.last r.0
     c.args.connection.now.budget c.route.new.connection.budget
     (at c.args.connection.now c.args.self.now)
-    (at c.route.new.connection c.route.new.self) c.route.result r.1
+    (at c.route.new.connection c.route.new.self) c.route.result.end r.1.0
 
 pub returns-in-Ok-clause-closed : goal.returns-in-Ok-clause-closed
 returns-in-Ok-clause-closed g c =
@@ -42,7 +43,7 @@ returns-in-Ok-clause-closed g c =
     request_closed g.J.Naming.settings c.args.context.now.rule.now c.args.head.now c.args.last r.0
     c.args.connection.now.budget c.route.new.connection.budget
     (at c.args.connection.now c.args.self.now)
-    (at c.route.new.connection c.route.new.self) c.route.result r.1
+    (at c.route.new.connection c.route.new.self) c.route.result.end r.1.0
 
 pub returns-in-Ok-clause-number : goal.returns-in-Ok-clause-number
 returns-in-Ok-clause-number g c =
@@ -51,22 +52,25 @@ returns-in-Ok-clause-number g c =
     request_number g.J.Naming.settings c.args.context.now.rule.now c.args.head.now c.args.last r.0
     c.args.connection.now.budget c.route.new.connection.budget
     (at c.args.connection.now c.args.self.now)
-    (at c.route.new.connection c.route.new.self) c.route.result r.1
+    (at c.route.new.connection c.route.new.self) c.route.result.end r.1.0
 
 pub returns-in-Err-clause-exchange : goal.returns-in-Err-clause-exchange
 returns-in-Err-clause-exchange g c =
     let at = standing g.P.Peer.line g.D.Dialer.upstream g.C.Clock.to_come in
     let new = at (record {
       peer = c.refuse_request.new.peer;
+      client = c.args.connection.now.client;
       served = c.args.connection.now.served;
       budget = c.pay.new.budget;
     }) c.args.self.now in
     refused_request g.J.Naming.settings c.args.context.now.rule.now c.args.head.now c.args.last
     c.args.connection.now.budget c.pay.new.budget
-    (at c.args.connection.now c.args.self.now) new c.refuse_request.result c.pay.ensures
+    (at c.args.connection.now c.args.self.now) new c.refuse_request.result.end
+    c.refuse_request.result.name c.refuse_request.result.done c.pay.ensures
     (refused_so g.J.Naming.settings c.args.context.now.rule.now c.args.head.now c.args.last
     c.pay.new.budget
-    (at c.args.connection.now c.args.self.now) new c.refuse_request.result c.in-Err.refusal
+    (at c.args.connection.now c.args.self.now) new c.refuse_request.result.end
+    c.refuse_request.result.name c.refuse_request.result.done c.in-Err.refusal
     c.in-Err.ensures.seeks
     (record {
       away = record {
@@ -77,7 +81,8 @@ returns-in-Err-clause-exchange g c =
       moments = refl;
       words = refl;
     })
-    c.refuse_request.ensures)
+    c.refuse_request.ensures.refuses c.refuse_request.ensures.name
+    c.refuse_request.ensures.done)
 
 pub returns-in-Err-clause-cause : goal.returns-in-Err-clause-cause
 returns-in-Err-clause-cause g c =
@@ -88,9 +93,10 @@ returns-in-Err-clause-cause g c =
     (at c.args.connection.now c.args.self.now)
     (at (record {
       peer = c.refuse_request.new.peer;
+      client = c.args.connection.now.client;
       served = c.args.connection.now.served;
       budget = c.pay.new.budget;
-    }) c.args.self.now) c.refuse_request.result r.1
+    }) c.args.self.now) c.refuse_request.result.end r.1.0
 
 pub returns-in-Err-clause-last : goal.returns-in-Err-clause-last
 returns-in-Err-clause-last g c =
@@ -101,6 +107,7 @@ returns-in-Err-clause-last g c =
     (at c.args.connection.now c.args.self.now)
     (at (record {
       peer = c.refuse_request.new.peer;
+      client = c.args.connection.now.client;
       served = c.args.connection.now.served;
       budget = c.pay.new.budget;
-    }) c.args.self.now) c.refuse_request.result r.1
+    }) c.args.self.now) c.refuse_request.result.end r.1.0
