@@ -17,10 +17,11 @@ use Rattle.admin_api.specs.contracts.worker.ApiWorker as ApiWorker
 own_send : (T : RattleType) → IsSend T → IsSend (as_row (row_field T))
 own_send T s = as_row_send (row_field T) s
 
-module _ (J S : RattleType) (n : naming.Ghosts J.Denot) (l : ledger.Ghosts J.Denot) where
-  pub worker_send : IsSend J → IsSend S → IsSend (ApiWorker.the_row J S n l)
-  worker_send j s =
-      declared_send (ApiWorker.the_type J S n l) (pass_send J n l j, (own_send S s, tt))
+module _ (J S X : RattleType) (n : naming.Ghosts J.Denot) (l : ledger.Ghosts J.Denot) where
+  pub worker_send : IsSend J → IsSend S → IsSend X → IsSend (ApiWorker.the_row J S X n l)
+  worker_send j s x =
+      declared_send (ApiWorker.the_type J S X n l)
+      (pass_send J n l j, (own_send S s, (own_send X x, tt)))
 
 which_send : IsSend Which.the_row
 which_send = variants_send Which.enum (tt, ((search sendable, tt), ((search sendable, tt), tt)))

@@ -1,4 +1,5 @@
 pub mod Addrs
+pub mod Carrying
 pub mod Crossing
 pub mod Paths
 pub mod Requesting

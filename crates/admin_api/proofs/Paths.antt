@@ -1,11 +1,11 @@
 -- Demands of the admin interface by their paths.
-use Rattle.std.proofs.Common.{◌≡◌, ℕ, Bool, false, List, Option, ap, sym, ◌∙◌}
+use Rattle.std.proofs.Common.{◌≡◌, ℕ, Bool, false, List, Option, ap, refl, sym, ◌∙◌}
 use Rattle.std.specs.Prelude.{bytes_eq, codes}
 use Rattle.http_wire.specs.declared.head.Head.{Head}
 use Rattle.ns_api.specs.declared.verb.Verb.{Verb}
 use Rattle.ns_api.specs.Request.{path_in, segment_behind}
 use Rattle.ns_api.specs.Verbs.{verb_of}
-use Rattle.admin_api.specs.Demand.{admin_demand, segment_demand}
+use Rattle.admin_api.specs.Demand.{AskedValue, admin_demand, asked_of, other, segment_demand}
 
 pub last_path : (ready : Bool) (head : Head) (line body : List ℕ) (verb : Option Verb)
     (path : List ℕ) (segment : Option (List ℕ)) → verb ≡ verb_of head.method → path ≡ path_in line
@@ -29,3 +29,12 @@ last_path ready head line body verb path segment v p t1 t2 t3 t4 t5 s =
     let found : segment ≡ segment_behind (codes "/api/1/addrs/") (path_in line) = s
     ∙ ap (segment_behind (codes "/api/1/addrs/")) p in
     rw (e1, e2, e3, e4, e5) (λ k. segment_demand (v k) (found k) body)
+
+pub other_path : (ready : Bool) (head : Head) (line body path : List ℕ) → path ≡ path_in line
+    → bytes_eq path (codes "/admin/metrics/prometheus") ≡ false
+    → other (admin_demand ready head line body) ≡ asked_of ready head line body
+unfolding asked_of
+other_path ready head line body path p test =
+    let t : bytes_eq (path_in line) (codes "/admin/metrics/prometheus") ≡ false =
+    ap (λ (x : List ℕ). bytes_eq x (codes "/admin/metrics/prometheus")) (sym p) ∙ test in
+    rw t refl

@@ -19,17 +19,17 @@ use Rattle.http_wire.specs.declared.reading.HeadEnd.{HeadEnd}
 use Rattle.http_wire.specs.Fields.{same_ignoring_case, values_of}
 use Rattle.http_wire.specs.Framing.{agreed, coding_framing, framed, length_framing, pieces_of}
 use Rattle.http_wire.specs.Heads.{BeginsWith, IsBad, IsTooLarge, NamesOtherVersion}
-use Rattle.http_wire.specs.Reading.{Answers, HasCauses, ReadsHead, Whatever}
+use Rattle.http_wire.specs.Reading.{Answers, HasCauses, HasNoneLeft, ReadsHead, Whatever}
 use Rattle.http_wire.proofs.Turning.{begins_within}
 use Rattle.body_wire.specs.declared.end.BodyEnd.{BodyEnd}
 use Rattle.body_wire.specs.Bodies.{IsWholeBody}
-use Rattle.body_wire.specs.Passing.{CountsEnd, Ends as EndsBody, RaisedAt, ReadsBody, form_of}
-use Rattle.body_wire.specs.Passing.{most_read, runs_to_end}
+use Rattle.body_wire.specs.Passing.{CountsEnd, Ends as EndsBody, HasNoneBehind, RaisedAt}
+use Rattle.body_wire.specs.Passing.{ReadsBody, form_of, most_read, runs_to_end}
 use Rattle.ns_api.specs.Request.{has_body}
 use Rattle.admin_api.specs.declared.request.Refused.{Refused}
 use Rattle.admin_api.specs.declared.request.Refused.TheVariants.{Own, Ends, Waits}
-use Rattle.admin_api.specs.Reading.{HasReadCauses, ShowsNone, TellsTests, of_body, of_head}
-use Rattle.admin_api.specs.Reading.{quiet_end}
+use Rattle.admin_api.specs.Reading.{HasReadCauses, LeavesNone, ShowsNone, TellsTests, of_body}
+use Rattle.admin_api.specs.Reading.{of_head, quiet_end}
 use Rattle.admin_api.specs.Requests.{BeginsRequest, IsRefusedAs, IsRequest, IsTested, bad_body}
 use Rattle.admin_api.specs.Requests.{bad_head, large_head, long_body, other_version, tested}
 
@@ -341,3 +341,46 @@ module _ (e0 e1 e2 f0 f1 f2 : ℕ) (framing : Framing) (ends : e1 ≡ e0) (fault
   body_causes T end with_body counts raises refused is =
       subst (λ (r : Refused). HasReadCauses e0 e2 f0 f2 (quiet_end {T = T} (Err r))) (sym is)
       (causes T end with_body counts raises)
+
+-- ---- what is left where there is no request
+
+module _ (T : Type 0) (left : Option (List ℕ)) where
+  abbrev Left : Refused → Type 0
+  Left refused = LeavesNone left (quiet_end {T = T} (Err refused))
+
+  -- since there is no head
+  pub head_left : (end : HeadEnd) (refused : Refused) → refused ≡ of_head end
+      → HasNoneLeft left (Err end) → Left refused
+  head_left end refused is none = subst Left (sym is) (by_end end none)
+    where
+      by_end : (e : HeadEnd) → HasNoneLeft left (Err e) → Left (of_head e)
+      by_end HeadEnd.Ended n = λ at. n
+      by_end HeadEnd.Cut n = λ at. n
+      by_end HeadEnd.Bad n = λ at. absurd (cc)
+      by_end HeadEnd.Version n = λ at. absurd (cc)
+      by_end HeadEnd.TooLarge n = λ at. absurd (cc)
+      by_end HeadEnd.ReadFault n = λ at. absurd (cc)
+      by_end HeadEnd.OutOfMemory n = λ at. absurd (cc)
+
+  -- since a test refuses it
+  pub test_left : (head : Head) (refused : Refused) → TellsTests head (Err refused) → Left refused
+  test_left head (Own err with_body) tells = λ at. absurd (cc)
+  test_left head (Ends end) tells =
+      subst (λ (e : Ended). Left (Ends e)) (sym tells) (λ at. absurd (cc))
+  test_left head Waits tells = absurd tells
+
+  -- since its body was not read
+  pub body_left : (framing : Framing) (end : BodyEnd) (with_body : Bool) (refused : Refused)
+      → refused ≡ of_body end with_body
+      → HasNoneBehind framing left (Err end) → Left refused
+  body_left framing end with_body refused is none = subst Left (sym is) (by_end end none)
+    where
+      by_end : (e : BodyEnd) → HasNoneBehind framing left (Err e) → Left (of_body e with_body)
+      by_end (BodyEnd.BadChunk n) none_behind = λ at. absurd (cc)
+      by_end BodyEnd.TooLong none_behind = λ at. absurd (cc)
+      by_end BodyEnd.Cut none_behind = λ at. none_behind refl
+      by_end BodyEnd.ReadFault none_behind = λ at. absurd (cc)
+      by_end BodyEnd.OutOfMemory none_behind = λ at. absurd (cc)
+      by_end BodyEnd.WriteFault none_behind = λ at. absurd (cc)
+      by_end BodyEnd.SendFault none_behind = λ at. absurd (cc)
+      by_end BodyEnd.RecvFault none_behind = λ at. absurd (cc)

@@ -11,7 +11,7 @@ use Rattle.router_log.specs.Operation.{Operation}
 use Rattle.router.specs.declared.naming.Naming.{Ghosts}
 use Rattle.router.specs.declared.pass.Pass.{Pass}
 use Rattle.router.specs.Passes.{seen_in}
-use Rattle.machine.specs.Values.{LookValue}
+use Rattle.machine.specs.Values.{LookValue, services_at}
 use Rattle.ns_api.specs.declared.delivery.Delivery.{Delivery}
 use Rattle.ns_api.specs.declared.reply.ApiReply.{ApiReply}
 use Rattle.ns_api.specs.Answering.{IsCarriedOut, Leaves, MayHaveLooked, Waited, again, at_once}
@@ -23,11 +23,12 @@ use Rattle.follow_feed.specs.Demand as feeds
 use Rattle.follow_feed.specs.Demand.{FeedDemandValue, feed_demand}
 use Rattle.admin_api.specs.declared.serving.Which.{Which}
 use Rattle.admin_api.specs.declared.serving.Which.TheVariants as interfaces
-use Rattle.admin_api.specs.Demand.{admin_demand}
+use Rattle.admin_api.specs.Answering.{IsDone, LeavesDone, Sources}
+use Rattle.admin_api.specs.Demand.{AskedValue, asked_of, metrics, other}
 use Rattle.admin_api.specs.Requests.{IsRequest}
 use Rattle.admin_api.specs.Serving.{Answers, AnswersAs, LeavesAs, PausesWith, Serves}
 use Rattle.admin_api.specs.Serving.{begun, one_more, while_closing}
-use Rattle.admin_api.specs.Stays.{Standing, StaysTo}
+use Rattle.admin_api.specs.Stays.{Standing, StaysTo, sources_in}
 use Rattle.admin_api.proofs.Turning.{fewer, not_last}
 
 pub prefix_on : (xs ys zs : List Operation) → IsPrefix xs ys → IsPrefix ys zs → IsPrefix xs zs
@@ -42,6 +43,10 @@ module _ {J : Type 0} {g : Ghosts J} where
   abbrev pub SeesOn : Pass J g → Pass J g → Type 0
   SeesOn old new = IsPrefix (seen_in old) (seen_in new)
 
+  -- the same of what a worker answers from
+  abbrev pub SeesMore : Sources J g → Sources J g → Type 0
+  SeesMore old new = SeesOn old.pass new.pass
+
   saw_same : (old new : Pass J g) → new ≡ old → SeesOn old new
   saw_same old new is =
       prefix_same (seen_in old) (seen_in new) (ap (λ (p : Pass J g). seen_in p) is)
@@ -53,6 +58,9 @@ module _ {J : Type 0} {g : Ghosts J} where
   waited_saw {old} at_once = saw_same old old refl
   waited_saw {old} {new} (again {mid} waited number out) =
       saw_on old mid new (waited_saw waited) (prefix_same (seen_in mid) (seen_in new) out.seen)
+
+  saw_still : (old new : Sources J g) → new ≡ old → SeesMore old new
+  saw_still old new is = saw_same old.pass new.pass (ap (λ (s : Sources J g). s.pass) is)
 
   -- ---- what a request asks for
 
@@ -91,34 +99,49 @@ module _ {J : Type 0} {g : Ghosts J} where
   fed_left_saw (feeds.answer said) old new left = saw_same old new left
   fed_left_saw (feeds.show space) old new left = looked_saw _ old new left
 
+  asked_saw : (a : AskedValue) (delivery : Delivery) (old new : Sources J g) (reply : ApiReply)
+      → IsDone a delivery old new reply → SeesMore old new
+  asked_saw metrics delivery old new reply done =
+      saw_on old.pass done.looked.mid new.pass (waited_saw done.looked.waited)
+      done.looked.looked.entered.called.before
+  asked_saw (other d) delivery old new reply done =
+      done_saw d delivery old.pass new.pass reply done.0
+
+  asked_left_saw : (a : AskedValue) (old new : Sources J g) → LeavesDone a old new
+      → SeesMore old new
+  asked_left_saw metrics old new (inl same) = saw_still old new same
+  asked_left_saw metrics old new (inr may) =
+      looked_saw (services_at may.moment) old.pass new.pass may.looked
+  asked_left_saw (other d) old new left = left_saw d old.pass new.pass left.0
+
   -- ---- a request
 
   module _ (head : Head) (body : List ℕ) (form : Form)
-      (served : IsServed head.method head.target form) (old new : Pass J g) where
+      (served : IsServed head.method head.target form) (old new : Sources J g) where
     answered_saw : (which : Which) (last : Bool) (reply : ApiReply)
-        → AnswersAs which head last body old new reply → SeesOn old new
+        → AnswersAs which head last body old new reply → SeesMore old new
     answered_saw interfaces.Namerd last reply answers =
-        done_saw (ns_demand head form.line body) (delivery_of head last) old new reply
-        (answers form served)
+        done_saw (ns_demand head form.line body) (delivery_of head last) old.pass new.pass reply
+        (answers.0 form served)
     answered_saw (interfaces.Admin ready) last reply answers =
-        done_saw (admin_demand ready head form.line body) (delivery_of head last) old new reply
+        asked_saw (asked_of ready head form.line body) (delivery_of head last) old new reply
         (answers form served)
     answered_saw (interfaces.Feed run) last reply answers =
-        fed_saw run (feed_demand head form.line) (delivery_of head last) old new reply
-        (answers form served)
+        fed_saw run (feed_demand head form.line) (delivery_of head last) old.pass new.pass reply
+        (answers.0 form served)
 
-    wanting_saw : (which : Which) → LeavesAs which head body old new → SeesOn old new
+    wanting_saw : (which : Which) → LeavesAs which head body old new → SeesMore old new
     wanting_saw interfaces.Namerd leaves =
-        left_saw (ns_demand head form.line body) old new (leaves form served)
+        left_saw (ns_demand head form.line body) old.pass new.pass (leaves.0 form served)
     wanting_saw (interfaces.Admin ready) leaves =
-        left_saw (admin_demand ready head form.line body) old new (leaves form served)
+        asked_left_saw (asked_of ready head form.line body) old new (leaves form served)
     wanting_saw (interfaces.Feed run) leaves =
-        fed_left_saw (feed_demand head form.line) old new (leaves form served)
+        fed_left_saw (feed_demand head form.line) old.pass new.pass (leaves.0 form served)
 
   request_saw : (which : Which) (last : Bool) (bytes behind : List ℕ) (head : Head)
-      (body : List ℕ) (old new : Pass J g) (written : List ℕ) (stopped : Bool)
+      (body : List ℕ) (old new : Sources J g) (written : List ℕ) (stopped : Bool)
       (result : Option Ended) → IsRequest bytes head body behind
-      → Answers which last head body old new written stopped result → SeesOn old new
+      → Answers which last head body old new written stopped result → SeesMore old new
   request_saw which last bytes behind head body old new written stopped result request
       (inl replied) =
       let tested = request.front.tested in
@@ -131,17 +154,17 @@ module _ {J : Type 0} {g : Ghosts J} where
 
   -- ---- a stay
 
-  module _ (which : Which) (from : ℕ) (old : Pass J g) (bytes : List ℕ) where
-    serves_saw : {n : ℕ} {mid : Pass J g} {rest written : List ℕ}
-        → Serves which from old bytes n mid rest written → SeesOn old mid
-    serves_saw begun = saw_same old old refl
+  module _ (which : Which) (from : ℕ) (old : Sources J g) (bytes : List ℕ) where
+    serves_saw : {n : ℕ} {mid : Sources J g} {rest written : List ℕ}
+        → Serves which from old bytes n mid rest written → SeesMore old mid
+    serves_saw begun = saw_still old old refl
     serves_saw (one_more count mid new rest behind written sent head body before request answers) =
-        saw_on old mid new (serves_saw before)
+        saw_on old.pass mid.pass new.pass (serves_saw before)
         (request_saw which (eqb (count + 1) 10000) rest behind head body mid new sent false None
         request answers)
 
     -- a connection that goes on has had fewer requests than it may have
-    serves_few : from < 10000 → {n : ℕ} {mid : Pass J g} {rest written : List ℕ}
+    serves_few : from < 10000 → {n : ℕ} {mid : Sources J g} {rest written : List ℕ}
         → Serves which from old bytes n mid rest written → n < 10000
     serves_few few begun = few
     serves_few few
@@ -149,27 +172,28 @@ module _ {J : Type 0} {g : Ghosts J} where
         fewer count (serves_few few before)
         (not_last which (eqb (count + 1) 10000) head body mid new sent answers)
 
-  pauses_saw : (which : Which) (spent closing : Bool) (bytes : List ℕ) (old new : Pass J g)
+  pauses_saw : (which : Which) (spent closing : Bool) (bytes : List ℕ) (old new : Sources J g)
       (written : List ℕ) (stopped : Bool) (result : Paused)
-      → PausesWith which spent closing bytes old new written stopped result → SeesOn old new
+      → PausesWith which spent closing bytes old new written stopped result → SeesMore old new
   pauses_saw which spent closing bytes old new written stopped paused.Quiet quiet =
-      saw_same old new quiet.still
+      saw_still old new quiet.still
   pauses_saw which spent closing bytes old new written stopped (paused.Ended end) (inl ends) =
       request_saw (while_closing closing which) (spent || closing) bytes ends.behind ends.head
       ends.body old new written stopped ends.end ends.request ends.answers
   pauses_saw which spent closing bytes old new written stopped (paused.Ended end) (inr ends) =
-      saw_same old new ends.0
+      saw_still old new ends.0
 
   -- a stay forgets nothing that was seen
   pub stay_saw : (which : Which) (from upto : ℕ) (old new : Standing J g) (result : Paused)
       → StaysTo which from upto old new result → IsPrefix (seen_in old.pass) (seen_in new.pass)
   stay_saw which from upto old new result x =
       let s = x.serves in
-      saw_on old.pass s.mid new.pass (serves_saw which from old.pass x.came s.serves)
-      (pauses_saw which (eqb (upto + 1) 10000) x.closing s.rest s.mid new.pass s.final x.stopped
-      result s.pauses)
+      saw_on old.pass s.mid.pass new.pass
+      (serves_saw which from (sources_in old) x.came s.serves)
+      (pauses_saw which (eqb (upto + 1) 10000) x.closing s.rest s.mid (sources_in new) s.final
+      x.stopped result s.pauses)
 
   pub stay_few : (which : Which) (from upto : ℕ) (old new : Standing J g) (result : Paused)
       → StaysTo which from upto old new result → from < 10000 → upto < 10000
   stay_few which from upto old new result x few =
-      serves_few which from old.pass x.came few x.serves.serves
+      serves_few which from (sources_in old) x.came few x.serves.serves

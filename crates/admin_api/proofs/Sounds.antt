@@ -11,11 +11,13 @@ use Rattle.ns_api.specs.declared.verb.Methods.TheVariants.{Reads}
 use Rattle.ns_api.specs.declared.verb.Verb.{Verb}
 use Rattle.ns_api.specs.declared.verb.Verb.TheVariants.{Get, Head as HeadVerb, Post, Put, Delete}
 use Rattle.ns_api.specs.Demand.{DemandValue, IsSoundDemand, answer, ask, stop, not_allowed}
-use Rattle.ns_api.specs.Request.{name_of, path_in, query_in, segment_behind}
+use Rattle.addr_book.specs.Name.{name_of}
+use Rattle.ns_api.specs.Request.{path_in, query_in, segment_behind}
 use Rattle.ns_api.specs.Verbs.{verb_of}
 use Rattle.admin_api.specs.Demand.{addrs_asked, addrs_of, admin_demand, bye, is_read, named_asked}
 use Rattle.admin_api.specs.Demand.{pong, posted, readiness, segment_demand, service_demand}
-use Rattle.admin_api.specs.Demand.{set_demand}
+use Rattle.admin_api.specs.Answering.{IsSoundAsked}
+use Rattle.admin_api.specs.Demand.{AskedValue, asked_of, metrics, other, set_demand}
 use Rattle.admin_api.specs.Demand.{shown, view_demand}
 
 one_of : (b : Bool) (d e : DemandValue) → IsSoundDemand d → IsSoundDemand e
@@ -84,3 +86,16 @@ admin_sound ready head line body =
     (one_of (bytes_eq (path_in line) (codes "/admin/ready")) _ _
     (shown_sound (answer (readiness ready)) verb tt)
     (segment_sound verb (segment_behind (codes "/api/1/addrs/") (path_in line)) body)))))
+
+one_asked : (b : Bool) (x y : AskedValue) → IsSoundAsked x → IsSoundAsked y
+    → IsSoundAsked (if b then x else y)
+one_asked true x y h k = h
+one_asked false x y h k = k
+
+pub request_sound : (ready : Bool) (head : Head) (line body : List ℕ)
+    → IsSoundAsked (asked_of ready head line body)
+unfolding asked_of
+request_sound ready head line body =
+    one_asked (bytes_eq (path_in line) (codes "/admin/metrics/prometheus")) _ _
+    (one_asked (is_read (verb_of head.method)) metrics (other (answer (not_allowed Reads))) tt tt)
+    (admin_sound ready head line body)

@@ -72,14 +72,16 @@ module _ {J : Type 0} {g : Ghosts J} where
   -- what a worker did in a stay of it
   pub stayed_with : (idle self : Idle) (old new : WorkerValue J g) (behind : Idle) (v : Visit J g)
       (result r : Paused) → idle ≡ self → Learns idle.seen old.pass v.old.pass
-      → v.old.stops ≡ old.stops → GoesOn idle v
+      → v.old.stops ≡ old.stops → v.old.told ≡ old.told → GoesOn idle v
       → StaysTo idle.which v.from v.upto v.old v.new result → result ≡ r
       → new ≡ worker_in v.new → behind ≡ idle_behind idle v → StaysWith self old new behind r
-  stayed_with idle self old new behind v result r is learns stops goes stay came leaves behind_is =
+  stayed_with idle self old new behind v result r is learns stops told goes stay came leaves
+      behind_is =
       subst (λ (i : Idle). StaysWith i old new behind r) is (record {
         visit = v;
         learns = learns;
         stops = stops;
+        told = told;
         goes_on = goes;
         stay = subst (λ (p : Paused). StaysTo idle.which v.from v.upto v.old v.new p) came stay;
         leaves = leaves;

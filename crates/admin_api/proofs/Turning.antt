@@ -3,7 +3,7 @@ use Rattle.std.proofs.Common.{◌≡◌, ◌<◌, ◌≤◌, ℕ, ◌+◌, ◌||
 use Rattle.std.proofs.Common.{refl, sym, subst, ap, ◌∙◌, arith, append_assoc, append-nil, Option}
 use Rattle.std.proofs.Common.{Some, None, Err, inl, inr}
 use Rattle.std.proofs.lemmas.Bool.Decides.{nat_tests}
-use Rattle.std.specs.Io.KnownBytes.{Appends, Keeps}
+use Rattle.std.specs.Io.KnownBytes.{Appends, IsAtEnd, Keeps}
 use Rattle.std.proofs.KnownBytes.{Appends-trans}
 use Rattle.line_base.specs.Counts.{raised}
 use Rattle.http_wire.specs.declared.ended.Ended.{Ended}
@@ -11,7 +11,6 @@ use Rattle.http_wire.specs.declared.ended.Ended.TheVariants as ended
 use Rattle.http_wire.specs.declared.head.Head.{Head}
 use Rattle.own_reply.specs.declared.error.OwnError.{OwnError}
 use Rattle.router.specs.declared.naming.Naming.{Ghosts}
-use Rattle.router.specs.declared.pass.Pass.{Pass}
 use Rattle.ns_api.specs.declared.reply.ApiReply.{ApiReply}
 use Rattle.ns_api.specs.Answering.{IsTaken}
 use Rattle.http_wire.specs.Fields.{names_close}
@@ -19,9 +18,10 @@ use Rattle.ns_api.specs.Request.{closes}
 use Rattle.admin_api.specs.declared.request.Refused.{Refused}
 use Rattle.admin_api.specs.declared.request.Refused.TheVariants.{Ends, Own, Waits}
 use Rattle.admin_api.specs.declared.serving.Which.{Which}
-use Rattle.admin_api.specs.Reading.{HasReadCauses, IsRefusal, ShowsNone, is_drained, quiet_end}
-use Rattle.admin_api.specs.Reading.{is_at_end, is_read_fault, is_waiting, is_write_fault}
-use Rattle.admin_api.specs.Reading.{raised_where}
+use Rattle.admin_api.specs.Answering.{Sources}
+use Rattle.admin_api.specs.Reading.{HasReadCauses, IsRefusal, LeavesNone, ShowsNone, is_at_end}
+use Rattle.admin_api.specs.Reading.{is_drained, is_read_fault, is_waiting, is_write_fault}
+use Rattle.admin_api.specs.Reading.{quiet_end, raised_where}
 use Rattle.admin_api.specs.Requests.{IsRefusedAs, IsRequest}
 use Rattle.http_wire.specs.declared.paused.Paused.{Paused}
 use Rattle.http_wire.specs.Ended.{drained}
@@ -122,7 +122,7 @@ is_taken bytes kept head body request =
     record { other = tested.other; form = tested.form; served = tested.served }
 
 module _ {J : Type 0} {g : Ghosts J} (which : Which) (last : Bool) (head : Head) (body : List ℕ)
-    (old new : Pass J g) (sent : List ℕ) where
+    (old new : Sources J g) (sent : List ℕ) where
   no_want : None ≡ Some ended.OutOfMemory → ⊥
   no_want is = cc
 
@@ -188,7 +188,7 @@ module _ {J : Type 0} {g : Ghosts J} (which : Which) (last : Bool) (head : Head)
 
 -- a reply ends a connection neither by its bytes nor by a failed read
 answered_still : {J : Type 0} {g : Ghosts J} (which : Which) (last : Bool) (head : Head)
-    (body : List ℕ) (old new : Pass J g) (sent : List ℕ) (stopped : Bool) (end : Option Ended)
+    (body : List ℕ) (old new : Sources J g) (sent : List ℕ) (stopped : Bool) (end : Option Ended)
     → Answers which last head body old new sent stopped end
     → (is_at_end end ≡ false) × (is_read_fault end ≡ false)
 answered_still which last head body old new sent stopped end (inr wants) =
@@ -258,7 +258,7 @@ module _ (e0 e1 e2 f0 f1 f2 w0 w1 w2 : ℕ) (ends : e2 ≡ e1) (faults : f2 ≡ 
 
   -- behind an answer
   pub replied_causes : HasReadCauses e0 e1 f0 f1 None → {J : Type 0} {g : Ghosts J}
-      (which : Which) (last : Bool) (head : Head) (body : List ℕ) (old new : Pass J g)
+      (which : Which) (last : Bool) (head : Head) (body : List ℕ) (old new : Sources J g)
       (sent : List ℕ) (stopped : Bool) (result : Option Ended) (closing : Bool)
       (end : Option Ended) → result ≡ drained closing end
       → Answers which last head body old new sent stopped end
@@ -340,8 +340,8 @@ module _ (bytes : List ℕ) (e0 e1 f0 f1 w0 w1 : ℕ) (still : w1 ≡ w0) where
 pub fewer : (n : ℕ) → n < 10000 → eqb (n + 1) 10000 ≡ false → n + 1 < 10000
 fewer n less other = grind (arith, nat_tests)
 
-module _ {J : Type 0} {g : Ghosts J} (which : Which) (from : ℕ) (first : Pass J g) (n : ℕ)
-    (p q : Pass J g) (came gave came2 gave2 kept kept2 : List ℕ)
+module _ {J : Type 0} {g : Ghosts J} (which : Which) (from : ℕ) (first : Sources J g) (n : ℕ)
+    (p q : Sources J g) (came gave came2 gave2 kept kept2 : List ℕ)
     (serves : (more : List ℕ)
     → Serves which from first (came ++ more) n p (kept ++ more) gave) where
   -- one request more was answered
@@ -401,6 +401,48 @@ pub ended_same : (end : Option Ended) → ended_in (paused_by end) ≡ end
 ended_same None = refl
 ended_same (Some end) = refl
 
+-- ---- what is left where a connection ended since its bytes had ended
+
+-- it did not end so
+pub not_at_end : (left : Option (List ℕ)) (result : Option Ended) → is_at_end result ≡ false
+    → LeavesNone left result
+not_at_end left result no_end = λ at. absurd (true_false (sym at ∙ no_end))
+  where
+    true_false : true ≡ false → ⊥
+    true_false is = cc
+
+-- behind an answer
+pub replied_left : (left : Option (List ℕ)) {J : Type 0} {g : Ghosts J} (which : Which)
+    (last : Bool) (head : Head) (body : List ℕ) (old new : Sources J g) (sent : List ℕ)
+    (stopped : Bool) (result : Option Ended) (closing : Bool) (end : Option Ended)
+    → result ≡ drained closing end → Answers which last head body old new sent stopped end
+    → LeavesNone left result
+replied_left left which last head body old new sent stopped result closing end behind answers =
+    not_at_end left result
+    (ap is_at_end behind ∙ ((drained_same closing end).0
+    ∙ (answered_still which last head body old new sent stopped end answers).0))
+
+-- behind a refusal
+pub refused_left : (left : Option (List ℕ)) (err : OwnError) (with_body : Bool) (sent : List ℕ)
+    (end : Ended) → IsRefusal err with_body sent end → LeavesNone left (Some end)
+refused_left left err with_body sent ended.Closed written = λ at. absurd (cc)
+refused_left left err with_body sent ended.WriteFault written = λ at. absurd (cc)
+refused_left left err with_body sent ended.OutOfMemory written = λ at. absurd (cc)
+refused_left left err with_body sent ended.PeerEnded written = absurd written
+refused_left left err with_body sent ended.Cut written = absurd written
+refused_left left err with_body sent ended.Spent written = absurd written
+refused_left left err with_body sent ended.Drained written = absurd written
+refused_left left err with_body sent ended.ReadFault written = absurd written
+refused_left left err with_body sent ended.UpstreamCut written = absurd written
+
+-- with nothing written
+pub ended_left : (T : Type 0) (left : Option (List ℕ)) (refused : Refused) (end same : Ended)
+    → refused ≡ Ends end → LeavesNone left (quiet_end {T = T} (Err refused)) → end ≡ same
+    → LeavesNone left (Some same)
+ended_left T left refused end same is nothing is_same =
+    subst (λ (e : Ended). LeavesNone left (Some e)) is_same
+    (subst (λ (r : Refused). LeavesNone left (quiet_end {T = T} (Err r))) is nothing)
+
 -- ---- turns with no request that is answered
 
 pub quiet_turn : (bytes : List ℕ) (refused : Refused) (end same : Ended) → refused ≡ Ends end
@@ -418,7 +460,7 @@ refused_turn bytes refused err same_err with_body same_body sent end is shows wr
     (subst (λ (b : Bool). IsRefusal same_err b sent end) (sym w) written))
 
 -- a wait for a request of which nothing came
-pub quiet_wait : {J : Type 0} {g : Ghosts J} (bytes : List ℕ) (refused : Refused) (pass : Pass J g)
+pub quiet_wait : {J : Type 0} {g : Ghosts J} (bytes : List ℕ) (refused : Refused) (pass : Sources J g)
     → refused ≡ Waits → ShowsNone bytes refused → IsQuiet bytes pass pass [] false false
 quiet_wait bytes refused pass is shows = record {
   none = subst (ShowsNone bytes) is shows;

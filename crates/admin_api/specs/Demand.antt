@@ -14,10 +14,13 @@ use Rattle.ns_api.specs.declared.verb.Methods.TheVariants.{Reads, Services, Post
 use Rattle.ns_api.specs.declared.verb.Verb.{Verb}
 use Rattle.ns_api.specs.declared.verb.Verb.TheVariants as verbs
 use Rattle.ns_api.specs.Demand.{DemandValue, answer, stop, alter, ask, no_path, not_allowed}
-use Rattle.ns_api.specs.Demand.{bad_name}
-use Rattle.ns_api.specs.Request.{name_of, path_in, query_in, segment_behind}
+use Rattle.ns_api.specs.Demand.{bad_name, demand_value}
+use Rattle.addr_book.specs.Name.{name_of}
+use Rattle.ns_api.specs.Request.{path_in, query_in, segment_behind}
 use Rattle.ns_api.specs.Response.{ResponseValue, plain}
 use Rattle.ns_api.specs.Verbs.{verb_of}
+use Rattle.admin_api.specs.declared.demand.Asked.{Asked}
+use Rattle.admin_api.specs.declared.demand.Asked.TheVariants as asked
 
 -- the addresses of a file, each once, at its first place; nothing where a line is bad or they are
 -- too many
@@ -97,9 +100,9 @@ abbrev pub segment_demand : Option Verb → Option (List ℕ) → List ℕ → D
 segment_demand verb None body = answer no_path
 segment_demand verb (Some segment) body = service_demand verb segment body
 
--- What a request of the admin interface asks for, by whether that is ready, the request's head, the
--- target that goes on, and its body. The tests come in the order path, method, name, body, and then
--- the state
+-- What a request for another path than that of the metrics asks for, by whether the admin
+-- interface is ready, the request's head, the target that goes on, and its body. The tests come in
+-- the order path, method, name, body, and then the state
 unfoldable pub admin_demand : Bool → Head → List ℕ → List ℕ → DemandValue
 admin_demand ready head line body =
     if bytes_eq (path_in line) (codes "/admin/ping") then shown (answer pong) (verb_of head.method)
@@ -113,3 +116,26 @@ admin_demand ready head line body =
     then shown (answer (readiness ready)) (verb_of head.method)
     else segment_demand (verb_of head.method)
     (segment_behind (codes "/api/1/addrs/") (path_in line)) body
+
+-- what a request of the admin interface asks for
+pub data AskedValue : Type 0 where
+  -- the text of all metrics
+  metrics : AskedValue
+  -- what the router alone answers
+  other : DemandValue → AskedValue
+
+-- what the code's say
+abbrev pub asked_value : Asked → AskedValue
+asked_value asked.Metrics = metrics
+asked_value (asked.Other demand) = other (demand_value demand)
+
+-- what the metrics are asked for
+abbrev pub metrics_asked : Option Verb → AskedValue
+metrics_asked verb = if is_read verb then metrics else other (answer (not_allowed Reads))
+
+-- What a request of the admin interface asks for, by the same
+unfoldable pub asked_of : Bool → Head → List ℕ → List ℕ → AskedValue
+asked_of ready head line body =
+    if bytes_eq (path_in line) (codes "/admin/metrics/prometheus")
+    then metrics_asked (verb_of head.method)
+    else other (admin_demand ready head line body)

@@ -1,6 +1,7 @@
 -- What a call that reads a request answers, and why.
 use Rattle.std.specs.Prelude.{◌≡◌, ◌⊎◌, ℕ, Bool, true, false, if◌then◌else◌, List, [], ◌++◌}
 use Rattle.std.specs.Prelude.{Option, Some, None, Result, Ok, Err}
+use Rattle.std.specs.Io.KnownBytes.{IsAtEnd}
 use Rattle.line_base.specs.Counts.{raised}
 use Rattle.http_wire.specs.declared.ended.Ended.{Ended}
 use Rattle.http_wire.specs.declared.ended.Ended.TheVariants as ended
@@ -106,6 +107,11 @@ abbrev pub is_at_end : Option Ended → Bool
 is_at_end (Some ended.PeerEnded) = true
 is_at_end (Some ended.Cut) = true
 is_at_end _ = false
+
+-- where it ends since its bytes have ended, nothing of them is left, if those that are to come are
+-- known
+abbrev pub LeavesNone : Option (List ℕ) → Option Ended → Type 0
+LeavesNone left result = is_at_end result ≡ true → IsAtEnd left
 
 -- since a read failed
 abbrev pub is_read_fault : Option Ended → Bool

@@ -15,7 +15,6 @@ use Rattle.body_wire.specs.Passing.{IsFrontOf}
 use Rattle.own_reply.specs.declared.error.OwnError.{OwnError}
 use Rattle.own_reply.specs.Reply.{reply_of}
 use Rattle.router.specs.declared.naming.Naming.{Ghosts}
-use Rattle.router.specs.declared.pass.Pass.{Pass}
 use Rattle.ns_api.specs.declared.reply.ApiReply.{ApiReply}
 use Rattle.ns_api.specs.Answering.{AnswersBy, LeavesBy}
 use Rattle.ns_api.specs.Demand.{ns_demand}
@@ -23,7 +22,7 @@ use Rattle.ns_api.specs.Request.{closes}
 use Rattle.follow_feed.specs.Answering.{AnswersFeed, LeavesFeed}
 use Rattle.admin_api.specs.declared.serving.Which.{Which}
 use Rattle.admin_api.specs.declared.serving.Which.TheVariants.{Namerd, Admin, Feed}
-use Rattle.admin_api.specs.Demand.{admin_demand}
+use Rattle.admin_api.specs.Answering.{AnswersAdmin, LeavesAdmin, Sources}
 use Rattle.admin_api.specs.Requests.{IsRequest, HasOpenBody, IsRefusedAs, IsBetween, IsInside}
 use Rattle.admin_api.specs.Reading.{HasReadCauses, is_drained, is_write_fault, raised_where}
 
@@ -88,38 +87,43 @@ EndsWithout bytes written ended.Spent = ⊥
 EndsWithout bytes written ended.UpstreamCut = ⊥
 
 module _ {J : Type 0} {g : Ghosts J} where
-  -- a request was answered, by the interface
-  abbrev pub AnswersAs : Which → Head → Bool → List ℕ → Pass J g → Pass J g → ApiReply → Type 0
+  -- a request was answered, by the interface; by another than the admin interface nothing is
+  -- scraped
+  abbrev pub AnswersAs : Which → Head → Bool → List ℕ → Sources J g → Sources J g → ApiReply
+      → Type 0
   AnswersAs Namerd head last body old new reply =
-      AnswersBy head last (λ line. ns_demand head line body) old new reply
+      AnswersBy head last (λ line. ns_demand head line body) old.pass new.pass reply
+      × (new.told ≡ old.told)
   AnswersAs (Admin ready) head last body old new reply =
-      AnswersBy head last (λ line. admin_demand ready head line body) old new reply
-  AnswersAs (Feed run) head last body old new reply = AnswersFeed run head last old new reply
+      AnswersAdmin ready head last body old new reply
+  AnswersAs (Feed run) head last body old new reply =
+      AnswersFeed run head last old.pass new.pass reply × (new.told ≡ old.told)
 
   -- or memory was wanting, and what it asked for was done, or nothing
-  abbrev pub LeavesAs : Which → Head → List ℕ → Pass J g → Pass J g → Type 0
-  LeavesAs Namerd head body old new = LeavesBy head (λ line. ns_demand head line body) old new
-  LeavesAs (Admin ready) head body old new =
-      LeavesBy head (λ line. admin_demand ready head line body) old new
-  LeavesAs (Feed run) head body old new = LeavesFeed head old new
+  abbrev pub LeavesAs : Which → Head → List ℕ → Sources J g → Sources J g → Type 0
+  LeavesAs Namerd head body old new =
+      LeavesBy head (λ line. ns_demand head line body) old.pass new.pass × (new.told ≡ old.told)
+  LeavesAs (Admin ready) head body old new = LeavesAdmin ready head body old new
+  LeavesAs (Feed run) head body old new =
+      LeavesFeed head old.pass new.pass × (new.told ≡ old.told)
 
   -- a request has its answer, which is delivered
   pub record IsReplied (which : Which) (last : Bool) (head : Head) (body : List ℕ)
-      (old new : Pass J g) (written : List ℕ) (stopped : Bool) (result : Option Ended)
+      (old new : Sources J g) (written : List ℕ) (stopped : Bool) (result : Option Ended)
       : Type 0 where
     pub reply : ApiReply
     pub answers : AnswersAs which head last body old new reply
     pub delivered : IsDelivered head last reply written stopped result
 
   -- or memory was wanting, and what it asked for was done, or nothing
-  pub record IsWanting (which : Which) (head : Head) (body : List ℕ) (old new : Pass J g)
+  pub record IsWanting (which : Which) (head : Head) (body : List ℕ) (old new : Sources J g)
       (written : List ℕ) (stopped : Bool) (result : Option Ended) : Type 0 where
     pub leaves : LeavesAs which head body old new
     pub nothing : written ≡ []
     pub goes_on : stopped ≡ false
     pub is : result ≡ Some ended.OutOfMemory
 
-  abbrev pub Answers : Which → Bool → Head → List ℕ → Pass J g → Pass J g → List ℕ → Bool
+  abbrev pub Answers : Which → Bool → Head → List ℕ → Sources J g → Sources J g → List ℕ → Bool
       → Option Ended → Type 0
   Answers which last head body old new written stopped result =
       IsReplied which last head body old new written stopped result
@@ -128,7 +132,7 @@ module _ {J : Type 0} {g : Ghosts J} where
   -- the connection ends behind a whole request, which is its last where that spends it, or where
   -- the listeners are closing
   pub record EndsBehind
-      (which : Which) (spent closing : Bool) (bytes : List ℕ) (old new : Pass J g)
+      (which : Which) (spent closing : Bool) (bytes : List ℕ) (old new : Sources J g)
       (written : List ℕ) (stopped : Bool) (result : Ended)
       : Type 0 where
     pub head : Head
@@ -143,15 +147,15 @@ module _ {J : Type 0} {g : Ghosts J} where
     pub is : Some result ≡ drained closing end
 
   -- or with none
-  abbrev pub EndsWith : Which → Bool → Bool → List ℕ → Pass J g → Pass J g → List ℕ → Bool → Ended
-      → Type 0
+  abbrev pub EndsWith : Which → Bool → Bool → List ℕ → Sources J g → Sources J g → List ℕ → Bool
+      → Ended → Type 0
   EndsWith which spent closing bytes old new written stopped result =
       EndsBehind which spent closing bytes old new written stopped result
       ⊎ ((new ≡ old) × (stopped ≡ false) × (closing ≡ is_drained (Some result))
       × EndsWithout bytes written result)
 
   -- no byte of a next request was kept or came, and nothing was done
-  pub record IsQuiet (bytes : List ℕ) (old new : Pass J g) (written : List ℕ)
+  pub record IsQuiet (bytes : List ℕ) (old new : Sources J g) (written : List ℕ)
       (stopped closing : Bool) : Type 0 where
     pub none : bytes ≡ []
     pub still : new ≡ old
@@ -160,7 +164,7 @@ module _ {J : Type 0} {g : Ghosts J} where
     pub open_ : closing ≡ false
 
   -- the connection waits, or it ends
-  abbrev pub PausesWith : Which → Bool → Bool → List ℕ → Pass J g → Pass J g → List ℕ → Bool
+  abbrev pub PausesWith : Which → Bool → Bool → List ℕ → Sources J g → Sources J g → List ℕ → Bool
       → Paused → Type 0
   PausesWith which spent closing bytes old new written stopped paused.Quiet =
       IsQuiet bytes old new written stopped closing
@@ -168,12 +172,12 @@ module _ {J : Type 0} {g : Ghosts J} where
       EndsWith which spent closing bytes old new written stopped result
 
   -- Requests of a connection that had had `from` of them are answered, one after the other, and it
-  -- goes on behind each: so many it has had then, with the pass, the bytes that are left, and those
-  -- that were written. The connection never goes on behind its last request
-  pub data Serves (which : Which) (from : ℕ) (old : Pass J g) (bytes : List ℕ) : ℕ → Pass J g
-      → List ℕ → List ℕ → Type 0 where
+  -- goes on behind each: so many it has had then, with what the worker answers from, the bytes that
+  -- are left, and those that were written. The connection never goes on behind its last request
+  pub data Serves (which : Which) (from : ℕ) (old : Sources J g) (bytes : List ℕ) : ℕ
+      → Sources J g → List ℕ → List ℕ → Type 0 where
     begun : Serves which from old bytes from old bytes []
-    one_more : (count : ℕ) (mid new : Pass J g) (rest behind written sent : List ℕ) (head : Head)
+    one_more : (count : ℕ) (mid new : Sources J g) (rest behind written sent : List ℕ) (head : Head)
         (body : List ℕ) → Serves which from old bytes count mid rest written
         → IsRequest rest head body behind
         → Answers which (count + 1 == most_requests) head body mid new sent false None
@@ -183,10 +187,10 @@ module _ {J : Type 0} {g : Ghosts J} where
   -- and then it waits, or ends. `bytes` are those that came, and `written` those that it was given;
   -- `closing` says that its end is one of those that come since the listeners are closing
   pub record IsServing
-      (which : Which) (from upto : ℕ) (old new : Pass J g) (bytes written : List ℕ)
+      (which : Which) (from upto : ℕ) (old new : Sources J g) (bytes written : List ℕ)
       (stopped closing : Bool) (result : Paused)
       : Type 0 where
-    pub mid : Pass J g
+    pub mid : Sources J g
     pub rest : List ℕ
     pub first : List ℕ
     pub final : List ℕ
@@ -197,8 +201,8 @@ module _ {J : Type 0} {g : Ghosts J} where
 
   -- one turn: a request is answered and the connection goes on, whatever bytes follow it; or it
   -- waits, or ends
-  abbrev pub Turns : Which → Bool → Bool → Pass J g → Pass J g → List ℕ → List ℕ → List ℕ → Bool
-      → Option Paused → Type 0
+  abbrev pub Turns : Which → Bool → Bool → Sources J g → Sources J g → List ℕ → List ℕ → List ℕ
+      → Bool → Option Paused → Type 0
   Turns which spent closing old new bytes kept written stopped None =
       (stopped ≡ false) × (closing ≡ false)
       × ((head : Head) × (body : List ℕ)

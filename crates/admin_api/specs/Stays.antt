@@ -12,27 +12,43 @@ use Rattle.router.specs.declared.pass.Pass.{Pass}
 use Rattle.router.specs.Passes.{number_in, seen_in}
 use Rattle.admin_api.specs.declared.serving.Which.{Which}
 use Rattle.admin_api.specs.declared.worker.ApiWorker.{ApiWorker}
-use Rattle.admin_api.specs.Reading.{raised_where}
+use Rattle.scrape.specs.Scrapes.{Scraping}
+use Rattle.admin_api.specs.Answering.{Sources}
+use Rattle.admin_api.specs.Reading.{LeavesNone, raised_where}
 use Rattle.admin_api.specs.Serving.{HasCauses, IsServing, calls_after, ended_in, most_requests}
 
--- what a stay moves: what the caller's connection tells, the pass that serves it, and how often the
--- worker's stop was called
+-- what a stay moves: what the caller's connection tells, the pass that serves it, how often the
+-- worker's stop was called, and what its scraper tells of itself
 pub record Standing (J : Type 0) (g : Ghosts J) : Type 0 where
   pub line : Line
   pub pass : Pass J g
   pub stops : ℕ
+  pub told : Scraping
 
--- a connection with a worker, by what its peer and its stop tell of themselves
-abbrev pub standing_by : {P J S : Type 0} {g : Ghosts J} → (P → Line) → (S → ℕ) → P
-    → ApiWorker J S g → Standing J g
-standing_by line_of calls_of peer worker =
-    record { line = line_of peer; pass = worker.pass; stops = calls_of worker.stop }
+-- what it answers from
+abbrev pub sources_in : {J : Type 0} {g : Ghosts J} → Standing J g → Sources J g
+sources_in s = record { pass = s.pass; told = s.told }
+
+abbrev pub sources_by : {J S X : Type 0} {g : Ghosts J} → (X → Scraping) → ApiWorker J S X g
+    → Sources J g
+sources_by told_of worker = record { pass = worker.pass; told = told_of worker.scraper }
+
+-- a connection with a worker, by what its peer, its stop and its scraper tell of themselves
+abbrev pub standing_by : {P J S X : Type 0} {g : Ghosts J} → (P → Line) → (S → ℕ)
+    → (X → Scraping) → P → ApiWorker J S X g → Standing J g
+standing_by line_of calls_of told_of peer worker = record {
+  line = line_of peer;
+  pass = worker.pass;
+  stops = calls_of worker.stop;
+  told = told_of worker.scraper;
+}
 
 -- A stay of a connection that had had `from` requests: these bytes came, and these were written;
 -- the worker's stop was called where one of the requests asked for that; the closing of the
 -- listeners was told where the connection ended by it; and that nothing came for a while was told
--- once where the connection waits behind the stay, and else not at all. Behind the stay the
--- connection has had `upto` requests, but for one that ended it
+-- once where the connection waits behind the stay, and else not at all. Where it ended since its
+-- bytes had ended, nothing of them is left. Behind the stay the connection has had `upto` requests,
+-- but for one that ended it
 pub record StaysTo {J : Type 0} {g : Ghosts J} (which : Which) (from upto : ℕ)
     (old new : Standing J g) (result : Paused) : Type 0 where
   pub came : List ℕ
@@ -44,10 +60,12 @@ pub record StaysTo {J : Type 0} {g : Ghosts J} (which : Which) (from upto : ℕ)
   pub stops : new.stops ≡ calls_after old.stops stopped
   pub closings : new.line.closings ≡ raised_where closing old.line.closings
   pub quiets : new.line.quiets ≡ quiets_behind (Some result) old.line.quiets
-  pub serves : IsServing which from upto old.pass new.pass came gave stopped closing result
+  pub serves :
+      IsServing which from upto (sources_in old) (sources_in new) came gave stopped closing result
   pub causes :
       HasCauses old.line.ends new.line.ends old.line.read_faults new.line.read_faults
       old.line.write_faults new.line.write_faults (ended_in (Some result))
+  pub none_left : LeavesNone new.line.left (ended_in (Some result))
   pub number : number_in new.pass ≡ number_in old.pass
 
 -- a connection between two of its stays: what its peer told when it came and what it tells now,

@@ -9,6 +9,7 @@ use Rattle.router.specs.declared.naming.Naming.{Ghosts}
 use Rattle.router.specs.declared.pass.Pass.{Pass}
 use Rattle.router.specs.Passes.{SawMore, kept_in, made_in, number_in, seen_in}
 use Rattle.snap_cell.specs.History.{longer}
+use Rattle.scrape.specs.Scrapes.{Scraping}
 use Rattle.admin_api.specs.declared.stayed.Stayed.{Stayed}
 use Rattle.admin_api.specs.declared.stayed.Stayed.TheVariants as stayed
 use Rattle.admin_api.specs.declared.worker.ApiWorker.{ApiWorker}
@@ -24,20 +25,25 @@ module _ {J : Type 0} {g : Ghosts J} where
     pub more : SawMore old new
     pub counts : (made_in new ≡ made_in old) × (kept_in new ≡ kept_in old)
 
--- what a worker has between two stays, and the next stay goes on with: its pass, and how often its
--- stop was called
+-- what a worker has between two stays, and the next stay goes on with: its pass, how often its
+-- stop was called, and what its scraper tells of itself
 pub record WorkerValue (J : Type 0) (g : Ghosts J) : Type 0 where
   pub pass : Pass J g
   pub stops : ℕ
+  pub told : Scraping
 
-abbrev pub worker_value : {J S : Type 0} {g : Ghosts J} → (S → ℕ) → ApiWorker J S g
-    → WorkerValue J g
-worker_value calls_of worker = record { pass = worker.pass; stops = calls_of worker.stop }
+abbrev pub worker_value : {J S X : Type 0} {g : Ghosts J} → (S → ℕ) → (X → Scraping)
+    → ApiWorker J S X g → WorkerValue J g
+worker_value calls_of told_of worker = record {
+  pass = worker.pass;
+  stops = calls_of worker.stop;
+  told = told_of worker.scraper;
+}
 
 module _ {J : Type 0} {g : Ghosts J} where
   -- the worker in a stay
   abbrev pub worker_in : Standing J g → WorkerValue J g
-  worker_in s = record { pass = s.pass; stops = s.stops }
+  worker_in s = record { pass = s.pass; stops = s.stops; told = s.told }
 
   -- One stay of a connection with a worker: its pass learns first what was seen for the connection,
   -- and then the worker goes on with it. Behind it the connection is such, and came out so
@@ -46,6 +52,7 @@ module _ {J : Type 0} {g : Ghosts J} where
     pub visit : Visit J g
     pub learns : Learns idle.seen old.pass visit.old.pass
     pub stops : visit.old.stops ≡ old.stops
+    pub told : visit.old.told ≡ old.told
     pub goes_on : GoesOn idle visit
     pub stay : StaysTo idle.which visit.from visit.upto visit.old visit.new result
     pub leaves : new ≡ worker_in visit.new

@@ -4,11 +4,12 @@ ghost use Rattle.std.specs.Option.{option_copied};
 ghost use Rattle.delegate_view.specs.Query.{view_asked};
 ghost use Rattle.machine.specs.Values.{count_all};
 ghost use Rattle.ns_api.specs.Demand.{answer, ask, demand_value, stop};
-ghost use Rattle.ns_api.specs.Request.{name_of};
+ghost use Rattle.addr_book.specs.Name.{name_of};
 ghost use Rattle.ns_api.specs.Response.{plain};
-ghost use Rattle.admin_api.specs.Demand.{addrs_asked, addrs_of, admin_demand, bye, is_read};
-ghost use Rattle.admin_api.specs.Demand.{named_asked, pong, posted, readiness, segment_demand};
-ghost use Rattle.admin_api.specs.Demand.{service_demand, set_demand, shown, view_demand};
+ghost use Rattle.admin_api.specs.Demand.{addrs_asked, addrs_of, admin_demand, asked_of};
+ghost use Rattle.admin_api.specs.Demand.{asked_value, bye, is_read, metrics_asked, named_asked};
+ghost use Rattle.admin_api.specs.Demand.{pong, posted, readiness, segment_demand, service_demand};
+ghost use Rattle.admin_api.specs.Demand.{set_demand, shown, view_demand};
 
 use crate::Mem;
 use addr_book::{AddrFault, Name, NameFault, read_addrs};
@@ -21,16 +22,49 @@ use ns_api::{
 };
 use std::alloc::{AllocError, Global};
 
+/// What a request of the admin interface asks for.
+#[derive(Debug, Drop)]
+pub(crate) enum Asked {
+    /// The text of all metrics.
+    Metrics,
+    /// What the router alone answers.
+    Other(Demand),
+}
+
 /// What a request of the admin interface asks for, by whether that is ready, the request's head,
 /// the target that goes on, and its body.
-#[tactic(auto, unfolding(crate::specs::Demand::admin_demand))]
-pub(crate) fn admin_demand(
+#[tactic(auto, unfolding(crate::specs::Demand::asked_of))]
+pub(crate) fn asked_of(
     alloc: Global,
     ready: bool,
     head: &Head,
     line: &[u8],
     body: &[u8],
-) -> Mem<Demand>
+) -> Mem<Asked>
+    ensures { IfOk result (λ asked. asked_value asked
+        ≡ asked_of ready head.now line.now body.now) }
+{
+    if is_path(path_in(line), b"/admin/metrics/prometheus") {
+        return metrics_asked(alloc, verb_of(&head.method));
+    }
+    let demand = admin_demand(alloc, ready, head, line, body)?;
+    Ok(Asked::Other(demand))
+}
+
+/// What the metrics are asked for.
+fn metrics_asked(alloc: Global, verb: Option<Verb>) -> Mem<Asked>
+    ensures { IfOk result (λ asked. asked_value asked ≡ metrics_asked verb) }
+{
+    if is_read(verb) {
+        return Ok(Asked::Metrics);
+    }
+    let demand = not_allowed(alloc, Methods::Reads)?;
+    Ok(Asked::Other(demand))
+}
+
+/// What a request for another path than that of the metrics asks for.
+#[tactic(auto, unfolding(crate::specs::Demand::admin_demand))]
+fn admin_demand(alloc: Global, ready: bool, head: &Head, line: &[u8], body: &[u8]) -> Mem<Demand>
     ensures { IfOk result (λ demand. demand_value demand
         ≡ admin_demand ready head.now line.now body.now) }
 {

@@ -11,6 +11,7 @@ use crate::worker::ApiWorker;
 use http_wire::Paused;
 use line_base::{Peer, Stop};
 use router::{Naming, Ticket};
+use scrape::Scrape;
 use std::marker::Model;
 use std::snapshot::Snapshot;
 use std::sync::Wait;
@@ -50,7 +51,7 @@ impl<P: Peer, J: Naming> Model for IdleCaller<P, J> {
 
 impl<P: Peer, J: Naming> IdleCaller<P, J> {
     /// A caller that came to this worker at a listener of this interface, before its first request.
-    pub fn came<S>(peer: P, which: Which, worker: &ApiWorker<J, S>) -> IdleCaller<P, J>
+    pub fn came<S, X>(peer: P, which: Which, worker: &ApiWorker<J, S, X>) -> IdleCaller<P, J>
         ensures { result ≡ came which (P.line peer) (seen_in worker.now.pass) }
     {
         let first = Snapshot::of(&peer);
@@ -70,14 +71,14 @@ impl<P: Peer, J: Naming> IdleCaller<P, J> {
     /// Behind the reply to a request that the program stop, the worker stops it. Once the listeners
     /// are closing, the request that is served is the connection's last, and a connection that
     /// waits for its next request ends: both with `Drained`.
-    pub fn serve<R: Wait, S: Stop>(
+    pub fn serve<R: Wait, S: Stop, X: Scrape>(
         self,
         context: &Context<'_, J, R>,
-        worker: &mut ApiWorker<J, S>,
+        worker: &mut ApiWorker<J, S, X>,
     ) -> Stayed<IdleCaller<P, J>, P>
         ensures chain { CameTo J.Naming.own self }
-        ensures stays { HasStayed P.line self (worker_value S.calls worker.old)
-            (worker_value S.calls worker.new) result }
+        ensures stays { HasStayed P.line self (worker_value S.calls X.told worker.old)
+            (worker_value S.calls X.told worker.new) result }
         ensures number { number_in worker.new.pass ≡ number_in worker.old.pass }
     {
         let IdleCaller {

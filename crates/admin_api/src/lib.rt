@@ -13,11 +13,16 @@
 //!
 //! # What is proved
 //! What a request asks for is a function of its head, the target that goes on, and its body, and of
-//! whether the program is ready for more connections:
-//! `admin_demand` of `specs/Demand.antt`. [`admin_answer`] makes exactly the one change or look, or
-//! none, and answers the bytes of the response to the reply that the router's state gives at that
-//! call's point; the reply says that the program is to stop exactly where the request asked for
-//! that. Where there was no memory, what was asked for was done, or nothing was.
+//! whether the program is ready for more connections: `asked_of` of `specs/Demand.antt`.
+//! [`admin_answer`] makes exactly the one change or look, or none, and answers the bytes of the
+//! response to the reply that the router's state gives at that call's point; the reply says that
+//! the program is to stop exactly where the request asked for that. Where there was no memory, what
+//! was asked for was done, or nothing was.
+//!
+//! The metrics are the text ([`metrics_text`]) of the state at one point of the history, which is
+//! not before what the caller had seen, with each service's live addresses at a moment of the
+//! scraper's clock, and of the sums of what the scraper found in the workers' words, each read once
+//! (`IsScraped` of `specs/Answering.antt`). For no other request the scraper is asked.
 //!
 //! A connection is served for a stay as `specs/Serving.antt` says, over any cutting of its bytes
 //! and every failing call: the requests that its bytes begin with have their replies, in order, up
@@ -27,7 +32,8 @@
 //!
 //! A read gave the end, and a read or a write failed, exactly where the connection ended by that.
 //! So no call that failed is tried again, and nothing is read ahead of a reply that is owed: a read
-//! there might give the end or fail, and the write of the reply might fail behind it.
+//! there might give the end or fail, and the write of the reply might fail behind it. Where it
+//! ended since its bytes had ended, nothing of them is left.
 //!
 //! The type of an [`IdleCaller`] keeps that some stays led to it from a caller that came
 //! (`specs/Stays.antt`): each went on from the line and the number of requests that the one before
@@ -36,6 +42,7 @@
 //!
 //! # Example
 //! ```text
+//! let mut worker = ApiWorker { pass, stop, scraper };
 //! let context = Context { rt, alloc, router: &router };
 //! let caller = IdleCaller::came(peer, Which::Admin { ready: true }, &worker);
 //! match caller.serve(&context, &mut worker) {
@@ -52,6 +59,7 @@ mod context;
 mod demand;
 mod idle;
 mod laws;
+mod metrics;
 mod request;
 mod serving;
 mod stayed;

@@ -2,8 +2,8 @@
 ghost use Rattle.std.specs.Prelude.{◌≡◌, ◌++◌, List, ℕ, IfOk};
 ghost use Rattle.std.specs.Io.KnownBytes.{Consumes, Keeps};
 ghost use Rattle.admin_api.specs.Requests.{names_long_body};
-ghost use Rattle.admin_api.specs.Reading.{HasReadCauses, ShowsRequest, TellsTests, is_drained};
-ghost use Rattle.admin_api.specs.Reading.{is_waiting, of_body, of_head, quiet_end};
+ghost use Rattle.admin_api.specs.Reading.{HasReadCauses, LeavesNone, ShowsRequest, TellsTests};
+ghost use Rattle.admin_api.specs.Reading.{is_drained, is_waiting, of_body, of_head, quiet_end};
 ghost use Rattle.admin_api.specs.Reading.{raised_where};
 
 use crate::Bytes;
@@ -123,6 +123,7 @@ pub(crate) fn read_request<P: Peer>(
         × ShowsRequest (rest.old ++ came) rest.new result }
     ensures causes { HasReadCauses (P.line peer.old).ends (P.line peer.new).ends
         (P.line peer.old).read_faults (P.line peer.new).read_faults (quiet_end result) }
+    ensures none_left { LeavesNone (P.line peer.new).left (quiet_end result) }
     ensures given { Keeps (P.line peer.old).given (P.line peer.new).given }
     ensures writes { (P.line peer.new).write_faults ≡ (P.line peer.old).write_faults }
     ensures closings { (P.line peer.new).closings

@@ -6,10 +6,11 @@ ghost use Rattle.line_base.specs.Lines.{IsUnread};
 ghost use Rattle.http_wire.specs.Paused.{quiets_behind};
 ghost use Rattle.router.specs.Passes.{number_in};
 ghost use Rattle.ns_api.specs.Answering.{IsTaken};
-ghost use Rattle.admin_api.specs.Reading.{is_write_fault, raised_where};
+ghost use Rattle.admin_api.specs.Answering.{sources_of};
+ghost use Rattle.admin_api.specs.Reading.{LeavesNone, is_write_fault, raised_where};
 ghost use Rattle.admin_api.specs.Serving.{Answers, AnswersAs, HasCauses, IsDelivered, LeavesAs};
 ghost use Rattle.admin_api.specs.Serving.{Turns, calls_after, end_behind, ended_in, while_closing};
-ghost use Rattle.admin_api.specs.Stays.{StaysTo, standing_by};
+ghost use Rattle.admin_api.specs.Stays.{StaysTo, sources_by, standing_by};
 
 use crate::answering::admin_answer;
 use crate::context::Context;
@@ -23,6 +24,7 @@ use http_wire::{Ended, Head, Paused, Rest, drained, hears_closing, paused_by};
 use line_base::{Peer, Stop};
 use ns_api::{ApiReply, closes, ns_answer};
 use router::{Naming, Pass};
+use scrape::Scrape;
 use std::sync::Wait;
 
 /// The most requests of one connection, over all its stays.
@@ -71,15 +73,15 @@ fn stays_ready(ready: bool, closing: bool) -> bool
 /// Serves a connection that has had so many requests for a stay: its next requests, one after
 /// another, until it ends, one closes it, or no byte of a next one has come for a while. Gives how
 /// many it has had then, but for one that ended it, and how it stands.
-pub(crate) fn serve_stay<J: Naming, R: Wait, P: Peer, S: Stop>(
+pub(crate) fn serve_stay<J: Naming, R: Wait, P: Peer, S: Stop, X: Scrape>(
     context: &Context<'_, J, R>,
-    worker: &mut ApiWorker<J, S>,
+    worker: &mut ApiWorker<J, S, X>,
     which: Which,
     served: u32,
     peer: &mut P,
 ) -> (u32, Paused)
     requires { served < 10000 }
-    ensures stay { let at = standing_by P.line S.calls in StaysTo which served result.0
+    ensures stay { let at = standing_by P.line S.calls X.told in StaysTo which served result.0
         (at peer.old worker.old) (at peer.new worker.new) result.1 }
     ensures few { result.0 < 10000 }
 {
@@ -98,9 +100,9 @@ pub(crate) fn serve_stay<J: Naming, R: Wait, P: Peer, S: Stop>(
 
 /// Serves the next request of a connection, and says how the connection stands behind it, where it
 /// does not go on.
-fn serve_next<J: Naming, R: Wait, P: Peer, S: Stop>(
+fn serve_next<J: Naming, R: Wait, P: Peer, S: Stop, X: Scrape>(
     context: &Context<'_, J, R>,
-    worker: &mut ApiWorker<J, S>,
+    worker: &mut ApiWorker<J, S, X>,
     which: Which,
     spent: bool,
     peer: &mut P,
@@ -112,12 +114,13 @@ fn serve_next<J: Naming, R: Wait, P: Peer, S: Stop>(
         × Appends (P.line peer.old).given (P.line peer.new).given gave
         × (S.calls worker.new.stop ≡ calls_after (S.calls worker.old.stop) stopped)
         × ((P.line peer.new).closings ≡ raised_where closing (P.line peer.old).closings)
-        × Turns which spent closing worker.old.pass worker.new.pass (rest.old ++ came) rest.new gave
-        stopped result }
+        × Turns which spent closing (sources_by X.told worker.old) (sources_by X.told worker.new)
+        (rest.old ++ came) rest.new gave stopped result }
     ensures quiets { (P.line peer.new).quiets ≡ quiets_behind result (P.line peer.old).quiets }
     ensures causes { HasCauses (P.line peer.old).ends (P.line peer.new).ends
         (P.line peer.old).read_faults (P.line peer.new).read_faults (P.line peer.old).write_faults
         (P.line peer.new).write_faults (ended_in result) }
+    ensures none_left { LeavesNone (P.line peer.new).left (ended_in result) }
 {
     match read_request(context.alloc, peer, rest) {
         Ok(request) => {
@@ -143,9 +146,9 @@ fn is_last(spent: bool, closing: bool) -> bool
 }
 
 /// Answers a request, writes the reply, and stops the program where it asked for that.
-fn reply_to<J: Naming, R: Wait, P: Peer, S: Stop>(
+fn reply_to<J: Naming, R: Wait, P: Peer, S: Stop, X: Scrape>(
     context: &Context<'_, J, R>,
-    worker: &mut ApiWorker<J, S>,
+    worker: &mut ApiWorker<J, S, X>,
     which: Which,
     last: bool,
     peer: &mut P,
@@ -156,8 +159,8 @@ fn reply_to<J: Naming, R: Wait, P: Peer, S: Stop>(
     ensures answers { (gave : List ℕ) × (stopped : Bool)
         × Appends (P.line peer.old).given (P.line peer.new).given gave
         × (S.calls worker.new.stop ≡ calls_after (S.calls worker.old.stop) stopped)
-        × Answers which last request.now.head request.now.body.items worker.old.pass worker.new.pass
-        gave stopped result }
+        × Answers which last request.now.head request.now.body.items
+        (sources_by X.told worker.old) (sources_by X.told worker.new) gave stopped result }
     ensures others { IsUnread (P.line peer.old) (P.line peer.new) }
     ensures writes { (P.line peer.new).write_faults
         ≡ raised_where (is_write_fault result) (P.line peer.old).write_faults }
@@ -165,6 +168,7 @@ fn reply_to<J: Naming, R: Wait, P: Peer, S: Stop>(
     match answer(
         context,
         &mut worker.pass,
+        &mut worker.scraper,
         which,
         &request.head,
         &request.body,
@@ -176,9 +180,10 @@ fn reply_to<J: Naming, R: Wait, P: Peer, S: Stop>(
 }
 
 /// Answers a request of this interface.
-fn answer<J: Naming, R: Wait>(
+fn answer<J: Naming, R: Wait, X: Scrape>(
     context: &Context<'_, J, R>,
     pass: &mut Pass<J>,
+    scraper: &mut X,
     which: Which,
     head: &Head,
     body: &Bytes,
@@ -186,9 +191,10 @@ fn answer<J: Naming, R: Wait>(
 ) -> Mem<ApiReply>
     requires { IsTaken head.now }
     ensures number { number_in pass.new ≡ number_in pass.old }
-    ensures answered { IfOk result
-        (AnswersAs which head.now last body.now.items pass.old pass.new) }
-    ensures want { OnErr result (LeavesAs which head.now body.now.items pass.old pass.new) }
+    ensures answered { IfOk result (AnswersAs which head.now last body.now.items
+        (sources_of pass.old (X.told scraper.old)) (sources_of pass.new (X.told scraper.new))) }
+    ensures want { OnErr result (LeavesAs which head.now body.now.items
+        (sources_of pass.old (X.told scraper.old)) (sources_of pass.new (X.told scraper.new))) }
 {
     match which {
         Which::Namerd => ns_answer(
@@ -200,7 +206,7 @@ fn answer<J: Naming, R: Wait>(
             body,
             last,
         ),
-        Which::Admin { ready } => admin_answer(context, pass, ready, head, body, last),
+        Which::Admin { ready } => admin_answer(context, pass, scraper, ready, head, body, last),
         Which::Feed { run } => feed_answer(
             context.rt,
             context.alloc,

@@ -5,14 +5,15 @@ ghost use Rattle.load_words.specs.Seats.{words_of};
 ghost use Rattle.snap_cell.specs.Writers.{cell_written, opening_written};
 ghost use Rattle.router.specs.Values.{settings_in};
 
-use addr_book::Name;
+use addr_book::{Addr, Name};
 use admin_api::{ApiWorker, Context, IdleCaller, Stayed, Which};
 use choose_core::Limits;
 use dtab_table::Dtab;
 use http_wire::Ended;
-use line_base::{MemPeer, MemSink, MemSource, MemStop};
-use machine::Settings;
+use line_base::{MemClock, MemPeer, MemSink, MemSource, MemStop};
+use machine::{Change, Settings};
 use router::{Naming, Opened, Pass, Router, open};
+use scrape::NoWords;
 use std::alloc::{AllocError, Global};
 use std::marker::Brand;
 use std::process::Abort;
@@ -25,12 +26,14 @@ pub(crate) type Mem<T> = Result<T, AllocError>;
 /// The bytes of a text.
 pub(crate) type Bytes = Vec<u8>;
 
-/// A connection: the bytes that come on it, and how many in each of its first reads; which of its
-/// reads and which of its writes fails, the first being 0; at which questions nothing comes; and
-/// from which question on it says that its listeners are closing.
+/// A connection: how often a replica fails before it comes; the bytes that come on it, and how many
+/// in each of its first reads; which of its reads and which of its writes fails, the first being 0;
+/// at which questions nothing comes; and from which question on it says that its listeners are
+/// closing.
 #[derive(Drop)]
 pub(crate) struct Connection {
     pub(crate) to: Which,
+    pub(crate) failures: usize,
     pub(crate) bytes: Bytes,
     pub(crate) sizes: &'static [usize],
     pub(crate) read_fails: Option<u64>,
@@ -44,6 +47,7 @@ impl Connection {
     pub(crate) fn of(to: Which, bytes: Bytes) -> Connection {
         Connection {
             to,
+            failures: 0,
             bytes,
             sizes: &[],
             read_fails: None,
@@ -92,17 +96,20 @@ fn peer_of(alloc: Global, connection: &Connection) -> Mem<MemPeer> {
     Ok(peer.quiet(Vec::from_slice(alloc, connection.quiet)?))
 }
 
+/// A worker of the interfaces of a program whose own workers count nothing.
+type Worker<J> = ApiWorker<J, MemStop, NoWords<MemClock>>;
+
 /// The workers of a router.
 #[derive(Drop)]
 struct Pair<J: Naming> {
-    first: ApiWorker<J, MemStop>,
-    second: ApiWorker<J, MemStop>,
+    first: Worker<J>,
+    second: Worker<J>,
 }
 
 /// A caller whose stay came out so, behind a stay more with this worker, where it waits.
 fn go_on<J: Naming, R: Wait>(
     context: &Context<'_, J, R>,
-    worker: &mut ApiWorker<J, MemStop>,
+    worker: &mut Worker<J>,
     stayed: Stayed<IdleCaller<MemPeer, J>, MemPeer>,
 ) -> Stayed<IdleCaller<MemPeer, J>, MemPeer> {
     match stayed {
@@ -127,12 +134,36 @@ fn serve_by_turns<J: Naming, R: Wait>(
     }
 }
 
-/// Serves a connection.
+/// Reports, at the moment 1,000, that the replica at 127.0.0.1:2 failed so often.
+fn report_failures<J: Naming, R: Wait>(
+    context: &Context<'_, J, R>,
+    pass: &mut Pass<J>,
+    failures: usize,
+) -> Mem<()> {
+    let replica = Addr {
+        ip: 0x7f00_0001,
+        port: 2,
+    };
+    for _failure in 0..failures {
+        let change = Change::Report {
+            addr: replica,
+            good: false,
+            moment: 1_000,
+        };
+        context
+            .router
+            .change(context.rt, context.alloc, pass, change)?;
+    }
+    Ok(())
+}
+
+/// Serves a connection, behind the failures that come before it.
 fn serve<J: Naming, R: Wait>(
     context: &Context<'_, J, R>,
     pair: &mut Pair<J>,
     connection: &Connection,
 ) -> Mem<Served> {
+    report_failures(context, &mut pair.first.pass, connection.failures)?;
     let peer = peer_of(context.alloc, connection)?;
     let before = stops_of(pair);
     let (peer, ended) = serve_by_turns(context, pair, connection.to, peer);
@@ -164,11 +195,27 @@ fn serve_all<J: Naming, R: Wait>(
     Ok(all)
 }
 
-/// A worker with this pass.
-fn worker_of<J: Naming>(pass: Pass<J>) -> ApiWorker<J, MemStop> {
+/// A clock whose moments are 5,999, and then 6,000.
+fn clock(alloc: Global) -> Mem<MemClock> {
+    let mut moments = Vec::new(alloc);
+    moments.push(5_999)?;
+    moments.push(6_000)?;
+    MemClock::of(alloc, moments)
+}
+
+/// A clock for each of the two workers.
+fn clocks(alloc: Global) -> Mem<(MemClock, MemClock)> {
+    let one = clock(alloc)?;
+    let other = clock(alloc)?;
+    Ok((one, other))
+}
+
+/// A worker with this pass and this clock.
+fn worker_of<J: Naming>(pass: Pass<J>, clock: MemClock) -> Worker<J> {
     ApiWorker {
         pass,
         stop: MemStop::new(),
+        scraper: NoWords::of(clock),
     }
 }
 
@@ -193,11 +240,12 @@ fn close<J: Naming, R: Wait + Abort>(
     }
 }
 
-/// Names a router, serves connections with its two passes, and ends it.
+/// Names a router, serves connections with its two passes and these clocks, and ends it.
 fn staged<J: Naming, R: Wait + Abort>(
     rt: &R,
     alloc: Global,
     opened: Opened,
+    clocks: (MemClock, MemClock),
     connections: &[Connection],
 ) -> Mem<Vec<Served>>
     requires cell { Some (cell_written opened.writer) ≡ J.cell }
@@ -217,8 +265,8 @@ fn staged<J: Naming, R: Wait + Abort>(
         router: &router,
     };
     let mut pair = Pair {
-        first: worker_of(first),
-        second: worker_of(second),
+        first: worker_of(first, clocks.0),
+        second: worker_of(second, clocks.1),
     };
     let served = serve_all(&context, &mut pair, connections);
     let Pair { first, second } = pair;
@@ -247,6 +295,7 @@ pub(crate) fn run<R: Wait + Abort>(
     alloc: Global,
     connections: &[Connection],
 ) -> Result<Vec<Served>, Fail> {
+    let clocks = clocks(alloc)?;
     let opened = open(rt, alloc, settings(alloc)?, 2)?;
-    Ok(staged::<Brand, R>(rt, alloc, opened, connections)?)
+    Ok(staged::<Brand, R>(rt, alloc, opened, clocks, connections)?)
 }

@@ -1,11 +1,11 @@
 //! `linker`: a service proxy that routes HTTP/1.1 requests by logical name.
 //!
-//! The commands are in the crate `linker_commands`, over any folder, net, clock, input and output.
-//! `main` makes these of the file system, sockets, the system's clock and the standard streams,
-//! hands the arguments on, and ends with the code that it is given. What is told to people goes to
-//! standard error: how to call the program where the words fit no command, by which configuration
-//! it serves, why it ended, that a configuration does what few want, and what else the text of a
-//! table shows. Beside a router that serves, a thread watches for a signal that asks for an end
+//! The commands are in the crate `linker_commands`, over any folder, net, clock, input, output and
+//! access logs. `main` makes these of the file system, sockets, the system's clock and the standard
+//! streams, hands the arguments on, and ends with the code that it is given. What is told to people
+//! goes to standard error: how to call the program where the words fit no command, by which
+//! configuration it serves, why it ended, that a configuration does what few want, that lines of
+//! an access log are lost, and what else the text of a table shows. Beside a router that serves, a thread watches for a signal that asks for an end
 //! and that whoever started the program has blocked (`env --block-signal=TERM,INT`).
 //!
 //! # What is proved
@@ -26,15 +26,19 @@
 
 use announcing::{Asked, asked_of, reason};
 use linker_commands::{Status, run_arguments, tell};
+use log_file::FileJournals;
+use losing::WarningJournals;
 use net_edge::{FileSystem, ReaderSource, SocketNet, SystemClock, WriterSink};
 use pausing::Finish;
 use signal_watch::{StopCell, StoppableNet};
 use std::process::ExitCode;
+use std::sync::atomic::AtomicU64;
 use std::{env, io, thread};
 use warning::WarningFolder;
 use watching::Watch;
 
 mod announcing;
+mod losing;
 mod notes;
 mod pausing;
 mod warning;
@@ -102,6 +106,8 @@ fn main(rt: HostRuntime) -> ExitCode {
         None => None,
     };
     let mut net = StoppableNet::of(&rt, sockets, stops);
+    let losing = AtomicU64::new(0);
+    let mut journals = WarningJournals::of(&rt, FileJournals::of(&rt), &losing);
     let exit = run_arguments(
         &rt,
         env::args(&rt),
@@ -110,6 +116,7 @@ fn main(rt: HostRuntime) -> ExitCode {
         &mut clock,
         &mut input,
         &mut out,
+        &mut journals,
     );
     finish.come();
     if let Some(thread) = watching {

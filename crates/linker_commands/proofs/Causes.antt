@@ -8,6 +8,7 @@ use Rattle.line_base.specs.Counts.{Rose}
 use Rattle.line_base.specs.Nets.{Returns}
 use Rattle.linker_config.specs.declared.config.Config.{Config}
 use Rattle.line_base.specs.Lines.{Line}
+use Rattle.line_base.specs.declared.socket_address.SocketAddress.{SocketAddress}
 use Rattle.serving.specs.Posts.{jobs_of}
 use Rattle.serving.specs.Shifts.{admissions}
 use Rattle.std.specs.declared.marker.Brand.{Brand}
@@ -18,7 +19,8 @@ use Rattle.linker_commands.specs.Replay.{replay_of}
 use Rattle.line_base.specs.Files.{Filed}
 use Rattle.line_base.specs.Streams.{Input, Output}
 use Rattle.linker_commands.specs.Run.{Course, words_refused, read_failed, too_long, script_read}
-use Rattle.linker_commands.specs.Run.{line_told, no_memory, served, followed, Follows, Linked}
+use Rattle.linker_commands.specs.Linked.{Linked}
+use Rattle.linker_commands.specs.Run.{line_told, no_memory, served, followed, Follows}
 use Rattle.linker_commands.specs.Run.{Reads, ReadsScript}
 use Rattle.linker_commands.specs.Run.{Checks, Serves, Makes, Takes, Shows, ReadsLong, Ended}
 use Rattle.linker_commands.specs.Run.{AllBack, EndsWhole, Ran, Yields}
@@ -29,7 +31,8 @@ use Rattle.linker_commands.proofs.Serving.{jobs_by}
 use Rattle.linker_commands.specs.Words.{Asked, replay, check, serve, lint, storm, weave, follow}
 use Rattle.linker_commands.specs.Words.{command_of}
 
-module _ {P : Type 0} (line_of : P → Line) (moments : Option (List ℕ)) where
+module _ {P : Type 0} (line_of : P → Line) (address_of : P → Option SocketAddress)
+    (moments : Option (List ℕ)) where
   -- a run that did not yield has the status of its course
   ended_code : (course : Course) (old new : Output) (status : ℕ) → Ended course old new status
       → (status ≡ status_of course) ⊎ Yields status old new
@@ -88,7 +91,7 @@ module _ {P : Type 0} (line_of : P → Line) (moments : Option (List ℕ)) where
 
   long_course : (asked : Result Asked ℕ) (old new : Input) (old_files new_files : Filed)
       (net net_after : Linked P) (course : Course) → IsSome old.left → ReadsLong old new
-      → Takes line_of moments asked old new old_files new_files net net_after course
+      → Takes line_of address_of moments asked old new old_files new_files net net_after course
       → status_of course ≡ 8
   long_course (Err place) old new old_files new_files net net_after course some long took =
       absurd (not_read old new some long took.1)
@@ -124,7 +127,7 @@ module _ {P : Type 0} (line_of : P → Line) (moments : Option (List ℕ)) where
 
   failed_input : (asked : Result Asked ℕ) (old new : Input) (old_files new_files : Filed)
       (net net_after : Linked P) (course : Course) → old.faults < new.faults
-      → Takes line_of moments asked old new old_files new_files net net_after course
+      → Takes line_of address_of moments asked old new old_files new_files net net_after course
       → status_of course ≡ 4
   failed_input (Err place) old new old_files new_files net net_after course rose took =
       absurd (omega (arith, ap (λ (i : Input). i.faults) took.1, rose))
@@ -159,7 +162,8 @@ module _ {P : Type 0} (line_of : P → Line) (moments : Option (List ℕ)) where
 
   -- a folder that serving could not read
   failed_serving : (path : List ℕ) (old new : Filed) (net net_after : Linked P) (course : Course)
-      → old.faults < new.faults → Serves line_of moments path old new net net_after course
+      → old.faults < new.faults → Serves line_of address_of moments path old new net net_after
+      course
       → status_of course ≡ 4
   failed_serving path old new net net_after (words_refused place) rose took = absurd took
   failed_serving path old new net net_after read_failed rose took = refl
@@ -176,7 +180,7 @@ module _ {P : Type 0} (line_of : P → Line) (moments : Option (List ℕ)) where
 
   failed_folder : (asked : Result Asked ℕ) (old new : Input) (old_files new_files : Filed)
       (net net_after : Linked P) (course : Course) → old_files.faults < new_files.faults
-      → Takes line_of moments asked old new old_files new_files net net_after course
+      → Takes line_of address_of moments asked old new old_files new_files net net_after course
       → status_of course ≡ 4
   failed_folder (Err place) old new old_files new_files net net_after course rose took =
       absurd (omega (arith, ap (λ (f : Filed). f.faults) took.2, rose))
@@ -199,7 +203,7 @@ module _ {P : Type 0} (line_of : P → Line) (moments : Option (List ℕ)) where
   -- words that fit no command are refused
   refused_course : (asked : Result Asked ℕ) (old new : Input) (old_files new_files : Filed)
       (net net_after : Linked P) (course : Course) → IsErr asked
-      → Takes line_of moments asked old new old_files new_files net net_after course
+      → Takes line_of address_of moments asked old new old_files new_files net net_after course
       → status_of course ≡ 2
   refused_course (Err place) old new old_files new_files net net_after course err took =
       ap status_of took.0
@@ -272,7 +276,7 @@ module _ {P : Type 0} (line_of : P → Line) (moments : Option (List ℕ)) where
 
   shown_serving : (good : Bool) (path : List ℕ) (old new : Input) (old_files new_files : Filed)
       (net net_after : Linked P) (course : Course) → status_of course ≡ status_if good
-      → Serves line_of moments path old_files new_files net net_after course
+      → Serves line_of address_of moments path old_files new_files net net_after course
       → Shows (Ok (serve path)) old new old_files good
   shown_serving good path old new files files_after net net_after (words_refused place) is took =
       absurd took
@@ -312,7 +316,7 @@ module _ {P : Type 0} (line_of : P → Line) (moments : Option (List ℕ)) where
 
   shown : (good : Bool) (asked : Result Asked ℕ) (old new : Input) (old_files new_files : Filed)
       (net net_after : Linked P) (course : Course) → status_of course ≡ status_if good
-      → Takes line_of moments asked old new old_files new_files net net_after course
+      → Takes line_of address_of moments asked old new old_files new_files net net_after course
       → Shows asked old new old_files good
   shown good (Err place) old new old_files new_files net net_after course is took =
       absurd (apart 2 good (λ p. omega (arith, p)) (λ p. omega (arith, p))
@@ -336,11 +340,11 @@ module _ {P : Type 0} (line_of : P → Line) (moments : Option (List ℕ)) where
   -- a router served, and all its listeners, peers and stops came back
   back_router : (path lines : List ℕ) (config : Config) (files : Filed) (net net_after : Linked P)
       (finish : Finish) → finish_code finish ≡ 0 → IsConfig files.files path config
-      → TellsServing Brand line_of moments files.files config net.state net_after.state lines finish
+      → TellsServing Brand line_of address_of moments files.files config net net_after lines finish
       → EndsWhole (Ok (serve path)) files net net_after
   back_router path lines config files net net_after shut_down is right told =
       let by = told.is_last.1 in
-      let w = by.whole in
+      let w = by.recorded.whole in
       let Back : ℕ → Type 0 = λ n. AllBack n net.state net_after.state in
       let all : Back (jobs_of by.site) = record {
         clean = w.clean;
@@ -356,7 +360,7 @@ module _ {P : Type 0} (line_of : P → Line) (moments : Option (List ℕ)) where
   back_router path lines config files net net_after short is right told = absurd (omega (arith, is))
 
   back_serving : (path : List ℕ) (old new : Filed) (net net_after : Linked P) (course : Course)
-      → status_of course ≡ 0 → Serves line_of moments path old new net net_after course
+      → status_of course ≡ 0 → Serves line_of address_of moments path old new net net_after course
       → EndsWhole (Ok (serve path)) old net net_after
   back_serving path old new net net_after (words_refused place) is took = absurd took
   back_serving path old new net net_after read_failed is took = absurd (omega (arith, is))
@@ -372,7 +376,7 @@ module _ {P : Type 0} (line_of : P → Line) (moments : Option (List ℕ)) where
 
   back_all : (asked : Result Asked ℕ) (old new : Input) (old_files new_files : Filed)
       (net net_after : Linked P) (course : Course) → status_of course ≡ 0
-      → Takes line_of moments asked old new old_files new_files net net_after course
+      → Takes line_of address_of moments asked old new old_files new_files net net_after course
       → EndsWhole asked old_files net net_after
   back_all (Err place) old new old_files new_files net net_after course is took = tt
   back_all (Ok replay) old new old_files new_files net net_after course is took = tt
@@ -455,7 +459,7 @@ module _ {P : Type 0} (line_of : P → Line) (moments : Option (List ℕ)) where
   no_net_followed told leader space polls (followed false lines) is took = omega (arith, is)
 
   broken_serving : (path : List ℕ) (old new : Filed) (net net_after : Linked P) (course : Course)
-      → status_of course ≡ 6 → Serves line_of moments path old new net net_after course
+      → status_of course ≡ 6 → Serves line_of address_of moments path old new net net_after course
       → Rose net.faults net_after.faults
   broken_serving path old new net net_after (words_refused place) is took = absurd took
   broken_serving path old new net net_after read_failed is took = absurd (omega (arith, is))
@@ -471,7 +475,7 @@ module _ {P : Type 0} (line_of : P → Line) (moments : Option (List ℕ)) where
 
   broken_net : (asked : Result Asked ℕ) (old new : Input) (old_files new_files : Filed)
       (net net_after : Linked P) (course : Course) → status_of course ≡ 6
-      → Takes line_of moments asked old new old_files new_files net net_after course
+      → Takes line_of address_of moments asked old new old_files new_files net net_after course
       → Rose net.faults net_after.faults
   broken_net (Err place) old new old_files new_files net net_after course is took =
       absurd (omega (arith, sym (ap status_of took.0) ∙ is))
@@ -500,7 +504,8 @@ module _ {P : Type 0} (line_of : P → Line) (moments : Option (List ℕ)) where
   rose_finish before now short rose told = absurd (omega (arith, told.kept (λ is. cc is), rose))
 
   rose_serving : (path : List ℕ) (old new : Filed) (net net_after : Linked P) (course : Course)
-      → net.faults < net_after.faults → Serves line_of moments path old new net net_after course
+      → net.faults < net_after.faults → Serves line_of address_of moments path old new net
+      net_after course
       → status_of course ≡ 6
   rose_serving path old new net net_after (words_refused place) rose took = absurd took
   rose_serving path old new net net_after read_failed rose took =
@@ -517,7 +522,7 @@ module _ {P : Type 0} (line_of : P → Line) (moments : Option (List ℕ)) where
 
   rose_net : (asked : Result Asked ℕ) (old new : Input) (old_files new_files : Filed)
       (net net_after : Linked P) (course : Course) → net.faults < net_after.faults
-      → Takes line_of moments asked old new old_files new_files net net_after course
+      → Takes line_of address_of moments asked old new old_files new_files net net_after course
       → status_of course ≡ 6
   rose_net (Err place) old new old_files new_files net net_after course rose took =
       absurd (omega (arith, ap (λ (n : Linked P). n.faults) took.3, rose))
@@ -612,7 +617,8 @@ module _ {P : Type 0} (line_of : P → Line) (moments : Option (List ℕ)) where
   -- the commands that take them
   refuses : (asked : Result Asked ℕ) (old new : Input) (old_files new_files : Filed)
       (net net_after : Linked P) (place : ℕ)
-      → Takes line_of moments asked old new old_files new_files net net_after (words_refused place)
+      → Takes line_of address_of moments asked old new old_files new_files net net_after
+      (words_refused place)
       → IsErr asked
   refuses (Err at) old new old_files new_files net net_after place took = refl
   refuses (Ok replay) old new old_files new_files net net_after place took = absurd took.0
@@ -628,7 +634,7 @@ module _ {P : Type 0} (line_of : P → Line) (moments : Option (List ℕ)) where
 
   fails : (asked : Result Asked ℕ) (old new : Input) (old_files new_files : Filed)
       (net net_after : Linked P)
-      → Takes line_of moments asked old new old_files new_files net net_after read_failed
+      → Takes line_of address_of moments asked old new old_files new_files net net_after read_failed
       → Rose old.faults new.faults ⊎ Rose old_files.faults new_files.faults
   fails (Err at) old new old_files new_files net net_after took = cc took.0
   fails (Ok replay) old new old_files new_files net net_after took = inl took.0.0
@@ -644,7 +650,7 @@ module _ {P : Type 0} (line_of : P → Line) (moments : Option (List ℕ)) where
 
   runs_long : (asked : Result Asked ℕ) (old new : Input) (old_files new_files : Filed)
       (net net_after : Linked P)
-      → Takes line_of moments asked old new old_files new_files net net_after too_long
+      → Takes line_of address_of moments asked old new old_files new_files net net_after too_long
       → ReadsLong old new
   runs_long (Err at) old new old_files new_files net net_after took = cc took.0
   runs_long (Ok replay) old new old_files new_files net net_after took = took.0.0
@@ -660,7 +666,8 @@ module _ {P : Type 0} (line_of : P → Line) (moments : Option (List ℕ)) where
 
   module _ (words : List (List ℕ)) (old new : Input) (old_files new_files : Filed)
       (net net_after : Linked P) (old_out new_out : Output) (status : ℕ)
-      (ran : Ran line_of moments words old new old_files new_files net net_after old_out new_out
+      (ran : Ran line_of address_of moments words old new old_files new_files net net_after old_out
+      new_out
       status) where
     -- the status is that of the course, unless the run yields
     by_course : (due : ℕ) → status_of ran.0 ≡ due → (status ≡ due) ⊎ Yields status old_out new_out
@@ -766,7 +773,8 @@ module _ {P : Type 0} (line_of : P → Line) (moments : Option (List ℕ)) where
         ended (inl code) =
             let at = refused_is ran.0 (sym code ∙ is) in
             refuses (command_of words) old new old_files new_files net net_after at.0
-            (subst (λ (k : Course). Takes line_of moments (command_of words) old new old_files
+            (subst (λ (k : Course). Takes line_of address_of moments (command_of words) old new
+            old_files
             new_files net net_after k) at.1 ran.1)
         ended (inr (inl memory)) = absurd (omega (arith, memory, is))
         ended (inr (inr failed)) = absurd (omega (arith, failed.0, is))
@@ -779,7 +787,8 @@ module _ {P : Type 0} (line_of : P → Line) (moments : Option (List ℕ)) where
             → Rose old.faults new.faults ⊎ Rose old_files.faults new_files.faults
         ended (inl code) =
             fails (command_of words) old new old_files new_files net net_after
-            (subst (λ (k : Course). Takes line_of moments (command_of words) old new old_files
+            (subst (λ (k : Course). Takes line_of address_of moments (command_of words) old new
+            old_files
             new_files net net_after k) (failed_is ran.0 (sym code ∙ is)) ran.1)
         ended (inr (inl memory)) = absurd (omega (arith, memory, is))
         ended (inr (inr failed)) = absurd (omega (arith, failed.0, is))
@@ -790,7 +799,8 @@ module _ {P : Type 0} (line_of : P → Line) (moments : Option (List ℕ)) where
         ended : (status ≡ status_of ran.0) ⊎ Yields status old_out new_out → ReadsLong old new
         ended (inl code) =
             runs_long (command_of words) old new old_files new_files net net_after
-            (subst (λ (k : Course). Takes line_of moments (command_of words) old new old_files
+            (subst (λ (k : Course). Takes line_of address_of moments (command_of words) old new
+            old_files
             new_files net net_after k) (long_is ran.0 (sym code ∙ is)) ran.1)
         ended (inr (inl memory)) = absurd (omega (arith, memory, is))
         ended (inr (inr failed)) = absurd (omega (arith, failed.0, is))

@@ -8,7 +8,7 @@ use Rattle.std.proofs.lemmas.List.{append-nil, take_at}
 use Rattle.std.specs.Io.KnownBytes.{Appends}
 use Rattle.std.proofs.KnownBytes.{Appends-trans}
 use Rattle.line_base.specs.Counts.{Rose}
-use Rattle.addr_book.specs.FileLine.{lines_of}
+use Rattle.text_parts.specs.Lines.{lines_of}
 use Rattle.machine.specs.Values.{StateValue}
 use Rattle.machine.specs.State.{opening}
 use Rattle.script.specs.Line.{line_value}

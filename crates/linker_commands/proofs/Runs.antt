@@ -9,11 +9,12 @@ use Rattle.linker_commands.specs.declared.run.Status.{Status}
 use Rattle.linker_commands.specs.declared.run.Status.TheVariants as status
 use Rattle.line_base.specs.Counts.{Rose}
 use Rattle.line_base.specs.Lines.{Line}
+use Rattle.line_base.specs.declared.socket_address.SocketAddress.{SocketAddress}
 use Rattle.line_base.specs.Files.{Filed}
 use Rattle.line_base.specs.Streams.{Input, Output}
 use Rattle.linker_commands.specs.Run.{AppendsFront, Course, words_refused, read_failed, too_long}
 use Rattle.linker_commands.specs.Run.{script_read, line_told, no_memory, served, followed, Begins}
-use Rattle.linker_commands.specs.Run.{Linked}
+use Rattle.linker_commands.specs.Linked.{Linked}
 use Rattle.linker_commands.specs.Run.{Takes, Ended, Ran, output_of, status_of}
 use Rattle.linker_commands.specs.Served.{memory_line}
 use Rattle.linker_commands.specs.Words.{Asked, replay, check, serve, lint, storm, weave, follow}
@@ -73,33 +74,35 @@ tells_memory_first course result old new told =
     (begins_nothing course) told
 
 -- nothing is read yet
-nothing_read : {P : Type 0} (line_of : P → Line) (moments : Option (List ℕ))
+nothing_read : {P : Type 0} (line_of : P → Line) (address_of : P → Option SocketAddress)
+    (moments : Option (List ℕ))
     (asked : Result Asked ℕ) (input : Input) (files : Filed) (net : Linked P) → (course : Course)
-    × Takes line_of moments asked input input files files net net course
-nothing_read line_of moments (Err place) input files net =
+    × Takes line_of address_of moments asked input input files files net net course
+nothing_read line_of address_of moments (Err place) input files net =
     (words_refused place, (refl, refl, refl, refl))
-nothing_read line_of moments (Ok replay) input files net =
+nothing_read line_of address_of moments (Ok replay) input files net =
     (no_memory, ((([], Consumes-nil input.left, omega arith), refl), refl, refl))
-nothing_read line_of moments (Ok (check path)) input files net =
+nothing_read line_of address_of moments (Ok (check path)) input files net =
     (no_memory, (refl, refl, refl, refl))
-nothing_read line_of moments (Ok (lint path)) input files net =
+nothing_read line_of address_of moments (Ok (lint path)) input files net =
     (no_memory, (refl, refl, refl, refl))
-nothing_read line_of moments (Ok (serve path)) input files net =
+nothing_read line_of address_of moments (Ok (serve path)) input files net =
     (no_memory, ((refl, refl), refl, refl))
-nothing_read line_of moments (Ok (storm turns seed)) input files net =
+nothing_read line_of address_of moments (Ok (storm turns seed)) input files net =
     (no_memory, (inr refl, refl, refl, refl))
-nothing_read line_of moments (Ok (weave turns seed)) input files net =
+nothing_read line_of address_of moments (Ok (weave turns seed)) input files net =
     (no_memory, (inr refl, refl, refl, refl))
-nothing_read line_of moments (Ok (follow leader space polls)) input files net =
+nothing_read line_of address_of moments (Ok (follow leader space polls)) input files net =
     (no_memory, (tt, refl, refl, refl))
 
 -- memory was wanting for the words themselves
-pub no_words : {P : Type 0} (line_of : P → Line) (moments : Option (List ℕ)) (words : List (List ℕ))
+pub no_words : {P : Type 0} (line_of : P → Line) (address_of : P → Option SocketAddress)
+    (moments : Option (List ℕ)) (words : List (List ℕ))
     (input : Input) (files : Filed) (net : Linked P) (old new : Output) (result : Status)
     → Tells memory_line status.Memory old new result
-    → Ran line_of moments words input input files files net net old new (code_of result)
-no_words line_of moments words input files net old new result told =
-    let first = nothing_read line_of moments (command_of words) input files net in
+    → Ran line_of address_of moments words input input files files net net old new (code_of result)
+no_words line_of address_of moments words input files net old new result told =
+    let first = nothing_read line_of address_of moments (command_of words) input files net in
     (first.0, first.1, tells_memory_first first.0 result old new told)
 
 -- a last line behind what was written

@@ -2,7 +2,9 @@ pub mod Check
 pub mod Follow
 pub mod Found
 pub mod Generated
+pub mod Linked
 pub mod Lint
+pub mod Recorded
 pub mod Replay
 pub mod Run
 pub mod Served

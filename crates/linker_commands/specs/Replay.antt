@@ -2,7 +2,7 @@
 use Rattle.std.specs.Prelude.{ℕ, ◌+◌, Bool, true, false, List, [], ◌∷◌, ◌++◌, codes, Option, Some}
 use Rattle.std.specs.Prelude.{None}
 use Rattle.std.specs.Fmt.{decimal}
-use Rattle.addr_book.specs.FileLine.{lines_of}
+use Rattle.text_parts.specs.Lines.{lines_of}
 use Rattle.machine.specs.Values.{StateValue}
 use Rattle.machine.specs.State.{opening}
 use Rattle.script.specs.Line.{LineValue, bad, line_value}

@@ -14,14 +14,16 @@ use Rattle.line_base.specs.Files.{File, Filed}
 use Rattle.line_base.specs.Nets.{Networking, Returns}
 use Rattle.line_base.specs.Streams.{Input, Output}
 use Rattle.line_base.specs.Lines.{Line}
+use Rattle.line_base.specs.declared.socket_address.SocketAddress.{SocketAddress}
 use Rattle.workers.specs.Turns.{raised_by}
 use Rattle.addr_book.specs.declared.addr.Addr.{Addr}
-use Rattle.addr_book.specs.FileLine.{lines_of}
+use Rattle.text_parts.specs.Lines.{lines_of}
 use Rattle.machine.specs.State.{opening}
 use Rattle.linker_config.specs.declared.config.Config.{Config}
 use Rattle.linker_commands.specs.Check.{TellsPath}
 use Rattle.linker_commands.specs.Follow.{IsFollowed}
 use Rattle.linker_commands.specs.Generated.{storm_line, weave_line}
+use Rattle.linker_commands.specs.Linked.{Linked}
 use Rattle.linker_commands.specs.Lint.{TellsTablePath}
 use Rattle.linker_commands.specs.Replay.{played, replay_of}
 use Rattle.linker_commands.specs.Served.{Finish, finish_code, IsConfig}
@@ -124,11 +126,6 @@ Checks TellsFile old new no_memory = new.faults ≡ old.faults
 Checks TellsFile old new (served lines finish) = ⊥
 Checks TellsFile old new (followed all lines) = ⊥
 
--- what the net tells of itself: what came back to it, with its numbers, and its faults
-pub record Linked (P : Type 0) : Type 0 where
-  pub state : Networking P
-  pub faults : ℕ
-
 -- the course of a line that rests on nothing that is read: only memory may be wanting for it
 abbrev pub Makes : List ℕ → Course → Type 0
 Makes line course = (course ≡ line_told true line) ⊎ (course ≡ no_memory)
@@ -148,7 +145,8 @@ Follows told leader space polls (followed all lines) =
 
 -- a run, over a net whose peers tell so much, and with a clock whose forks have these moments to
 -- come
-module _ {P : Type 0} (line_of : P → Line) (moments : Option (List ℕ)) where
+module _ {P : Type 0} (line_of : P → Line) (address_of : P → Option SocketAddress)
+    (moments : Option (List ℕ)) where
   -- the course of serving by the configuration at a path: it is refused, or a service is; it could
   -- not be read; memory was wanting; or there is a right one, and the lines tell how it was
   abbrev pub Serves : List ℕ → Filed → Filed → Linked P → Linked P → Course → Type 0
@@ -163,7 +161,7 @@ module _ {P : Type 0} (line_of : P → Line) (moments : Option (List ℕ)) where
       (new.faults ≡ old.faults) × (net_after.faults ≡ net.faults)
   Serves path old new net net_after (served lines finish) =
       (config : Config) × IsConfig old.files path config
-      × TellsServing Brand line_of moments old.files config net.state net_after.state lines finish
+      × TellsServing Brand line_of address_of moments old.files config net net_after lines finish
       × TellsNet net.faults net_after.faults finish × (new.faults ≡ old.faults)
   Serves path old new net net_after (followed all lines) = ⊥
 
@@ -232,26 +230,29 @@ Ended course old new status =
     × ((bytes ≡ output_of course) ⊎ IsCutShort course bytes)
     × AppendsFront old.held new.held bytes))
 
-module _ (J : Type 0) {P : Type 0} (line_of : P → Line) (moments : Option (List ℕ)) where
+module _ (J : Type 0) {P : Type 0} (line_of : P → Line) (address_of : P → Option SocketAddress)
+    (moments : Option (List ℕ)) where
   -- how a router that was to serve by a configuration ends, whose own answers come first: its book
   -- has no room for a service, or memory was wanting before it could serve
   abbrev pub EndsServing : Option (List File) → Config → Linked P → Linked P → Output → Output → ℕ
       → Type 0
   EndsServing files config net net_after old new status =
       ((lines : List ℕ) × (finish : Finish)
-      × TellsServing J line_of moments files config net.state net_after.state lines finish
+      × TellsServing J line_of address_of moments files config net net_after lines finish
       × TellsNet net.faults net_after.faults finish × Ended (served lines finish) old new status)
       ⊎ ((RefusesBook files config × (net_after ≡ net)
       × Ended (line_told false (codes "error book\n")) old new status)
       ⊎ ((net_after.faults ≡ net.faults) × Ended no_memory old new status))
 
-module _ {P : Type 0} (line_of : P → Line) (moments : Option (List ℕ)) where
+module _ {P : Type 0} (line_of : P → Line) (address_of : P → Option SocketAddress)
+    (moments : Option (List ℕ)) where
   -- the whole of a run
   abbrev pub Ran : List (List ℕ) → Input → Input → Filed → Filed → Linked P → Linked P → Output
       → Output → ℕ → Type 0
   Ran words old_in new_in old_files new_files net net_after old_out new_out status =
       (course : Course)
-      × Takes line_of moments (command_of words) old_in new_in old_files new_files net net_after
+      × Takes line_of address_of moments (command_of words) old_in new_in old_files new_files net
+      net_after
       course
       × Ended course old_out new_out status
 

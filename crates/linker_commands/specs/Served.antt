@@ -3,10 +3,10 @@ use Rattle.std.specs.Prelude.{◌≡◌, ◌⊎◌, ℕ, ◌+◌, Bool, true, fa
 use Rattle.std.specs.Prelude.{◌++◌, codes, Option, None, Some, option_map, Ok, Err}
 use Rattle.line_base.specs.Clocks.{Begins, Tells as ClockTells}
 use Rattle.line_base.specs.Counts.{Rose}
-use Rattle.line_base.specs.Nets.{Networking}
 use Rattle.machine.specs.Code.{settings_of}
 use Rattle.machine.specs.Values.{SettingsValue}
 use Rattle.line_base.specs.Lines.{Line}
+use Rattle.line_base.specs.declared.socket_address.SocketAddress.{SocketAddress}
 use Rattle.load_words.specs.Seats.{Words}
 use Rattle.snap_cell.specs.declared.kept.Origin.{Origin}
 use Rattle.router.specs.declared.current.Current.{Current}
@@ -14,7 +14,6 @@ use Rattle.router.specs.declared.naming.Naming.{Ghosts}
 use Rattle.router.specs.declared.pass.Pass.{Pass}
 use Rattle.router.specs.declared.update.Update.{Update}
 use Rattle.serving.specs.declared.running.Served.{Served}
-use Rattle.serving.specs.Ending.{HasServed}
 use Rattle.serving.specs.Posts.{jobs_of}
 use Rattle.serving.specs.Returning.{listened}
 use Rattle.serving.specs.Services.{BookRefuses}
@@ -33,6 +32,8 @@ use Rattle.linker_config.specs.Answers.{Reads}
 use Rattle.linker_config.specs.Folder.{Loads, Services}
 use Rattle.linker_config.specs.Lines.{port_text}
 use Rattle.linker_commands.specs.Check.{TellsPath, most_config}
+use Rattle.linker_commands.specs.Linked.{Linked}
+use Rattle.linker_commands.specs.Recorded.{HasRecorded}
 
 -- how a router ends that was to serve: it was shut down, an address could not be listened on or the
 -- waits of a listener failed, or memory was wanting
@@ -170,10 +171,11 @@ abbrev pub router_of : (J : Type 0) → Option (Origin Current Update) → Setti
 router_of J cell settings words seats =
     record { cell = cell; settings = settings; words = words; seats = seats }
 
-module _ (J : Type 0) {P : Type 0} (line_of : P → Line) (moments : Option (List ℕ))
-    (files : Option (List File)) (c : Config) (net net_after : Networking P) where
-  -- a router served by a configuration, with its settings and the services of the folder that it
-  -- names and over a net that had made its listeners, and ended so
+module _ (J : Type 0) {P : Type 0} (line_of : P → Line) (address_of : P → Option SocketAddress)
+    (moments : Option (List ℕ)) (files : Option (List File)) (c : Config)
+    (net net_after : Linked P) where
+  -- a router served by a configuration, with its settings, the services of the folder and the log
+  -- that it names, and over a net that had made its listeners, and ended so
   pub record ServedBy (end : Served) : Type 0 where
     pub loaded : List LoadedItem
     pub loads : LoadsRoot files c.root (Ok loaded)
@@ -183,8 +185,9 @@ module _ (J : Type 0) {P : Type 0} (line_of : P → Line) (moments : Option (Lis
     pub passes : List (Pass J (router_of J cell (settings_of c.settings) words seats))
     pub site : Site
     pub site_is : IsSiteOf moments c site
-    pub whole : HasServed line_of site moments loaded passes (listened (jobs_of site) net)
-        net_after end
+    pub recorded :
+        HasRecorded line_of address_of site moments c.access_log loaded passes
+        (listened (jobs_of site) net.state) net_after.state net.logs net_after.logs end
 
   -- what is told last: how many changes there were, behind which it is told where memory was
   -- wanting in a session; or that the net failed, where the services were loaded; or that memory
@@ -225,7 +228,9 @@ TellsEnd end last short =
 
 -- a router is made by a configuration
 pub record IsMadeBy (moments : Option (List ℕ)) (files : Option (List File)) (c : Config)
-    (site : Site) (settings : SettingsValue) (loaded : List LoadedItem) : Type 0 where
+    (site : Site) (settings : SettingsValue) (loaded : List LoadedItem) (path : Option (List ℕ))
+    : Type 0 where
   pub site_is : IsSiteOf moments c site
   pub settings_are : settings ≡ settings_of c.settings
   pub loads : LoadsRoot files c.root (Ok loaded)
+  pub path_is : path ≡ c.access_log

@@ -2,9 +2,10 @@
 use Rattle.std.specs.Prelude.{ℕ, nat_eq, if◌then◌else◌, List, [], ◌∷◌, codes, Option, Some, None}
 use Rattle.std.specs.Prelude.{Result, Ok, Err}
 use Rattle.std.specs.Str.{bytes_eq}
-use Rattle.addr_book.specs.Addr.{at_most}
+use Rattle.text_parts.specs.Numbers.{at_most, number_of}
+use Rattle.addr_book.specs.Name.{name_of}
 use Rattle.addr_book.specs.declared.addr.Addr.{Addr}
-use Rattle.script.specs.Words.{addr_in, name_of, number_of}
+use Rattle.script.specs.Words.{addr_in}
 use Rattle.linker_commands.specs.declared.words.Command.{Command}
 use Rattle.linker_commands.specs.declared.words.Command.TheVariants as command
 

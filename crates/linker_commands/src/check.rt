@@ -46,7 +46,7 @@ pub enum CheckEnd {
 /// Reads the configuration at a path. The services' folder that it names is not looked at.
 pub fn configured<F: Folder>(alloc: Global, folder: &mut F, path: &str) -> Result<Config, ConfigEnd>
     ensures config { IfOk result (λ config. IsConfig (F.filed folder.old).files path.now config) }
-    ensures workers { IfOk result (λ config. config.workers ≤ 256) }
+    ensures workers { IfOk result (λ config. (1 ≤ config.workers) × (config.workers ≤ 256)) }
     ensures wrong { IfErr result (λ end. IfWrong end
         (λ line. TellsPath (F.filed folder.old).files path.now false line)) }
     ensures fault { result ≡ Err ConfigEnd.Fault → Rose (F.filed folder.old).faults
@@ -66,7 +66,7 @@ pub fn configured<F: Folder>(alloc: Global, folder: &mut F, path: &str) -> Resul
 fn config_in(alloc: Global, found: &Found) -> Result<Config, ConfigEnd>
     ensures config { IfOk result (λ config. (text : List ℕ) × IsText found.now text
         × Reads text (Ok config)) }
-    ensures workers { IfOk result (λ config. config.workers ≤ 256) }
+    ensures workers { IfOk result (λ config. (1 ≤ config.workers) × (config.workers ≤ 256)) }
     ensures wrong { IfErr result (λ end. IfWrong end (λ line. TellsFound found.now false line)) }
     ensures only { result ≡ Err ConfigEnd.Fault → ⊥ }
 {

@@ -11,13 +11,13 @@ ghost use Rattle.linker_commands.specs.Told.{Answers, Plays, Finishes, Flushes};
 use crate::ends::write_all;
 use crate::reply::{append_answer, append_bad_line};
 use crate::{Bytes, Mem};
-use addr_book::cut_line;
 use line_base::{Failed, Sink};
 use machine::{Settings, State};
 use script::{LineFault, carry_out, read_line, script_settings};
 use std::alloc::{AllocError, Global};
 use std::sync::ledger::Ledger;
 use step_count::Steps;
+use text_parts::cut_line;
 
 /// Replies are written once there are so many bytes of them.
 const FLUSH: usize = 65_536;

@@ -5,12 +5,14 @@ ghost use Rattle.line_base.specs.Counts.{Rose};
 ghost use Rattle.linker_commands.specs.Generated.{storm_line, weave_line};
 ghost use Rattle.line_base.specs.Files.{Filed};
 ghost use Rattle.line_base.specs.Streams.{Input, Output};
-ghost use Rattle.linker_commands.specs.Run.{Ran, Linked, statuses, EndsWhole, Shows, ReadsLong};
+ghost use Rattle.linker_commands.specs.Linked.{Linked, linked};
+ghost use Rattle.linker_commands.specs.Run.{Ran, statuses, EndsWhole, Shows, ReadsLong};
 ghost use Rattle.linker_commands.specs.Run.{Yields, ReplaysAll, ChecksAll, LintsAll, MakesAll};
 ghost use Rattle.linker_commands.specs.Words.{command_of, storm, weave};
 
 use crate::run::run;
 use line_base::{Clock, Folder, Listener, Net, Sink, Source};
+use line_log::Journals;
 use std::marker::Brand;
 use std::sync::Wait;
 use std::sync::ledger::Blank;
@@ -62,6 +64,7 @@ pub fn linker<
     C: Clock + Drop + Send,
     S: Source,
     K: Sink,
+    O: Journals,
 >(
     rt: &R,
     words: &[String],
@@ -70,6 +73,7 @@ pub fn linker<
     clock: &mut C,
     input: &mut S,
     out: &mut K,
+    journals: &mut O,
 ) -> u8
 where
     <N::L as Listener>::P: Send,
@@ -80,10 +84,10 @@ where
     // configuration and the services of its folder: each stay of a client's connection went on with
     // what was seen for it before, all connections were finished, and all listeners and stops came
     // back.
-    ensures ran { Ran N.L.P.line (C.of_fork clock.old) (map string_bytes words.now)
+    ensures ran { Ran N.L.P.line N.L.P.address (C.of_fork clock.old) (map string_bytes words.now)
         (S.input input.old) (S.input input.new) (F.filed folder.old) (F.filed folder.new)
-        (record { state = N.state net.old; faults = N.faults net.old })
-        (record { state = N.state net.new; faults = N.faults net.new }) (K.output out.old)
+        (linked (N.state net.old) (N.faults net.old) (O.closed journals.old))
+        (linked (N.state net.new) (N.faults net.new) (O.closed journals.new)) (K.output out.old)
         (K.output out.new) result }
 
     // 2 exactly where the words fit no command.
@@ -102,8 +106,8 @@ where
     // 0 of `serve` only where every listener came back clean, as many connections were finished as
     // were accepted, and as many stops came back as were handed out.
     ensures all_back { result ≡ 0 → EndsWhole (command_of (map string_bytes words.now))
-        (F.filed folder.old) (record { state = N.state net.old; faults = N.faults net.old })
-        (record { state = N.state net.new; faults = N.faults net.new }) }
+        (F.filed folder.old) (linked (N.state net.old) (N.faults net.old) (O.closed journals.old))
+        (linked (N.state net.new) (N.faults net.new) (O.closed journals.new)) }
 
     // 5 exactly where the output's count of faults rose, 4 exactly where the input's or the
     // folder's did, and 6 exactly where the net's did, but for want of memory.
@@ -138,7 +142,7 @@ where
         (K.output out.new) result }
     ensures status { Contains statuses result }
 {
-    run::<R, F, N, C, S, K, Brand>(
+    run::<R, F, N, C, S, K, O, Brand>(
         rt,
         rt.alloc(),
         words,
@@ -147,6 +151,7 @@ where
         clock,
         input,
         out,
+        journals,
         Blank::new(1),
     )
     .code()

@@ -3,6 +3,7 @@ ghost use Rattle.std.specs.Prelude.{◌≡◌, ◌<◌, ◌≤◌, ℕ, List, le
 ghost use Rattle.line_base.specs.Files.{Filed};
 ghost use Rattle.line_base.specs.Streams.{Input, Output};
 ghost use Rattle.linker_commands.specs.Check.{TellsPath};
+ghost use Rattle.linker_commands.specs.Linked.{linked};
 ghost use Rattle.linker_commands.specs.Lint.{TellsTablePath};
 ghost use Rattle.linker_commands.specs.Run.{Ran, Course, words_refused, script_read, output_of};
 ghost use Rattle.linker_commands.specs.Run.{status_if, Reads, Checks, Makes, Ended};
@@ -18,6 +19,7 @@ use crate::serve::serve;
 use crate::words::{Command, read_words};
 use crate::{Bytes, Mem};
 use line_base::{Clock, Folder, Listener, Net, Sink, Source};
+use line_log::Journals;
 use std::alloc::Global;
 use std::sync::Wait;
 use std::sync::ledger::{Blank, Ledger};
@@ -192,6 +194,7 @@ pub fn run<
     C: Clock + Drop + Send,
     S: Source,
     K: Sink,
+    O: Journals,
     L: Ledger,
 >(
     rt: &R,
@@ -202,6 +205,7 @@ pub fn run<
     clock: &mut C,
     input: &mut S,
     out: &mut K,
+    journals: &mut O,
     blank: Blank,
 ) -> Status
 where
@@ -209,10 +213,11 @@ where
     requires name { blank.name ≡ L.name }
     requires parts { blank.parts ≡ L.parts }
     requires some { 0 < blank.parts }
-    ensures { Ran N.L.P.line (C.of_fork clock.old) (map string_bytes words.now) (S.input input.old)
+    ensures { Ran N.L.P.line N.L.P.address (C.of_fork clock.old) (map string_bytes words.now)
+        (S.input input.old)
         (S.input input.new) (F.filed folder.old) (F.filed folder.new)
-        (record { state = N.state net.old; faults = N.faults net.old })
-        (record { state = N.state net.new; faults = N.faults net.new }) (K.output out.old)
+        (linked (N.state net.old) (N.faults net.old) (O.closed journals.old))
+        (linked (N.state net.new) (N.faults net.new) (O.closed journals.new)) (K.output out.old)
         (K.output out.new) (code_of result) }
 {
     let mut steps = Steps::<L>::start(blank);
@@ -220,7 +225,7 @@ where
         Ok(Command::Replay) => replay(alloc, input, out, &mut steps),
         Ok(Command::Check(path)) => check_config(alloc, folder, path, out),
         Ok(Command::Lint(path)) => lint_table(alloc, folder, path, out),
-        Ok(Command::Serve(path)) => serve(rt, alloc, folder, path, net, clock, out),
+        Ok(Command::Serve(path)) => serve(rt, alloc, folder, path, net, clock, out, journals),
         Ok(Command::Storm(run)) => tell_made(out, storm_line(alloc, run)),
         Ok(Command::Weave(run)) => tell_made(out, weave_line(alloc, run, &mut steps)),
         Ok(Command::Follow(following)) => follow(alloc, net, following, out),

@@ -2,10 +2,10 @@
 ghost use Rattle.std.specs.Prelude.{◌≡◌, ◌+◌, ◌≤◌, ◌++◌, ℕ, List, Option, Some, IfOk, OnOk, false};
 ghost use Rattle.std.specs.Prelude.{length, string_bytes};
 ghost use Rattle.line_base.specs.Files.{File};
-ghost use Rattle.line_base.specs.Nets.{Networking};
 ghost use Rattle.line_base.specs.Files.{Filed};
 ghost use Rattle.line_base.specs.Streams.{Output};
-ghost use Rattle.linker_commands.specs.Run.{Course, Ended, EndsServing, Linked, Serves, line_told};
+ghost use Rattle.linker_commands.specs.Linked.{Linked, linked};
+ghost use Rattle.linker_commands.specs.Run.{Course, Ended, EndsServing, Serves, line_told};
 ghost use Rattle.linker_commands.specs.Served.{Finish, IsConfig, IsLast, IsMadeBy, LoadsRoot};
 ghost use Rattle.linker_commands.specs.Served.{TellsEnd, TellsNet, file_line, finish_code, last_of};
 ghost use Rattle.linker_commands.specs.Served.{IsFeeding, IsRun, feed_port, feed_words};
@@ -24,11 +24,13 @@ ghost use Rattle.snap_cell.specs.Writers.{cell_written, opening_written};
 
 use crate::check::{ConfigEnd, configured};
 use crate::ends::write_all;
+use crate::recording::run_recorded;
 use crate::run::{Status, tell};
 use crate::{Bytes, Mem};
 use addr_book::Name;
 use client_stays::Handling;
 use line_base::{Clock, Folder, Listener, Net, Sink};
+use line_log::Journals;
 use linker_config::{Config, FeedAt, LoadFault, Loaded, Text, append_port, load_folder};
 use router::{Opened, open};
 use serving::{Feeding, Policy, RunFault, Served, Serving, Site, StartFault, start};
@@ -167,6 +169,7 @@ fn serve_on<
     N: Net + Send,
     C: Clock + Drop + Send,
     K: Sink,
+    O: Journals,
 >(
     rt: &R,
     alloc: Global,
@@ -175,6 +178,8 @@ fn serve_on<
     net: &mut N,
     clock: &C,
     out: &mut K,
+    log: &Option<Text>,
+    journals: &mut O,
 ) -> Status
 where
     <N::L as Listener>::P: Send,
@@ -183,17 +188,20 @@ where
     requires seats { length (passes_of serving) ≡ jobs_of site.now + 1 }
     requires parts { J.parts ≡ J.seats }
     requires handled { IsHandledBy J.rule J.tries site.now.policy }
-    ensures { (files : Option (List File)) → (c : Config) → (before : Networking N.L.P)
+    requires workers { (1 ≤ site.now.workers) × (site.now.workers ≤ 256) }
+    ensures { (files : Option (List File)) → (c : Config) → (before : Linked N.L.P)
         → (loaded : List LoadedItem)
-        → IsMadeBy (C.of_fork clock.now) files c site.now J.settings loaded
+        → IsMadeBy (C.of_fork clock.now) files c site.now J.settings loaded log.now
         → HaveSeen loaded (passes_of serving)
-        → N.state net.old ≡ listened (jobs_of site.now) before
+        → N.state net.old ≡ listened (jobs_of site.now) before.state
+        → O.closed journals.old ≡ before.logs
         → (last : List ℕ) × (finish : Finish) × (end : Status)
-        × IsLast J N.L.P.line (C.of_fork clock.now) files c before (N.state net.new) last finish
+        × IsLast J N.L.P.line N.L.P.address (C.of_fork clock.now) files c before
+        (linked (N.state net.new) (N.faults net.new) (O.closed journals.new)) last finish
         × TellsNet (N.faults net.old) (N.faults net.new) finish × (code_of end ≡ finish_code finish)
         × Tells last end (K.output out.old) (K.output out.new) result }
 {
-    match serving.run(rt, alloc, site, net, clock) {
+    match run_recorded(rt, alloc, serving, site, net, clock, log, journals) {
         Ok(served) => tell_served(alloc, out, served),
         Err(RunFault::Net) => tell(out, b"error net\n", Status::Net),
         Err(RunFault::OutOfMemory) => tell(out, b"error memory\n", Status::Memory),
@@ -207,6 +215,7 @@ fn serve_opened<
     N: Net + Send,
     C: Clock + Drop + Send,
     K: Sink,
+    O: Journals,
 >(
     rt: &R,
     alloc: Global,
@@ -216,6 +225,8 @@ fn serve_opened<
     net: &mut N,
     clock: &C,
     out: &mut K,
+    log: &Option<Text>,
+    journals: &mut O,
 ) -> Status
 where
     <N::L as Listener>::P: Send,
@@ -226,11 +237,12 @@ where
     requires parts { (opened.blank.parts ≡ J.parts) × (J.parts ≡ J.seats) }
     requires seats { (opened.seats ≡ J.seats) × (opened.seats ≡ jobs_of site.now + 1) }
     requires handled { IsHandledBy J.rule J.tries site.now.policy }
+    requires workers { (1 ≤ site.now.workers) × (site.now.workers ≤ 256) }
     ensures { (files : Option (List File)) → (c : Config)
-        → IsMadeBy (C.of_fork clock.now) files c site.now J.settings loaded
-        → EndsServing J N.L.P.line (C.of_fork clock.now) files c
-        (record { state = N.state net.old; faults = N.faults net.old })
-        (record { state = N.state net.new; faults = N.faults net.new }) (K.output out.old)
+        → IsMadeBy (C.of_fork clock.now) files c site.now J.settings loaded log.now
+        → EndsServing J N.L.P.line N.L.P.address (C.of_fork clock.now) files c
+        (linked (N.state net.old) (N.faults net.old) (O.closed journals.old))
+        (linked (N.state net.new) (N.faults net.new) (O.closed journals.new)) (K.output out.old)
         (K.output out.new) (code_of result) }
 {
     let serving = match start::<J, R, N>(rt, alloc, opened, loaded, site, net) {
@@ -244,7 +256,7 @@ where
         return tell(out, b"error memory\n", Status::Memory);
     };
     match write_all(out, line.as_slice()) {
-        Ok(()) => serve_on(rt, alloc, serving, site, net, clock, out),
+        Ok(()) => serve_on(rt, alloc, serving, site, net, clock, out, log, journals),
         Err(_) => {
             serving.close(rt);
             Status::Write
@@ -253,7 +265,14 @@ where
 }
 
 /// Serves by a configuration.
-fn serve_by<R: Threads + Wait + Sync, F: Folder, N: Net + Send, C: Clock + Drop + Send, K: Sink>(
+fn serve_by<
+    R: Threads + Wait + Sync,
+    F: Folder,
+    N: Net + Send,
+    C: Clock + Drop + Send,
+    K: Sink,
+    O: Journals,
+>(
     rt: &R,
     alloc: Global,
     folder: &mut F,
@@ -261,14 +280,16 @@ fn serve_by<R: Threads + Wait + Sync, F: Folder, N: Net + Send, C: Clock + Drop 
     net: &mut N,
     clock: &C,
     out: &mut K,
+    journals: &mut O,
 ) -> Status
 where
     <N::L as Listener>::P: Send,
-    requires workers { config.workers ≤ 256 }
+    requires workers { (1 ≤ config.workers) × (config.workers ≤ 256) }
     ensures served { (path : List ℕ) → IsConfig (F.filed folder.old).files path config
-        → (course : Course) × Serves N.L.P.line (C.of_fork clock.now) path (F.filed folder.old)
-        (F.filed folder.new) (record { state = N.state net.old; faults = N.faults net.old })
-        (record { state = N.state net.new; faults = N.faults net.new }) course
+        → (course : Course) × Serves N.L.P.line N.L.P.address (C.of_fork clock.now) path
+        (F.filed folder.old)
+        (F.filed folder.new) (linked (N.state net.old) (N.faults net.old) (O.closed journals.old))
+        (linked (N.state net.new) (N.faults net.new) (O.closed journals.new)) course
         × Ended course (K.output out.old) (K.output out.new) (code_of result) }
     ensures files { (F.filed folder.new).files ≡ (F.filed folder.old).files }
 {
@@ -279,6 +300,7 @@ where
         root,
         rule,
         clear_context: _,
+        access_log,
         settings,
         pool,
         retries,
@@ -309,11 +331,29 @@ where
     let Ok(opened) = open(rt, alloc, settings, site.seats()) else {
         return tell(out, b"error memory\n", Status::Memory);
     };
-    serve_opened::<Brand, R, N, C, K>(rt, alloc, opened, loaded, &site, net, clock, out)
+    serve_opened::<Brand, R, N, C, K, O>(
+        rt,
+        alloc,
+        opened,
+        loaded,
+        &site,
+        net,
+        clock,
+        out,
+        &access_log,
+        journals,
+    )
 }
 
 /// Serves by the configuration at a path, until it is stopped.
-pub fn serve<R: Threads + Wait + Sync, F: Folder, N: Net + Send, C: Clock + Drop + Send, K: Sink>(
+pub fn serve<
+    R: Threads + Wait + Sync,
+    F: Folder,
+    N: Net + Send,
+    C: Clock + Drop + Send,
+    K: Sink,
+    O: Journals,
+>(
     rt: &R,
     alloc: Global,
     folder: &mut F,
@@ -321,18 +361,20 @@ pub fn serve<R: Threads + Wait + Sync, F: Folder, N: Net + Send, C: Clock + Drop
     net: &mut N,
     clock: &C,
     out: &mut K,
+    journals: &mut O,
 ) -> Status
 where
     <N::L as Listener>::P: Send,
-    ensures served { (course : Course) × Serves N.L.P.line (C.of_fork clock.now) path.now
-        (F.filed folder.old) (F.filed folder.new) (record
-        { state = N.state net.old; faults = N.faults net.old })
-        (record { state = N.state net.new; faults = N.faults net.new }) course
+    ensures served { (course : Course)
+        × Serves N.L.P.line N.L.P.address (C.of_fork clock.now) path.now
+        (F.filed folder.old) (F.filed folder.new)
+        (linked (N.state net.old) (N.faults net.old) (O.closed journals.old))
+        (linked (N.state net.new) (N.faults net.new) (O.closed journals.new)) course
         × Ended course (K.output out.old) (K.output out.new) (code_of result) }
     ensures files { (F.filed folder.new).files ≡ (F.filed folder.old).files }
 {
     match configured(alloc, folder, path) {
-        Ok(config) => serve_by(rt, alloc, folder, config, net, clock, out),
+        Ok(config) => serve_by(rt, alloc, folder, config, net, clock, out, journals),
         Err(ConfigEnd::Wrong(line)) => tell(out, line.as_slice(), Status::Wrong),
         Err(ConfigEnd::Fault) => tell(out, b"error read\n", Status::Read),
         Err(ConfigEnd::OutOfMemory) => tell(out, b"error memory\n", Status::Memory),

@@ -4,11 +4,13 @@ ghost use Rattle.std.specs.Process.{exit_status};
 ghost use Rattle.std.specs.Vec.Iter.{into_iter_items};
 ghost use Rattle.line_base.specs.Files.{Filed};
 ghost use Rattle.line_base.specs.Streams.{Input, Output};
-ghost use Rattle.linker_commands.specs.Run.{Ran, Linked, words_of};
+ghost use Rattle.linker_commands.specs.Linked.{Linked, linked};
+ghost use Rattle.linker_commands.specs.Run.{Ran, words_of};
 
 use crate::program::linker;
 use crate::run::{Status, tell};
 use line_base::{Clock, Folder, Listener, Net, Sink, Source};
+use line_log::Journals;
 use std::alloc::{AllocError, AllocGlobal, Global};
 use std::env::Args;
 use std::io::{self, ErrorKind};
@@ -50,6 +52,7 @@ fn status_for<
     C: Clock + Drop + Send,
     S: Source,
     K: Sink,
+    O: Journals,
 >(
     rt: &R,
     arguments: io::Result<Args>,
@@ -58,25 +61,45 @@ fn status_for<
     clock: &mut C,
     input: &mut S,
     out: &mut K,
+    journals: &mut O,
 ) -> u8
 where
     <N::L as Listener>::P: Send,
-    ensures { Ran N.L.P.line (C.of_fork clock.old) (words_of arguments) (S.input input.old)
+    ensures { Ran N.L.P.line N.L.P.address (C.of_fork clock.old) (words_of arguments)
+        (S.input input.old)
         (S.input input.new) (F.filed folder.old) (F.filed folder.new)
-        (record { state = N.state net.old; faults = N.faults net.old })
-        (record { state = N.state net.new; faults = N.faults net.new }) (K.output out.old)
+        (linked (N.state net.old) (N.faults net.old) (O.closed journals.old))
+        (linked (N.state net.new) (N.faults net.new) (O.closed journals.new)) (K.output out.old)
         (K.output out.new) result }
 {
     let alloc = rt.alloc();
     match arguments {
         Ok(arguments) => match words_behind_name(alloc, arguments) {
-            Ok(words) => linker(rt, words.as_slice(), folder, net, clock, input, out),
+            Ok(words) => linker(
+                rt,
+                words.as_slice(),
+                folder,
+                net,
+                clock,
+                input,
+                out,
+                journals,
+            ),
             Err(_) => tell(out, b"error memory\n", Status::Memory).code(),
         },
         Err(error) if error.kind() == ErrorKind::OutOfMemory => {
             tell(out, b"error memory\n", Status::Memory).code()
         }
-        Err(_) => linker(rt, &[String::new(alloc)], folder, net, clock, input, out),
+        Err(_) => linker(
+            rt,
+            &[String::new(alloc)],
+            folder,
+            net,
+            clock,
+            input,
+            out,
+            journals,
+        ),
     }
 }
 
@@ -89,6 +112,7 @@ pub fn run_arguments<
     C: Clock + Drop + Send,
     S: Source,
     K: Sink,
+    O: Journals,
 >(
     rt: &R,
     arguments: io::Result<Args>,
@@ -97,18 +121,20 @@ pub fn run_arguments<
     clock: &mut C,
     input: &mut S,
     out: &mut K,
+    journals: &mut O,
 ) -> Exit
 where
     <N::L as Listener>::P: Send,
-    ensures ran { Ran N.L.P.line (C.of_fork clock.old) (words_of arguments) (S.input input.old)
+    ensures ran { Ran N.L.P.line N.L.P.address (C.of_fork clock.old) (words_of arguments)
+        (S.input input.old)
         (S.input input.new) (F.filed folder.old) (F.filed folder.new)
-        (record { state = N.state net.old; faults = N.faults net.old })
-        (record { state = N.state net.new; faults = N.faults net.new }) (K.output out.old)
+        (linked (N.state net.old) (N.faults net.old) (O.closed journals.old))
+        (linked (N.state net.new) (N.faults net.new) (O.closed journals.new)) (K.output out.old)
         (K.output out.new) (exit_status result.code) }
     ensures status { exit_status result.code ≡ result.status }
     ensures usage { IsTrue result.tells_usage ↔ (exit_status result.code ≡ 2) }
 {
-    let status = status_for(rt, arguments, folder, net, clock, input, out);
+    let status = status_for(rt, arguments, folder, net, clock, input, out, journals);
     Exit {
         code: ExitCode::from(status),
         status,

@@ -1,16 +1,15 @@
 //! The words of the command line.
 ghost use Rattle.std.specs.Prelude.{◌≡◌, None, Some, Ok, Err, ℕ, List, IfOk, IfErr, IsTrue};
 ghost use Rattle.std.specs.Prelude.{IsFalse, MatchResult, map, string_bytes};
-ghost use Rattle.addr_book.specs.Addr.{at_most};
-ghost use Rattle.script.specs.Words.{number_of};
+ghost use Rattle.text_parts.specs.Numbers.{at_most, number_of};
 ghost use Rattle.linker_commands.specs.Words.{asked_by, command_of, replay, storm, weave, alone};
 ghost use Rattle.linker_commands.specs.Words.{path_word, path_words, check, serve, lint, Asked};
 ghost use Rattle.linker_commands.specs.Words.{of_run, most_turns, turns_words, seed_words};
 ghost use Rattle.linker_commands.specs.Words.{leader_words, polls_words, space_words};
 
-use crate::leader::{is_name, read_addr};
-use addr_book::Addr;
-use script::read_number;
+use addr_book::{Addr, is_name};
+use script::read_addr;
+use text_parts::read_number;
 
 /// The most turns of a generated run.
 const MOST_TURNS: u64 = 1_000_000;
@@ -226,7 +225,7 @@ fn read_space(leader: Addr, others: &[String]) -> Result<Command<'_>, usize>
         (λ place. space_words leader (map string_bytes others.now) ≡ Err place) }
 {
     match others {
-        [space, others @ ..] if is_name(space.as_str()) => {
+        [space, others @ ..] if is_name(space.as_bytes()) => {
             read_polls(leader, space.as_str(), others)
         }
         _ => Err(3),

@@ -1,8 +1,12 @@
 //! Tests of the program over folders, nets, sources and sinks in memory: scripts with their
 //! replies, configurations, tables, words, limits, faults at each call in turn, and routers that
-//! serve, with clients that have nothing to say for a while.
+//! serve, with clients that have nothing to say for a while, listeners that break and access logs.
 #![tactic(auto)]
 
+#[cfg(test)]
+mod access_logs;
+#[cfg(test)]
+mod breaking;
 #[cfg(test)]
 mod configurations;
 #[cfg(test)]

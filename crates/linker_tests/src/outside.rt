@@ -5,6 +5,7 @@ use line_base::{
     DialEvent, Event, Listener, MemAddress, MemClock, MemDials, MemFile, MemFolder, MemNet,
     MemPeer, MemVisits, Net, Peer,
 };
+use line_log::MemJournals;
 use linker_commands::linker;
 use std::alloc::{AllocError, AllocGlobal, Global};
 use std::sync::Wait;
@@ -127,7 +128,10 @@ impl Answered for Paired<'_> {
 }
 
 /// What the connections to a net were given, one after another.
-fn given<P: Peer + Drop + Answered>(alloc: Global, net: &MemNet<P>) -> Result<String, AllocError> {
+pub(crate) fn given<P: Peer + Drop + Answered>(
+    alloc: Global,
+    net: &MemNet<P>,
+) -> Result<String, AllocError> {
     let mut text = String::new(alloc);
     for ended in net.ended() {
         for peer in ended.listener().returned() {
@@ -185,6 +189,21 @@ where
     <N::L as Listener>::P: Send,
 {
     let alloc = rt.alloc();
+    let mut journals = MemJournals::of(alloc, Vec::new(alloc));
+    logged_over(rt, folder, net, &mut journals)
+}
+
+/// The same, with an access log over these journals, if it has one.
+pub(crate) fn logged_over<R: AllocGlobal + Threads + Wait + Sync, N: Net + Send>(
+    rt: &R,
+    folder: MemFolder,
+    net: &mut N,
+    journals: &mut MemJournals,
+) -> Result<(String, u8), AllocError>
+where
+    <N::L as Listener>::P: Send,
+{
+    let alloc = rt.alloc();
     let words = vec![in alloc;
         String::from_str(alloc, "serve")?,
         String::from_str(alloc, "conf/c.json")?,
@@ -201,6 +220,7 @@ where
         &mut clock,
         &mut source,
         &mut sink,
+        journals,
     );
     let mut written = String::new(alloc);
     append(&mut written, sink.held())?;

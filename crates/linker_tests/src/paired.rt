@@ -1,7 +1,7 @@
 //! Clients that are to be served beside one another.
 ghost use Rattle.std.specs.Prelude.{None};
 
-use line_base::{Failed, MemPeer, Next, Peer};
+use line_base::{Failed, MemPeer, Next, Peer, SocketAddress};
 use std::sync::atomic::{AtomicBool, Ordering};
 use std::thread;
 
@@ -87,6 +87,12 @@ impl Peer for Paired<'_> {
       closings = p.client.notice.told;
       quiets = p.quiets;
     } };
+
+    ghost address = { λ p. p.client.address };
+
+    fn address(&self) -> Option<SocketAddress> {
+        self.client.address()
+    }
 
     fn read(&mut self, into: &mut [u8]) -> Result<usize, Failed> {
         if into.is_empty() {

@@ -1,5 +1,6 @@
 //! Runs of the program over an outside in memory.
 use line_base::{MemClock, MemFolder, MemNet, MemPeer, MemSink, MemSource};
+use line_log::MemJournals;
 use linker_commands::linker;
 use std::alloc::{AllocError, AllocGlobal, Global};
 use std::sync::Wait;
@@ -63,6 +64,7 @@ pub(crate) fn run_over<R: AllocGlobal + Threads + Wait + Sync>(
         &mut clock,
         &mut source,
         &mut sink,
+        &mut MemJournals::of(alloc, Vec::new(alloc)),
     );
     Ok((sink, status))
 }

@@ -1,26 +1,31 @@
 -- A turn of a connection is a stay with its worker.
-use Rattle.std.proofs.Common.{◌≡◌, ℕ, List, Bool, refl, sym, ap, subst, inl}
+use Rattle.std.proofs.Common.{◌≡◌, ℕ, List, Bool, refl, sym, subst, inl, inr}
 use Rattle.std.specs.Prelude.{Option}
 use Rattle.http_wire.specs.declared.ended.Ended.{Ended}
+use Rattle.http_wire.specs.declared.paused.Paused.{Paused}
 use Rattle.http_wire.specs.declared.paused.Paused.TheVariants as paused
 use Rattle.identifier.specs.declared.rule.Rule.{Rule}
+use Rattle.line_base.specs.declared.socket_address.SocketAddress.{SocketAddress}
 use Rattle.line_base.specs.Dials.{Upstream}
 use Rattle.line_base.specs.Lines.{Line}
 use Rattle.machine.specs.Values.{SettingsValue}
 use Rattle.retry_budget.specs.declared.tries.Tries.{Tries}
 use Rattle.router.specs.declared.naming.Naming.{Ghosts}
-use Rattle.router.specs.declared.pass.Pass.{Pass}
 use Rattle.proxy_session.specs.Callers.{caller_of}
 use Rattle.proxy_session.specs.Idle.{EndsIdle}
 use Rattle.proxy_session.specs.declared.server.Server.{Server}
-use Rattle.rand_pcg.specs.Lcg.{Lcg}
 use Rattle.client_stays.specs.Chains.{CameTo, Idle, came}
-use Rattle.client_stays.specs.Servers.{HasStayed, ServerValue, StaysWith, server_value}
+use Rattle.client_stays.specs.Recorded.{HasStayedAs, StaysWithAs}
+use Rattle.client_stays.specs.Servers.{ServerValue, StaysWith, server_value}
 use Rattle.client_stays.specs.declared.stayed.Stayed.{Stayed}
 use Rattle.client_stays.specs.declared.stayed.Stayed.TheVariants as stayed
-use Rattle.workers.specs.Turns.{End, from_peer, given_back, left, turn}
+use Rattle.exchange_record.specs.declared.recorder.ConnectionStep.TheVariants as connection
+use Rattle.exchange_record.specs.declared.recorder.Recorder.{Ghosts as Recording}
+use Rattle.exchange_record.specs.Told.{Records, Told}
+use Rattle.workers.specs.Turns.{End, from_peer, from_stay, given_back, left, turn}
 use Rattle.serving.specs.declared.policy.Policy.{Policy}
-use Rattle.serving.specs.Sessions.{Attends, Going, IsServed, going_by, lacked_behind, with_upstream}
+use Rattle.serving.specs.Sessions.{Attends, Going, IsServed, going_by, going_with, lacked_behind}
+use Rattle.serving.specs.Sessions.{step_out, with_upstream}
 
 -- some stays led to a connection, by the policy that the router goes by
 pub chain_by : (settings : SettingsValue) (policy : Policy) (rule : Rule) (tries : Option Tries)
@@ -30,9 +35,10 @@ chain_by settings policy rule tries idle ruled tried chain =
     let one = subst (λ (r : Rule). CameTo settings r tries idle) (sym ruled) chain in
     subst (λ (t : Option Tries). CameTo settings policy.rule t idle) (sym tried) one
 
-module _ {J D C P : Type 0} {g : Ghosts J} (upstream_of : D → Upstream)
-    (moments_of : C → Option (List ℕ)) (line_of : P → Line) (settings : SettingsValue)
-    (policy : Policy) (rule : Rule) (idle : Idle) (old mid new : Server J D C g) where
+module _ {J D C P K : Type 0} {g : Ghosts J} (upstream_of : D → Upstream)
+    (moments_of : C → Option (List ℕ)) (line_of : P → Line) (k : Recording K)
+    (settings : SettingsValue) (policy : Policy) (rule : Rule) (idle : Idle)
+    (old mid new : Server J D C g) (begun recorded behind_all : K) (told : List Told) where
   -- it is the same server, but for the connections to replicas that were kept for too long
   mid_value : new.pass ≡ mid.pass → new.clock ≡ mid.clock → new.words ≡ mid.words
       → server_value upstream_of moments_of mid
@@ -48,67 +54,127 @@ module _ {J D C P : Type 0} {g : Ghosts J} (upstream_of : D → Upstream)
         words = generators i;
       }
 
+  -- the stay, by the policy that the router goes by, and with what is told of it
+  stay_of : (behind : Idle) (paused : Paused)
+      → policy.rule ≡ rule → new.pass ≡ mid.pass → new.clock ≡ mid.clock → new.words ≡ mid.words
+      → StaysWithAs settings rule idle (server_value upstream_of moments_of old)
+      (server_value upstream_of moments_of mid) behind paused told
+      → StaysWithAs settings policy.rule idle (server_value upstream_of moments_of old)
+      (with_upstream (upstream_of mid.way.dialer) (server_value upstream_of moments_of new))
+      behind paused told
+  stay_of behind paused ruled pass clock words stays =
+      let before = server_value upstream_of moments_of old in
+      let after = server_value upstream_of moments_of mid in
+      let by = subst
+      (λ (r : Rule). StaysWithAs settings r idle before after behind paused told) (sym ruled)
+      stays in
+      subst
+      (λ (s : ServerValue). StaysWithAs settings policy.rule idle before s behind paused told)
+      (mid_value pass clock words) by
+
   pub waits_served : (behind : Idle) (result : Stayed Idle P) (lacked : Bool)
       → policy.rule ≡ rule → new.pass ≡ mid.pass → new.clock ≡ mid.clock → new.words ≡ mid.words
       → EndsIdle (upstream_of mid.way.dialer) (upstream_of new.way.dialer)
-      → HasStayed line_of settings rule idle (server_value upstream_of moments_of old)
-      (server_value upstream_of moments_of mid) result
-      → result ≡ stayed.Waits behind
-      → IsServed line_of settings policy idle (going_by upstream_of moments_of old lacked)
-      (left behind) (going_by upstream_of moments_of new lacked)
-  waits_served behind result lacked ruled pass clock words ends stays is =
+      → HasStayedAs line_of settings rule idle (server_value upstream_of moments_of old)
+      (server_value upstream_of moments_of mid) result told
+      → result ≡ stayed.Waits behind → Records k.begins k.ends begun told recorded
+      → k.steps recorded connection.Left behind_all
+      → IsServed line_of k settings policy idle (going_by upstream_of moments_of old lacked begun)
+      (left behind) (going_by upstream_of moments_of new lacked behind_all)
+  waits_served behind result lacked ruled pass clock words ends stays is records step =
       let before = server_value upstream_of moments_of old in
       let after = server_value upstream_of moments_of mid in
-      let mine = subst (λ (r : Stayed Idle P). HasStayed line_of settings rule idle before after r)
-      is stays in
-      let by = subst (λ (r : Rule). StaysWith settings r idle before after behind paused.Quiet)
-      (sym ruled) mine in
-      let whole = subst (λ (s : ServerValue). StaysWith settings policy.rule idle before s behind
-      paused.Quiet) (mid_value pass clock words) by in
+      let mine : StaysWithAs settings rule idle before after behind paused.Quiet told = subst
+      (λ (r : Stayed Idle P). HasStayedAs line_of settings rule idle before after r told) is stays
+      in
+      let whole = stay_of behind paused.Quiet ruled pass clock words mine in
       record {
         behind = behind;
         paused = paused.Quiet;
         dialer = upstream_of mid.way.dialer;
-        stay = whole;
+        stay = whole.0;
         ends_idle = ends;
         ends = refl;
         lacked = refl;
+        recorded = recorded;
+        records = subst (λ (ts : List Told). Records k.begins k.ends begun ts recorded) whole.1
+            records;
+        settles = step;
       }
 
   pub ended_served : (peer : P) (end : Ended) (result : Stayed Idle P) (lacked after_all : Bool)
       → policy.rule ≡ rule → new.pass ≡ mid.pass → new.clock ≡ mid.clock → new.words ≡ mid.words
       → EndsIdle (upstream_of mid.way.dialer) (upstream_of new.way.dialer)
-      → HasStayed line_of settings rule idle (server_value upstream_of moments_of old)
-      (server_value upstream_of moments_of mid) result
+      → HasStayedAs line_of settings rule idle (server_value upstream_of moments_of old)
+      (server_value upstream_of moments_of mid) result told
       → result ≡ stayed.Ends peer end → after_all ≡ lacked_behind lacked end
-      → IsServed line_of settings policy idle (going_by upstream_of moments_of old lacked)
-      (given_back peer) (going_by upstream_of moments_of new after_all)
-  ended_served peer end result lacked after_all ruled pass clock words ends stays is all =
+      → Records k.begins k.ends begun told recorded
+      → k.steps recorded connection.Finished behind_all
+      → IsServed line_of k settings policy idle (going_by upstream_of moments_of old lacked begun)
+      (given_back peer) (going_by upstream_of moments_of new after_all behind_all)
+  ended_served peer end result lacked after_all ruled pass clock words ends stays is all records
+      step =
       let before = server_value upstream_of moments_of old in
       let after = server_value upstream_of moments_of mid in
-      let mine = subst (λ (r : Stayed Idle P). HasStayed line_of settings rule idle before after r)
-      is stays in
-      let by = subst (λ (r : Rule). StaysWith settings r idle before after mine.0
-      (paused.Ended end)) (sym ruled) mine.1 in
-      let whole = subst (λ (s : ServerValue). StaysWith settings policy.rule idle before s mine.0
-      (paused.Ended end)) (mid_value pass clock words) by in
+      let mine = subst
+      (λ (r : Stayed Idle P). HasStayedAs line_of settings rule idle before after r told) is stays
+      in
+      let way : StaysWithAs settings rule idle before after mine.0.0 (paused.Ended end) told =
+      (mine.0.1, mine.1) in
+      let whole = stay_of mine.0.0 (paused.Ended end) ruled pass clock words way in
       record {
-        behind = mine.0;
+        behind = mine.0.0;
         paused = paused.Ended end;
         dialer = upstream_of mid.way.dialer;
-        stay = whole;
+        stay = whole.0;
         ends_idle = ends;
-        ends = mine.2;
+        ends = mine.0.2;
         lacked = all;
+        recorded = recorded;
+        records = subst (λ (ts : List Told). Records k.begins k.ends begun ts recorded) whole.1
+            records;
+        settles = step;
       }
 
--- a turn of a client that came
-pub begins : {P : Type 0} (line_of : P → Line) (settings : SettingsValue) (policy : Policy)
-    (old new : Going) (peer : P) (end : End P Idle) (idle : Idle)
-    → idle ≡ came policy.retries (line_of peer) old.server.caller.seen
-    → IsServed line_of settings policy idle old end new
-    → Attends line_of settings policy old (turn (from_peer peer) end) new
-begins line_of settings policy old new peer end idle is served = (
-  tt,
-  inl (subst (λ (i : Idle). IsServed line_of settings policy i old end new) is served),
-)
+module _ {K P : Type 0} (line_of : P → Line) (address_of : P → Option SocketAddress)
+    (k : Recording K) (settings : SettingsValue) (policy : Policy) (old new : Going K) (begun : K)
+  where
+    -- a turn of a client that came
+    pub begins : (peer : P) (end : End P Idle) (idle : Idle)
+        → k.steps old.recorder connection.Came begun
+        → idle ≡ came policy.retries (line_of peer) (address_of peer) old.server.caller.seen
+        → IsServed line_of k settings policy idle (going_with begun old) end new
+        → Attends line_of address_of k settings policy old (turn (from_peer peer) end) new
+    begins peer end idle step is served = record {
+      come = tt;
+      begun = begun;
+      begins = step;
+      turn = inl (subst (λ (i : Idle).
+          IsServed line_of k settings policy i (going_with begun old) end new) is served);
+    }
+
+    -- a turn of a connection that waited
+    pub goes_on : (idle : Idle) (end : End P Idle)
+        → CameTo settings policy.rule policy.retries idle
+        → k.steps old.recorder connection.Taken begun
+        → IsServed line_of k settings policy idle (going_with begun old) end new
+        → Attends line_of address_of k settings policy old (turn (from_stay idle) end) new
+    goes_on idle end chain step served = record {
+      come = chain;
+      begun = begun;
+      begins = step;
+      turn = inl served;
+    }
+
+    -- the end of a connection that waited
+    pub ends : (idle : Idle) (peer : P) → CameTo settings policy.rule policy.retries idle
+        → k.steps old.recorder connection.Taken begun → line_of peer ≡ idle.line
+        → k.steps begun connection.Finished new.recorder → new ≡ going_with new.recorder old
+        → Attends line_of address_of k settings policy old
+        (turn (from_stay idle) (given_back peer)) new
+    ends idle peer chain step line last is = record {
+      come = chain;
+      begun = begun;
+      begins = step;
+      turn = inr (line, last, is);
+    }

@@ -4,7 +4,7 @@ use Rattle.std.proofs.Common.{◌∙◌, arith}
 use Rattle.std.specs.Prelude.{min}
 use Rattle.std.specs.List.{AllByRecursion}
 use Rattle.line_base.specs.Counts.{added}
-use Rattle.line_base.specs.Nets.{Ended, Networking, after_end}
+use Rattle.line_base.specs.Nets.{Networking, after_end}
 use Rattle.router.specs.declared.naming.Naming.{Ghosts}
 use Rattle.workers.proofs.Sums.{raised_by_is}
 use Rattle.serving.specs.Returning.{all_ended, all_finished, having_finished, with_left_over}
@@ -21,15 +21,15 @@ added_on : (count one more all : ℕ) → all ≡ one + more
     → added (added count (min one last_count)) more ≡ added count all
 added_on count one more all sum = omega (arith, sum)
 
-module _ {J P : Type 0} {g : Ghosts J} where
+module _ {J P K : Type 0} {g : Ghosts J} where
   -- its counts are those of its turns, as far as they count
-  pub record IsCounted (s : Shift J P g) : Type 0 where
+  pub record IsCounted (s : Shift J P K g) : Type 0 where
     pub accepted : s.ended.listener.accepted ≡ min (length (admitted_in s.turns)) last_count
     pub finished : s.ended.listener.finished ≡ min (length (returned_in s.turns)) last_count
 
-  rest_accepted : (ss : List (Shift J P g)) (n : Networking P) → AllByRecursion IsCounted ss
+  rest_accepted : (ss : List (Shift J P K g)) (n : Networking P) → AllByRecursion IsCounted ss
       → n.accepted ≤ last_count
-      → (all_ended (map (λ (s : Shift J P g). s.ended) ss) n).accepted
+      → (all_ended (map (λ (s : Shift J P K g). s.ended) ss) n).accepted
       ≡ added n.accepted (admissions ss)
   rest_accepted [] n all small = added_none n.accepted small
   rest_accepted (s ∷ ss) n all small =
@@ -41,9 +41,9 @@ module _ {J P : Type 0} {g : Ghosts J} where
       ∙ added_on n.accepted (length (admitted_in s.turns)) (admissions ss) (admissions (s ∷ ss))
       refl)
 
-  rest_finished : (ss : List (Shift J P g)) (n : Networking P) → AllByRecursion IsCounted ss
+  rest_finished : (ss : List (Shift J P K g)) (n : Networking P) → AllByRecursion IsCounted ss
       → n.finished ≤ last_count
-      → (all_ended (map (λ (s : Shift J P g). s.ended) ss) n).finished
+      → (all_ended (map (λ (s : Shift J P K g). s.ended) ss) n).finished
       ≡ added n.finished (returns ss)
   rest_finished [] n all small = added_none n.finished small
   rest_finished (s ∷ ss) n all small =
@@ -55,9 +55,9 @@ module _ {J P : Type 0} {g : Ghosts J} where
       ∙ added_on n.finished (length (returned_in s.turns)) (returns ss) (returns (s ∷ ss)) refl)
 
   -- all of them, the first of which finished those too who waited still
-  pub all_accepted : (over : List P) (ss : List (Shift J P g)) (n : Networking P)
+  pub all_accepted : (over : List P) (ss : List (Shift J P K g)) (n : Networking P)
       → 0 < length ss → AllByRecursion IsCounted ss
-      → (all_ended (with_left_over over (map (λ (s : Shift J P g). s.ended) ss)) n).accepted
+      → (all_ended (with_left_over over (map (λ (s : Shift J P K g). s.ended) ss)) n).accepted
       ≡ added n.accepted (admissions ss)
   all_accepted over [] n some all = absurd (omega (arith, some))
   all_accepted over (s ∷ ss) n some all =
@@ -69,9 +69,9 @@ module _ {J P : Type 0} {g : Ghosts J} where
       ∙ added_on n.accepted (length (admitted_in s.turns)) (admissions ss) (admissions (s ∷ ss))
       refl)
 
-  pub all_finishes : (over : List P) (ss : List (Shift J P g)) (n : Networking P) (count : ℕ)
+  pub all_finishes : (over : List P) (ss : List (Shift J P K g)) (n : Networking P) (count : ℕ)
       → 0 < length ss → AllByRecursion IsCounted ss → count ≡ returns ss + length over
-      → (all_ended (with_left_over over (map (λ (s : Shift J P g). s.ended) ss)) n).finished
+      → (all_ended (with_left_over over (map (λ (s : Shift J P K g). s.ended) ss)) n).finished
       ≡ added n.finished count
   all_finishes over [] n count some all sum = absurd (omega (arith, some))
   all_finishes over (s ∷ ss) n count some all sum =

@@ -11,15 +11,15 @@ use Rattle.line_base.specs.Nets.{Returns}
 use Rattle.router.specs.declared.naming.Naming.{Ghosts}
 use Rattle.admin_api.specs.declared.serving.Which.TheVariants.{Namerd, Admin}
 use Rattle.waiting.specs.declared.hand.Hand.{Hand}
-use Rattle.waiting.specs.Hands.{left_by, taken_by, IsNew as IsNewHand}
-use Rattle.serving.specs.declared.job.ServingJob.{ServingJob}
+use Rattle.waiting.specs.Hands.{left_by, IsNew as IsNewHand}
 use Rattle.serving.specs.declared.parts.Apart.{Apart}
 use Rattle.serving.specs.declared.job.ServingJob.TheVariants as job
 use Rattle.serving.specs.declared.policy.Policy.{Policy}
 use Rattle.serving.specs.declared.site.Feeding.{Feeding}
 use Rattle.serving.specs.declared.site.Site.{Site}
 use Rattle.serving.specs.Hands.{AreNewHands, LeftMore}
-use Rattle.serving.specs.Jobs.{IsPosted, caller_hand, caller_hands, client_hand, client_hands}
+use Rattle.serving.specs.Jobs.{IsPosted, RouterJob, caller_hand, caller_hands, client_hand}
+use Rattle.serving.specs.Jobs.{client_hands}
 use Rattle.serving.specs.Posts.{Post, clients, interface, client_post, feed_jobs, feed_posts}
 use Rattle.serving.specs.Parts.{CountsParts, IsEmpty}
 use Rattle.serving.specs.Posts.{interface_jobs, interface_post, jobs_of, main_posts, posts_at}
@@ -126,10 +126,10 @@ all_callers site =
     let e = feed_callers site.feed in
     omega (arith, a, b, c, d, e)
 
-module _ {P J L D C S A B E F : Type 0} {h : Handled J} {g : Ghosts J} (state : L → Listening P)
+module _ {P J L D C K S X A B E F : Type 0} {h : Handled J} {g : Ghosts J} (state : L → Listening P)
     (upstream : D → Upstream) (to_come : C → Option (List ℕ)) (calls : S → ℕ) (policy : Policy)
     (moments : Option (List ℕ)) (told : Option (Returns P)) where
-  one_hand : (post : Post) (j : ServingJob P J L D C S A B E F h g)
+  one_hand : (post : Post) (j : RouterJob P J L D C K S X A B E F h g)
       → IsPosted state upstream to_come calls policy moments told post j
       → (length (client_hand j) ≡ client_posts (post ∷ []))
       × (length (caller_hand j) ≡ caller_posts (post ∷ []))
@@ -139,7 +139,7 @@ module _ {P J L D C S A B E F : Type 0} {h : Handled J} {g : Ghosts J} (state : 
   one_hand (interface which endpoint) (job.Proxy j) posted = absurd posted
   one_hand (interface which endpoint) (job.Api j) posted = (refl, refl)
 
-  count_hands : (posts : List Post) (jobs : List (ServingJob P J L D C S A B E F h g))
+  count_hands : (posts : List Post) (jobs : List (RouterJob P J L D C K S X A B E F h g))
       → AllZip (IsPosted state upstream to_come calls policy moments told) posts jobs
       → (length (client_hands jobs) ≡ client_posts posts)
       × (length (caller_hands jobs) ≡ caller_posts posts)
@@ -157,7 +157,7 @@ module _ {P J L D C S A B E F : Type 0} {h : Handled J} {g : Ghosts J} (state : 
       (omega (arith, one.0, others.0, a, c), omega (arith, one.1, others.1, b, d))
 
   -- a hand for each worker
-  pub hands_of_site : (site : Site) (jobs : List (ServingJob P J L D C S A B E F h g))
+  pub hands_of_site : (site : Site) (jobs : List (RouterJob P J L D C K S X A B E F h g))
       → AllZip (IsPosted state upstream to_come calls policy moments told) (posts_of site) jobs
       → (length (client_hands jobs) ≡ site.workers)
       × (length (caller_hands jobs) ≡ interface_jobs site)
@@ -168,8 +168,8 @@ module _ {P J L D C S A B E F : Type 0} {h : Handled J} {g : Ghosts J} (state : 
       (omega (arith, hands.0, a), omega (arith, hands.1, b))
 
   -- where there were none before, the parts are those of all jobs
-  pub parts_of_site : (site : Site) (jobs : List (ServingJob P J L D C S A B E F h g))
-      (empty apart : Apart J L D S A B E F g)
+  pub parts_of_site : (site : Site) (jobs : List (RouterJob P J L D C K S X A B E F h g))
+      (empty apart : Apart J L D S K A B E F g)
       → AllZip (IsPosted state upstream to_come calls policy moments told) (posts_of site) jobs
       → length jobs ≡ jobs_of site → IsEmpty empty → CountsParts jobs empty apart
       → HasParts site apart

@@ -7,8 +7,7 @@ use Rattle.line_base.specs.Counts.{raised}
 use Rattle.line_base.specs.Nets.{Ended, Networking, Returns, after_end, after_stopper, is_clean, with_ended, with_room}
 use Rattle.workers.specs.Turns.{raised_by}
 use Rattle.line_base.specs.Accepts.{Listening, after_finish}
-use Rattle.line_base.specs.Counts.{added}
-use Rattle.serving.specs.Returning.{all_ended, all_finished, having_finished, is_broken, listened}
+use Rattle.serving.specs.Returning.{all_ended, all_finished, listened}
 use Rattle.serving.specs.Returning.{with_all, with_left_over, with_stops}
 
 raised_first : (n count : ℕ) → raised_by n (raised count) ≡ raised (raised_by n count)

@@ -40,69 +40,75 @@ shared_send a R one s = as_row_send (shr_ref_field a R one) (shr_send a.mir a.lf
 which_send : IsSend Which.the_row
 which_send = variants_send Which.enum (tt, ((search sendable, tt), ((search sendable, tt), tt)))
 
-module _ (a : NamedLft) (P J L D C S A B E F : RattleType) (p : peer.Ghosts P.Denot)
+module _ (a b : NamedLft) (P J L D C K S X A B E F : RattleType) (p : peer.Ghosts P.Denot)
     (h : handling.Ghosts J.Denot) (n : naming.Ghosts J.Denot) (l : ledger.Ghosts J.Denot)
     (la : ledger.Ghosts A.Denot) (lb : ledger.Ghosts B.Denot) (le : ledger.Ghosts E.Denot)
     (lf : ledger.Ghosts F.Denot) where
-  proxy_server_send : IsSend J → IsSend D → IsSend C
-      → IsSend (ProxyServer.the_row a J D C h n l)
-  proxy_server_send j d c = declared_send (ProxyServer.the_type a J D C h n l) (
+  proxy_server_send : IsSend J → IsSend D → IsSend C → IsSend K
+      → IsSend (ProxyServer.the_row a J D C K h n l)
+  proxy_server_send j d c k = declared_send (ProxyServer.the_type a J D C K h n l) (
     search (crosses, sendable) depth 40,
     (
       shared_send a (Router.the_row J n l) tt (router_sync J n l j),
       (
         shared_send a Policy.the_row tt policy.the_sync,
-        (server_send J D C n l j d c, (search sendable, tt)),
+        (server_send J D C n l j d c, (search sendable, (own_send K k, tt))),
       ),
     ),
   )
 
-  api_server_send : IsSend J → IsSend S → IsSend (ApiServer.the_row a J S n l)
-  api_server_send j s = declared_send (ApiServer.the_type a J S n l) (
+  api_server_send : IsSend J → IsSend S → IsSend X → IsSend (ApiServer.the_row b J S X n l)
+  api_server_send j s x = declared_send (ApiServer.the_type b J S X n l) (
     search (crosses, sendable) depth 40,
     (
-      shared_send a (Router.the_row J n l) tt (router_sync J n l j),
-      (which_send, (worker_send J S n l j s, (search sendable, tt))),
+      shared_send b (Router.the_row J n l) tt (router_sync J n l j),
+      (which_send, (worker_send J S X n l j s x, (search sendable, tt))),
     ),
   )
 
-  proxy_job_send : IsSend P → IsSend J → IsSend L → IsSend D → IsSend C → IsSend S
-      → IsSend (ProxyJob.the_row a P J L D C S A B h n p l la lb)
-  proxy_job_send q j k d c s = declared_send (ProxyJob.the_type a P J L D C S A B h n p l la lb) (
-    search sendable,
-    (
-      own_send L k,
-      (
-        proxy_server_send j d c,
+  proxy_job_send : IsSend P → IsSend J → IsSend L → IsSend D → IsSend C → IsSend K → IsSend S
+      → IsSend (ProxyJob.the_row a P J L D C K S A B h n p l la lb)
+  proxy_job_send q j t d c k s =
+      declared_send (ProxyJob.the_type a P J L D C K S A B h n p l la lb) (
+        search sendable,
         (
-          own_send S s,
+          own_send L t,
           (
-            shared_send a (Lot.the_row (IdleClient.the_row P J n l p h) A B la lb) tt
-                (lot_sync (IdleClient.the_row P J n l p h) A B la lb
-                (idle_client_send P J n l p h q j)),
-            (as_row_send (Hand.the_field A B la lb) (hand_send A B la lb), tt),
+            proxy_server_send j d c k,
+            (
+              own_send S s,
+              (
+                shared_send a (Lot.the_row (IdleClient.the_row P J n l p h) A B la lb) tt
+                    (lot_sync (IdleClient.the_row P J n l p h) A B la lb
+                    (idle_client_send P J n l p h q j)),
+                (as_row_send (Hand.the_field A B la lb) (hand_send A B la lb), tt),
+              ),
+            ),
           ),
         ),
-      ),
-    ),
-  )
+      )
 
-  api_job_send : IsSend P → IsSend J → IsSend L → IsSend S
-      → IsSend (ApiJob.the_row a P J L S E F n p l le lf)
-  api_job_send q j k s = declared_send (ApiJob.the_type a P J L S E F n p l le lf) (
-    own_send L k,
+  api_job_send : IsSend P → IsSend J → IsSend L → IsSend S → IsSend X
+      → IsSend (ApiJob.the_row b P J L S X E F n p l le lf)
+  api_job_send q j t s x = declared_send (ApiJob.the_type b P J L S X E F n p l le lf) (
+    own_send L t,
     (
-      api_server_send j s,
+      api_server_send j s x,
       (
-        shared_send a (Lot.the_row (IdleCaller.the_row P J n l p) E F le lf) tt
+        shared_send b (Lot.the_row (IdleCaller.the_row P J n l p) E F le lf) tt
             (lot_sync (IdleCaller.the_row P J n l p) E F le lf (idle_caller_send P J n l p q j)),
         (as_row_send (Hand.the_field E F le lf) (hand_send E F le lf), tt),
       ),
     ),
   )
 
-  pub job_send : IsSend P → IsSend J → IsSend L → IsSend D → IsSend C → IsSend S
-      → IsSend (ServingJob.the_row a P J L D C S A B E F h n p l la lb le lf)
-  job_send q j k d c s =
-      variants_send (ServingJob.enum a P J L D C S A B E F h n p l la lb le lf)
-      ((proxy_job_send q j k d c s, tt), ((api_job_send q j k s, tt), tt))
+  pub job_send : IsSend P → IsSend J → IsSend L → IsSend D → IsSend C → IsSend K → IsSend S
+      → IsSend X
+      → IsSend (ServingJob.the_row (ProxyJob.the_row a P J L D C K S A B h n p l la lb)
+      (ApiJob.the_row b P J L S X E F n p l le lf))
+  job_send q j t d c k s x =
+      variants_send (ServingJob.enum (ProxyJob.the_row a P J L D C K S A B h n p l la lb)
+      (ApiJob.the_row b P J L S X E F n p l le lf)) (
+        (own_send _ (proxy_job_send q j t d c k s), tt),
+        ((own_send _ (api_job_send q j t s x), tt), tt),
+      )

@@ -9,6 +9,7 @@ use Rattle.rand_core.specs.Pcg32Seed.{pcg32_seed}
 use Rattle.rand_pcg.specs.Lcg.{Lcg}
 use Rattle.rand_pcg.specs.Pcg.{pcg64_of_seed}
 use Rattle.line_base.specs.declared.listener.Endpoint.{Endpoint}
+use Rattle.line_base.specs.declared.socket_address.SocketAddress.{SocketAddress}
 use Rattle.line_base.specs.Accepts.{Listening}
 use Rattle.line_base.specs.Counts.{raised}
 use Rattle.line_base.specs.Nets.{Ended, IsNew, Networking, Returns}
@@ -20,6 +21,8 @@ use Rattle.workers.specs.Turns.{Lends, ServesTurns}
 use Rattle.admin_api.specs.Stays.{Idle as Caller}
 use Rattle.client_stays.specs.Chains.{Idle}
 use Rattle.client_stays.specs.declared.handling.Handling.{Ghosts as Handled}
+use Rattle.exchange_record.specs.declared.recorder.Recorder.{Ghosts as Recording}
+use Rattle.scrape.specs.Scrapes.{Scraping}
 use Rattle.serving.specs.declared.policy.Policy.{Policy}
 use Rattle.router.specs.declared.naming.Naming.{Ghosts}
 use Rattle.router.specs.declared.pass.Pass.{Pass}
@@ -38,20 +41,20 @@ use Rattle.workers.specs.Turns.{Handles, Turn, admitted, left_in, returned, take
 use Rattle.workers.proofs.Sums.{turns_add_up}
 use Rattle.serving.specs.declared.parts.Apart.{Apart}
 use Rattle.serving.specs.declared.parts.Part.{Part}
-use Rattle.serving.specs.Hands.{LeftMore}
 use Rattle.serving.specs.LeftOver.{LeftOver}
 use Rattle.serving.specs.Parts.{ComeApart, EndsAll, IsEmpty, any_broken, ended_by}
 use Rattle.serving.specs.Policies.{IsHandledBy}
 use Rattle.serving.specs.declared.job.ApiJob.{ApiJob}
 use Rattle.serving.specs.declared.job.ProxyJob.{ProxyJob}
-use Rattle.serving.specs.declared.job.ServingJob.{ServingJob}
 use Rattle.serving.specs.declared.job.ServingJob.TheVariants as job
 use Rattle.serving.specs.declared.site.Feeding.{Feeding}
 use Rattle.serving.specs.declared.site.Site.{Site}
 use Rattle.serving.specs.Interfaces.{AnswersTurn, desk_by}
-use Rattle.serving.specs.Jobs.{IsApiPosted, IsPosted, IsProxyPosted, Runs, RunsApi, RunsProxy}
+use Rattle.serving.specs.Jobs.{IsApiPosted, IsPosted, IsProxyPosted, RouterJob, Runs, RunsApi}
+use Rattle.serving.specs.Jobs.{RunsProxy}
 use Rattle.serving.specs.Jobs.{caller_hand, caller_hands, client_hand, client_hands, ended_of}
-use Rattle.serving.specs.Jobs.{going_of, lacked_of, pass_of, passes_of_jobs}
+use Rattle.serving.specs.Jobs.{going_of, lacked_of, pass_of, passes_of_jobs, recorder_of}
+use Rattle.serving.specs.Jobs.{recorders_of_jobs}
 use Rattle.serving.specs.Jobs.{stops_behind}
 use Rattle.serving.specs.Posts.{Post, clients, interface, client_post, feed_jobs, feed_posts}
 use Rattle.serving.specs.Posts.{interface_post}
@@ -59,14 +62,17 @@ use Rattle.serving.specs.Posts.{jobs_of, main_posts, posts_at, posts_of}
 use Rattle.serving.specs.Returning.{all_ended, is_broken, with_left_over, with_stops}
 use Rattle.serving.specs.Running.{HasRun}
 use Rattle.serving.specs.Sessions.{Attends, Going}
-use Rattle.serving.specs.Shifts.{HasAnswers, HasSessions, IsTended, ServesPost, Shift, Turns}
+use Rattle.serving.specs.Shifts.{HasAnswers, HasSessions, IsTended, ServesPost, Shift}
 use Rattle.serving.specs.Shifts.{admissions, admitted_in, of_callers, of_clients, returned_in}
-use Rattle.serving.specs.Shifts.{returns}
+use Rattle.serving.specs.Shifts.{recorders_before, recorders_behind, returns}
 use Rattle.serving.specs.Tending.{HaveTended}
 use Rattle.serving.proofs.Zipping.{any_map, or_left, or_right, posts_count}
 
 cons_same : {A : Type 0} {x y : A} {xs ys : List A} → x ≡ y → xs ≡ ys → x ∷ xs ≡ y ∷ ys
 cons_same p q = λ i. p i ∷ q i
+
+both_same : {A : Type 0} {xs ys zs ws : List A} → xs ≡ ys → zs ≡ ws → xs ++ zs ≡ ys ++ ws
+both_same p q = λ i. p i ++ q i
 
 or_same : (a b c d : Bool) → a ≡ b → c ≡ d → (a || c) ≡ (b || d)
 or_same a b c d p q = λ i. p i || q i
@@ -95,16 +101,17 @@ hand_even turns old new is_new handles =
     omega (arith, all, l, t, l0, t0)
 
 -- none of the parts is broken where none of the jobs is
-any_parts : {P J L D C S A B E F : Type 0} {h : Handled J} {g : Ghosts J} (state : L → Listening P)
+any_parts : {P J L D C K S X A B E F : Type 0} {h : Handled J} {g : Ghosts J}
+    (state : L → Listening P)
     (upstream : D → Upstream) (calls : S → ℕ) (parts : List (Part L D S))
-    (jobs : List (ServingJob P J L D C S A B E F h g))
+    (jobs : List (RouterJob P J L D C K S X A B E F h g))
     → map (ended_by state upstream calls) parts ≡ map (ended_of state upstream calls) jobs
     → list_any (λ (p : Part L D S). is_broken (ended_by state upstream calls p)) parts ≡ false
-    → list_any (λ (j : ServingJob P J L D C S A B E F h g). is_broken
+    → list_any (λ (j : RouterJob P J L D C K S X A B E F h g). is_broken
     (ended_of state upstream calls j)) jobs ≡ false
 any_parts state upstream calls parts jobs same whole =
-    any_map (λ (j : ServingJob _ _ _ _ _ _ _ _ _ _ _ _). ended_of state upstream calls j) is_broken
-    jobs
+    any_map (λ (j : RouterJob _ _ _ _ _ _ _ _ _ _ _ _ _ _). ended_of state upstream calls j)
+    is_broken jobs
     ∙ (ap (λ (es : List (Ended _)). list_any is_broken es) (sym same)
     ∙ (sym (any_map (ended_by state upstream calls) is_broken parts) ∙ whole))
 
@@ -117,8 +124,9 @@ left_over_by line_of g rule tries policy over handled all =
     subst (λ (t : Option Tries). LeftOver line_of g policy.rule t over) (sym handled.tries_are)
     ruled
 
-module _ {J P : Type 0} {g : Ghosts J} where
-  tended : (told : Option (Returns P)) (endpoint : Endpoint) (s : Shift J P g) (first : Listening P)
+module _ {J P K : Type 0} {g : Ghosts J} where
+  tended : (told : Option (Returns P)) (endpoint : Endpoint) (s : Shift J P K g)
+      (first : Listening P)
       (end : Accepting) → IsNew told endpoint first
       → Lends (admitted_in s.turns) (returned_in s.turns) first s.ended.listener
       → Ends end first s.ended.listener → is_broken s.ended ≡ false → number_in s.behind
@@ -136,10 +144,10 @@ module _ {J P : Type 0} {g : Ghosts J} where
         closed.0,
       )
 
-module _ {P J L D C S A B : Type 0} {h : Handled J} {g : Ghosts J} (state : L → Listening P)
+module _ {P J L D C K S A B : Type 0} {h : Handled J} {g : Ghosts J} (state : L → Listening P)
     (upstream : D → Upstream) (calls : S → ℕ) where
-  abbrev client_shift : List (Turn P Idle) → ProxyJob P J L D C S A B h g
-      → ProxyJob P J L D C S A B h g → Shift J P g
+  abbrev client_shift : List (Turn P Idle) → ProxyJob P J L D C K S A B h g
+      → ProxyJob P J L D C K S A B h g → Shift J P K g
   client_shift turns old new = record {
     before = old.server.server.pass;
     behind = new.server.server.pass;
@@ -150,42 +158,48 @@ module _ {P J L D C S A B : Type 0} {h : Handled J} {g : Ghosts J} (state : L �
       stops = calls new.stop;
     };
     lacked_memory = new.server.lacked_memory;
+    recorder_before = old.server.recorder ∷ [];
+    recorder_behind = new.server.recorder ∷ [];
   }
 
-module _ {P J L S E F : Type 0} {g : Ghosts J} (state : L → Listening P) (calls : S → ℕ) where
-  abbrev caller_shift : List (Turn P Caller) → ApiJob P J L S E F g → ApiJob P J L S E F g
-      → Shift J P g
-  caller_shift turns old new = record {
-    before = old.server.worker.pass;
-    behind = new.server.worker.pass;
-    turns = of_callers turns;
-    ended = record {
-      listener = state new.listener;
-      log = None;
-      stops = calls new.server.worker.stop;
-    };
-    lacked_memory = new.server.lacked_memory;
-  }
+module _ {P J L K S X E F : Type 0} {g : Ghosts J} (state : L → Listening P) (calls : S → ℕ)
+  where
+    abbrev caller_shift : List (Turn P Caller) → ApiJob P J L S X E F g → ApiJob P J L S X E F g
+        → Shift J P K g
+    caller_shift turns old new = record {
+      before = old.server.worker.pass;
+      behind = new.server.worker.pass;
+      turns = of_callers turns;
+      ended = record {
+        listener = state new.listener;
+        log = None;
+        stops = calls new.server.worker.stop;
+      };
+      lacked_memory = new.server.lacked_memory;
+      recorder_before = [];
+      recorder_behind = [];
+    }
 
-module _ {P J L D C S A B : Type 0} {h : Handled J} {g : Ghosts J} (line_of : P → Line)
-    (state : L → Listening P) (upstream : D → Upstream) (to_come : C → Option (List ℕ))
-    (calls : S → ℕ) (policy : Policy) (moments : Option (List ℕ)) (told : Option (Returns P)) where
-  with_sessions : (endpoint : Endpoint) (seed : ℕ) (old new : ProxyJob P J L D C S A B h g)
+module _ {P J L D C K S A B : Type 0} {h : Handled J} {g : Ghosts J} (line_of : P → Line)
+    (address_of : P → Option SocketAddress) (k : Recording K) (state : L → Listening P)
+    (upstream : D → Upstream) (to_come : C → Option (List ℕ)) (calls : S → ℕ) (policy : Policy)
+    (moments : Option (List ℕ)) (told : Option (Returns P)) where
+  with_sessions : (endpoint : Endpoint) (seed : ℕ) (old new : ProxyJob P J L D C K S A B h g)
       (end : Accepting) → IsProxyPosted state upstream to_come calls policy moments told endpoint
       seed old
-      → (runs : RunsProxy line_of state upstream to_come calls old new end)
+      → (runs : RunsProxy line_of address_of k state upstream to_come calls old new end)
       → nat_le 100 (state new.listener).run ≡ false
-      → HasSessions line_of policy moments told endpoint seed
+      → HasSessions line_of address_of k policy moments told endpoint seed
       (client_shift state upstream calls runs.turns old new)
   with_sessions endpoint seed old new end posted runs whole =
-      let s : Shift J P g =
+      let s : Shift J P K g =
       client_shift state upstream calls runs.turns old new in
       let closed = tended told endpoint s (state old.listener) end posted.listener runs.lends
       runs.ends whole runs.number in
       let final = going_of upstream to_come new.server in
-      let By : Policy → Going → Type 0 =
-      λ r first. ServesTurns (Attends line_of g.settings r) first runs.turns final in
-      let start : Lcg → Bool → Going =
+      let By : Policy → Going K → Type 0 =
+      λ r first. ServesTurns (Attends line_of address_of k g.settings r) first runs.turns final in
+      let start : Lcg → Bool → Going K =
       λ w lacked. record {
         server = record {
           upstream = upstream old.server.server.way.dialer;
@@ -194,6 +208,7 @@ module _ {P J L D C S A B : Type 0} {h : Handled J} {g : Ghosts J} (line_of : P 
           words = w;
         };
         lacked_memory = lacked;
+        recorder = old.server.recorder;
       } in
       let ruled =
       subst (λ (r : Policy). By r (start old.server.server.words old.server.lacked_memory))
@@ -209,6 +224,8 @@ module _ {P J L D C S A B : Type 0} {h : Handled J} {g : Ghosts J} (line_of : P 
         pool = (posted.none_kept, posted.keeps);
         clock = to_come old.server.server.clock;
         forked = posted.clock;
+        recorder = old.server.recorder;
+        given = refl;
         final = final;
         turns = runs.turns;
         turns_are = refl;
@@ -216,26 +233,29 @@ module _ {P J L D C S A B : Type 0} {h : Handled J} {g : Ghosts J} (line_of : P 
         caller = refl;
         log = refl;
         lacked = refl;
+        recorded = refl;
         stops = runs.stops ∙ (ap (λ (e : Accepting). stops_behind e (calls old.stop)) closed.1
             ∙ posted.stops);
       }
 
-module _ {P J L S E F : Type 0} {g : Ghosts J} (line_of : P → Line) (state : L → Listening P)
-    (calls : S → ℕ) (told : Option (Returns P)) where
-  answered : (which : Which) (endpoint : Endpoint) (old new : ApiJob P J L S E F g)
+module _ {P J L K S X E F : Type 0} {g : Ghosts J} (line_of : P → Line) (state : L → Listening P)
+    (calls : S → ℕ) (told_of : X → Scraping) (told : Option (Returns P)) where
+  answered : (which : Which) (endpoint : Endpoint) (old new : ApiJob P J L S X E F g)
       (end : Accepting) → IsApiPosted state calls told which endpoint old
-      → (runs : RunsApi line_of state calls old new end) → nat_le 100 (state new.listener).run
-      ≡ false
-      → HasAnswers line_of told which endpoint
+      → (runs : RunsApi line_of state calls told_of old new end)
+      → nat_le 100 (state new.listener).run ≡ false
+      → HasAnswers {K = K} line_of told which endpoint
       (caller_shift state calls runs.turns old new)
   answered which endpoint old new end posted runs whole =
-      let s : Shift J P g = caller_shift state calls runs.turns old new in
+      let s : Shift J P K g = caller_shift state calls runs.turns old new in
       let closed = tended told endpoint s (state old.listener) end posted.listener runs.lends
       runs.ends whole runs.number in
+      let first = told_of old.server.worker.scraper in
       let By : Which → ℕ → Bool → ℕ → Type 0 = λ w stops lacked last.
       ServesTurns (AnswersTurn line_of w)
-      (desk_by old.server.worker.pass stops lacked) runs.turns
-      (desk_by new.server.worker.pass last new.server.lacked_memory) in
+      (desk_by old.server.worker.pass stops first lacked) runs.turns
+      (desk_by new.server.worker.pass last (told_of new.server.worker.scraper)
+      new.server.lacked_memory) in
       let named =
       subst
       (λ (w : Which). By w (calls old.server.worker.stop) old.server.lacked_memory runs.stopped)
@@ -249,15 +269,21 @@ module _ {P J L S E F : Type 0} {g : Ghosts J} (line_of : P → Line) (state : L
         tended = closed.0;
         turns = runs.turns;
         turns_are = refl;
+        scraper = first;
+        scraped = told_of new.server.worker.scraper;
         serves = whole_run;
         log = refl;
+        given = refl;
+        recorded = refl;
       }
 
-module _ {P J L D C S A B E F : Type 0} {h : Handled J} {g : Ghosts J} (line_of : P → Line)
-    (state : L → Listening P) (upstream : D → Upstream) (to_come : C → Option (List ℕ))
-    (calls : S → ℕ) (policy : Policy) (moments : Option (List ℕ)) (told : Option (Returns P)) where
+module _ {P J L D C K S X A B E F : Type 0} {h : Handled J} {g : Ghosts J} (line_of : P → Line)
+    (address_of : P → Option SocketAddress) (k : Recording K) (state : L → Listening P)
+    (upstream : D → Upstream) (to_come : C → Option (List ℕ)) (calls : S → ℕ)
+    (told_of : X → Scraping) (policy : Policy) (moments : Option (List ℕ))
+    (told : Option (Returns P)) where
   -- the hands of a job count what its turns left and took
-  abbrev Even : Shift J P g → ServingJob P J L D C S A B E F h g → Type 0
+  abbrev Even : Shift J P K g → RouterJob P J L D C K S X A B E F h g → Type 0
   Even s j =
       length (admitted_in s.turns)
       + (sum_by taken_by (client_hand j) + sum_by taken_by (caller_hand j))
@@ -265,27 +291,32 @@ module _ {P J L D C S A B E F : Type 0} {h : Handled J} {g : Ghosts J} (line_of 
       + (sum_by left_by (client_hand j) + sum_by left_by (caller_hand j))
 
   -- a job that was posted, and ran
-  record One (post : Post) (old new : ServingJob P J L D C S A B E F h g) : Type 0 where
-    shift : Shift J P g
-    keeps : ServesPost line_of policy moments told post shift
+  record One (post : Post) (old new : RouterJob P J L D C K S X A B E F h g) : Type 0 where
+    shift : Shift J P K g
+    keeps : ServesPost line_of address_of k policy moments told post shift
     before : shift.before ≡ pass_of old
     behind : shift.behind ≡ pass_of new
     ended : shift.ended ≡ ended_of state upstream calls new
     lacked : shift.lacked_memory ≡ lacked_of new
+    given : shift.recorder_before ≡ recorder_of old
+    recorded : shift.recorder_behind ≡ recorder_of new
     even : Even shift new
 
-  one : (post : Post) (old new : ServingJob P J L D C S A B E F h g) (end : Accepting)
+  one : (post : Post) (old new : RouterJob P J L D C K S X A B E F h g) (end : Accepting)
       → IsPosted state upstream to_come calls policy moments told post old
-      → Runs line_of state upstream to_come calls old new end
+      → Runs line_of address_of k state upstream to_come calls told_of old new end
       → is_broken (ended_of state upstream calls new) ≡ false → One post old new
   one (clients endpoint seed) (job.Proxy old) (job.Proxy new) end posted runs whole = record {
     shift = client_shift state upstream calls runs.turns old new;
-    keeps = with_sessions line_of state upstream to_come calls policy moments told endpoint seed old
-        new end posted runs whole;
+    keeps = with_sessions line_of address_of k state upstream to_come calls policy moments told
+        endpoint
+        seed old new end posted runs whole;
     before = refl;
     behind = refl;
     ended = refl;
     lacked = refl;
+    given = refl;
+    recorded = refl;
     even =
         let e = hand_even runs.turns old.hand new.hand posted.hand runs.hands in omega (arith, e);
   }
@@ -298,26 +329,30 @@ module _ {P J L D C S A B E F : Type 0} {h : Handled J} {g : Ghosts J} (line_of 
   one (interface which endpoint) (job.Api old) (job.Proxy new) end posted runs whole = absurd runs
   one (interface which endpoint) (job.Api old) (job.Api new) end posted runs whole = record {
     shift = caller_shift state calls runs.turns old new;
-    keeps = answered line_of state calls told which endpoint old new end posted runs whole;
+    keeps = answered line_of state calls told_of told which endpoint old new end posted runs whole;
     before = refl;
     behind = refl;
     ended = refl;
     lacked = refl;
+    given = refl;
+    recorded = refl;
     even =
         let e = hand_even runs.turns old.hand new.hand posted.hand runs.hands in omega (arith, e);
   }
 
   -- all of them
-  record Gathered (posts : List Post) (jobs : List (ServingJob P J L D C S A B E F h g))
-      (back : List (ServingJob P J L D C S A B E F h g × Accepting)) : Type 0 where
-    shifts : List (Shift J P g)
-    served : AllZip (ServesPost line_of policy moments told) posts shifts
-    before : map (λ (s : Shift J P g). s.before) shifts ≡ passes_of_jobs jobs
-    behind : map (λ (s : Shift J P g). s.behind) shifts ≡ map pass_of (jobs_in back)
-    ended : map (λ (s : Shift J P g). s.ended) shifts
+  record Gathered (posts : List Post) (jobs : List (RouterJob P J L D C K S X A B E F h g))
+      (back : List (RouterJob P J L D C K S X A B E F h g × Accepting)) : Type 0 where
+    shifts : List (Shift J P K g)
+    served : AllZip (ServesPost line_of address_of k policy moments told) posts shifts
+    before : map (λ (s : Shift J P K g). s.before) shifts ≡ passes_of_jobs jobs
+    behind : map (λ (s : Shift J P K g). s.behind) shifts ≡ map pass_of (jobs_in back)
+    ended : map (λ (s : Shift J P K g). s.ended) shifts
         ≡ map (ended_of state upstream calls) (jobs_in back)
-    lacked : list_any (λ (s : Shift J P g). s.lacked_memory) shifts
+    lacked : list_any (λ (s : Shift J P K g). s.lacked_memory) shifts
         ≡ list_any lacked_of (jobs_in back)
+    given : recorders_before shifts ≡ recorders_of_jobs jobs
+    recorded : recorders_behind shifts ≡ recorders_of_jobs (jobs_in back)
     even : admissions shifts
         + (sum_by taken_by (client_hands (jobs_in back))
         + sum_by taken_by (caller_hands (jobs_in back)))
@@ -325,11 +360,12 @@ module _ {P J L D C S A B E F : Type 0} {h : Handled J} {g : Ghosts J} (line_of 
         + (sum_by left_by (client_hands (jobs_in back))
         + sum_by left_by (caller_hands (jobs_in back)))
 
-  gather : (posts : List Post) (jobs : List (ServingJob P J L D C S A B E F h g))
-      (back : List (ServingJob P J L D C S A B E F h g × Accepting))
+  gather : (posts : List Post) (jobs : List (RouterJob P J L D C K S X A B E F h g))
+      (back : List (RouterJob P J L D C K S X A B E F h g × Accepting))
       → AllZip (IsPosted state upstream to_come calls policy moments told) posts jobs
-      → AllZip (ComesBack (Runs line_of state upstream to_come calls)) jobs back
-      → list_any (λ (j : ServingJob P J L D C S A B E F h g).
+      → AllZip (ComesBack (Runs line_of address_of k state upstream to_come calls told_of)) jobs
+      back
+      → list_any (λ (j : RouterJob P J L D C K S X A B E F h g).
       is_broken (ended_of state upstream calls j)) (jobs_in back)
       ≡ false → Gathered posts jobs back
   gather [] [] [] posted ran whole = record {
@@ -339,6 +375,8 @@ module _ {P J L D C S A B E F : Type 0} {h : Handled J} {g : Ghosts J} (line_of 
     behind = refl;
     ended = refl;
     lacked = refl;
+    given = refl;
+    recorded = refl;
     even = refl;
   }
   gather [] [] (b ∷ bs) posted ran whole = absurd ran
@@ -346,7 +384,7 @@ module _ {P J L D C S A B E F : Type 0} {h : Handled J} {g : Ghosts J} (line_of 
   gather (p ∷ ps) [] bs posted ran whole = absurd posted
   gather (p ∷ ps) (j ∷ js) [] posted ran whole = absurd ran
   gather (p ∷ ps) (j ∷ js) (b ∷ bs) posted ran whole =
-      let broken = λ (k : ServingJob P J L D C S A B E F h g). is_broken
+      let broken = λ (k : RouterJob P J L D C K S X A B E F h g). is_broken
       (ended_of state upstream calls k) in
       let this = one p j b.0 b.1 posted.0 ran.0
       (or_left (broken b.0) (list_any broken (jobs_in bs)) whole) in
@@ -359,6 +397,8 @@ module _ {P J L D C S A B E F : Type 0} {h : Handled J} {g : Ghosts J} (line_of 
         behind = cons_same this.behind others.behind;
         ended = cons_same this.ended others.ended;
         lacked = or_same _ _ _ _ this.lacked others.lacked;
+        given = both_same this.given others.given;
+        recorded = both_same this.recorded others.recorded;
         even =
             let one_even = this.even in
             let rest_even = others.even in
@@ -369,11 +409,13 @@ module _ {P J L D C S A B E F : Type 0} {h : Handled J} {g : Ghosts J} (line_of 
             omega (arith, one_even, rest_even, a, c, d, e);
       }
 
-module _ {P J L D C S A B E F : Type 0} {h : Handled J} {g : Ghosts J} (line_of : P → Line)
-    (state : L → Listening P) (upstream : D → Upstream) (to_come : C → Option (List ℕ))
-    (calls : S → ℕ) where
-  same_number : (old new : ServingJob P J L D C S A B E F h g) (end : Accepting)
-      → Runs line_of state upstream to_come calls old new end → number_in (pass_of new)
+module _ {P J L D C K S X A B E F : Type 0} {h : Handled J} {g : Ghosts J} (line_of : P → Line)
+    (address_of : P → Option SocketAddress) (k : Recording K) (state : L → Listening P)
+    (upstream : D → Upstream) (to_come : C → Option (List ℕ)) (calls : S → ℕ)
+    (told_of : X → Scraping) where
+  same_number : (old new : RouterJob P J L D C K S X A B E F h g) (end : Accepting)
+      → Runs line_of address_of k state upstream to_come calls told_of old new end
+      → number_in (pass_of new)
       ≡ number_in (pass_of old)
   same_number (job.Proxy old) (job.Proxy new) end runs = runs.number
   same_number (job.Proxy old) (job.Api new) end runs = absurd runs
@@ -381,9 +423,10 @@ module _ {P J L D C S A B E F : Type 0} {h : Handled J} {g : Ghosts J} (line_of 
   same_number (job.Api old) (job.Api new) end runs = runs.number
 
   -- each job has the number of its pass still
-  pub same_numbers : (jobs : List (ServingJob P J L D C S A B E F h g))
-      (back : List (ServingJob P J L D C S A B E F h g × Accepting))
-      → AllZip (ComesBack (Runs line_of state upstream to_come calls)) jobs back
+  pub same_numbers : (jobs : List (RouterJob P J L D C K S X A B E F h g))
+      (back : List (RouterJob P J L D C K S X A B E F h g × Accepting))
+      → AllZip (ComesBack (Runs line_of address_of k state upstream to_come calls told_of)) jobs
+      back
       → numbers_of (map pass_of (jobs_in back)) ≡ numbers_of (passes_of_jobs jobs)
   same_numbers [] [] ran = refl
   same_numbers [] (b ∷ bs) ran = absurd ran
@@ -391,8 +434,8 @@ module _ {P J L D C S A B E F : Type 0} {h : Handled J} {g : Ghosts J} (line_of 
   same_numbers (j ∷ js) (b ∷ bs) ran = cons_same (same_number j b.0 b.1 ran.0)
       (same_numbers js bs ran.1)
 
-  same_hands : (old new : ServingJob P J L D C S A B E F h g) (end : Accepting)
-      → Runs line_of state upstream to_come calls old new end
+  same_hands : (old new : RouterJob P J L D C K S X A B E F h g) (end : Accepting)
+      → Runs line_of address_of k state upstream to_come calls told_of old new end
       → (length (client_hand new) ≡ length (client_hand old))
       × (length (caller_hand new) ≡ length (caller_hand old))
   same_hands (job.Proxy old) (job.Proxy new) end runs = (refl, refl)
@@ -401,9 +444,10 @@ module _ {P J L D C S A B E F : Type 0} {h : Handled J} {g : Ghosts J} (line_of 
   same_hands (job.Api old) (job.Api new) end runs = (refl, refl)
 
   -- and as many hands come back as they had
-  pub hands_back : (jobs : List (ServingJob P J L D C S A B E F h g))
-      (back : List (ServingJob P J L D C S A B E F h g × Accepting))
-      → AllZip (ComesBack (Runs line_of state upstream to_come calls)) jobs back
+  pub hands_back : (jobs : List (RouterJob P J L D C K S X A B E F h g))
+      (back : List (RouterJob P J L D C K S X A B E F h g × Accepting))
+      → AllZip (ComesBack (Runs line_of address_of k state upstream to_come calls told_of)) jobs
+      back
       → (length (client_hands (jobs_in back)) ≡ length (client_hands jobs))
       × (length (caller_hands (jobs_in back)) ≡ length (caller_hands jobs))
   hands_back [] [] ran = (refl, refl)
@@ -423,19 +467,25 @@ single [] one = cc one
 single (x ∷ []) one = (x, refl)
 single (x ∷ y ∷ xs) one = let no : ⊥ = omega (arith, one) in absurd no
 
-module _ {P J L D C S A B E F : Type 0} {h : Handled J} {g : Ghosts J} (line_of : P → Line)
-    (state : L → Listening P) (upstream : D → Upstream) (to_come : C → Option (List ℕ))
-    (calls : S → ℕ) where
+module _ {P J L D C K S X A B E F : Type 0} {h : Handled J} {g : Ghosts J} (line_of : P → Line)
+    (address_of : P → Option SocketAddress) (k : Recording K) (state : L → Listening P)
+    (upstream : D → Upstream) (to_come : C → Option (List ℕ)) (calls : S → ℕ)
+    (told_of : X → Scraping) where
   -- the jobs of a site were posted, ran, and were taken apart
   pub have_tended : (site : Site) (moments : Option (List ℕ)) (told : Option (Returns P))
-      (jobs : List (ServingJob P J L D C S A B E F h g)) (passes rest : List (Pass J g))
-      (empty apart : Apart J L D S A B E F g)
+      (jobs : List (RouterJob P J L D C K S X A B E F h g)) (passes rest : List (Pass J g))
+      (recorders : List K) (empty apart : Apart J L D S K A B E F g)
       → AllZip (IsPosted state upstream to_come calls site.policy moments told) (posts_of site) jobs
-      → passes_of_jobs jobs ++ rest ≡ passes → IsEmpty empty
-      → ComeApart (Runs line_of state upstream to_come calls) state upstream calls jobs empty apart
+      → passes_of_jobs jobs ++ rest ≡ passes → recorders_of_jobs jobs ≡ recorders
+      → IsEmpty empty
+      → ComeApart (Runs line_of address_of k state upstream to_come calls told_of) state upstream
+      calls jobs
+      empty apart
       → any_broken state upstream calls apart.parts.items ≡ false
-      → HaveTended line_of state upstream calls site moments told passes rest apart
-  have_tended site moments told jobs passes rest empty apart posted begun none came good =
+      → HaveTended line_of address_of k state upstream calls site moments told passes rest
+      recorders apart
+  have_tended site moments told jobs passes rest recorders empty apart posted begun given none came
+      good =
       let back = jobs_in came.back in
       let by = came.apart in
       let parts : map (ended_by state upstream calls) apart.parts.items
@@ -448,15 +498,20 @@ module _ {P J L D C S A B E F : Type 0} {h : Handled J} {g : Ghosts J} (line_of 
       by.clients ∙ ap (λ (hs : List (Hand A B)). hs ++ client_hands back) none.client_hands in
       let callers_are : apart.caller_hands.items ≡ caller_hands back =
       by.callers ∙ ap (λ (hs : List (Hand E F)). hs ++ caller_hands back) none.caller_hands in
+      let recorders_are : apart.recorders.items ≡ recorders_of_jobs back =
+      by.recorders ∙ ap (λ (ks : List K). ks ++ recorders_of_jobs back) none.recorders in
       let lacked_is : apart.lacked_memory ≡ list_any lacked_of back =
       by.lacked ∙ ap (λ (b : Bool). b || list_any lacked_of back) none.lacked in
       let whole = any_parts state upstream calls apart.parts.items back parts good in
-      let g' = gather line_of state upstream to_come calls site.policy moments told (posts_of site)
-      jobs came.back posted came.ran whole in
+      let g' = gather line_of address_of k state upstream to_come calls told_of site.policy moments
+      told
+      (posts_of site) jobs came.back posted came.ran whole in
       record {
         shifts = g'.shifts;
         before = sym begun ∙ ap (λ (ps : List (Pass J g)). ps ++ rest) (sym g'.before);
         behind = passes_are ∙ sym g'.behind;
+        given = sym given ∙ sym g'.given;
+        recorded = recorders_are ∙ sym g'.recorded;
         served = g'.served;
         ended = parts ∙ sym g'.ended;
         even =
@@ -469,29 +524,36 @@ module _ {P J L D C S A B E F : Type 0} {h : Handled J} {g : Ghosts J} (line_of 
         lacked = lacked_is ∙ sym g'.lacked;
       }
 
-module _ {P J L D S A B E F : Type 0} {g : Ghosts J} (line_of : P → Line)
-    (state : L → Listening P) (upstream : D → Upstream) (calls : S → ℕ) where
+module _ {P J L D S K A B E F : Type 0} {g : Ghosts J} (line_of : P → Line)
+    (address_of : P → Option SocketAddress) (k : Recording K) (state : L → Listening P)
+    (upstream : D → Upstream) (calls : S → ℕ) where
   -- the jobs of a site ran, all was taken back, and one pass is left
   pub has_run : (site : Site) (moments : Option (List ℕ)) (passes rest all : List (Pass J g))
-      (apart : Apart J L D S A B E F g) (net mid net_after : Networking P) (rule : Rule)
+      (recorders recorders_after : List K)
+      (apart : Apart J L D S K A B E F g) (net mid net_after : Networking P) (rule : Rule)
       (tries : Option Tries)
-      → HaveTended line_of state upstream calls site moments net.told passes rest apart
+      → HaveTended line_of address_of k state upstream calls site moments net.told passes rest
+      recorders apart
       → length rest ≡ 1 → mid ≡ with_stops (jobs_of site) net
       → EndsAll line_of state upstream calls rule tries apart mid net_after
       → IsHandledBy rule tries site.policy → all ≡ apart.passes.items ++ rest
-      → HasRun line_of site moments passes all net net_after apart.lacked_memory
-  has_run site moments passes rest all apart net mid net_after rule tries tended left handed ends
-      handled ended =
+      → recorders_after ≡ apart.recorders.items
+      → HasRun line_of address_of k site moments passes all recorders recorders_after net net_after
+      apart.lacked_memory
+  has_run site moments passes rest all recorders recorders_after apart net mid net_after rule tries
+      tended left handed ends handled ended kept =
       let last = single rest left in
       record {
         shifts = tended.shifts;
         rest = last.0;
         before = tended.before
-            ∙ ap (λ (ps : List (Pass J g)). map (λ (s : Shift J P g). s.before) tended.shifts
+            ∙ ap (λ (ps : List (Pass J g)). map (λ (s : Shift J P K g). s.before) tended.shifts
             ++ ps) last.1;
         behind = ended
             ∙ (ap (λ (ps : List (Pass J g)). apart.passes.items ++ ps) last.1
             ∙ ap (λ (ps : List (Pass J g)). ps ++ last.0 ∷ []) tended.behind);
+        given = tended.given;
+        recorded = kept ∙ tended.recorded;
         served = tended.served;
         over = ends.over;
         left_over = left_over_by line_of g rule tries site.policy ends.over handled ends.left_over;

@@ -1,5 +1,5 @@
 -- Lists that go together.
-use Rattle.std.proofs.Common.{◌≡◌, ℕ, zero, suc, ◌+◌, ◌||◌, Bool, true, false, List, [], ◌∷◌, ◌++◌, append_assoc, length, length-append, map, refl, sym, ap, subst, ◌∙◌, arith}
+use Rattle.std.proofs.Common.{◌≡◌, ℕ, zero, suc, ◌+◌, ◌||◌, Bool, true, false, List, [], ◌∷◌, ◌++◌, append_assoc, append-nil, length, length-append, map, refl, sym, ap, subst, ◌∙◌, arith}
 use Rattle.std.specs.List.{AllZip, list_any}
 use Rattle.serving.specs.Posts.{Post, posts_at}
 
@@ -106,3 +106,41 @@ pub any_map : {A B : Type 0} (f : A → B) (p : B → Bool) (xs : List A)
     → list_any (λ x. p (f x)) xs ≡ list_any p (map f xs)
 any_map f p [] = refl
 any_map f p (x ∷ xs) = ap (λ (b : Bool). p (f x) || b) (any_map f p xs)
+
+-- what one more job has, of lists that each job has, goes behind that of those before it
+pub lists_push : {A B : Type 0} (f : A → List B) (all : List A → List B) → all [] ≡ []
+    → ((x : A) (xs : List A) → all (x ∷ xs) ≡ f x ++ all xs) → (xs : List A) (x : A)
+    → all (xs ++ x ∷ []) ≡ all xs ++ f x
+lists_push f all none one [] x =
+    one x [] ∙ (ap (λ (ys : List _). f x ++ ys) none
+    ∙ (append-nil (f x) ∙ ap (λ (ys : List _). ys ++ f x) (sym none)))
+lists_push f all none one (y ∷ xs) x =
+    one y (xs ++ x ∷ []) ∙ (ap (λ (ys : List _). f y ++ ys) (lists_push f all none one xs x)
+    ∙ (sym (append_assoc (f y) (all xs) (f x))
+    ∙ ap (λ (ys : List _). ys ++ f x) (sym (one y xs))))
+
+-- one of those that are left was handed to a job
+pub lists_moved : {A B : Type 0} (f : A → List B) (all : List A → List B) → all [] ≡ []
+    → ((x : A) (xs : List A) → all (x ∷ xs) ≡ f x ++ all xs) → (new old : List A) (x : A) (b : B)
+    → (whole rest ks : List B) → new ≡ old ++ x ∷ [] → f x ≡ b ∷ [] → whole ≡ b ∷ rest
+    → all old ++ whole ≡ ks → all new ++ rest ≡ ks
+lists_moved f all none one new old x b whole rest ks grown has cut same =
+    ap (λ (js : List _). all js ++ rest) grown
+    ∙ (ap (λ (ys : List _). ys ++ rest) (lists_push f all none one old x)
+    ∙ (ap (λ (ys : List _). (all old ++ ys) ++ rest) has
+    ∙ (append_assoc (all old) (b ∷ []) rest
+    ∙ (ap (λ (ys : List _). all old ++ ys) (sym cut) ∙ same))))
+
+-- a job that has none of them changes nothing
+pub lists_same : {A B : Type 0} (f : A → List B) (all : List A → List B) → all [] ≡ []
+    → ((x : A) (xs : List A) → all (x ∷ xs) ≡ f x ++ all xs) → (new old : List A) (x : A)
+    → new ≡ old ++ x ∷ [] → f x ≡ [] → all new ≡ all old
+lists_same f all none one new old x grown has =
+    ap all grown ∙ (lists_push f all none one old x
+    ∙ (ap (λ (ys : List _). all old ++ ys) has ∙ append-nil (all old)))
+
+-- none of them is left
+pub nothing_left : {B : Type 0} (had left ks : List B) → length left ≡ 0 → had ++ left ≡ ks
+    → had ≡ ks
+nothing_left had [] ks none same = sym (append-nil had) ∙ same
+nothing_left had (x ∷ left) ks none same = absurd (omega (arith, none))

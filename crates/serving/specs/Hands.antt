@@ -1,5 +1,5 @@
 -- The hands of workers at the lots.
-use Rattle.std.specs.Prelude.{◌≡◌, ◌+◌, ℕ, All, List, length, sum_by}
+use Rattle.std.specs.Prelude.{◌≡◌, ◌+◌, ℕ, All, List, sum_by}
 use Rattle.waiting.specs.declared.hand.Hand.{Hand}
 use Rattle.waiting.specs.Hands.{IsNew, left_by, taken_by}
 

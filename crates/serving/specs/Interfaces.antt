@@ -7,13 +7,15 @@ use Rattle.router.specs.declared.pass.Pass.{Pass}
 use Rattle.router.specs.Passes.{seen_in}
 use Rattle.line_base.specs.Lines.{Line}
 use Rattle.admin_api.specs.declared.serving.Which.{Which}
+use Rattle.admin_api.specs.declared.worker.ApiWorker.{ApiWorker}
 use Rattle.admin_api.specs.Stays.{CameTo, Idle as Caller, came}
-use Rattle.admin_api.specs.Workers.{StaysWith, WorkerValue}
+use Rattle.admin_api.specs.Workers.{StaysWith, WorkerValue, worker_value}
+use Rattle.scrape.specs.Scrapes.{Scraping}
 use Rattle.workers.specs.Turns.{Begin, End, Turn, from_peer, from_stay, given_back, left}
 use Rattle.serving.specs.Sessions.{lacked_in}
 
--- what goes on from one turn to the next: the pass and how often the stop was called, and whether
--- a stay ran out of memory
+-- what goes on from one turn to the next: the pass, how often the stop was called, what was read
+-- for those who scrape, and whether a stay ran out of memory
 pub record Desk (J : Type 0) (g : Ghosts J) : Type 0 where
   pub worker : WorkerValue J g
   pub lacked_memory : Bool
@@ -32,9 +34,16 @@ HasCome g (from_peer peer) = Unit {0}
 HasCome g (from_stay caller) = CameTo g caller
 
 module _ {J : Type 0} {g : Ghosts J} where
-  abbrev pub desk_by : Pass J g → ℕ → Bool → Desk J g
-  desk_by pass stops lacked_memory =
-      record { worker = record { pass = pass; stops = stops }; lacked_memory = lacked_memory }
+  abbrev pub desk_by : Pass J g → ℕ → Scraping → Bool → Desk J g
+  desk_by pass stops told lacked_memory = record {
+    worker = record { pass = pass; stops = stops; told = told };
+    lacked_memory = lacked_memory;
+  }
+
+  abbrev pub desk_of : {S X : Type 0} → (S → ℕ) → (X → Scraping) → ApiWorker J S X g → Bool
+      → Desk J g
+  desk_of calls told_of worker lacked_memory =
+      record { worker = worker_value calls told_of worker; lacked_memory = lacked_memory }
 
   -- a turn was a stay of this connection, with what the turn before it left
   pub record IsAnswered {P : Type 0} (line_of : P → Line) (caller : Caller) (old : Desk J g)

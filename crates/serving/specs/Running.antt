@@ -3,8 +3,10 @@ use Rattle.std.specs.Prelude.{◌≡◌, ℕ, suc, ◌+◌, ◌≤◌, ◌<◌, 
 use Rattle.std.specs.Prelude.{map, Option, None, Some, IfSome}
 use Rattle.std.specs.List.{AllZip, list_any}
 use Rattle.one_history.specs.Order.{Distinct}
+use Rattle.line_base.specs.declared.socket_address.SocketAddress.{SocketAddress}
 use Rattle.line_base.specs.Accepts.{Listening}
 use Rattle.line_base.specs.Nets.{IsNew, Networking, Returns}
+use Rattle.exchange_record.specs.declared.recorder.Recorder.{Ghosts as Recording}
 use Rattle.linker_config.specs.declared.config.Port.{Port}
 use Rattle.router.specs.declared.naming.Naming.{Ghosts}
 use Rattle.router.specs.declared.pass.Pass.{Pass}
@@ -18,7 +20,8 @@ use Rattle.serving.specs.Passes.{AreFree}
 use Rattle.serving.specs.Posts.{endpoint_at, feed_jobs, jobs_of, posts_of}
 use Rattle.serving.specs.LeftOver.{LeftOver}
 use Rattle.serving.specs.Returning.{all_ended, with_left_over, with_stops}
-use Rattle.serving.specs.Shifts.{ServesPost, Shift, admissions, returns}
+use Rattle.serving.specs.Shifts.{ServesPost, Shift, admissions, recorders_before}
+use Rattle.serving.specs.Shifts.{recorders_behind, returns}
 
 module _ {P L : Type 0} (state : L → Listening P) (told : Option (Returns P)) where
   -- new listeners at an address, for this place and those behind it
@@ -57,19 +60,25 @@ module _ {J L : Type 0} {g : Ghosts J} where
     pub all : length s.passes.items ≡ g.seats
     pub free : AreFree s.passes.items
 
-module _ {J P : Type 0} {g : Ghosts J} where
-  -- A job ran for each listener of a site, with a pass of its own, and one pass served nobody. The
-  -- connections that waited still were ended at the first listener: so as many were given back as
-  -- had come. Then the listeners came back to the net, in their order, with the stops that it had
-  -- handed out
-  pub record HasRun (line_of : P → Line) (site : Site) (moments : Option (List ℕ))
-      (passes passes_after : List (Pass J g)) (net net_after : Networking P)
-      (lacked_memory : Bool) : Type 0 where
-    pub shifts : List (Shift J P g)
+module _ {J P K : Type 0} {g : Ghosts J} where
+  -- A job ran for each listener of a site, with a pass of its own, and one pass served nobody. Each
+  -- job for clients had one of the recorders, in order, and they came back as their turns left
+  -- them. The connections that waited still were ended at the first listener: so as many were given
+  -- back as had come. Then the listeners came back to the net, in their order, with the stops that
+  -- it had handed out
+  pub record HasRun (line_of : P → Line) (address_of : P → Option SocketAddress)
+      (k : Recording K) (site : Site) (moments : Option (List ℕ))
+      (passes passes_after : List (Pass J g)) (recorders recorders_after : List K)
+      (net net_after : Networking P) (lacked_memory : Bool) : Type 0 where
+    pub shifts : List (Shift J P K g)
     pub rest : Pass J g
     pub before : passes ≡ map (λ s. s.before) shifts ++ rest ∷ []
     pub behind : passes_after ≡ map (λ s. s.behind) shifts ++ rest ∷ []
-    pub served : AllZip (ServesPost line_of site.policy moments net.told) (posts_of site) shifts
+    pub given : recorders ≡ recorders_before shifts
+    pub recorded : recorders_after ≡ recorders_behind shifts
+    pub served :
+        AllZip (ServesPost line_of address_of k site.policy moments net.told) (posts_of site)
+        shifts
     pub over : List P
     pub left_over : LeftOver line_of g site.policy.rule site.policy.retries over
     pub all_back : admissions shifts ≡ returns shifts + length over

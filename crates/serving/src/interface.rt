@@ -6,25 +6,26 @@ use crate::proxy::lacked_behind;
 use admin_api::{ApiWorker, Context, IdleCaller, Stayed, Which};
 use line_base::{Gate, Peer, Stop};
 use router::{Naming, Router};
+use scrape::Scrape;
 use std::alloc::Global;
 use std::sync::Wait;
 use workers::{Serve, Turned};
 
 /// Serves connections of the interfaces a stay at a time. A shutdown calls its stop.
 #[derive(Drop)]
-pub struct ApiServer<'a, J: Naming, S> {
+pub struct ApiServer<'a, J: Naming, S, X> {
     pub(crate) alloc: Global,
     pub(crate) router: &'a Router<J>,
     /// Which interface answers those that come to its listener. One that waited is answered by the
     /// interface that it came to.
     pub(crate) which: Which,
-    pub(crate) worker: ApiWorker<J, S>,
+    pub(crate) worker: ApiWorker<J, S, X>,
     pub(crate) lacked_memory: bool,
 }
 
-impl<J: Naming, S: Stop> ApiServer<'_, J, S> {
+impl<J: Naming, S: Stop, X: Scrape> ApiServer<'_, J, S, X> {
     ghost use Rattle.admin_api.specs.Stays.{CameTo};
-    ghost use Rattle.serving.specs.Interfaces.{IsAnswered, desk_by};
+    ghost use Rattle.serving.specs.Interfaces.{IsAnswered, desk_of};
     ghost use Rattle.workers.specs.Turns.{end_of};
 
     /// Serves a connection for a stay.
@@ -35,9 +36,8 @@ impl<J: Naming, S: Stop> ApiServer<'_, J, S> {
     ) -> Turned<IdleCaller<P, J>, P>
         ensures chain { CameTo J.Naming.own caller }
         ensures answered { IsAnswered P.line caller
-            (desk_by self.old.worker.pass (S.calls self.old.worker.stop) self.old.lacked_memory)
-            (end_of result)
-            (desk_by self.new.worker.pass (S.calls self.new.worker.stop) self.new.lacked_memory) }
+            (desk_of S.calls X.told self.old.worker self.old.lacked_memory) (end_of result)
+            (desk_of S.calls X.told self.new.worker self.new.lacked_memory) }
         ensures which { self.new.which ≡ self.old.which }
         ensures number { number_in self.new.worker.pass ≡ number_in self.old.worker.pass }
     {
@@ -56,17 +56,16 @@ impl<J: Naming, S: Stop> ApiServer<'_, J, S> {
     }
 }
 
-impl<P: Peer, J: Naming, S: Stop> Serve<P> for ApiServer<'_, J, S> {
+impl<P: Peer, J: Naming, S: Stop, X: Scrape> Serve<P> for ApiServer<'_, J, S, X> {
     ghost use Rattle.std.specs.Prelude.{◌≡◌};
     ghost use Rattle.router.specs.Passes.{number_in};
-    ghost use Rattle.serving.specs.Interfaces.{AnswersTurn, desk_by};
+    ghost use Rattle.serving.specs.Interfaces.{AnswersTurn, desk_of};
 
     type Stay = IdleCaller<P, J>;
 
     ghost serves = { λ old t new.
-        AnswersTurn P.line old.which
-        (desk_by old.worker.pass (S.calls old.worker.stop) old.lacked_memory) t
-        (desk_by new.worker.pass (S.calls new.worker.stop) new.lacked_memory)
+        AnswersTurn P.line old.which (desk_of S.calls X.told old.worker old.lacked_memory) t
+        (desk_of S.calls X.told new.worker new.lacked_memory)
         × (new.which ≡ old.which) × (number_in new.worker.pass ≡ number_in old.worker.pass) };
 
     fn begin<R: Wait, G: Gate>(

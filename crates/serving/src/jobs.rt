@@ -5,7 +5,7 @@ ghost use Rattle.std.specs.List.{AllZip};
 ghost use Rattle.std.specs.Vec.Iter.{into_iter_items};
 ghost use Rattle.serving.specs.declared.policy.Policy.{Policy};
 ghost use Rattle.linker_config.specs.declared.config.Port.{Port};
-ghost use Rattle.serving.specs.Jobs.{IsPosted, passes_of_jobs};
+ghost use Rattle.serving.specs.Jobs.{IsPosted, passes_of_jobs, recorders_of_jobs};
 ghost use Rattle.serving.specs.Hands.{AreNewHands};
 ghost use Rattle.serving.specs.Passes.{AreFree};
 ghost use Rattle.serving.specs.Policies.{IsHandledBy};
@@ -16,6 +16,7 @@ ghost use Rattle.serving.specs.Running.{AreNewFeed, AreNewFrom, Listens};
 ghost use Rattle.serving.specs.Supplying.{AreSupplied};
 
 use crate::bound::Bound;
+use crate::instruments::Instruments;
 use crate::interface::ApiServer;
 use crate::job::{ApiJob, ProxyJob, ServingJob};
 use crate::lots::{Hands, Lots};
@@ -34,22 +35,25 @@ use std::sync::ledger::Ledger;
 use std::vec::IntoIter;
 use waiting::Hand;
 
-/// The jobs of a net's listeners, dialers and stops.
-pub(crate) type Jobs<'a, J, N, C, A, B, E, F> = Vec<
-    ServingJob<
+/// A job of one of a net's listeners, dialers and stops.
+pub(crate) type NetJob<'a, J, N, C, K, X, A, B, E, F> = ServingJob<
+    ProxyJob<
         'a,
         <<N as Net>::L as Listener>::P,
         J,
         <N as Net>::L,
         <N as Net>::D,
         C,
+        K,
         <N as Net>::S,
         A,
         B,
-        E,
-        F,
     >,
+    ApiJob<'a, <<N as Net>::L as Listener>::P, J, <N as Net>::L, <N as Net>::S, X, E, F>,
 >;
+
+/// Jobs of a net.
+pub(crate) type Jobs<'a, J, N, C, K, X, A, B, E, F> = Vec<NetJob<'a, J, N, C, K, X, A, B, E, F>>;
 
 /// What all jobs share: the allocator, the router, where they serve, and where connections wait.
 #[derive(Drop)]
@@ -60,19 +64,28 @@ pub(crate) struct Setup<'a, P: Peer, J: Handling, A: Ledger, B: Ledger, E: Ledge
     pub(crate) lots: &'a Lots<P, J, A, B, E, F>,
 }
 
-/// What each worker that serves clients gets besides its listener and its pass: a room for bytes,
-/// and a hand at the lot.
+/// What each worker that serves clients gets besides its listener and its pass: a room for bytes, a
+/// recorder, and a hand at the lot.
 #[derive(Drop)]
-pub(crate) struct Places<A: Ledger, B: Ledger> {
+pub(crate) struct Places<K, A: Ledger, B: Ledger> {
     pub(crate) rooms: Vec<Room>,
+    pub(crate) recorders: Vec<K>,
     pub(crate) hands: Vec<Hand<A, B>>,
+}
+
+/// The listeners of an interface, and which one it is.
+struct Interface<L> {
+    which: Which,
+    listeners: Vec<L>,
 }
 
 /// What all jobs get besides their listeners and passes.
 #[derive(Drop)]
-pub(crate) struct Supplies<A: Ledger, B: Ledger, E: Ledger, F: Ledger> {
+pub(crate) struct Supplies<K, X, A: Ledger, B: Ledger, E: Ledger, F: Ledger> {
     /// A room for each worker that serves clients.
     pub(crate) rooms: Vec<Room>,
+    /// What they record with.
+    pub(crate) instruments: Instruments<K, X>,
     /// A hand for each worker.
     pub(crate) hands: Hands<A, B, E, F>,
 }
@@ -88,20 +101,32 @@ pub(crate) fn make_rooms(alloc: Global, count: usize) -> Mem<Vec<Room>>
     Ok(rooms)
 }
 
-/// A proxy job for each listener of the router, numbered from 0. Each has the next pass and the
-/// next room.
-fn add_proxy_jobs<'a, J: Handling, N: Net, C: Clock, A: Ledger, B: Ledger, E: Ledger, F: Ledger>(
+/// A proxy job for each listener of the router, numbered from 0. Each has the next pass, the next
+/// room and the next recorder.
+fn add_proxy_jobs<
+    'a,
+    J: Handling,
+    N: Net,
+    C: Clock,
+    K: Drop,
+    X,
+    A: Ledger,
+    B: Ledger,
+    E: Ledger,
+    F: Ledger,
+>(
     setup: &Setup<'a, <N::L as Listener>::P, J, A, B, E, F>,
     net: &mut N,
     clock: &C,
     listeners: Vec<N::L>,
-    places: Places<A, B>,
+    places: Places<K, A, B>,
     passes: &mut IntoIter<Pass<J>>,
-    jobs: &mut Jobs<'a, J, N, C, A, B, E, F>,
+    jobs: &mut Jobs<'a, J, N, C, K, X, A, B, E, F>,
 )
     requires handled { IsHandledBy J.rule J.tries setup.now.site.now.policy }
     requires enough { length listeners.items ≤ length (into_iter_items passes.old) }
     requires rooms { length listeners.items ≤ length places.rooms.items }
+    requires recorders { length places.recorders.items ≡ length listeners.items }
     requires hands { length listeners.items ≤ length places.hands.items }
     requires new_hands { AreNewHands places.hands.items }
     requires room { vec_len jobs.old + length listeners.items ≤ vec_capacity jobs.old }
@@ -116,6 +141,8 @@ fn add_proxy_jobs<'a, J: Handling, N: Net, C: Clock, A: Ledger, B: Ledger, E: Le
         ≡ length (into_iter_items passes.old) }
     ensures room { vec_capacity jobs.new ≡ vec_capacity jobs.old }
     ensures free { AreFree (into_iter_items passes.new) }
+    ensures recorders { recorders_of_jobs jobs.new.items
+        ≡ recorders_of_jobs jobs.old.items ++ places.recorders.items }
     ensures posted { (posts : List Post)
         → AllZip (IsPosted N.L.state N.D.upstream C.to_come N.S.calls setup.now.site.now.policy
         (C.of_fork clock.now)
@@ -128,8 +155,13 @@ fn add_proxy_jobs<'a, J: Handling, N: Net, C: Clock, A: Ledger, B: Ledger, E: Le
     ensures kept { N.faults net.new ≡ N.faults net.old }
 {
     let site = setup.site;
-    let Places { rooms, hands } = places;
+    let Places {
+        rooms,
+        recorders,
+        hands,
+    } = places;
     let mut rooms = rooms.into_iter();
+    let mut recorders = recorders.into_iter();
     let mut hands = hands.into_iter();
     let mut number = 0u32;
     for listener in listeners {
@@ -137,6 +169,9 @@ fn add_proxy_jobs<'a, J: Handling, N: Net, C: Clock, A: Ledger, B: Ledger, E: Le
             unreachable!()
         };
         let Some(room) = rooms.next() else {
+            unreachable!()
+        };
+        let Some(recorder) = recorders.next() else {
             unreachable!()
         };
         let Some(hand) = hands.next() else {
@@ -154,6 +189,7 @@ fn add_proxy_jobs<'a, J: Handling, N: Net, C: Clock, A: Ledger, B: Ledger, E: Le
             policy: &site.policy,
             server: Server::of(room, parts),
             lacked_memory: false,
+            recorder,
         };
         jobs.push_reserved(ServingJob::Proxy(ProxyJob {
             number,
@@ -167,47 +203,69 @@ fn add_proxy_jobs<'a, J: Handling, N: Net, C: Clock, A: Ledger, B: Ledger, E: Le
     }
 }
 
-/// A job for each listener of an interface. Each has the next pass and the next hand.
-fn add_api_jobs<'a, J: Handling, N: Net, C: Clock, A: Ledger, B: Ledger, E: Ledger, F: Ledger>(
+/// A job for each listener of an interface. Each has the next pass, the next hand and the next
+/// scraper.
+fn add_api_jobs<
+    'a,
+    J: Handling,
+    N: Net,
+    C: Clock,
+    K,
+    X: Drop,
+    A: Ledger,
+    B: Ledger,
+    E: Ledger,
+    F: Ledger,
+>(
     setup: &Setup<'a, <N::L as Listener>::P, J, A, B, E, F>,
-    which: Which,
+    interface: Interface<N::L>,
     net: &mut N,
-    listeners: Vec<N::L>,
     passes: &mut IntoIter<Pass<J>>,
     hands: &mut IntoIter<Hand<E, F>>,
-    jobs: &mut Jobs<'a, J, N, C, A, B, E, F>,
+    scrapers: &mut IntoIter<X>,
+    jobs: &mut Jobs<'a, J, N, C, K, X, A, B, E, F>,
 )
-    requires enough { length listeners.items ≤ length (into_iter_items passes.old) }
-    requires hands { length listeners.items ≤ length (into_iter_items hands.old) }
+    requires enough { length interface.listeners.items ≤ length (into_iter_items passes.old) }
+    requires hands { length interface.listeners.items ≤ length (into_iter_items hands.old) }
+    requires scrapers { length interface.listeners.items ≤ length (into_iter_items scrapers.old) }
     requires new_hands { AreNewHands (into_iter_items hands.old) }
-    requires room { vec_len jobs.old + length listeners.items ≤ vec_capacity jobs.old }
+    requires room { vec_len jobs.old + length interface.listeners.items ≤ vec_capacity jobs.old }
     requires free { AreFree (into_iter_items passes.old) }
     ensures passes { passes_of_jobs jobs.new.items ++ into_iter_items passes.new
         ≡ passes_of_jobs jobs.old.items ++ into_iter_items passes.old }
-    ensures count { vec_len jobs.new ≡ vec_len jobs.old + length listeners.items }
-    ensures rest { length (into_iter_items passes.new) + length listeners.items
+    ensures count { vec_len jobs.new ≡ vec_len jobs.old + length interface.listeners.items }
+    ensures rest { length (into_iter_items passes.new) + length interface.listeners.items
         ≡ length (into_iter_items passes.old) }
     ensures room { vec_capacity jobs.new ≡ vec_capacity jobs.old }
     ensures free { AreFree (into_iter_items passes.new) }
-    ensures hands { length (into_iter_items hands.new) + length listeners.items
+    ensures hands { length (into_iter_items hands.new) + length interface.listeners.items
         ≡ length (into_iter_items hands.old) }
     ensures new_hands { AreNewHands (into_iter_items hands.new) }
+    ensures scrapers { length (into_iter_items scrapers.new) + length interface.listeners.items
+        ≡ length (into_iter_items scrapers.old) }
+    ensures recorders { recorders_of_jobs jobs.new.items ≡ recorders_of_jobs jobs.old.items }
     ensures posted { (port : Port) → AreNewFrom N.L.state (N.state net.old).told port 0
-        listeners.items → (policy : Policy) → (moments : Option (List ℕ))
+        interface.listeners.items → (policy : Policy) → (moments : Option (List ℕ))
         → (posts : List Post) → AllZip
         (IsPosted N.L.state N.D.upstream C.to_come N.S.calls policy moments (N.state net.old).told)
         posts jobs.old.items
         → AllZip (IsPosted N.L.state N.D.upstream C.to_come N.S.calls policy moments
         (N.state net.old).told)
-        (posts ++ posts_at (interface_post which port) (length listeners.items)) jobs.new.items }
-    ensures stops { N.state net.new ≡ with_stops (length listeners.items) (N.state net.old) }
+        (posts ++ posts_at (interface_post interface.which port)
+        (length interface.listeners.items)) jobs.new.items }
+    ensures stops { N.state net.new
+        ≡ with_stops (length interface.listeners.items) (N.state net.old) }
     ensures kept { N.faults net.new ≡ N.faults net.old }
 {
+    let Interface { which, listeners } = interface;
     for listener in listeners {
         let Some(pass) = passes.next() else {
             unreachable!()
         };
         let Some(hand) = hands.next() else {
+            unreachable!()
+        };
+        let Some(scraper) = scrapers.next() else {
             unreachable!()
         };
         let server = ApiServer {
@@ -217,6 +275,7 @@ fn add_api_jobs<'a, J: Handling, N: Net, C: Clock, A: Ledger, B: Ledger, E: Ledg
             worker: ApiWorker {
                 pass,
                 stop: net.stopper(),
+                scraper,
             },
             lacked_memory: false,
         };
@@ -229,17 +288,31 @@ fn add_api_jobs<'a, J: Handling, N: Net, C: Clock, A: Ledger, B: Ledger, E: Ledg
     }
 }
 
-/// A job for each listener of the feed, where it is served. Each has the next pass.
-fn add_feed_jobs<'a, J: Handling, N: Net, C: Clock, A: Ledger, B: Ledger, E: Ledger, F: Ledger>(
+/// A job for each listener of the feed, where it is served. Each has the next pass, the next hand
+/// and the next scraper.
+fn add_feed_jobs<
+    'a,
+    J: Handling,
+    N: Net,
+    C: Clock,
+    K,
+    X: Drop,
+    A: Ledger,
+    B: Ledger,
+    E: Ledger,
+    F: Ledger,
+>(
     setup: &Setup<'a, <N::L as Listener>::P, J, A, B, E, F>,
     net: &mut N,
     listeners: Vec<N::L>,
     passes: &mut IntoIter<Pass<J>>,
     hands: &mut IntoIter<Hand<E, F>>,
-    jobs: &mut Jobs<'a, J, N, C, A, B, E, F>,
+    scrapers: &mut IntoIter<X>,
+    jobs: &mut Jobs<'a, J, N, C, K, X, A, B, E, F>,
 )
     requires enough { length listeners.items ≤ length (into_iter_items passes.old) }
     requires hands { length listeners.items ≤ length (into_iter_items hands.old) }
+    requires scrapers { length listeners.items ≤ length (into_iter_items scrapers.old) }
     requires new_hands { AreNewHands (into_iter_items hands.old) }
     requires room { vec_len jobs.old + length listeners.items ≤ vec_capacity jobs.old }
     requires free { AreFree (into_iter_items passes.old) }
@@ -253,6 +326,7 @@ fn add_feed_jobs<'a, J: Handling, N: Net, C: Clock, A: Ledger, B: Ledger, E: Led
         ≡ length (into_iter_items passes.old) }
     ensures room { vec_capacity jobs.new ≡ vec_capacity jobs.old }
     ensures free { AreFree (into_iter_items passes.new) }
+    ensures recorders { recorders_of_jobs jobs.new.items ≡ recorders_of_jobs jobs.old.items }
     ensures posted { (policy : Policy) → (moments : Option (List ℕ)) → (posts : List Post)
         → AllZip (IsPosted N.L.state N.D.upstream C.to_come N.S.calls policy moments
         (N.state net.old).told) posts jobs.old.items
@@ -263,8 +337,11 @@ fn add_feed_jobs<'a, J: Handling, N: Net, C: Clock, A: Ledger, B: Ledger, E: Led
 {
     match setup.site.feed {
         Some(feeding) => {
-            let which = Which::Feed { run: feeding.run };
-            add_api_jobs(setup, which, net, listeners, passes, hands, jobs);
+            let interface = Interface {
+                which: Which::Feed { run: feeding.run },
+                listeners,
+            };
+            add_api_jobs(setup, interface, net, passes, hands, scrapers, jobs);
         }
         None => {}
     }
@@ -277,6 +354,8 @@ pub(crate) fn add_jobs<
     J: Handling,
     N: Net,
     C: Clock,
+    K: Drop,
+    X: Drop,
     A: Ledger,
     B: Ledger,
     E: Ledger,
@@ -286,9 +365,9 @@ pub(crate) fn add_jobs<
     net: &mut N,
     clock: &C,
     bound: Bound<N::L>,
-    supplies: Supplies<A, B, E, F>,
+    supplies: Supplies<K, X, A, B, E, F>,
     passes: &mut IntoIter<Pass<J>>,
-    jobs: &mut Jobs<'a, J, N, C, A, B, E, F>,
+    jobs: &mut Jobs<'a, J, N, C, K, X, A, B, E, F>,
 )
     requires handled { IsHandledBy J.rule J.tries setup.now.site.now.policy }
     requires enough { jobs_of setup.now.site.now ≤ length (into_iter_items passes.old) }
@@ -304,6 +383,8 @@ pub(crate) fn add_jobs<
     ensures count { vec_len jobs.new ≡ jobs_of setup.now.site.now }
     ensures room { vec_capacity jobs.new ≡ vec_capacity jobs.old }
     ensures free { AreFree (into_iter_items passes.new) }
+    ensures recorders { recorders_of_jobs jobs.new.items
+        ≡ supplies.instruments.recorders.items }
     ensures posted { AllZip
         (IsPosted N.L.state N.D.upstream C.to_come N.S.calls setup.now.site.now.policy
         (C.of_fork clock.now)
@@ -318,15 +399,33 @@ pub(crate) fn add_jobs<
         admin,
         feed,
     } = bound;
-    let Supplies { rooms, hands } = supplies;
+    let Supplies {
+        rooms,
+        instruments,
+        hands,
+    } = supplies;
+    let Instruments {
+        recorders,
+        scrapers,
+    } = instruments;
     let places = Places {
         rooms,
+        recorders,
         hands: hands.clients,
     };
     let mut hands = hands.callers.into_iter();
+    let mut scrapers = scrapers.into_iter();
     add_proxy_jobs(setup, net, clock, server, places, passes, jobs);
-    add_api_jobs(setup, Which::Namerd, net, namerd, passes, &mut hands, jobs);
+    let namerd = Interface {
+        which: Which::Namerd,
+        listeners: namerd,
+    };
+    add_api_jobs(setup, namerd, net, passes, &mut hands, &mut scrapers, jobs);
     let administers = Which::Admin { ready: true };
-    add_api_jobs(setup, administers, net, admin, passes, &mut hands, jobs);
-    add_feed_jobs(setup, net, feed, passes, &mut hands, jobs);
+    let admin = Interface {
+        which: administers,
+        listeners: admin,
+    };
+    add_api_jobs(setup, admin, net, passes, &mut hands, &mut scrapers, jobs);
+    add_feed_jobs(setup, net, feed, passes, &mut hands, &mut scrapers, jobs);
 }

@@ -3,9 +3,9 @@
 //!
 //! [`start`] gives a router its services and listens on its addresses; [`Serving::run`] then serves
 //! until it is stopped. It runs a job for each listener, on a thread of its own: a [`ProxyJob`]
-//! serves connections of clients, with a dialer, a clock and a generator of words, and an
-//! [`ApiJob`] those of the interfaces to the namespaces and for the administrator, and of the feed
-//! where it is served. Each has a pass of the router and a stop.
+//! serves connections of clients, with a dialer, a clock, a generator of words and a recorder, and
+//! an [`ApiJob`] those of the interfaces to the namespaces and for the administrator, and of the
+//! feed where it is served, with a scraper. Each has a pass of the router and a stop.
 //!
 //! A connection holds a worker only while it is served. Between two of its requests it waits in a
 //! lot, which all workers of its kind share, and any of them goes on with it, with a pass that has
@@ -27,14 +27,17 @@
 //! own, and its worker took one turn after another (`specs/Shifts.antt`) until the listener
 //! answered that it is closed: a stay of a connection that came to it, a stay of one that waited,
 //! or the end of one that waited. A stay of a client goes on with the dialer, the clock, the
-//! generator and the pass that the turn before it left; the first has new ones, with the seed of
-//! the listener's place. Of a connection that waited it is known that stays led to it from one that
-//! came, each in turn with a pass that had seen all that the stays before it had seen
-//! (`client_stays`, `admin_api`). A stop was called as often as the turns say. The connections that
-//! still waited were ended at the first listener, so over all listeners as many were finished as
-//! had been accepted. All listeners came back clean, in their order, and as many stops as were
-//! handed out. The passes ended with one history, of as many changes as [`Served`] tells, each
-//! loaded service among them; and it tells whether a stay ran out of memory.
+//! generator, the pass and the recorder that the turn before it left; the first has new ones, with
+//! the seed of the listener's place, and the recorder that was given for it ([`Instruments`]). The
+//! recorder is told that a connection came or was taken up, of each of its exchanges, in order and
+//! once, and that it was left or has ended; and it comes back, in its place, as the last turn left
+//! it. Of a connection that waited it is known that stays led to it from one that came, each in
+//! turn with a pass that had seen all that the stays before it had seen (`client_stays`,
+//! `admin_api`). A stop was called as often as the turns say. The connections that still waited
+//! were ended at the first listener, so over all listeners as many were finished as had been
+//! accepted. All listeners came back clean, in their order, and as many stops as were handed out.
+//! The passes ended with one history, of as many changes as [`Served`] tells, each loaded service
+//! among them; and it tells whether a stay ran out of memory.
 //!
 //! It is not proved that the jobs run beside one another, nor which worker took up a connection
 //! that another one left.
@@ -43,7 +46,8 @@
 //! ```text
 //! let opened = open(&rt, alloc, settings, site.seats())?;
 //! let serving = start::<Brand, _, _>(&rt, alloc, opened, loaded, &site, &mut net)?;
-//! let served = serving.run(&rt, alloc, &site, &mut net, &clock)?;
+//! let instruments = Instruments { recorders, scrapers };
+//! let (served, recorders) = serving.run(&rt, alloc, &site, &mut net, &clock, instruments)?;
 //! // served.place: how many changes there were
 //! ```
 #![tactic(auto)]
@@ -51,6 +55,7 @@
 mod bound;
 mod ending;
 mod gate;
+mod instruments;
 mod interface;
 mod job;
 mod jobs;
@@ -66,6 +71,7 @@ mod taking_back;
 
 pub use bound::Bound;
 pub use gate::NoGate;
+pub use instruments::Instruments;
 pub use interface::ApiServer;
 pub use job::{ApiJob, ProxyJob, ServingJob};
 pub use parts::{Apart, Part};

@@ -15,7 +15,7 @@ ghost use Rattle.serving.specs.Ledgers.{AreBlanksFor};
 ghost use Rattle.serving.specs.Parts.{ComeApart, CountsParts, EndsAll, HasRoom, IsEmpty};
 ghost use Rattle.serving.specs.Parts.{any_broken};
 ghost use Rattle.serving.specs.Policies.{IsHandledBy};
-ghost use Rattle.serving.specs.Supplying.{AreSupplied};
+ghost use Rattle.serving.specs.Supplying.{AreInstrumentsFor, AreSupplied};
 ghost use Rattle.serving.specs.Tending.{HasParts, HaveTended};
 ghost use Rattle.serving.specs.Services.{BookRefuses, HaveSeen};
 ghost use Rattle.serving.specs.Passes.{AreFree};
@@ -28,18 +28,20 @@ ghost use Rattle.snap_cell.specs.Writers.{cell_written, opening_written};
 use crate::bound::{Bound, bind};
 use crate::ending::{StillWaiting, end_all};
 use crate::gate::NoGate;
-use crate::job::ServingJob;
+use crate::instruments::Instruments;
 use crate::jobs::{Jobs, Setup, Supplies, add_jobs, make_rooms};
 use crate::loading::{SetFault, set_services};
 use crate::lots::{Blanks, LEAST_CLIENTS, Lots, MOST_CLIENTS};
-use crate::parts::Apart;
+use crate::parts::{Apart, NetApart};
 use crate::site::Site;
 use crate::taking_back::{take_all_apart, take_unrun_apart};
 use client_stays::Handling;
+use exchange_record::Recorder;
 use line_base::{Clock, Listener, Net, NetFault, Peer};
 use linker_config::Loaded;
 use proxy_session::Mem;
 use router::{Naming, Opened, Pass, Router};
+use scrape::Scrape;
 use std::alloc::Global;
 use std::marker::Brand;
 use std::sync::Wait;
@@ -173,11 +175,13 @@ fn add_rest<J: Naming>(rest: IntoIter<Pass<J>>, passes: &mut Vec<Pass<J>>)
 
 /// What comes back once the jobs ran, or could not.
 #[derive(Drop)]
-struct Returned<J: Naming> {
+struct Returned<J: Naming, K> {
     /// Whether there was memory to run them.
     ran: bool,
     tally: Tally,
     passes: Vec<Pass<J>>,
+    /// Those of the jobs that ran.
+    recorders: Vec<K>,
 }
 
 /// What is known once all jobs are back.
@@ -203,14 +207,16 @@ fn run_apart<
     R: Threads + Wait + Sync,
     N: Net + Send,
     C: Clock + Drop + Send,
+    K: Recorder + Drop + Send,
+    X: Scrape + Drop + Send,
     A: Ledger + Send + Sync,
     B: Ledger + Send + Sync,
     E: Ledger + Send + Sync,
     F: Ledger + Send + Sync,
 >(
     rt: &R,
-    jobs: Jobs<'_, J, N, C, A, B, E, F>,
-    apart: &mut Apart<J, N::L, N::D, N::S, A, B, E, F>,
+    jobs: Jobs<'_, J, N, C, K, X, A, B, E, F>,
+    apart: &mut NetApart<J, N, K, A, B, E, F>,
 ) -> bool
 where
     <N::L as Listener>::P: Send,
@@ -220,24 +226,24 @@ where
     ensures numbers { numbers_of apart.new.passes.items
         ≡ numbers_of apart.old.passes.items ++ numbers_of (passes_of_jobs jobs.entry.items) }
     ensures counts { CountsParts jobs.entry.items apart.old apart.new }
-    ensures came { result ≡ true → ComeApart (Runs N.L.P.line N.L.state
-        N.D.upstream C.to_come N.S.calls) N.L.state N.D.upstream N.S.calls
+    ensures came { result ≡ true → ComeApart (Runs N.L.P.line N.L.P.address K.Recorder.own
+        N.L.state N.D.upstream C.to_come N.S.calls X.told) N.L.state N.D.upstream N.S.calls
         jobs.entry.items apart.old apart.new }
 {
     match run_workers(rt, jobs, &NoGate) {
         Ok(back) => {
-            take_all_apart(back, apart);
+            take_all_apart::<J, N, C, K, X, A, B, E, F>(back, apart);
             true
         }
         Err(JobsBack { jobs }) => {
-            take_unrun_apart(jobs, apart);
+            take_unrun_apart::<J, N, C, K, X, A, B, E, F>(jobs, apart);
             false
         }
     }
 }
 
 /// There was no memory to run the jobs.
-fn unrun<J: Naming>(passes: Vec<Pass<J>>) -> Returned<J>
+fn unrun<J: Naming, K>(alloc: Global, passes: Vec<Pass<J>>) -> Returned<J, K>
     ensures { (result.ran ≡ false) × (result.tally.failed ≡ false) × (result.passes ≡ passes) }
 {
     Returned {
@@ -247,35 +253,54 @@ fn unrun<J: Naming>(passes: Vec<Pass<J>>) -> Returned<J>
             lacked_memory: false,
         },
         passes,
+        recorders: Vec::new(alloc),
     }
 }
 
 /// What the jobs of a router need besides its listeners and passes, before the first is posted.
-struct Stock<'a, P: Peer, J: Handling, L, D, C, S, A: Ledger, B: Ledger, E: Ledger, F: Ledger> {
+struct Stock<P: Peer, J: Handling, K, X, A: Ledger, B: Ledger, E: Ledger, F: Ledger> {
     /// Where connections wait.
     lots: Lots<P, J, A, B, E, F>,
     /// What each job gets.
-    supplies: Supplies<A, B, E, F>,
-    /// Room for the parts of the jobs, once they have ended.
-    apart: Apart<J, L, D, S, A, B, E, F>,
-    /// Room for the jobs.
-    jobs: Vec<ServingJob<'a, P, J, L, D, C, S, A, B, E, F>>,
+    supplies: Supplies<K, X, A, B, E, F>,
 }
 
+/// The stock of a net's jobs, room for their parts, once they have ended, and room for the jobs.
+type NetStock<'a, J, N, C, K, X, A, B, E, F> = (
+    Stock<<<N as Net>::L as Listener>::P, J, K, X, A, B, E, F>,
+    NetApart<J, N, K, A, B, E, F>,
+    Jobs<'a, J, N, C, K, X, A, B, E, F>,
+);
+
 /// Takes all memory that so many jobs need, so that they can be taken apart once they have run:
-/// room for the jobs and for their parts, rooms for bytes, and lots where as many connections may
-/// wait as the net has room for.
-fn make_stock<'a, J: Handling, N: Net, C: Drop, A: Ledger, B: Ledger, E: Ledger, F: Ledger>(
+/// rooms for bytes, lots where as many connections may wait as the net has room for, and room for
+/// the jobs and for their parts.
+fn make_stock<
+    'a,
+    J: Handling,
+    N: Net,
+    C: Drop,
+    K: Drop,
+    X: Drop,
+    A: Ledger,
+    B: Ledger,
+    E: Ledger,
+    F: Ledger,
+>(
     plan: &Plan<'_, J>,
     net: &mut N,
     blanks: Blanks,
     count: usize,
-) -> Mem<Stock<'a, <N::L as Listener>::P, J, N::L, N::D, C, N::S, A, B, E, F>>
+    instruments: Instruments<K, X>,
+) -> Mem<NetStock<'a, J, N, C, K, X, A, B, E, F>>
     requires blanks { AreBlanksFor A.Ledger.own B.Ledger.own E.Ledger.own F.Ledger.own
         plan.now.site.now.workers (interface_jobs plan.now.site.now) blanks }
-    ensures supplies { IfOk result (λ s. AreSupplied plan.now.site.now s.supplies) }
-    ensures apart { IfOk result (λ s. IsEmpty s.apart × HasRoom s.apart count) }
-    ensures jobs { IfOk result (λ s. (s.jobs.items ≡ []) × (count ≤ vec_capacity s.jobs)) }
+    requires equipped { AreInstrumentsFor plan.now.site.now instruments }
+    ensures supplies { IfOk result (λ s. AreSupplied plan.now.site.now s.0.supplies) }
+    ensures recorders { IfOk result (λ s. s.0.supplies.instruments.recorders.items
+        ≡ instruments.recorders.items) }
+    ensures apart { IfOk result (λ s. IsEmpty s.1 × HasRoom s.1 count) }
+    ensures jobs { IfOk result (λ s. (s.2.items ≡ []) × (count ≤ vec_capacity s.2)) }
     ensures kept { (N.state net.new ≡ N.state net.old) × (N.faults net.new ≡ N.faults net.old) }
 {
     let apart = match Apart::with_room(plan.alloc, count) {
@@ -293,20 +318,22 @@ fn make_stock<'a, J: Handling, N: Net, C: Drop, A: Ledger, B: Ledger, E: Ledger,
     let room = net.waiting_room(MOST_CLIENTS).max(LEAST_CLIENTS);
     let callers = plan.site.interface_jobs();
     match Lots::open(plan.alloc, room, blanks, plan.site.workers, callers) {
-        Ok((lots, hands)) => Ok(Stock {
-            lots,
-            supplies: Supplies { rooms, hands },
-            apart,
-            jobs,
-        }),
+        Ok((lots, hands)) => {
+            let supplies = Supplies {
+                rooms,
+                instruments,
+                hands,
+            };
+            Ok((Stock { lots, supplies }, apart, jobs))
+        }
         Err(out_of_memory) => Err(out_of_memory),
     }
 }
 
 /// What the jobs of a router are made from: its listeners, what else each job gets, and its passes.
-struct JobInputs<J: Naming, L, A: Ledger, B: Ledger, E: Ledger, F: Ledger> {
+struct JobInputs<J: Naming, L, K, X, A: Ledger, B: Ledger, E: Ledger, F: Ledger> {
     bound: Bound<L>,
-    supplies: Supplies<A, B, E, F>,
+    supplies: Supplies<K, X, A, B, E, F>,
     passes: Vec<Pass<J>>,
 }
 
@@ -318,6 +345,8 @@ fn post_and_run<
     R: Threads + Wait + Sync,
     N: Net + Send,
     C: Clock + Drop + Send,
+    K: Recorder + Drop + Send,
+    X: Scrape + Drop + Send,
     A: Ledger + Send + Sync,
     B: Ledger + Send + Sync,
     E: Ledger + Send + Sync,
@@ -327,9 +356,9 @@ fn post_and_run<
     setup: &Setup<'a, <N::L as Listener>::P, J, A, B, E, F>,
     net: &mut N,
     clock: &C,
-    inputs: JobInputs<J, N::L, A, B, E, F>,
-    mut jobs: Jobs<'a, J, N, C, A, B, E, F>,
-    apart: &mut Apart<J, N::L, N::D, N::S, A, B, E, F>,
+    inputs: JobInputs<J, N::L, K, X, A, B, E, F>,
+    mut jobs: Jobs<'a, J, N, C, K, X, A, B, E, F>,
+    apart: &mut NetApart<J, N, K, A, B, E, F>,
 ) -> (bool, IntoIter<Pass<J>>)
 where
     <N::L as Listener>::P: Send,
@@ -351,9 +380,9 @@ where
     ensures kept { N.faults net.new ≡ N.faults net.old }
     ensures tended { result.0 ≡ true
         → any_broken N.L.state N.D.upstream N.S.calls apart.new.parts.items ≡ false
-        → HaveTended N.L.P.line N.L.state N.D.upstream N.S.calls setup.now.site.now
-        (C.of_fork clock.now) (N.state net.old).told inputs.passes.items
-        (into_iter_items result.1) apart.new }
+        → HaveTended N.L.P.line N.L.P.address K.Recorder.own N.L.state N.D.upstream N.S.calls
+        setup.now.site.now (C.of_fork clock.now) (N.state net.old).told inputs.passes.items
+        (into_iter_items result.1) inputs.supplies.instruments.recorders.items apart.new }
 {
     let JobInputs {
         bound,
@@ -362,18 +391,18 @@ where
     } = inputs;
     let mut passes = passes.into_iter();
     add_jobs(setup, net, clock, bound, supplies, &mut passes, &mut jobs);
-    let ran = run_apart::<J, R, N, C, A, B, E, F>(rt, jobs, apart);
+    let ran = run_apart::<J, R, N, C, K, X, A, B, E, F>(rt, jobs, apart);
     (ran, passes)
 }
 
 /// Closes the lots, ends who waited still, and gives the listeners back to the net: whether it
-/// failed to take one, and all passes, these last.
-fn close_all<J: Handling, N: Net, A: Ledger, B: Ledger, E: Ledger, F: Ledger>(
+/// failed to take one, all passes, these last, and the recorders.
+fn close_all<J: Handling, N: Net, K, A: Ledger, B: Ledger, E: Ledger, F: Ledger>(
     net: &mut N,
     lots: Lots<<N::L as Listener>::P, J, A, B, E, F>,
-    apart: Apart<J, N::L, N::D, N::S, A, B, E, F>,
+    apart: NetApart<J, N, K, A, B, E, F>,
     rest: IntoIter<Pass<J>>,
-) -> (Tally, Vec<Pass<J>>)
+) -> (Tally, Vec<Pass<J>>, Vec<K>)
     requires some { 0 < length apart.parts.items }
     requires clients { (A.parts ≤ length apart.client_hands.items)
         × (B.parts ≤ length apart.client_hands.items) }
@@ -387,10 +416,12 @@ fn close_all<J: Handling, N: Net, A: Ledger, B: Ledger, E: Ledger, F: Ledger>(
     ensures lacked { result.0.lacked_memory ≡ apart.lacked_memory }
     ensures faults { TellsFaults (N.faults net.old) (N.faults net.new) result.0.failed }
     ensures passes { result.1.items ≡ apart.passes.items ++ into_iter_items rest }
+    ensures recorders { result.2.items ≡ apart.recorders.items }
 {
     let Apart {
         parts,
         mut passes,
+        recorders,
         client_hands,
         caller_hands,
         lacked_memory,
@@ -406,7 +437,15 @@ fn close_all<J: Handling, N: Net, A: Ledger, B: Ledger, E: Ledger, F: Ledger>(
         failed,
         lacked_memory,
     };
-    (tally, passes)
+    (tally, passes, recorders)
+}
+
+/// What a router serves with, besides what does not change: its listeners, its passes, and what it
+/// records with.
+struct Resources<J: Naming, L, K, X> {
+    bound: Bound<L>,
+    passes: Vec<Pass<J>>,
+    instruments: Instruments<K, X>,
 }
 
 /// Runs a job for each listener, and takes all back.
@@ -419,40 +458,45 @@ fn run_jobs<
     R: Threads + Wait + Sync,
     N: Net + Send,
     C: Clock + Drop + Send,
+    K: Recorder + Drop + Send,
+    X: Scrape + Drop + Send,
 >(
     rt: &R,
     plan: &Plan<'_, J>,
     net: &mut N,
     clock: &C,
-    bound: Bound<N::L>,
-    passes: Vec<Pass<J>>,
+    resources: Resources<J, N::L, K, X>,
     blanks: Blanks,
-) -> Returned<J>
+) -> Returned<J, K>
 where
     <N::L as Listener>::P: Send,
     requires blanks { AreBlanksFor A.Ledger.own B.Ledger.own E.Ledger.own F.Ledger.own
         plan.now.site.now.workers (interface_jobs plan.now.site.now) blanks }
     requires handled { IsHandledBy J.rule J.tries plan.now.site.now.policy }
-    requires seats { length passes.items ≡ jobs_of plan.now.site.now + 1 }
-    requires free { AreFree passes.items }
-    requires listens { Listens N.L.state (N.state net.old).told plan.now.site.now bound }
-    ensures numbers { numbers_of result.passes.items ≡ numbers_of passes.items }
+    requires seats { length resources.passes.items ≡ jobs_of plan.now.site.now + 1 }
+    requires free { AreFree resources.passes.items }
+    requires listens { Listens N.L.state (N.state net.old).told plan.now.site.now
+        resources.bound }
+    requires equipped { AreInstrumentsFor plan.now.site.now resources.instruments }
+    ensures numbers { numbers_of result.passes.items ≡ numbers_of resources.passes.items }
     ensures faults { TellsFaults (N.faults net.old) (N.faults net.new) result.tally.failed }
     ensures served { result.ran ≡ true → result.tally.failed ≡ false
-        → HasRun N.L.P.line plan.now.site.now (C.of_fork clock.now)
-        passes.items result.passes.items (N.state net.old) (N.state net.new)
-        result.tally.lacked_memory }
+        → HasRun N.L.P.line N.L.P.address K.Recorder.own plan.now.site.now (C.of_fork clock.now)
+        resources.passes.items result.passes.items resources.instruments.recorders.items
+        result.recorders.items (N.state net.old) (N.state net.new) result.tally.lacked_memory }
 {
+    let Resources {
+        bound,
+        passes,
+        instruments,
+    } = resources;
     let count = passes.len();
-    let Ok(stock) = make_stock::<J, N, C, A, B, E, F>(plan, net, blanks, count) else {
-        return unrun(passes);
+    let Ok(made) = make_stock::<J, N, C, K, X, A, B, E, F>(plan, net, blanks, count, instruments)
+    else {
+        return unrun(plan.alloc, passes);
     };
-    let Stock {
-        lots,
-        supplies,
-        mut apart,
-        jobs,
-    } = stock;
+    let (stock, mut apart, jobs) = made;
+    let Stock { lots, supplies } = stock;
     let setup = Setup {
         alloc: plan.alloc,
         router: plan.router,
@@ -464,29 +508,42 @@ where
         supplies,
         passes,
     };
-    let (ran, rest) = post_and_run::<J, R, N, C, A, B, E, F>(
+    let (ran, rest) = post_and_run::<J, R, N, C, K, X, A, B, E, F>(
         rt, &setup, net, clock, inputs, jobs, &mut apart,
     );
-    let (tally, passes) = close_all(net, lots, apart, rest);
-    Returned { ran, tally, passes }
+    let (tally, passes, recorders) = close_all(net, lots, apart, rest);
+    Returned {
+        ran,
+        tally,
+        passes,
+        recorders,
+    }
 }
 
 impl<J: Handling + Send + Sync, L: Listener> Serving<J, L> {
     /// Serves until it is stopped, and ends the router: how many changes there were in all, those
-    /// that set the services among them, and whether a stay of a connection ran out of memory.
+    /// that set the services among them, whether a stay of a connection ran out of memory, and the
+    /// recorders, each told of what its worker served.
     ///
     /// A connection holds a worker while it is served. Between two of its requests it waits, and
-    /// any worker goes on with it. One that has waited for a minute is ended, and so is the one that
-    /// has waited longest where there is no room for another. Those that still wait when all workers
-    /// have ended are ended then, so that as many are finished as were accepted.
-    pub fn run<R: Threads + Wait + Sync, N: Net<L = L> + Send, C: Clock + Drop + Send>(
+    /// any worker goes on with it. One that has waited for a minute is ended, and so is the one
+    /// that has waited longest where there is no room for another. Those that still wait when all
+    /// workers have ended are ended then, so that as many are finished as were accepted.
+    pub fn run<
+        R: Threads + Wait + Sync,
+        N: Net<L = L> + Send,
+        C: Clock + Drop + Send,
+        K: Recorder + Drop + Send,
+        X: Scrape + Drop + Send,
+    >(
         self,
         rt: &R,
         alloc: Global,
         site: &Site,
         net: &mut N,
         clock: &C,
-    ) -> Result<Served, RunFault>
+        instruments: Instruments<K, X>,
+    ) -> Result<(Served, Vec<K>), RunFault>
     where
         L::P: Send,
         requires ready { IsReady self }
@@ -494,12 +551,14 @@ impl<J: Handling + Send + Sync, L: Listener> Serving<J, L> {
         requires seats { length (passes_of self) ≡ jobs_of site.now + 1 }
         requires parts { J.parts ≡ J.seats }
         requires handled { IsHandledBy J.rule J.tries site.now.policy }
+        requires equipped { AreInstrumentsFor site.now instruments }
         ensures broken { result ≡ Err RunFault.Net → Rose (N.faults net.old) (N.faults net.new) }
         ensures kept { (result ≡ Err RunFault.Net → ⊥) → N.faults net.new ≡ N.faults net.old }
         ensures served { IfOk result
-            (λ served. (loaded : List LoadedItem) → HaveSeen loaded (passes_of self)
-            → HasServed L.P.line site.now (C.of_fork clock.now) loaded
-            (passes_of self) (N.state net.old) (N.state net.new) served) }
+            (λ ran. (loaded : List LoadedItem) → HaveSeen loaded (passes_of self)
+            → HasServed L.P.line L.P.address K.Recorder.own site.now (C.of_fork clock.now) loaded
+            (passes_of self) instruments.recorders.items ran.1.items (N.state net.old)
+            (N.state net.new) ran.0) }
     {
         let Serving {
             router,
@@ -512,8 +571,18 @@ impl<J: Handling + Send + Sync, L: Listener> Serving<J, L> {
             site,
         };
         let blanks = Blanks::new(site.workers, site.interface_jobs());
-        let Returned { ran, tally, passes } = run_jobs::<J, Brand, Brand, Brand, Brand, R, N, C>(
-            rt, &plan, net, clock, bound, passes, blanks,
+        let resources = Resources {
+            bound,
+            passes,
+            instruments,
+        };
+        let Returned {
+            ran,
+            tally,
+            passes,
+            recorders,
+        } = run_jobs::<J, Brand, Brand, Brand, Brand, R, N, C, K, X>(
+            rt, &plan, net, clock, resources, blanks,
         );
         let place = close(rt, router, passes);
         if tally.failed {
@@ -522,10 +591,11 @@ impl<J: Handling + Send + Sync, L: Listener> Serving<J, L> {
         if !ran {
             return Err(RunFault::OutOfMemory);
         }
-        Ok(Served {
+        let served = Served {
             place,
             lacked_memory: tally.lacked_memory,
-        })
+        };
+        Ok((served, recorders))
     }
 }
 

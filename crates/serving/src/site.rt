@@ -43,7 +43,7 @@ pub struct Site {
 
 impl Site {
     /// How many jobs serve the interfaces: those of the two, and that of the feed.
-    pub(crate) fn interface_jobs(&self) -> u32
+    pub fn interface_jobs(&self) -> u32
         ensures { result ≡ interface_jobs self.now }
     {
         match self.feed {

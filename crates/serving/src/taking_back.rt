@@ -4,11 +4,12 @@ ghost use Rattle.serving.specs.Parts.{HasRoom, TakesApart};
 
 use crate::interface::ApiServer;
 use crate::job::{ApiJob, ProxyJob, ServingJob};
-use crate::parts::{Apart, Part};
+use crate::jobs::{Jobs, NetJob};
+use crate::parts::{NetApart, Part};
 use crate::proxy::ProxyServer;
 use admin_api::ApiWorker;
 use client_stays::Handling;
-use line_base::{Dialer, Listener, Stop};
+use line_base::Net;
 use proxy_session::Parts;
 use std::sync::ledger::Ledger;
 use workers::Accepting;
@@ -16,17 +17,18 @@ use workers::Accepting;
 /// Takes a job apart.
 fn take_apart<
     J: Handling,
-    L: Listener + Drop,
-    D: Dialer + Drop,
+    N: Net,
     C: Drop,
-    S: Stop + Drop,
+    K: Drop,
+    X: Drop,
     A: Ledger,
     B: Ledger,
     E: Ledger,
     F: Ledger,
->(job: ServingJob<'_, L::P, J, L, D, C, S, A, B, E, F>, apart: &mut Apart<J, L, D, S, A, B, E, F>)
+>(job: NetJob<'_, J, N, C, K, X, A, B, E, F>, apart: &mut NetApart<J, N, K, A, B, E, F>)
     requires room { HasRoom apart.old 1 }
-    ensures apart { TakesApart L.state D.upstream S.calls (job.entry ∷ []) apart.old apart.new }
+    ensures apart { TakesApart N.L.state N.D.upstream N.S.calls (job.entry ∷ []) apart.old
+        apart.new }
     ensures room { (n : ℕ) → HasRoom apart.old (suc n) → HasRoom apart.new n }
 {
     match job {
@@ -45,6 +47,7 @@ fn take_apart<
                 policy: _,
                 server,
                 lacked_memory,
+                recorder,
             } = server;
             let Parts {
                 pass,
@@ -58,6 +61,7 @@ fn take_apart<
                 stop,
             });
             apart.passes.push_reserved(pass);
+            apart.recorders.push_reserved(recorder);
             apart.client_hands.push_reserved(hand);
             apart.lacked_memory = apart.lacked_memory || lacked_memory;
         }
@@ -75,7 +79,11 @@ fn take_apart<
                 worker,
                 lacked_memory,
             } = server;
-            let ApiWorker { pass, stop } = worker;
+            let ApiWorker {
+                pass,
+                stop,
+                scraper: _,
+            } = worker;
             apart.parts.push_reserved(Part {
                 listener,
                 dialer: None,
@@ -91,51 +99,49 @@ fn take_apart<
 /// Takes all jobs apart that ran.
 pub(crate) fn take_all_apart<
     J: Handling,
-    L: Listener + Drop,
-    D: Dialer + Drop,
+    N: Net,
     C: Drop,
-    S: Stop + Drop,
+    K: Drop,
+    X: Drop,
     A: Ledger,
     B: Ledger,
     E: Ledger,
     F: Ledger,
 >(
-    back: Vec<(ServingJob<'_, L::P, J, L, D, C, S, A, B, E, F>, Accepting)>,
-    apart: &mut Apart<J, L, D, S, A, B, E, F>,
+    back: Vec<(NetJob<'_, J, N, C, K, X, A, B, E, F>, Accepting)>,
+    apart: &mut NetApart<J, N, K, A, B, E, F>,
 )
     requires room { HasRoom apart.old (length back.items) }
     ensures room { (n : ℕ) → HasRoom apart.old (length back.entry.items + n)
         → HasRoom apart.new n }
-    ensures apart { TakesApart L.state D.upstream S.calls (map (λ b. b.0) back.entry.items)
+    ensures apart { TakesApart N.L.state N.D.upstream N.S.calls (map (λ b. b.0) back.entry.items)
         apart.old apart.new }
 {
     for ended in back {
         let (job, _accepting) = ended;
-        take_apart(job, apart);
+        take_apart::<J, N, C, K, X, A, B, E, F>(job, apart);
     }
 }
 
 /// Takes all jobs apart, none of which ran.
 pub(crate) fn take_unrun_apart<
     J: Handling,
-    L: Listener + Drop,
-    D: Dialer + Drop,
+    N: Net,
     C: Drop,
-    S: Stop + Drop,
+    K: Drop,
+    X: Drop,
     A: Ledger,
     B: Ledger,
     E: Ledger,
     F: Ledger,
->(
-    jobs: Vec<ServingJob<'_, L::P, J, L, D, C, S, A, B, E, F>>,
-    apart: &mut Apart<J, L, D, S, A, B, E, F>,
-)
+>(jobs: Jobs<'_, J, N, C, K, X, A, B, E, F>, apart: &mut NetApart<J, N, K, A, B, E, F>)
     requires room { HasRoom apart.old (length jobs.items) }
     ensures room { (n : ℕ) → HasRoom apart.old (length jobs.entry.items + n)
         → HasRoom apart.new n }
-    ensures apart { TakesApart L.state D.upstream S.calls jobs.entry.items apart.old apart.new }
+    ensures apart { TakesApart N.L.state N.D.upstream N.S.calls jobs.entry.items apart.old
+        apart.new }
 {
     for job in jobs {
-        take_apart(job, apart);
+        take_apart::<J, N, C, K, X, A, B, E, F>(job, apart);
     }
 }

@@ -3,8 +3,9 @@ use Rattle.std.specs.Io.KnownBytes.{Consumes, Keeps}
 use Rattle.std.proofs.KnownBytes.{Consumes-nil, Keeps-refl}
 use Rattle.line_base.specs.Lines.{Line}
 use Rattle.admin_api.specs.declared.request.Request.{Request}
-use Rattle.admin_api.proofs.Requesting.{bad_test, body_causes, head_causes, no_body, no_head}
-use Rattle.admin_api.proofs.Requesting.{test_causes, whole_causes, whole_request}
+use Rattle.admin_api.proofs.Requesting.{bad_test, body_causes, body_left, head_causes, head_left}
+use Rattle.admin_api.proofs.Requesting.{no_body, no_head, test_causes, test_left, whole_causes}
+use Rattle.admin_api.proofs.Requesting.{whole_request}
 use Rattle.admin_api.proofs.request.read_request.Goals as goal
 
 pub returns-in-Ended-clause-bytes : goal.returns-in-Ended-clause-bytes
@@ -72,6 +73,31 @@ returns-in-Err-read_body-clause-causes g c =
     c.in-Ok.framing first.ends first.faults Request c.in-Err-read_body.end c.has_body.result
     c.in-Err-read_body.ensures.ends c.in-Err-read_body.ensures.reads c.of_body.result
     c.of_body.ensures
+
+pub returns-in-Ended-clause-none_left : goal.returns-in-Ended-clause-none_left
+returns-in-Ended-clause-none_left g c =
+    head_left Request (g.P.Peer.line c.read_next_head.new.peer).left c.in-Ended.end
+    c.of_head.result c.of_head.ensures c.in-Ended.ensures.head.end
+
+pub returns-in-Err-clause-none_left : goal.returns-in-Err-clause-none_left
+returns-in-Err-clause-none_left g c =
+    test_left Request (g.P.Peer.line c.read_next_head.new.peer).left c.in-Head.head
+    c.in-Err.refused c.in-Err.ensures
+
+pub returns-in-Ok-read_body-clause-none_left : goal.returns-in-Ok-read_body-clause-none_left
+returns-in-Ok-read_body-clause-none_left g c = λ at. absurd (cc)
+
+pub returns-in-Err-read_body-clause-none_left : goal.returns-in-Err-read_body-clause-none_left
+returns-in-Err-read_body-clause-none_left g c =
+    body_left Request (g.P.Peer.line c.read_body.new.peer).left c.in-Ok.framing
+    c.in-Err-read_body.end c.has_body.result c.of_body.result c.of_body.ensures
+    c.in-Err-read_body.ensures.none_left
+
+pub returns-in-Closing-clause-none_left : goal.returns-in-Closing-clause-none_left
+returns-in-Closing-clause-none_left g c = λ at. absurd (cc)
+
+pub returns-in-Quiet-clause-none_left : goal.returns-in-Quiet-clause-none_left
+returns-in-Quiet-clause-none_left g c = λ at. absurd (cc)
 
 pub returns-in-Closing-clause-bytes : goal.returns-in-Closing-clause-bytes
 returns-in-Closing-clause-bytes g c =

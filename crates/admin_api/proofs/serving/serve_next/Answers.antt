@@ -6,10 +6,12 @@ use Rattle.http_wire.specs.declared.ended.Ended.{Ended}
 use Rattle.admin_api.specs.declared.request.Request.{Request}
 use Rattle.http_wire.specs.declared.paused.Paused.{Paused}
 use Rattle.http_wire.specs.Paused.{quiets_behind}
-use Rattle.admin_api.specs.Reading.{is_drained, raised_where}
+use Rattle.admin_api.specs.Reading.{LeavesNone, is_drained, raised_where}
 use Rattle.admin_api.specs.Serving.{HasCauses, Turns, ended_in}
-use Rattle.admin_api.proofs.Turning.{ended_causes, ended_same, ends_told, given_behind}
-use Rattle.admin_api.proofs.Turning.{gives_none, is_taken, refused_causes}
+use Rattle.admin_api.specs.Stays.{sources_by}
+use Rattle.admin_api.proofs.Turning.{ended_causes, ended_left, ended_same, ends_told, given_behind}
+use Rattle.admin_api.proofs.Turning.{gives_none, is_taken, refused_causes, refused_left}
+use Rattle.admin_api.proofs.Turning.{replied_left}
 use Rattle.admin_api.proofs.Turning.{ends_waits, own_waits, request_quiets, wait_waits}
 use Rattle.admin_api.proofs.Turning.{own_told, quiet_turn, quiet_wait, refusal_open, refused_turn}
 use Rattle.admin_api.proofs.Turning.{replied_causes, turned, wait_causes, wait_told, was_asked}
@@ -29,6 +31,8 @@ returns-in-Ok-clause-turn g c =
     let read = g.P.Peer.line c.read_request.new.peer in
     let told = g.P.Peer.line c.hears_closing-closing.new.peer in
     let new = g.P.Peer.line c.reply_to-ended.new.peer in
+    let before = sources_by g.X.Scrape.told c.args.worker.now in
+    let behind = sources_by g.X.Scrape.told c.reply_to-ended.new.worker in
     let w = was_asked closing read told c.hears_closing-closing.ensures.told in (
       r.0,
       a.0,
@@ -44,13 +48,11 @@ returns-in-Ok-clause-turn g c =
       c.reply_to-ended.ensures.others.closings
           ∙ (w.closings ∙ ap (raised_where closing) c.in-Ok.ensures.closings),
       subst
-          (λ (p : Option Paused). Turns c.args.which c.args.spent closing c.args.worker.now.pass
-          c.reply_to-ended.new.worker.pass (c.args.rest.now ++ r.0) c.read_request.new.rest a.0 a.1
-          p)
+          (λ (p : Option Paused). Turns c.args.which c.args.spent closing before behind
+          (c.args.rest.now ++ r.0) c.read_request.new.rest a.0 a.1 p)
           (sym c.paused_by.ensures)
           (turned c.while_closing-found.result c.is_last-last.result c.in-Ok.request.head
-          c.in-Ok.request.body.items c.args.worker.now.pass c.reply_to-ended.new.worker.pass a.0
-          c.args.which (c.args.rest.now ++ r.0) c.read_request.new.rest c.args.spent closing a.1
+          c.in-Ok.request.body.items before behind a.0 c.args.which (c.args.rest.now ++ r.0) c.read_request.new.rest c.args.spent closing a.1
           c.reply_to-ended.result c.drained.result c.while_closing-found.ensures
           c.is_last-last.ensures c.hears_closing-closing.ensures.asked r.2 a.4 c.drained.ensures),
     )
@@ -86,9 +88,34 @@ returns-in-Ok-clause-causes g c =
     old.write_faults told.write_faults new.write_faults (o.ends ∙ w.ends)
     (o.read_faults ∙ w.reads) (w.writes ∙ c.in-Ok.ensures.writes) c.in-Ok.ensures.causes
     c.while_closing-found.result c.is_last-last.result c.in-Ok.request.head
-    c.in-Ok.request.body.items c.args.worker.now.pass c.reply_to-ended.new.worker.pass a.0 a.1
+    c.in-Ok.request.body.items (sources_by g.X.Scrape.told c.args.worker.now)
+    (sources_by g.X.Scrape.told c.reply_to-ended.new.worker) a.0 a.1
     c.drained.result closing c.reply_to-ended.result c.drained.ensures a.4
     c.reply_to-ended.ensures.writes)
+
+pub returns-in-Ok-clause-none_left : goal.returns-in-Ok-clause-none_left
+returns-in-Ok-clause-none_left g c =
+    let a = c.reply_to-ended.ensures.answers in
+    let new = g.P.Peer.line c.reply_to-ended.new.peer in
+    subst (LeavesNone new.left)
+    (sym (ap ended_in c.paused_by.ensures ∙ ended_same c.drained.result))
+    (replied_left new.left c.while_closing-found.result c.is_last-last.result c.in-Ok.request.head
+    c.in-Ok.request.body.items (sources_by g.X.Scrape.told c.args.worker.now)
+    (sources_by g.X.Scrape.told c.reply_to-ended.new.worker) a.0 a.1
+    c.drained.result c.hears_closing-closing.result c.reply_to-ended.result c.drained.ensures a.4)
+
+pub returns-in-Err-Own-clause-none_left : goal.returns-in-Err-Own-clause-none_left
+returns-in-Err-Own-clause-none_left g c =
+    let r = c.refuse.ensures.bytes in
+    refused_left (g.P.Peer.line c.refuse.new.peer).left _ _ r.0 c.refuse.result r.2
+
+pub returns-in-Err-Ends-clause-none_left : goal.returns-in-Err-Ends-clause-none_left
+returns-in-Err-Ends-clause-none_left g c =
+    ended_left Request (g.P.Peer.line c.read_request.new.peer).left c.in-Err-Ends.field-0 _ _
+    c.in-Err-Ends.field-0-is c.in-Err-Ends.ensures.none_left (sym c.in-Err-Ends.ended-is)
+
+pub returns-in-Err-Waits-clause-none_left : goal.returns-in-Err-Waits-clause-none_left
+returns-in-Err-Waits-clause-none_left g c = λ at. absurd (cc)
 
 pub returns-in-Err-Own-clause-turn : goal.returns-in-Err-Own-clause-turn
 returns-in-Err-Own-clause-turn g c =
@@ -197,8 +224,8 @@ returns-in-Err-Waits-clause-turn g c =
       refl,
       wait_told Request old.closings read.closings c.in-Err-Waits.field-0
           c.in-Err-Waits.ensures.closings c.in-Err-Waits.field-0-is,
-      quiet_wait (c.args.rest.now ++ b.0) c.in-Err-Waits.field-0 c.args.worker.now.pass
-          c.in-Err-Waits.field-0-is b.2,
+      quiet_wait (c.args.rest.now ++ b.0) c.in-Err-Waits.field-0
+          (sources_by g.X.Scrape.told c.args.worker.now) c.in-Err-Waits.field-0-is b.2,
     )
 
 pub returns-in-Err-Waits-clause-causes : goal.returns-in-Err-Waits-clause-causes

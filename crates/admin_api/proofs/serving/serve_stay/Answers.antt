@@ -5,6 +5,7 @@ use Rattle.router.specs.Passes.{number_in}
 use Rattle.http_wire.specs.Paused.{quiets_behind}
 use Rattle.admin_api.specs.Reading.{raised_where}
 use Rattle.admin_api.specs.Serving.{Serves, begun, calls_after, ended_in}
+use Rattle.admin_api.specs.Stays.{sources_by}
 use Rattle.admin_api.proofs.Turning.{all_causes, few_served, serves_all, serves_more, want_causes}
 use Rattle.admin_api.proofs.serving.serve_stay.Goals as goal
 
@@ -20,8 +21,9 @@ requests-init g c = record {
     Appends-nil (g.P.Peer.line c.args.peer.now).given,
     λ more.
         subst
-        (λ (rest : List ℕ). Serves c.args.which c.args.served c.args.worker.now.pass more
-        c.args.served c.args.worker.now.pass (rest ++ more) [])
+        (λ (rest : List ℕ). Serves c.args.which c.args.served
+        (sources_by g.X.Scrape.told c.args.worker.now) more c.args.served
+        (sources_by g.X.Scrape.told c.args.worker.now) (rest ++ more) [])
         (sym c.in-Ok.ensures) begun,
   );
   ends = refl;
@@ -40,11 +42,13 @@ requests-preserved g c =
     let old = g.P.Peer.line c.args.peer.now in
     let mid = g.P.Peer.line c.requests.peer in
     let new = g.P.Peer.line c.serve_next.new.peer in
+    let first = sources_by g.X.Scrape.told c.args.worker.now in
+    let before = sources_by g.X.Scrape.told c.requests.worker in
+    let behind = sources_by g.X.Scrape.told c.serve_next.new.worker in
     record {
       few =
-          few_served c.args.which c.args.served c.args.worker.now.pass c.requests.count
-          c.requests.worker.pass c.serve_next.new.worker.pass s.0 s.1 t.0 t.1 c.requests.rest
-          c.serve_next.new.rest s.4 i.few t.2 t.3 t.8;
+          few_served c.args.which c.args.served first c.requests.count before behind s.0 s.1 t.0
+          t.1 c.requests.rest c.serve_next.new.rest s.4 i.few t.2 t.3 t.8;
       number = c.in-None.ensures.number ∙ i.number;
       calls = t.6 ∙ ap (calls_after (g.S.Stop.calls c.requests.worker.stop)) t.8.0 ∙ i.calls;
       serves = (
@@ -52,9 +56,8 @@ requests-preserved g c =
         s.1 ++ t.1,
         Consumes-trans old.left mid.left new.left s.0 t.0 s.2 t.4,
         Appends-trans old.given mid.given new.given s.1 t.1 s.3 t.5,
-        serves_more c.args.which c.args.served c.args.worker.now.pass c.requests.count
-            c.requests.worker.pass c.serve_next.new.worker.pass s.0 s.1 t.0 t.1 c.requests.rest
-            c.serve_next.new.rest s.4 t.2 t.3 t.8,
+        serves_more c.args.which c.args.served first c.requests.count before behind s.0 s.1 t.0
+            t.1 c.requests.rest c.serve_next.new.rest s.4 t.2 t.3 t.8,
       );
       ends = now.reading.ends ∙ i.ends;
       reads = now.reading.faults ∙ i.reads;
@@ -85,13 +88,15 @@ returns-in-Some-clause-stay g c =
           c.in-Some.ensures.quiets
           ∙ ap (λ (n : ℕ). quiets_behind (Some c.in-Some.paused) n) i.quiets;
       serves =
-          serves_all c.args.which c.args.served c.args.worker.now.pass c.requests.count
-          c.requests.worker.pass c.serve_next.new.worker.pass s.0 s.1 t.0 t.1 c.requests.rest
+          serves_all c.args.which c.args.served (sources_by g.X.Scrape.told c.args.worker.now)
+          c.requests.count (sources_by g.X.Scrape.told c.requests.worker)
+          (sources_by g.X.Scrape.told c.serve_next.new.worker) s.0 s.1 t.0 t.1 c.requests.rest
           c.serve_next.new.rest s.4 t.2 t.3 c.in-Some.paused t.8;
       causes =
           all_causes old.ends mid.ends new.ends old.read_faults mid.read_faults new.read_faults
           old.write_faults mid.write_faults new.write_faults (ended_in (Some c.in-Some.paused))
           i.ends i.reads i.writes c.in-Some.ensures.causes;
+      none_left = c.in-Some.ensures.none_left;
       number = c.in-Some.ensures.number ∙ i.number;
     }
 
@@ -109,14 +114,16 @@ returns-in_default-clause-stay g c =
       closings = refl {a = old.closings};
       quiets = refl {a = old.quiets};
       serves = record {
-        mid = c.args.worker.now.pass;
+        mid = sources_by g.X.Scrape.told c.args.worker.now;
         rest = [];
         first = [];
         final = [];
         serves = begun;
-        pauses = inr (refl {a = c.args.worker.now.pass}, refl, refl, refl);
+        pauses =
+            inr (refl {a = sources_by g.X.Scrape.told c.args.worker.now}, refl, refl, refl);
         all = refl;
       };
       causes = want_causes old.ends old.read_faults old.write_faults;
+      none_left = λ at. absurd (cc);
       number = refl {a = number_in c.args.worker.now.pass};
     }

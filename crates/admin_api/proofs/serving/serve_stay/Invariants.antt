@@ -2,6 +2,7 @@ use Rattle.std.proofs.Common.{◌≡◌, ◌<◌, ℕ, List, ◌++◌}
 use Rattle.std.specs.Io.KnownBytes.{Appends, Consumes}
 use Rattle.router.specs.Passes.{number_in}
 use Rattle.admin_api.specs.Serving.{Serves}
+use Rattle.admin_api.specs.Stays.{sources_by}
 use Rattle.admin_api.proofs.serving.serve_stay.Given as goal
 
 abbrev pub invariant-requests : goal.invariant-requests
@@ -12,8 +13,9 @@ invariant-requests g l = record {
   serves : (came : List ℕ) × (gave : List ℕ)
       × Consumes (g.P.Peer.line l.fn.peer).left (g.P.Peer.line l.peer).left came
       × Appends (g.P.Peer.line l.fn.peer).given (g.P.Peer.line l.peer).given gave
-      × ((more : List ℕ) → Serves l.fn.which l.fn.served l.fn.worker.pass (came ++ more) l.count
-      l.worker.pass (l.rest ++ more) gave);
+      × ((more : List ℕ) → Serves l.fn.which l.fn.served
+      (sources_by g.X.Scrape.told l.fn.worker) (came ++ more) l.count
+      (sources_by g.X.Scrape.told l.worker) (l.rest ++ more) gave);
   ends : (g.P.Peer.line l.peer).ends ≡ (g.P.Peer.line l.fn.peer).ends;
   reads : (g.P.Peer.line l.peer).read_faults ≡ (g.P.Peer.line l.fn.peer).read_faults;
   writes : (g.P.Peer.line l.peer).write_faults ≡ (g.P.Peer.line l.fn.peer).write_faults;

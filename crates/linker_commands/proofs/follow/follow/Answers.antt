@@ -25,7 +25,8 @@ returns-in-Done-clause-followed g c =
     (upstream c.dialer-dialer.result) f.0 (upstream c.follow_all.new.dialer)) named f.2 in
     all_told (g.N.Net.state c.args.net.now).told c.args.following.leader
     c.args.following.space.now c.args.following.polls (upstream c.dialer-dialer.result)
-    (upstream c.follow_all.new.dialer) (c.dialer-dialer.ensures.log, c.dialer-dialer.ensures.closed) f.0 made old
+    (upstream c.follow_all.new.dialer)
+    (c.dialer-dialer.ensures.log, c.dialer-dialer.ensures.closed) f.0 made old
     new f.1 f.3 f.4 e.faults
 
 pub returns-in-WriteFault-clause-followed : goal.returns-in-WriteFault-clause-followed
@@ -40,7 +41,8 @@ returns-in-WriteFault-clause-followed g c =
     (upstream c.dialer-dialer.result) f.0 (upstream c.follow_all.new.dialer)) named f.2 in
     cut_told (g.N.Net.state c.args.net.now).told c.args.following.leader
     c.args.following.space.now c.args.following.polls (upstream c.dialer-dialer.result)
-    (upstream c.follow_all.new.dialer) (c.dialer-dialer.ensures.log, c.dialer-dialer.ensures.closed) f.0 made old
+    (upstream c.follow_all.new.dialer)
+    (c.dialer-dialer.ensures.log, c.dialer-dialer.ensures.closed) f.0 made old
     new f.1 f.3 f.4 e.faults
 
 pub returns-clause-followed : goal.returns-clause-followed
@@ -56,5 +58,6 @@ returns-clause-followed g c =
     (upstream c.dialer-dialer.result) f.0 (upstream c.follow_all.new.dialer)) named f.2 in
     short_told (g.N.Net.state c.args.net.now).told c.args.following.leader
     c.args.following.space.now c.args.following.polls (upstream c.dialer-dialer.result)
-    (upstream c.follow_all.new.dialer) (c.dialer-dialer.ensures.log, c.dialer-dialer.ensures.closed) f.0 made old
+    (upstream c.follow_all.new.dialer)
+    (c.dialer-dialer.ensures.log, c.dialer-dialer.ensures.closed) f.0 made old
     mid new c.tell-in-OutOfMemory.result f.1 f.3 f.4 e.faults c.tell-in-OutOfMemory.ensures

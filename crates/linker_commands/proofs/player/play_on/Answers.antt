@@ -2,7 +2,7 @@ use Rattle.std.proofs.Common.{◌≡◌, arith, ◌∙◌, ◌++◌, [], ◌∷�
 use Rattle.std.specs.Prelude.{slice_range}
 use Rattle.std.proofs.lemmas.List.{drop_all}
 use Rattle.std.proofs.KnownBytes.{Appends-trans}
-use Rattle.addr_book.specs.FileLine.{lines_of}
+use Rattle.text_parts.specs.Lines.{lines_of}
 use Rattle.machine.specs.Code.{state_of}
 use Rattle.linker_commands.specs.Replay.{replay_of}
 use Rattle.linker_commands.specs.declared.player.PlayEnd.TheVariants.{Done}

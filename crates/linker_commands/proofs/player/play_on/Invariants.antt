@@ -1,6 +1,6 @@
 use Rattle.std.proofs.Common.{◌≡◌, ℕ, ◌+◌, ◌-◌, ◌≤◌, List, ◌++◌, length, drop}
 use Rattle.std.specs.Io.KnownBytes.{Appends}
-use Rattle.addr_book.specs.FileLine.{lines_of}
+use Rattle.text_parts.specs.Lines.{lines_of}
 use Rattle.machine.specs.Code.{state_of}
 use Rattle.linker_commands.proofs.Plays.{PlaysSo}
 use Rattle.linker_commands.proofs.player.play_on.Given as goal

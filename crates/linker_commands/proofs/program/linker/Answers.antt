@@ -1,9 +1,12 @@
 use Rattle.std.proofs.Common.{map, sym, subst, true, false}
 use Rattle.std.specs.Prelude.{string_bytes}
+use Rattle.std.specs.Prelude.{Option}
 use Rattle.line_base.specs.Lines.{Line}
+use Rattle.line_base.specs.declared.socket_address.SocketAddress.{SocketAddress}
 use Rattle.line_base.specs.Files.{Filed}
 use Rattle.line_base.specs.Streams.{Input, Output}
-use Rattle.linker_commands.specs.Run.{Linked, Ran}
+use Rattle.linker_commands.specs.Linked.{Linked, linked}
+use Rattle.linker_commands.specs.Run.{Ran}
 use Rattle.linker_commands.proofs.Causes.{back_cause, long_cause, known_status, net_cause}
 use Rattle.linker_commands.proofs.Causes.{refused_cause, shown_cause, read_cause, folder_cause}
 use Rattle.linker_commands.proofs.Causes.{write_cause, net_fault_cause, words_due, read_due, long_due}
@@ -16,13 +19,18 @@ returns-clause-longer g c =
     let old_files : Filed = g.F.Folder.filed c.args.folder.now in
     let new_files : Filed = g.F.Folder.filed c.run.new.folder in
     let old_net : Linked g.row.N-L-P.Denot =
-    record { state = g.N.Net.state c.args.net.now; faults = g.N.Net.faults c.args.net.now } in
+    linked (g.N.Net.state c.args.net.now) (g.N.Net.faults c.args.net.now)
+    (g.O.Journals.closed c.args.journals.now) in
     let new_net : Linked g.row.N-L-P.Denot =
-    record { state = g.N.Net.state c.run.new.net; faults = g.N.Net.faults c.run.new.net } in
+    linked (g.N.Net.state c.run.new.net) (g.N.Net.faults c.run.new.net)
+    (g.O.Journals.closed c.run.new.journals) in
     let line_of = λ (p : g.row.N-L-P.Denot). let l : Line = g.N.L.P.Peer.line p in l in
+    let address_of =
+    λ (p : g.row.N-L-P.Denot). let a : Option SocketAddress = g.N.L.P.Peer.address p in a in
     let old_out : Output = g.K.Sink.output c.args.out.now in
     let new_out : Output = g.K.Sink.output c.run.new.out in
-    long_cause line_of (g.C.Clock.of_fork c.args.clock.now) (map string_bytes c.args.words.now)
+    long_cause line_of address_of (g.C.Clock.of_fork c.args.clock.now)
+    (map string_bytes c.args.words.now)
     old_in new_in old_files new_files old_net new_net old_out new_out c.code.result
     (rw (← c.code.ensures) at c.run.ensures)
 
@@ -33,13 +41,18 @@ returns-clause-status g c =
     let old_files : Filed = g.F.Folder.filed c.args.folder.now in
     let new_files : Filed = g.F.Folder.filed c.run.new.folder in
     let old_net : Linked g.row.N-L-P.Denot =
-    record { state = g.N.Net.state c.args.net.now; faults = g.N.Net.faults c.args.net.now } in
+    linked (g.N.Net.state c.args.net.now) (g.N.Net.faults c.args.net.now)
+    (g.O.Journals.closed c.args.journals.now) in
     let new_net : Linked g.row.N-L-P.Denot =
-    record { state = g.N.Net.state c.run.new.net; faults = g.N.Net.faults c.run.new.net } in
+    linked (g.N.Net.state c.run.new.net) (g.N.Net.faults c.run.new.net)
+    (g.O.Journals.closed c.run.new.journals) in
     let line_of = λ (p : g.row.N-L-P.Denot). let l : Line = g.N.L.P.Peer.line p in l in
+    let address_of =
+    λ (p : g.row.N-L-P.Denot). let a : Option SocketAddress = g.N.L.P.Peer.address p in a in
     let old_out : Output = g.K.Sink.output c.args.out.now in
     let new_out : Output = g.K.Sink.output c.run.new.out in
-    known_status line_of (g.C.Clock.of_fork c.args.clock.now) (map string_bytes c.args.words.now)
+    known_status line_of address_of (g.C.Clock.of_fork c.args.clock.now)
+    (map string_bytes c.args.words.now)
     old_in new_in old_files new_files old_net new_net old_out new_out c.code.result
     (rw (← c.code.ensures) at c.run.ensures)
 
@@ -50,13 +63,18 @@ returns-clause-read_fault g c =
     let old_files : Filed = g.F.Folder.filed c.args.folder.now in
     let new_files : Filed = g.F.Folder.filed c.run.new.folder in
     let old_net : Linked g.row.N-L-P.Denot =
-    record { state = g.N.Net.state c.args.net.now; faults = g.N.Net.faults c.args.net.now } in
+    linked (g.N.Net.state c.args.net.now) (g.N.Net.faults c.args.net.now)
+    (g.O.Journals.closed c.args.journals.now) in
     let new_net : Linked g.row.N-L-P.Denot =
-    record { state = g.N.Net.state c.run.new.net; faults = g.N.Net.faults c.run.new.net } in
+    linked (g.N.Net.state c.run.new.net) (g.N.Net.faults c.run.new.net)
+    (g.O.Journals.closed c.run.new.journals) in
     let line_of = λ (p : g.row.N-L-P.Denot). let l : Line = g.N.L.P.Peer.line p in l in
+    let address_of =
+    λ (p : g.row.N-L-P.Denot). let a : Option SocketAddress = g.N.L.P.Peer.address p in a in
     let old_out : Output = g.K.Sink.output c.args.out.now in
     let new_out : Output = g.K.Sink.output c.run.new.out in
-    read_cause line_of (g.C.Clock.of_fork c.args.clock.now) (map string_bytes c.args.words.now)
+    read_cause line_of address_of (g.C.Clock.of_fork c.args.clock.now)
+    (map string_bytes c.args.words.now)
     old_in new_in old_files new_files old_net new_net old_out new_out c.code.result
     (rw (← c.code.ensures) at c.run.ensures)
 
@@ -67,13 +85,18 @@ returns-clause-folder_fault g c =
     let old_files : Filed = g.F.Folder.filed c.args.folder.now in
     let new_files : Filed = g.F.Folder.filed c.run.new.folder in
     let old_net : Linked g.row.N-L-P.Denot =
-    record { state = g.N.Net.state c.args.net.now; faults = g.N.Net.faults c.args.net.now } in
+    linked (g.N.Net.state c.args.net.now) (g.N.Net.faults c.args.net.now)
+    (g.O.Journals.closed c.args.journals.now) in
     let new_net : Linked g.row.N-L-P.Denot =
-    record { state = g.N.Net.state c.run.new.net; faults = g.N.Net.faults c.run.new.net } in
+    linked (g.N.Net.state c.run.new.net) (g.N.Net.faults c.run.new.net)
+    (g.O.Journals.closed c.run.new.journals) in
     let line_of = λ (p : g.row.N-L-P.Denot). let l : Line = g.N.L.P.Peer.line p in l in
+    let address_of =
+    λ (p : g.row.N-L-P.Denot). let a : Option SocketAddress = g.N.L.P.Peer.address p in a in
     let old_out : Output = g.K.Sink.output c.args.out.now in
     let new_out : Output = g.K.Sink.output c.run.new.out in
-    folder_cause line_of (g.C.Clock.of_fork c.args.clock.now) (map string_bytes c.args.words.now)
+    folder_cause line_of address_of (g.C.Clock.of_fork c.args.clock.now)
+    (map string_bytes c.args.words.now)
     old_in new_in old_files new_files old_net new_net old_out new_out c.code.result
     (rw (← c.code.ensures) at c.run.ensures)
 
@@ -84,13 +107,18 @@ returns-clause-write_fault g c =
     let old_files : Filed = g.F.Folder.filed c.args.folder.now in
     let new_files : Filed = g.F.Folder.filed c.run.new.folder in
     let old_net : Linked g.row.N-L-P.Denot =
-    record { state = g.N.Net.state c.args.net.now; faults = g.N.Net.faults c.args.net.now } in
+    linked (g.N.Net.state c.args.net.now) (g.N.Net.faults c.args.net.now)
+    (g.O.Journals.closed c.args.journals.now) in
     let new_net : Linked g.row.N-L-P.Denot =
-    record { state = g.N.Net.state c.run.new.net; faults = g.N.Net.faults c.run.new.net } in
+    linked (g.N.Net.state c.run.new.net) (g.N.Net.faults c.run.new.net)
+    (g.O.Journals.closed c.run.new.journals) in
     let line_of = λ (p : g.row.N-L-P.Denot). let l : Line = g.N.L.P.Peer.line p in l in
+    let address_of =
+    λ (p : g.row.N-L-P.Denot). let a : Option SocketAddress = g.N.L.P.Peer.address p in a in
     let old_out : Output = g.K.Sink.output c.args.out.now in
     let new_out : Output = g.K.Sink.output c.run.new.out in
-    write_cause line_of (g.C.Clock.of_fork c.args.clock.now) (map string_bytes c.args.words.now)
+    write_cause line_of address_of (g.C.Clock.of_fork c.args.clock.now)
+    (map string_bytes c.args.words.now)
     old_in new_in old_files new_files old_net new_net old_out new_out c.code.result
     (rw (← c.code.ensures) at c.run.ensures)
 
@@ -101,13 +129,18 @@ returns-clause-net_fault g c =
     let old_files : Filed = g.F.Folder.filed c.args.folder.now in
     let new_files : Filed = g.F.Folder.filed c.run.new.folder in
     let old_net : Linked g.row.N-L-P.Denot =
-    record { state = g.N.Net.state c.args.net.now; faults = g.N.Net.faults c.args.net.now } in
+    linked (g.N.Net.state c.args.net.now) (g.N.Net.faults c.args.net.now)
+    (g.O.Journals.closed c.args.journals.now) in
     let new_net : Linked g.row.N-L-P.Denot =
-    record { state = g.N.Net.state c.run.new.net; faults = g.N.Net.faults c.run.new.net } in
+    linked (g.N.Net.state c.run.new.net) (g.N.Net.faults c.run.new.net)
+    (g.O.Journals.closed c.run.new.journals) in
     let line_of = λ (p : g.row.N-L-P.Denot). let l : Line = g.N.L.P.Peer.line p in l in
+    let address_of =
+    λ (p : g.row.N-L-P.Denot). let a : Option SocketAddress = g.N.L.P.Peer.address p in a in
     let old_out : Output = g.K.Sink.output c.args.out.now in
     let new_out : Output = g.K.Sink.output c.run.new.out in
-    net_fault_cause line_of (g.C.Clock.of_fork c.args.clock.now) (map string_bytes c.args.words.now)
+    net_fault_cause line_of address_of (g.C.Clock.of_fork c.args.clock.now)
+    (map string_bytes c.args.words.now)
     old_in new_in old_files new_files old_net new_net old_out new_out c.code.result
     (rw (← c.code.ensures) at c.run.ensures)
 
@@ -118,13 +151,18 @@ returns-clause-ran g c =
     let old_files : Filed = g.F.Folder.filed c.args.folder.now in
     let new_files : Filed = g.F.Folder.filed c.run.new.folder in
     let old_net : Linked g.row.N-L-P.Denot =
-    record { state = g.N.Net.state c.args.net.now; faults = g.N.Net.faults c.args.net.now } in
+    linked (g.N.Net.state c.args.net.now) (g.N.Net.faults c.args.net.now)
+    (g.O.Journals.closed c.args.journals.now) in
     let new_net : Linked g.row.N-L-P.Denot =
-    record { state = g.N.Net.state c.run.new.net; faults = g.N.Net.faults c.run.new.net } in
+    linked (g.N.Net.state c.run.new.net) (g.N.Net.faults c.run.new.net)
+    (g.O.Journals.closed c.run.new.journals) in
     let line_of = λ (p : g.row.N-L-P.Denot). let l : Line = g.N.L.P.Peer.line p in l in
+    let address_of =
+    λ (p : g.row.N-L-P.Denot). let a : Option SocketAddress = g.N.L.P.Peer.address p in a in
     let old_out : Output = g.K.Sink.output c.args.out.now in
     let new_out : Output = g.K.Sink.output c.run.new.out in
-    subst (Ran line_of (g.C.Clock.of_fork c.args.clock.now) (map string_bytes c.args.words.now)
+    subst (Ran line_of address_of (g.C.Clock.of_fork c.args.clock.now)
+    (map string_bytes c.args.words.now)
     old_in new_in old_files new_files old_net new_net old_out new_out) (sym c.code.ensures)
     c.run.ensures
 
@@ -135,13 +173,18 @@ returns-clause-refused g c =
     let old_files : Filed = g.F.Folder.filed c.args.folder.now in
     let new_files : Filed = g.F.Folder.filed c.run.new.folder in
     let old_net : Linked g.row.N-L-P.Denot =
-    record { state = g.N.Net.state c.args.net.now; faults = g.N.Net.faults c.args.net.now } in
+    linked (g.N.Net.state c.args.net.now) (g.N.Net.faults c.args.net.now)
+    (g.O.Journals.closed c.args.journals.now) in
     let new_net : Linked g.row.N-L-P.Denot =
-    record { state = g.N.Net.state c.run.new.net; faults = g.N.Net.faults c.run.new.net } in
+    linked (g.N.Net.state c.run.new.net) (g.N.Net.faults c.run.new.net)
+    (g.O.Journals.closed c.run.new.journals) in
     let line_of = λ (p : g.row.N-L-P.Denot). let l : Line = g.N.L.P.Peer.line p in l in
+    let address_of =
+    λ (p : g.row.N-L-P.Denot). let a : Option SocketAddress = g.N.L.P.Peer.address p in a in
     let old_out : Output = g.K.Sink.output c.args.out.now in
     let new_out : Output = g.K.Sink.output c.run.new.out in
-    refused_cause line_of (g.C.Clock.of_fork c.args.clock.now) (map string_bytes c.args.words.now)
+    refused_cause line_of address_of (g.C.Clock.of_fork c.args.clock.now)
+    (map string_bytes c.args.words.now)
     old_in new_in old_files new_files old_net new_net old_out new_out c.code.result
     (rw (← c.code.ensures) at c.run.ensures)
 
@@ -152,13 +195,18 @@ returns-clause-done g c =
     let old_files : Filed = g.F.Folder.filed c.args.folder.now in
     let new_files : Filed = g.F.Folder.filed c.run.new.folder in
     let old_net : Linked g.row.N-L-P.Denot =
-    record { state = g.N.Net.state c.args.net.now; faults = g.N.Net.faults c.args.net.now } in
+    linked (g.N.Net.state c.args.net.now) (g.N.Net.faults c.args.net.now)
+    (g.O.Journals.closed c.args.journals.now) in
     let new_net : Linked g.row.N-L-P.Denot =
-    record { state = g.N.Net.state c.run.new.net; faults = g.N.Net.faults c.run.new.net } in
+    linked (g.N.Net.state c.run.new.net) (g.N.Net.faults c.run.new.net)
+    (g.O.Journals.closed c.run.new.journals) in
     let line_of = λ (p : g.row.N-L-P.Denot). let l : Line = g.N.L.P.Peer.line p in l in
+    let address_of =
+    λ (p : g.row.N-L-P.Denot). let a : Option SocketAddress = g.N.L.P.Peer.address p in a in
     let old_out : Output = g.K.Sink.output c.args.out.now in
     let new_out : Output = g.K.Sink.output c.run.new.out in
-    shown_cause line_of (g.C.Clock.of_fork c.args.clock.now) (map string_bytes c.args.words.now)
+    shown_cause line_of address_of (g.C.Clock.of_fork c.args.clock.now)
+    (map string_bytes c.args.words.now)
     old_in new_in old_files new_files old_net new_net old_out new_out c.code.result
     (rw (← c.code.ensures) at c.run.ensures) true
 
@@ -169,13 +217,18 @@ returns-clause-wrong g c =
     let old_files : Filed = g.F.Folder.filed c.args.folder.now in
     let new_files : Filed = g.F.Folder.filed c.run.new.folder in
     let old_net : Linked g.row.N-L-P.Denot =
-    record { state = g.N.Net.state c.args.net.now; faults = g.N.Net.faults c.args.net.now } in
+    linked (g.N.Net.state c.args.net.now) (g.N.Net.faults c.args.net.now)
+    (g.O.Journals.closed c.args.journals.now) in
     let new_net : Linked g.row.N-L-P.Denot =
-    record { state = g.N.Net.state c.run.new.net; faults = g.N.Net.faults c.run.new.net } in
+    linked (g.N.Net.state c.run.new.net) (g.N.Net.faults c.run.new.net)
+    (g.O.Journals.closed c.run.new.journals) in
     let line_of = λ (p : g.row.N-L-P.Denot). let l : Line = g.N.L.P.Peer.line p in l in
+    let address_of =
+    λ (p : g.row.N-L-P.Denot). let a : Option SocketAddress = g.N.L.P.Peer.address p in a in
     let old_out : Output = g.K.Sink.output c.args.out.now in
     let new_out : Output = g.K.Sink.output c.run.new.out in
-    shown_cause line_of (g.C.Clock.of_fork c.args.clock.now) (map string_bytes c.args.words.now)
+    shown_cause line_of address_of (g.C.Clock.of_fork c.args.clock.now)
+    (map string_bytes c.args.words.now)
     old_in new_in old_files new_files old_net new_net old_out new_out c.code.result
     (rw (← c.code.ensures) at c.run.ensures) false
 
@@ -186,13 +239,18 @@ returns-clause-net g c =
     let old_files : Filed = g.F.Folder.filed c.args.folder.now in
     let new_files : Filed = g.F.Folder.filed c.run.new.folder in
     let old_net : Linked g.row.N-L-P.Denot =
-    record { state = g.N.Net.state c.args.net.now; faults = g.N.Net.faults c.args.net.now } in
+    linked (g.N.Net.state c.args.net.now) (g.N.Net.faults c.args.net.now)
+    (g.O.Journals.closed c.args.journals.now) in
     let new_net : Linked g.row.N-L-P.Denot =
-    record { state = g.N.Net.state c.run.new.net; faults = g.N.Net.faults c.run.new.net } in
+    linked (g.N.Net.state c.run.new.net) (g.N.Net.faults c.run.new.net)
+    (g.O.Journals.closed c.run.new.journals) in
     let line_of = λ (p : g.row.N-L-P.Denot). let l : Line = g.N.L.P.Peer.line p in l in
+    let address_of =
+    λ (p : g.row.N-L-P.Denot). let a : Option SocketAddress = g.N.L.P.Peer.address p in a in
     let old_out : Output = g.K.Sink.output c.args.out.now in
     let new_out : Output = g.K.Sink.output c.run.new.out in
-    net_cause line_of (g.C.Clock.of_fork c.args.clock.now) (map string_bytes c.args.words.now)
+    net_cause line_of address_of (g.C.Clock.of_fork c.args.clock.now)
+    (map string_bytes c.args.words.now)
     old_in new_in old_files new_files old_net new_net old_out new_out c.code.result
     (rw (← c.code.ensures) at c.run.ensures)
 
@@ -203,13 +261,18 @@ returns-clause-all_back g c =
     let old_files : Filed = g.F.Folder.filed c.args.folder.now in
     let new_files : Filed = g.F.Folder.filed c.run.new.folder in
     let old_net : Linked g.row.N-L-P.Denot =
-    record { state = g.N.Net.state c.args.net.now; faults = g.N.Net.faults c.args.net.now } in
+    linked (g.N.Net.state c.args.net.now) (g.N.Net.faults c.args.net.now)
+    (g.O.Journals.closed c.args.journals.now) in
     let new_net : Linked g.row.N-L-P.Denot =
-    record { state = g.N.Net.state c.run.new.net; faults = g.N.Net.faults c.run.new.net } in
+    linked (g.N.Net.state c.run.new.net) (g.N.Net.faults c.run.new.net)
+    (g.O.Journals.closed c.run.new.journals) in
     let line_of = λ (p : g.row.N-L-P.Denot). let l : Line = g.N.L.P.Peer.line p in l in
+    let address_of =
+    λ (p : g.row.N-L-P.Denot). let a : Option SocketAddress = g.N.L.P.Peer.address p in a in
     let old_out : Output = g.K.Sink.output c.args.out.now in
     let new_out : Output = g.K.Sink.output c.run.new.out in
-    back_cause line_of (g.C.Clock.of_fork c.args.clock.now) (map string_bytes c.args.words.now)
+    back_cause line_of address_of (g.C.Clock.of_fork c.args.clock.now)
+    (map string_bytes c.args.words.now)
     old_in new_in old_files new_files old_net new_net old_out new_out c.code.result
     (rw (← c.code.ensures) at c.run.ensures)
 
@@ -220,13 +283,18 @@ returns-clause-words g c =
     let old_files : Filed = g.F.Folder.filed c.args.folder.now in
     let new_files : Filed = g.F.Folder.filed c.run.new.folder in
     let old_net : Linked g.row.N-L-P.Denot =
-    record { state = g.N.Net.state c.args.net.now; faults = g.N.Net.faults c.args.net.now } in
+    linked (g.N.Net.state c.args.net.now) (g.N.Net.faults c.args.net.now)
+    (g.O.Journals.closed c.args.journals.now) in
     let new_net : Linked g.row.N-L-P.Denot =
-    record { state = g.N.Net.state c.run.new.net; faults = g.N.Net.faults c.run.new.net } in
+    linked (g.N.Net.state c.run.new.net) (g.N.Net.faults c.run.new.net)
+    (g.O.Journals.closed c.run.new.journals) in
     let line_of = λ (p : g.row.N-L-P.Denot). let l : Line = g.N.L.P.Peer.line p in l in
+    let address_of =
+    λ (p : g.row.N-L-P.Denot). let a : Option SocketAddress = g.N.L.P.Peer.address p in a in
     let old_out : Output = g.K.Sink.output c.args.out.now in
     let new_out : Output = g.K.Sink.output c.run.new.out in
-    words_due line_of (g.C.Clock.of_fork c.args.clock.now) (map string_bytes c.args.words.now)
+    words_due line_of address_of (g.C.Clock.of_fork c.args.clock.now)
+    (map string_bytes c.args.words.now)
     old_in new_in old_files new_files old_net new_net old_out new_out c.code.result
     (rw (← c.code.ensures) at c.run.ensures)
 
@@ -237,13 +305,18 @@ returns-clause-read g c =
     let old_files : Filed = g.F.Folder.filed c.args.folder.now in
     let new_files : Filed = g.F.Folder.filed c.run.new.folder in
     let old_net : Linked g.row.N-L-P.Denot =
-    record { state = g.N.Net.state c.args.net.now; faults = g.N.Net.faults c.args.net.now } in
+    linked (g.N.Net.state c.args.net.now) (g.N.Net.faults c.args.net.now)
+    (g.O.Journals.closed c.args.journals.now) in
     let new_net : Linked g.row.N-L-P.Denot =
-    record { state = g.N.Net.state c.run.new.net; faults = g.N.Net.faults c.run.new.net } in
+    linked (g.N.Net.state c.run.new.net) (g.N.Net.faults c.run.new.net)
+    (g.O.Journals.closed c.run.new.journals) in
     let line_of = λ (p : g.row.N-L-P.Denot). let l : Line = g.N.L.P.Peer.line p in l in
+    let address_of =
+    λ (p : g.row.N-L-P.Denot). let a : Option SocketAddress = g.N.L.P.Peer.address p in a in
     let old_out : Output = g.K.Sink.output c.args.out.now in
     let new_out : Output = g.K.Sink.output c.run.new.out in
-    read_due line_of (g.C.Clock.of_fork c.args.clock.now) (map string_bytes c.args.words.now)
+    read_due line_of address_of (g.C.Clock.of_fork c.args.clock.now)
+    (map string_bytes c.args.words.now)
     old_in new_in old_files new_files old_net new_net old_out new_out c.code.result
     (rw (← c.code.ensures) at c.run.ensures)
 
@@ -254,12 +327,17 @@ returns-clause-long g c =
     let old_files : Filed = g.F.Folder.filed c.args.folder.now in
     let new_files : Filed = g.F.Folder.filed c.run.new.folder in
     let old_net : Linked g.row.N-L-P.Denot =
-    record { state = g.N.Net.state c.args.net.now; faults = g.N.Net.faults c.args.net.now } in
+    linked (g.N.Net.state c.args.net.now) (g.N.Net.faults c.args.net.now)
+    (g.O.Journals.closed c.args.journals.now) in
     let new_net : Linked g.row.N-L-P.Denot =
-    record { state = g.N.Net.state c.run.new.net; faults = g.N.Net.faults c.run.new.net } in
+    linked (g.N.Net.state c.run.new.net) (g.N.Net.faults c.run.new.net)
+    (g.O.Journals.closed c.run.new.journals) in
     let line_of = λ (p : g.row.N-L-P.Denot). let l : Line = g.N.L.P.Peer.line p in l in
+    let address_of =
+    λ (p : g.row.N-L-P.Denot). let a : Option SocketAddress = g.N.L.P.Peer.address p in a in
     let old_out : Output = g.K.Sink.output c.args.out.now in
     let new_out : Output = g.K.Sink.output c.run.new.out in
-    long_due line_of (g.C.Clock.of_fork c.args.clock.now) (map string_bytes c.args.words.now)
+    long_due line_of address_of (g.C.Clock.of_fork c.args.clock.now)
+    (map string_bytes c.args.words.now)
     old_in new_in old_files new_files old_net new_net old_out new_out c.code.result
     (rw (← c.code.ensures) at c.run.ensures)

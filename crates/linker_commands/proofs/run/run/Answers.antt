@@ -1,7 +1,8 @@
-use Rattle.std.proofs.Common.{refl}
+use Rattle.std.proofs.Common.{◌≡◌, refl}
 use Rattle.linker_commands.specs.Generated.{storm_line, weave_line}
 use Rattle.line_base.specs.Files.{Filed}
 use Rattle.line_base.specs.Streams.{Input}
+use Rattle.linker_commands.specs.Linked.{Linked, linked}
 use Rattle.linker_commands.proofs.Serving.{linked_same}
 use Rattle.linker_commands.proofs.run.run.Goals as goal
 
@@ -33,7 +34,14 @@ returns-in-Ok-Follow g c =
     let input : Input = g.S.Source.input c.args.input.now in
     let files : Filed = g.F.Folder.filed c.args.folder.now in
     let made = c.follow.ensures.followed in
-    let same = linked_same _ _ c.follow.ensures.net.0 c.follow.ensures.net.1 in (
+    let old_net : Linked g.row.N-L-P.Denot =
+    linked (g.N.Net.state c.args.net.now) (g.N.Net.faults c.args.net.now)
+    (g.O.Journals.closed c.args.journals.now) in
+    let new_net : Linked g.row.N-L-P.Denot =
+    linked (g.N.Net.state c.follow.new.net) (g.N.Net.faults c.follow.new.net)
+    (g.O.Journals.closed c.args.journals.now) in
+    let same : new_net ≡ old_net =
+    linked_same old_net new_net c.follow.ensures.net.0 c.follow.ensures.net.1 refl in (
       made.0,
       (rw c.in-Ok-Follow.ensures (rw c.in-Ok-Follow.field-0-is (made.1, refl, refl, same))),
       made.2,

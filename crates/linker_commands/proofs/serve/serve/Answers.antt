@@ -1,9 +1,12 @@
 use Rattle.std.proofs.Common.{refl, ap, inl, false, Err, List, ℕ}
+use Rattle.std.specs.Prelude.{Option}
 use Rattle.line_base.specs.Lines.{Line}
+use Rattle.line_base.specs.declared.socket_address.SocketAddress.{SocketAddress}
 use Rattle.linker_commands.specs.Check.{TellsPath}
 use Rattle.line_base.specs.Files.{Filed}
 use Rattle.line_base.specs.Streams.{Output}
-use Rattle.linker_commands.specs.Run.{Linked, line_told, read_failed, no_memory}
+use Rattle.linker_commands.specs.Linked.{Linked, linked}
+use Rattle.linker_commands.specs.Run.{line_told, read_failed, no_memory}
 use Rattle.linker_commands.specs.Told.{code_of}
 use Rattle.linker_commands.specs.declared.run.Status.TheVariants as status
 use Rattle.linker_commands.proofs.Runs.{tells_end, tells_memory_first}
@@ -16,14 +19,19 @@ returns-in-Ok-clause-served g c =
     let mid_files : Filed = g.F.Folder.filed c.configured.new.folder in
     let new_files : Filed = g.F.Folder.filed c.serve_by.new.folder in
     let old_net : Linked g.row.N-L-P.Denot =
-    record { state = g.N.Net.state c.args.net.now; faults = g.N.Net.faults c.args.net.now } in
-    let new_net : Linked g.row.N-L-P.Denot = record
-    { state = g.N.Net.state c.serve_by.new.net; faults = g.N.Net.faults c.serve_by.new.net } in
+    linked (g.N.Net.state c.args.net.now) (g.N.Net.faults c.args.net.now)
+    (g.O.Journals.closed c.args.journals.now) in
+    let new_net : Linked g.row.N-L-P.Denot =
+    linked (g.N.Net.state c.serve_by.new.net) (g.N.Net.faults c.serve_by.new.net)
+    (g.O.Journals.closed c.serve_by.new.journals) in
     let line_of = λ (p : g.row.N-L-P.Denot). let l : Line = g.N.L.P.Peer.line p in l in
+    let address_of =
+    λ (p : g.row.N-L-P.Denot). let a : Option SocketAddress = g.N.L.P.Peer.address p in a in
     let old : Output = g.K.Sink.output c.args.out.now in
     let new : Output = g.K.Sink.output c.serve_by.new.out in
     let e = c.in-Ok.ensures in
-    serves_from line_of (g.C.Clock.of_fork c.args.clock.now) c.args.path.now c.in-Ok.config
+    serves_from line_of address_of (g.C.Clock.of_fork c.args.clock.now) c.args.path.now
+    c.in-Ok.config
     old_files mid_files new_files old_net new_net old new (code_of c.serve_by.result) e.files
     (e.kept (λ is. cc is)) e.config c.serve_by.ensures.served
 

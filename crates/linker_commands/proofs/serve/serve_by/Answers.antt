@@ -1,8 +1,11 @@
 use Rattle.std.proofs.Common.{refl, inr, false}
+use Rattle.std.specs.Prelude.{Option}
 use Rattle.line_base.specs.Lines.{Line}
+use Rattle.line_base.specs.declared.socket_address.SocketAddress.{SocketAddress}
 use Rattle.line_base.specs.Files.{Filed}
 use Rattle.line_base.specs.Streams.{Output}
-use Rattle.linker_commands.specs.Run.{Linked, line_told, read_failed, no_memory}
+use Rattle.linker_commands.specs.Linked.{Linked, linked}
+use Rattle.linker_commands.specs.Run.{line_told, read_failed, no_memory}
 use Rattle.linker_commands.specs.Served.{file_line}
 use Rattle.linker_commands.specs.Told.{code_of}
 use Rattle.linker_commands.specs.declared.run.Status.TheVariants as status
@@ -85,16 +88,18 @@ returns-clause-served g c = λ path right.
     let old_files : Filed = g.F.Folder.filed c.args.folder.now in
     let new_files : Filed = g.F.Folder.filed c.load.new.folder in
     let old_net : Linked g.row.N-L-P.Denot =
-    record { state = g.N.Net.state c.args.net.now; faults = g.N.Net.faults c.args.net.now } in
-    let new_net : Linked g.row.N-L-P.Denot = record {
-      state = g.N.Net.state c.serve_opened.new.net;
-      faults = g.N.Net.faults
-          c.serve_opened.new.net;
-    } in
+    linked (g.N.Net.state c.args.net.now) (g.N.Net.faults c.args.net.now)
+    (g.O.Journals.closed c.args.journals.now) in
+    let new_net : Linked g.row.N-L-P.Denot =
+    linked (g.N.Net.state c.serve_opened.new.net) (g.N.Net.faults c.serve_opened.new.net)
+    (g.O.Journals.closed c.serve_opened.new.journals) in
     let line_of = λ (p : g.row.N-L-P.Denot). let l : Line = g.N.L.P.Peer.line p in l in
+    let address_of =
+    λ (p : g.row.N-L-P.Denot). let a : Option SocketAddress = g.N.L.P.Peer.address p in a in
     let old : Output = g.K.Sink.output c.args.out.now in
     let new : Output = g.K.Sink.output c.serve_opened.new.out in
-    course_of_end line_of (g.C.Clock.of_fork c.args.clock.now) path c.args.config old_files
+    course_of_end line_of address_of (g.C.Clock.of_fork c.args.clock.now) path c.args.config
+    old_files
     new_files old_net new_net old new (code_of c.serve_opened.result) right
     c.in-Ok.ensures.cause.count
     (c.serve_opened.ensures (g.F.Folder.filed c.args.folder.now).files c.args.config
@@ -113,4 +118,5 @@ returns-clause-served g c = λ path right.
       settings_are = c.in-Ok-open.ensures.settings;
       loads =
           c.in-Ok.ensures.loads;
+      path_is = refl;
     }))

@@ -1,28 +1,35 @@
 use Rattle.std.proofs.Common.{refl, ap, inl, subst, Err}
 use Rattle.std.specs.Prelude.{codes}
+use Rattle.std.specs.Prelude.{Option}
 use Rattle.line_base.specs.Lines.{Line}
+use Rattle.line_base.specs.declared.socket_address.SocketAddress.{SocketAddress}
 use Rattle.serving.specs.Running.{passes_of}
+use Rattle.linker_commands.specs.Linked.{Linked, linked}
 use Rattle.linker_commands.specs.Served.{Finish, TellsEnd, broken, short, memory_line}
 use Rattle.linker_commands.specs.declared.run.Status.TheVariants as status
 use Rattle.linker_commands.proofs.Serving.{served_by, told_end}
 use Rattle.linker_commands.proofs.serve.serve_on.Goals as goal
 
 pub returns-in-Ok : goal.returns-in-Ok
-returns-in-Ok g c = λ files config before loaded made seen listening.
+returns-in-Ok g c = λ files config before loaded made seen listening logs.
     let line_of = λ (p : g.row.N-L-P.Denot). let l : Line = g.N.L.P.Peer.line p in l in
-    let mid = g.N.Net.state c.args.net.now in
-    let after = g.N.Net.state c.run.new.net in
+    let address_of =
+    λ (p : g.row.N-L-P.Denot). let a : Option SocketAddress = g.N.L.P.Peer.address p in a in
+    let moments = g.C.Clock.of_fork c.args.clock.now in
+    let after : Linked g.row.N-L-P.Denot =
+    linked (g.N.Net.state c.run_recorded.new.net) (g.N.Net.faults c.run_recorded.new.net)
+    (g.O.Journals.closed c.run_recorded.new.journals) in
     let end = c.in-Ok.served in
     let e = c.in-Ok.ensures in
     let t = c.tell_served.ensures in
-    let by = served_by line_of (g.C.Clock.of_fork c.args.clock.now) files config c.args.site.now
-    loaded (passes_of c.args.serving) before mid after end made listening (e.served loaded seen)
+    let by = served_by line_of address_of moments files config c.args.site.now loaded c.args.log.now
+    (passes_of c.args.serving) before (g.N.Net.state c.args.net.now)
+    (g.O.Journals.closed c.args.journals.now) after end made listening logs (e.served loaded seen)
     in (
       t.0,
       t.1,
       t.2,
-      told_end line_of (g.C.Clock.of_fork c.args.clock.now) files config before after end t.0 t.1 by
-          t.3,
+      told_end line_of address_of moments files config before after end t.0 t.1 by t.3,
       record {
         rose = λ is. absurd (subst (λ (f : Finish). TellsEnd end t.0 f) is t.3);
         kept = λ _.
@@ -33,7 +40,7 @@ returns-in-Ok g c = λ files config before loaded made seen listening.
     )
 
 pub returns-in-Err-Net : goal.returns-in-Err-Net
-returns-in-Err-Net g c = λ files config before loaded made seen listening.
+returns-in-Err-Net g c = λ files config before loaded made seen listening logs.
     let e = c.in-Err-Net.ensures in (
       codes "error net\n",
       broken,
@@ -48,7 +55,7 @@ returns-in-Err-Net g c = λ files config before loaded made seen listening.
     )
 
 pub returns-in-Err-OutOfMemory : goal.returns-in-Err-OutOfMemory
-returns-in-Err-OutOfMemory g c = λ files config before loaded made seen listening.
+returns-in-Err-OutOfMemory g c = λ files config before loaded made seen listening logs.
     let e = c.in-Err-OutOfMemory.ensures in (
       memory_line,
       short,

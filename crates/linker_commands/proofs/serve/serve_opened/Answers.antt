@@ -1,7 +1,9 @@
-use Rattle.std.proofs.Common.{ap, Err, ◌∙◌}
+use Rattle.std.proofs.Common.{ap, Err, refl, ◌∙◌}
+use Rattle.std.specs.Prelude.{Option}
 use Rattle.line_base.specs.Lines.{Line}
+use Rattle.line_base.specs.declared.socket_address.SocketAddress.{SocketAddress}
 use Rattle.line_base.specs.Streams.{Output}
-use Rattle.linker_commands.specs.Run.{Linked}
+use Rattle.linker_commands.specs.Linked.{Linked, linked}
 use Rattle.linker_commands.proofs.Serving.{line_by, no_room, no_memory_yet, not_listening}
 use Rattle.linker_commands.proofs.Serving.{not_told, told_on}
 use Rattle.linker_commands.proofs.serve.serve_opened.Goals as goal
@@ -9,81 +11,104 @@ use Rattle.linker_commands.proofs.serve.serve_opened.Goals as goal
 pub returns-in-Err-Book : goal.returns-in-Err-Book
 returns-in-Err-Book g c = λ files config made.
     let line_of = λ (p : g.row.N-L-P.Denot). let l : Line = g.N.L.P.Peer.line p in l in
-    let net_of = λ (n : g.row.N.Denot). let l : Linked g.row.N-L-P.Denot = record
-    { state = g.N.Net.state n; faults = g.N.Net.faults n } in l in
+    let address_of =
+    λ (p : g.row.N-L-P.Denot). let a : Option SocketAddress = g.N.L.P.Peer.address p in a in
+    let linked_by = λ (n : g.row.N.Denot) (j : g.row.O.Denot).
+    let l : Linked g.row.N-L-P.Denot =
+    linked (g.N.Net.state n) (g.N.Net.faults n) (g.O.Journals.closed j) in l in
     let old : Output = g.K.Sink.output c.args.out.now in
     let new : Output = g.K.Sink.output c.tell.new.out in
     let e = c.in-Err-Book.ensures in
-    no_room g.row.J.Denot line_of (g.C.Clock.of_fork c.args.clock.now) files config _ c.args.loaded
-    c.args.site.now (net_of c.args.net.now) (net_of c.start.new.net) old new c.tell.result made
+    no_room g.row.J.Denot line_of address_of (g.C.Clock.of_fork c.args.clock.now) files config _
+    c.args.loaded c.args.site.now c.args.log.now (linked_by c.args.net.now c.args.journals.now)
+    (linked_by c.start.new.net c.args.journals.now) old new c.tell.result made
     (e.refused (ap Err c.in-Err-Book.field-0-is)) (e.kept (λ is. cc (is, c.in-Err-Book.field-0-is)))
-    c.tell.ensures
+    refl c.tell.ensures
 
 pub returns-in-Err-Net : goal.returns-in-Err-Net
 returns-in-Err-Net g c = λ files config made.
     let line_of = λ (p : g.row.N-L-P.Denot). let l : Line = g.N.L.P.Peer.line p in l in
-    let net_of = λ (n : g.row.N.Denot). let l : Linked g.row.N-L-P.Denot = record
-    { state = g.N.Net.state n; faults = g.N.Net.faults n } in l in
+    let address_of =
+    λ (p : g.row.N-L-P.Denot). let a : Option SocketAddress = g.N.L.P.Peer.address p in a in
+    let linked_by = λ (n : g.row.N.Denot) (j : g.row.O.Denot).
+    let l : Linked g.row.N-L-P.Denot =
+    linked (g.N.Net.state n) (g.N.Net.faults n) (g.O.Journals.closed j) in l in
     let old : Output = g.K.Sink.output c.args.out.now in
     let new : Output = g.K.Sink.output c.tell-in-Err-Net.new.out in
-    not_listening g.row.J.Denot line_of (g.C.Clock.of_fork c.args.clock.now) files config
-    (net_of c.args.net.now) (net_of c.start.new.net) old new c.tell-in-Err-Net.result
+    not_listening g.row.J.Denot line_of address_of (g.C.Clock.of_fork c.args.clock.now) files config
+    (linked_by c.args.net.now c.args.journals.now) (linked_by c.start.new.net c.args.journals.now)
+    old new c.tell-in-Err-Net.result
     (c.args.loaded, made.loads) (c.in-Err-Net.ensures.broken (ap Err c.in-Err-Net.field-0-is))
     c.tell-in-Err-Net.ensures
 
 pub returns-in-Err-OutOfMemory : goal.returns-in-Err-OutOfMemory
 returns-in-Err-OutOfMemory g c = λ files config made.
     let line_of = λ (p : g.row.N-L-P.Denot). let l : Line = g.N.L.P.Peer.line p in l in
-    let net_of = λ (n : g.row.N.Denot). let l : Linked g.row.N-L-P.Denot = record
-    { state = g.N.Net.state n; faults = g.N.Net.faults n } in l in
+    let address_of =
+    λ (p : g.row.N-L-P.Denot). let a : Option SocketAddress = g.N.L.P.Peer.address p in a in
+    let linked_by = λ (n : g.row.N.Denot) (j : g.row.O.Denot).
+    let l : Linked g.row.N-L-P.Denot =
+    linked (g.N.Net.state n) (g.N.Net.faults n) (g.O.Journals.closed j) in l in
     let old : Output = g.K.Sink.output c.args.out.now in
     let new : Output = g.K.Sink.output c.tell-in-Err-OutOfMemory.new.out in
-    no_memory_yet g.row.J.Denot line_of (g.C.Clock.of_fork c.args.clock.now) files config
-    (net_of c.args.net.now) (net_of c.start.new.net) old new c.tell-in-Err-OutOfMemory.result
+    no_memory_yet g.row.J.Denot line_of address_of (g.C.Clock.of_fork c.args.clock.now) files config
+    (linked_by c.args.net.now c.args.journals.now) (linked_by c.start.new.net c.args.journals.now)
+    old new c.tell-in-Err-OutOfMemory.result
     (c.in-Err-OutOfMemory.ensures.kept (λ is. cc (is, c.in-Err-OutOfMemory.field-0-is)))
     c.tell-in-Err-OutOfMemory.ensures
 
 pub returns-in_default : goal.returns-in_default
 returns-in_default g c = λ files config made.
     let line_of = λ (p : g.row.N-L-P.Denot). let l : Line = g.N.L.P.Peer.line p in l in
-    let net_of = λ (n : g.row.N.Denot). let l : Linked g.row.N-L-P.Denot = record
-    { state = g.N.Net.state n; faults = g.N.Net.faults n } in l in
+    let address_of =
+    λ (p : g.row.N-L-P.Denot). let a : Option SocketAddress = g.N.L.P.Peer.address p in a in
+    let linked_by = λ (n : g.row.N.Denot) (j : g.row.O.Denot).
+    let l : Linked g.row.N-L-P.Denot =
+    linked (g.N.Net.state n) (g.N.Net.faults n) (g.O.Journals.closed j) in l in
     let old : Output = g.K.Sink.output c.args.out.now in
     let new : Output = g.K.Sink.output c.tell-in_default.new.out in
-    no_memory_yet g.row.J.Denot line_of (g.C.Clock.of_fork c.args.clock.now) files config
-    (net_of c.args.net.now) (net_of c.start.new.net) old new c.tell-in_default.result
+    no_memory_yet g.row.J.Denot line_of address_of (g.C.Clock.of_fork c.args.clock.now) files config
+    (linked_by c.args.net.now c.args.journals.now) (linked_by c.start.new.net c.args.journals.now)
+    old new c.tell-in_default.result
     (c.in-Ok.ensures.kept (λ is. cc is)) c.tell-in_default.ensures
 
 pub returns-in-Ok-write_all : goal.returns-in-Ok-write_all
 returns-in-Ok-write_all g c = λ files config made.
     let line_of = λ (p : g.row.N-L-P.Denot). let l : Line = g.N.L.P.Peer.line p in l in
-    let net_of = λ (n : g.row.N.Denot). let l : Linked g.row.N-L-P.Denot = record
-    { state = g.N.Net.state n; faults = g.N.Net.faults n } in l in
+    let address_of =
+    λ (p : g.row.N-L-P.Denot). let a : Option SocketAddress = g.N.L.P.Peer.address p in a in
+    let linked_by = λ (n : g.row.N.Denot) (j : g.row.O.Denot).
+    let l : Linked g.row.N-L-P.Denot =
+    linked (g.N.Net.state n) (g.N.Net.faults n) (g.O.Journals.closed j) in l in
     let old : Output = g.K.Sink.output c.args.out.now in
     let mid : Output = g.K.Sink.output c.write_all.new.sink in
     let new : Output = g.K.Sink.output c.serve_on.new.out in
     let wrote = c.in-Ok-write_all.ensures in
     let begun = c.in-Ok.ensures in
-    let before = g.N.Net.state c.args.net.now in
-    told_on g.row.J.Denot line_of (g.C.Clock.of_fork c.args.clock.now) files config
-    (net_of c.args.net.now) (net_of c.start.new.net) (net_of c.serve_on.new.net)
+    told_on g.row.J.Denot line_of address_of (g.C.Clock.of_fork c.args.clock.now) files config
+    (linked_by c.args.net.now c.args.journals.now) (linked_by c.start.new.net c.args.journals.now)
+    (linked_by c.serve_on.new.net c.serve_on.new.journals)
     c.as_slice.result.now old mid new c.serve_on.result
     (c.as_slice.ensures.value ∙ (c.in-Ok-site_text.ensures
     ∙ line_by (g.C.Clock.of_fork c.args.clock.now) config c.args.site.now made.site_is))
     (begun.kept (λ is. cc is)) wrote.ok wrote.kept
-    (c.serve_on.ensures files config before c.args.loaded made begun.seen
-    begun.net)
+    (c.serve_on.ensures files config (linked_by c.args.net.now c.args.journals.now)
+    c.args.loaded made begun.seen begun.net refl)
 
 pub returns : goal.returns
 returns g c = λ files config made.
     let line_of = λ (p : g.row.N-L-P.Denot). let l : Line = g.N.L.P.Peer.line p in l in
-    let net_of = λ (n : g.row.N.Denot). let l : Linked g.row.N-L-P.Denot = record
-    { state = g.N.Net.state n; faults = g.N.Net.faults n } in l in
+    let address_of =
+    λ (p : g.row.N-L-P.Denot). let a : Option SocketAddress = g.N.L.P.Peer.address p in a in
+    let linked_by = λ (n : g.row.N.Denot) (j : g.row.O.Denot).
+    let l : Linked g.row.N-L-P.Denot =
+    linked (g.N.Net.state n) (g.N.Net.faults n) (g.O.Journals.closed j) in l in
     let old : Output = g.K.Sink.output c.args.out.now in
     let new : Output = g.K.Sink.output c.write_all.new.sink in
     let wrote = c.in-Err.ensures in
-    not_told g.row.J.Denot line_of (g.C.Clock.of_fork c.args.clock.now) files config
-    (net_of c.args.net.now) (net_of c.start.new.net) c.as_slice.result.now old new
+    not_told g.row.J.Denot line_of address_of (g.C.Clock.of_fork c.args.clock.now) files config
+    (linked_by c.args.net.now c.args.journals.now) (linked_by c.start.new.net c.args.journals.now)
+    c.as_slice.result.now old new
     (c.as_slice.ensures.value ∙ (c.in-Ok-site_text.ensures
     ∙ line_by (g.C.Clock.of_fork c.args.clock.now) config c.args.site.now made.site_is))
     (c.in-Ok.ensures.kept (λ is. cc is)) wrote.cause wrote.err

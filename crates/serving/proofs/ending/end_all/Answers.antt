@@ -1,4 +1,4 @@
-use Rattle.std.proofs.Common.{◌≡◌, ◌+◌, ◌∷◌, ◌++◌, ◌||◌, Bool, List, ap, length, length-append, arith}
+use Rattle.std.proofs.Common.{◌≡◌, ◌++◌, ◌||◌, Bool, ap, length-append, arith}
 use Rattle.std.proofs.Common.{refl, sym, ◌∙◌}
 use Rattle.std.specs.Prelude.{nat_le}
 use Rattle.std.specs.List.{list_any}

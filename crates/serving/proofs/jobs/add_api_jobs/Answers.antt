@@ -6,23 +6,22 @@ use Rattle.std.specs.Vec.Iter.{into_iter_items}
 use Rattle.serving.specs.declared.policy.Policy.{Policy}
 use Rattle.linker_config.specs.declared.config.Port.{Port}
 use Rattle.line_base.specs.Dials.{Upstream}
-use Rattle.serving.specs.Jobs.{IsPosted, pass_of}
+use Rattle.serving.specs.Jobs.{IsPosted, RouterJob, pass_of, recorder_of, recorders_of_jobs}
 use Rattle.serving.specs.Posts.{interface_post, posts_at}
 use Rattle.serving.specs.Returning.{with_stops}
 use Rattle.serving.specs.Running.{AreNewFrom}
-use Rattle.serving.specs.declared.job.ServingJob.{ServingJob}
 use Rattle.serving.proofs.Chains.{free_rest, new_first, new_rest}
 use Rattle.serving.proofs.Posting.{next_new, stops_moved}
-use Rattle.serving.proofs.Zipping.{handed, none_posted, one_posted}
+use Rattle.serving.proofs.Zipping.{handed, lists_same, none_posted, one_posted}
 use Rattle.serving.proofs.jobs.add_api_jobs.Goals as goal
 
 pub loop-listener-init : goal.loop-listener-init
 loop-listener-init g c =
     let upstream = λ (d : g.row.N-D.Denot). let u : Upstream = g.N.D.Dialer.upstream d in u in
-    let R = λ (policy : Policy) (moments : Option (List ℕ)). IsPosted {J = g.row.J.Denot} {D = g.row.N-D.Denot} {A = g.row.A.Denot} {B = g.row.B.Denot} {E = g.row.E.Denot} {F = g.row.F.Denot} {h = g.J.Handling} {g = g.J.Naming} g.N.L.Listener.state upstream g.C.Clock.to_come g.N.S.Stop.calls policy moments (g.N.Net.state c.args.net.now).told in
+    let R = λ (policy : Policy) (moments : Option (List ℕ)). IsPosted {J = g.row.J.Denot} {D = g.row.N-D.Denot} {K = g.row.K.Denot} {X = g.row.X.Denot} {A = g.row.A.Denot} {B = g.row.B.Denot} {E = g.row.E.Denot} {F = g.row.F.Denot} {h = g.J.Handling} {g = g.J.Naming} g.N.L.Listener.state upstream g.C.Clock.to_come g.N.S.Stop.calls policy moments (g.N.Net.state c.args.net.now).told in
     let whole = c.into_iter-listener-iterator.ensures.into_iter_gives.0 in
     let many = ap length whole in
-    let new = λ (port : Port) (n : AreNewFrom g.N.L.Listener.state (g.N.Net.state c.args.net.now).told port 0 c.args.listeners.items).
+    let new = λ (port : Port) (n : AreNewFrom g.N.L.Listener.state (g.N.Net.state c.args.net.now).told port 0 c.args.interface.listeners.items).
     subst (AreNewFrom g.N.L.Listener.state (g.N.Net.state c.args.net.now).told port 0) (sym whole) n in
     record {
       passes = refl;
@@ -32,10 +31,13 @@ loop-listener-init g c =
       hands = omega (arith, many);
       enough_hands = omega (arith, many, c.requires.hands);
       new_hands = c.requires.new_hands;
+      scrapers = omega (arith, many);
+      enough_scrapers = omega (arith, many, c.requires.scrapers);
+      recorders = refl;
       room = omega (arith, many, c.requires.room);
       capacity = refl;
       free = c.requires.free;
-      posted = (0, omega (arith, many), new, λ port n policy moments ps all. none_posted (R policy moments) (interface_post c.args.which port) ps c.args.jobs.now.items all);
+      posted = (0, omega (arith, many), new, λ port n policy moments ps all. none_posted (R policy moments) (interface_post c.args.interface.which port) ps c.args.jobs.now.items all);
       stops = ap (λ (n : ℕ). with_stops n (g.N.Net.state c.args.net.now)) many;
       kept = refl;
     }
@@ -43,7 +45,7 @@ loop-listener-init g c =
 pub loop-listener-preserved : goal.loop-listener-preserved
 loop-listener-preserved g c =
     let upstream = λ (d : g.row.N-D.Denot). let u : Upstream = g.N.D.Dialer.upstream d in u in
-    let R = λ (policy : Policy) (moments : Option (List ℕ)). IsPosted {J = g.row.J.Denot} {D = g.row.N-D.Denot} {A = g.row.A.Denot} {B = g.row.B.Denot} {E = g.row.E.Denot} {F = g.row.F.Denot} {h = g.J.Handling} {g = g.J.Naming} g.N.L.Listener.state upstream g.C.Clock.to_come g.N.S.Stop.calls policy moments (g.N.Net.state c.args.net.now).told in
+    let R = λ (policy : Policy) (moments : Option (List ℕ)). IsPosted {J = g.row.J.Denot} {D = g.row.N-D.Denot} {K = g.row.K.Denot} {X = g.row.X.Denot} {A = g.row.A.Denot} {B = g.row.B.Denot} {E = g.row.E.Denot} {F = g.row.F.Denot} {h = g.J.Handling} {g = g.J.Naming} g.N.L.Listener.state upstream g.C.Clock.to_come g.N.S.Stop.calls policy moments (g.N.Net.state c.args.net.now).told in
     let inv = c.loop-listener.invariant in
     let cut = c.in-Some.ensures.steps.0 in
     let shorter = ap length cut in
@@ -51,17 +53,21 @@ loop-listener-preserved g c =
     let fewer = ap length taken in
     let taken_hand = c.in-Some-next-2.ensures.items in
     let fewer_hands = ap length taken_hand in
+    let fewer_scrapers = ap length c.in-Some-next-3.ensures.items in
     let pushed = c.push_reserved.ensures in
     let told = (g.N.Net.state c.args.net.now).told in
     let before = inv.posted in
     record {
-      passes = handed (λ (j : ServingJob g.row.N-L-P.Denot g.row.J.Denot g.row.N-L.Denot g.row.N-D.Denot g.row.C.Denot g.row.N-S.Denot g.row.A.Denot g.row.B.Denot g.row.E.Denot g.row.F.Denot g.J.Handling g.J.Naming). pass_of j) _ _ _ _ _ _ pushed.items taken inv.passes;
+      passes = handed (λ (j : RouterJob g.row.N-L-P.Denot g.row.J.Denot g.row.N-L.Denot g.row.N-D.Denot g.row.C.Denot g.row.K.Denot g.row.N-S.Denot g.row.X.Denot g.row.A.Denot g.row.B.Denot g.row.E.Denot g.row.F.Denot g.J.Handling g.J.Naming). pass_of j) _ _ _ _ _ _ pushed.items taken inv.passes;
       count = omega (arith, pushed.len, inv.count, shorter);
       rest = omega (arith, inv.rest, shorter, fewer);
       enough = omega (arith, inv.enough, shorter, fewer);
       hands = omega (arith, inv.hands, shorter, fewer_hands);
       enough_hands = omega (arith, inv.enough_hands, shorter, fewer_hands);
       new_hands = new_rest _ _ c.in-Some-next-2.hand taken_hand inv.new_hands;
+      scrapers = omega (arith, inv.scrapers, shorter, fewer_scrapers);
+      enough_scrapers = omega (arith, inv.enough_scrapers, shorter, fewer_scrapers);
+      recorders = lists_same (λ (j : RouterJob g.row.N-L-P.Denot g.row.J.Denot g.row.N-L.Denot g.row.N-D.Denot g.row.C.Denot g.row.K.Denot g.row.N-S.Denot g.row.X.Denot g.row.A.Denot g.row.B.Denot g.row.E.Denot g.row.F.Denot g.J.Handling g.J.Naming). recorder_of j) recorders_of_jobs refl (λ j js. refl) _ _ _ pushed.items refl ∙ inv.recorders;
       room = omega (arith, pushed.len, pushed.capacity, inv.room, shorter);
       capacity = pushed.capacity ∙ inv.capacity;
       free = free_rest _ _ c.in-Some-next.pass taken inv.free;
@@ -71,7 +77,7 @@ loop-listener-preserved g c =
         λ port n. let next = next_new g.N.L.Listener.state told port before.0 (before.0 + 1) _ _ c.in-Some.listener refl cut (before.2 port n) in next.1,
         λ port n policy moments ps all.
             let next = next_new g.N.L.Listener.state told port before.0 (before.0 + 1) _ _ c.in-Some.listener refl cut (before.2 port n) in
-            one_posted (R policy moments) (interface_post c.args.which port) before.0 (before.0 + 1) ps _ _ _ refl pushed.items (before.3 port n policy moments ps all)
+            one_posted (R policy moments) (interface_post c.args.interface.which port) before.0 (before.0 + 1) ps _ _ _ refl pushed.items (before.3 port n policy moments ps all)
             (record { listener = next.0; which_is = refl; lacked = refl; stops = c.stopper.ensures.calls; hand = new_first _ _ c.in-Some-next-2.hand taken_hand inv.new_hands }),
       );
       stops = stops_moved _ _ c.in-Some.listener (g.N.Net.state c.loop-listener.net) _ _ cut c.stopper.ensures.state inv.stops;
@@ -81,8 +87,8 @@ loop-listener-preserved g c =
 pub returns-clause-posted : goal.returns-clause-posted
 returns-clause-posted g c = λ port n policy moments ps all.
     let upstream = λ (d : g.row.N-D.Denot). let u : Upstream = g.N.D.Dialer.upstream d in u in
-    let R = λ (policy : Policy) (moments : Option (List ℕ)). IsPosted {J = g.row.J.Denot} {D = g.row.N-D.Denot} {A = g.row.A.Denot} {B = g.row.B.Denot} {E = g.row.E.Denot} {F = g.row.F.Denot} {h = g.J.Handling} {g = g.J.Naming} g.N.L.Listener.state upstream g.C.Clock.to_come g.N.S.Stop.calls policy moments (g.N.Net.state c.args.net.now).told in
+    let R = λ (policy : Policy) (moments : Option (List ℕ)). IsPosted {J = g.row.J.Denot} {D = g.row.N-D.Denot} {K = g.row.K.Denot} {X = g.row.X.Denot} {A = g.row.A.Denot} {B = g.row.B.Denot} {E = g.row.E.Denot} {F = g.row.F.Denot} {h = g.J.Handling} {g = g.J.Naming} g.N.L.Listener.state upstream g.C.Clock.to_come g.N.S.Stop.calls policy moments (g.N.Net.state c.args.net.now).told in
     let before = c.loop-listener.invariant.posted in
     let none : length (into_iter_items c.loop-listener.listener-iterator) ≡ 0 = first_of (search rules, grind (arith, common_steps)) in
-    let same : before.0 ≡ length c.args.listeners.items = omega (arith, before.1, none) in
-    subst (λ (k : ℕ). AllZip (R policy moments) (ps ++ posts_at (interface_post c.args.which port) k) c.loop-listener.jobs.items) same (before.3 port n policy moments ps all)
+    let same : before.0 ≡ length c.args.interface.listeners.items = omega (arith, before.1, none) in
+    subst (λ (k : ℕ). AllZip (R policy moments) (ps ++ posts_at (interface_post c.args.interface.which port) k) c.loop-listener.jobs.items) same (before.3 port n policy moments ps all)

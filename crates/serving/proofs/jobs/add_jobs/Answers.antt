@@ -1,9 +1,10 @@
-use Rattle.std.proofs.Common.{◌≡◌, ◌+◌, sym, subst, ◌∙◌, arith, length}
+use Rattle.std.proofs.Common.{◌≡◌, ◌+◌, ◌++◌, List, ap, sym, subst, ◌∙◌, arith, length}
 use Rattle.std.specs.Prelude.{Option}
 use Rattle.std.specs.List.{AllZip}
 use Rattle.line_base.specs.Nets.{Returns}
 use Rattle.line_base.specs.Dials.{Upstream}
-use Rattle.serving.specs.Jobs.{IsPosted}
+use Rattle.serving.specs.Hands.{AreNewHands}
+use Rattle.serving.specs.Jobs.{IsPosted, RouterJob, recorders_of_jobs}
 use Rattle.serving.specs.Posts.{jobs_of, main_posts, posts_of}
 use Rattle.serving.specs.Running.{AreNewFeed, AreNewFrom}
 use Rattle.serving.proofs.Posting.{all_stops, main_posted, told_kept}
@@ -24,16 +25,20 @@ returns-clause-posted g c =
     let same_2 = told_kept (length bound.namerd.items) (g.N.Net.state c.add_proxy_jobs.new.net) (g.N.Net.state c.add_api_jobs.new.net) second.stops ∙ same_1 in
     let namerd = subst (λ (t : Option (Returns g.row.N-L-P.Denot)). AreNewFrom g.N.L.Listener.state t site.namerd 0 bound.namerd.items) (sym same_1) c.requires.listens.namerd in
     let admin = subst (λ (t : Option (Returns g.row.N-L-P.Denot)). AreNewFrom g.N.L.Listener.state t site.admin 0 bound.admin.items) (sym same_2) c.requires.listens.admin in
-    let main = main_posted (λ t. IsPosted {J = g.row.J.Denot} {D = g.row.N-D.Denot} {A = g.row.A.Denot} {B = g.row.B.Denot} {E = g.row.E.Denot} {F = g.row.F.Denot} {h = g.J.Handling} {g = g.J.Naming} g.N.L.Listener.state upstream g.C.Clock.to_come g.N.S.Stop.calls site.policy moments t) site told
+    let main = main_posted (λ t. IsPosted {J = g.row.J.Denot} {D = g.row.N-D.Denot} {K = g.row.K.Denot} {X = g.row.X.Denot} {A = g.row.A.Denot} {B = g.row.B.Denot} {E = g.row.E.Denot} {F = g.row.F.Denot} {h = g.J.Handling} {g = g.J.Naming} g.N.L.Listener.state upstream g.C.Clock.to_come g.N.S.Stop.calls site.policy moments t) site told
     (g.N.Net.state c.add_proxy_jobs.new.net).told (g.N.Net.state c.add_api_jobs.new.net).told _ _ _ c.args.jobs.now.items c.add_proxy_jobs.new.jobs.items c.add_api_jobs.new.jobs.items
     c.add_api_jobs-2.new.jobs.items same_1 same_2 count.0 count.1 count.2 c.requires.none_yet first.posted (second.posted site.namerd namerd site.policy moments)
     (third.posted site.admin admin site.policy moments) in
     let fourth = c.add_feed_jobs.ensures in
     let same_3 = told_kept (length bound.admin.items) (g.N.Net.state c.add_api_jobs.new.net) (g.N.Net.state c.add_api_jobs-2.new.net) third.stops ∙ same_2 in
-    let By = λ (t : Option (Returns g.row.N-L-P.Denot)). IsPosted {J = g.row.J.Denot} {D = g.row.N-D.Denot} {A = g.row.A.Denot} {B = g.row.B.Denot} {E = g.row.E.Denot} {F = g.row.F.Denot} {h = g.J.Handling} {g = g.J.Naming} g.N.L.Listener.state upstream g.C.Clock.to_come g.N.S.Stop.calls site.policy moments t in
+    let By = λ (t : Option (Returns g.row.N-L-P.Denot)). IsPosted {J = g.row.J.Denot} {D = g.row.N-D.Denot} {K = g.row.K.Denot} {X = g.row.X.Denot} {A = g.row.A.Denot} {B = g.row.B.Denot} {E = g.row.E.Denot} {F = g.row.F.Denot} {h = g.J.Handling} {g = g.J.Naming} g.N.L.Listener.state upstream g.C.Clock.to_come g.N.S.Stop.calls site.policy moments t in
     let then = subst (λ (t : Option (Returns g.row.N-L-P.Denot)). AllZip (By t) (main_posts site) c.add_api_jobs-2.new.jobs.items) (sym same_3) main in
     subst (λ (t : Option (Returns g.row.N-L-P.Denot)). AllZip (By t) (posts_of site) c.add_feed_jobs.new.jobs.items) same_3
     (fourth.posted site.policy moments (main_posts site) then)
+
+pub add_api_jobs-requires-clause-new_hands : goal.add_api_jobs-requires-clause-new_hands
+add_api_jobs-requires-clause-new_hands g c κs within =
+    subst AreNewHands (sym c.into_iter-hands.ensures.rest) c.requires.supplied.new_callers
 
 pub add_feed_jobs-requires-clause-new : goal.add_feed_jobs-requires-clause-new
 add_feed_jobs-requires-clause-new g c κs within =
@@ -55,3 +60,12 @@ returns-clause-stops g c =
     all_stops (g.N.Net.state c.args.net.now) (g.N.Net.state c.add_proxy_jobs.new.net) (g.N.Net.state c.add_api_jobs.new.net) (g.N.Net.state c.add_api_jobs-2.new.net)
     (g.N.Net.state c.add_feed_jobs.new.net) (length bound.server.items) (length bound.namerd.items) (length bound.admin.items) (length bound.feed.items) (jobs_of c.args.setup.now.site.now)
     c.add_proxy_jobs.ensures.stops c.add_api_jobs.ensures.stops c.add_api_jobs-2.ensures.stops c.add_feed_jobs.ensures.stops sum
+
+pub returns-clause-recorders : goal.returns-clause-recorders
+returns-clause-recorders g c =
+    let first = c.add_proxy_jobs.ensures in
+    let second = c.add_api_jobs.ensures in
+    let third = c.add_api_jobs-2.ensures in
+    let fourth = c.add_feed_jobs.ensures in
+    fourth.recorders ∙ (third.recorders ∙ (second.recorders ∙ (first.recorders
+    ∙ ap (λ (js : List (RouterJob g.row.N-L-P.Denot g.row.J.Denot g.row.N-L.Denot g.row.N-D.Denot g.row.C.Denot g.row.K.Denot g.row.N-S.Denot g.row.X.Denot g.row.A.Denot g.row.B.Denot g.row.E.Denot g.row.F.Denot g.J.Handling g.J.Naming)). recorders_of_jobs js ++ c.args.supplies.instruments.recorders.items) c.requires.none_yet)))

@@ -10,21 +10,20 @@ use Rattle.line_base.specs.Nets.{IsNewLog, Networking, Returns, after_stopper}
 use Rattle.serving.specs.declared.policy.Policy.{Policy}
 use Rattle.linker_config.specs.declared.config.Port.{Port}
 use Rattle.line_base.specs.Dials.{Upstream}
-use Rattle.serving.specs.Jobs.{IsPosted, pass_of}
+use Rattle.serving.specs.Jobs.{IsPosted, RouterJob, pass_of, recorder_of, recorders_of_jobs}
 use Rattle.serving.specs.Posts.{client_post, posts_at}
 use Rattle.serving.specs.Returning.{with_stops}
 use Rattle.serving.specs.Running.{AreNewFrom}
-use Rattle.serving.specs.declared.job.ServingJob.{ServingJob}
 use Rattle.serving.specs.Hands.{AreNewHands}
 use Rattle.serving.proofs.Chains.{free_rest, new_first, new_rest}
 use Rattle.serving.proofs.Posting.{next_new, stops_moved}
-use Rattle.serving.proofs.Zipping.{begins_with, handed, none_posted, one_posted}
+use Rattle.serving.proofs.Zipping.{begins_with, handed, lists_moved, none_posted, nothing_left, one_posted}
 use Rattle.serving.proofs.jobs.add_proxy_jobs.Goals as goal
 
 pub loop-listener-init : goal.loop-listener-init
 loop-listener-init g c =
     let upstream = λ (d : g.row.N-D.Denot). let u : Upstream = g.N.D.Dialer.upstream d in u in
-    let R = λ (policy : Policy) (moments : Option (List ℕ)). IsPosted {J = g.row.J.Denot} {D = g.row.N-D.Denot} {A = g.row.A.Denot} {B = g.row.B.Denot} {E = g.row.E.Denot} {F = g.row.F.Denot} {h = g.J.Handling} {g = g.J.Naming} g.N.L.Listener.state upstream g.C.Clock.to_come g.N.S.Stop.calls policy moments (g.N.Net.state c.args.net.now).told in
+    let R = λ (policy : Policy) (moments : Option (List ℕ)). IsPosted {J = g.row.J.Denot} {D = g.row.N-D.Denot} {K = g.row.K.Denot} {X = g.row.X.Denot} {A = g.row.A.Denot} {B = g.row.B.Denot} {E = g.row.E.Denot} {F = g.row.F.Denot} {h = g.J.Handling} {g = g.J.Naming} g.N.L.Listener.state upstream g.C.Clock.to_come g.N.S.Stop.calls policy moments (g.N.Net.state c.args.net.now).told in
     let whole = c.into_iter-listener-iterator.ensures.into_iter_gives.0 in
     let many = ap length whole in
     let new = λ (port : Port) (n : AreNewFrom g.N.L.Listener.state (g.N.Net.state c.args.net.now).told port 0 c.args.listeners.items).
@@ -35,6 +34,8 @@ loop-listener-init g c =
       rest = omega (arith, many);
       enough = omega (arith, many, c.requires.enough);
       rooms = let all = ap length c.into_iter-rooms.ensures.rest in omega (arith, many, all, c.requires.rooms);
+      recorders = ap (λ (ks : List g.row.K.Denot). recorders_of_jobs c.args.jobs.now.items ++ ks) c.into_iter-recorders.ensures.rest;
+      recorders_left = let all = ap length c.into_iter-recorders.ensures.rest in omega (arith, many, all, c.requires.recorders);
       hands = let all = ap length c.into_iter-hands.ensures.rest in omega (arith, many, all, c.requires.hands);
       new_hands = subst AreNewHands (sym c.into_iter-hands.ensures.rest) c.requires.new_hands;
       room = omega (arith, many, c.requires.room);
@@ -51,7 +52,7 @@ loop-listener-init g c =
 pub loop-listener-preserved : goal.loop-listener-preserved
 loop-listener-preserved g c =
     let upstream = λ (d : g.row.N-D.Denot). let u : Upstream = g.N.D.Dialer.upstream d in u in
-    let R = λ (policy : Policy) (moments : Option (List ℕ)). IsPosted {J = g.row.J.Denot} {D = g.row.N-D.Denot} {A = g.row.A.Denot} {B = g.row.B.Denot} {E = g.row.E.Denot} {F = g.row.F.Denot} {h = g.J.Handling} {g = g.J.Naming} g.N.L.Listener.state upstream g.C.Clock.to_come g.N.S.Stop.calls policy moments (g.N.Net.state c.args.net.now).told in
+    let R = λ (policy : Policy) (moments : Option (List ℕ)). IsPosted {J = g.row.J.Denot} {D = g.row.N-D.Denot} {K = g.row.K.Denot} {X = g.row.X.Denot} {A = g.row.A.Denot} {B = g.row.B.Denot} {E = g.row.E.Denot} {F = g.row.F.Denot} {h = g.J.Handling} {g = g.J.Naming} g.N.L.Listener.state upstream g.C.Clock.to_come g.N.S.Stop.calls policy moments (g.N.Net.state c.args.net.now).told in
     let inv = c.loop-listener.invariant in
     let cut = c.in-Some.ensures.steps.0 in
     let shorter = ap length cut in
@@ -62,14 +63,16 @@ loop-listener-preserved g c =
     let next = next_new g.N.L.Listener.state told c.args.setup.now.site.now.server c.loop-listener.number (c.loop-listener.number + 1) _ _ c.in-Some.listener refl cut inv.new in
     let same = ap (λ (n : Networking g.row.N-L-P.Denot). n.told) c.dialer.ensures.kept.0 ∙ inv.told in
     record {
-      passes = handed (λ (j : ServingJob g.row.N-L-P.Denot g.row.J.Denot g.row.N-L.Denot g.row.N-D.Denot g.row.C.Denot g.row.N-S.Denot g.row.A.Denot g.row.B.Denot g.row.E.Denot g.row.F.Denot g.J.Handling g.J.Naming). pass_of j) _ _ _ _ _ _ pushed.items
+      passes = handed (λ (j : RouterJob g.row.N-L-P.Denot g.row.J.Denot g.row.N-L.Denot g.row.N-D.Denot g.row.C.Denot g.row.K.Denot g.row.N-S.Denot g.row.X.Denot g.row.A.Denot g.row.B.Denot g.row.E.Denot g.row.F.Denot g.J.Handling g.J.Naming). pass_of j) _ _ _ _ _ _ pushed.items
           (begins_with _ _ _ _ c.of.ensures.pass taken) inv.passes;
       count = omega (arith, pushed.len, inv.count, shorter);
       rest = omega (arith, inv.rest, shorter, fewer);
       enough = omega (arith, inv.enough, shorter, fewer);
       rooms = let less = ap length c.in-Some-next-2.ensures.items in omega (arith, inv.rooms, shorter, less);
-      hands = let less = ap length c.in-Some-next-3.ensures.items in omega (arith, inv.hands, shorter, less);
-      new_hands = new_rest _ _ c.in-Some-next-3.hand c.in-Some-next-3.ensures.items inv.new_hands;
+      recorders = lists_moved (λ (j : RouterJob g.row.N-L-P.Denot g.row.J.Denot g.row.N-L.Denot g.row.N-D.Denot g.row.C.Denot g.row.K.Denot g.row.N-S.Denot g.row.X.Denot g.row.A.Denot g.row.B.Denot g.row.E.Denot g.row.F.Denot g.J.Handling g.J.Naming). recorder_of j) recorders_of_jobs refl (λ j js. refl) _ _ _ c.in-Some-next-3.recorder _ _ _ pushed.items refl c.in-Some-next-3.ensures.items inv.recorders;
+      recorders_left = let less = ap length c.in-Some-next-3.ensures.items in omega (arith, inv.recorders_left, shorter, less);
+      hands = let less = ap length c.in-Some-next-4.ensures.items in omega (arith, inv.hands, shorter, less);
+      new_hands = new_rest _ _ c.in-Some-next-4.hand c.in-Some-next-4.ensures.items inv.new_hands;
       room = omega (arith, pushed.len, pushed.capacity, inv.room, shorter);
       capacity = pushed.capacity ∙ inv.capacity;
       free = free_rest _ _ c.in-Some-next.pass taken inv.free;
@@ -91,7 +94,7 @@ loop-listener-preserved g c =
             policy_is = refl;
             lacked = refl;
             stops = c.stopper.ensures.calls;
-            hand = new_first _ _ c.in-Some-next-3.hand c.in-Some-next-3.ensures.items inv.new_hands;
+            hand = new_first _ _ c.in-Some-next-4.hand c.in-Some-next-4.ensures.items inv.new_hands;
           });
       told = ap (λ (n : Networking g.row.N-L-P.Denot). n.told) c.stopper.ensures.state ∙ same;
       stops = stops_moved _ _ c.in-Some.listener (g.N.Net.state c.loop-listener.net) _ _ cut (c.stopper.ensures.state ∙ ap after_stopper c.dialer.ensures.kept.0) inv.stops;
@@ -101,8 +104,15 @@ loop-listener-preserved g c =
 pub returns-clause-posted : goal.returns-clause-posted
 returns-clause-posted g c = λ ps all.
     let upstream = λ (d : g.row.N-D.Denot). let u : Upstream = g.N.D.Dialer.upstream d in u in
-    let R = λ (policy : Policy) (moments : Option (List ℕ)). IsPosted {J = g.row.J.Denot} {D = g.row.N-D.Denot} {A = g.row.A.Denot} {B = g.row.B.Denot} {E = g.row.E.Denot} {F = g.row.F.Denot} {h = g.J.Handling} {g = g.J.Naming} g.N.L.Listener.state upstream g.C.Clock.to_come g.N.S.Stop.calls policy moments (g.N.Net.state c.args.net.now).told in
+    let R = λ (policy : Policy) (moments : Option (List ℕ)). IsPosted {J = g.row.J.Denot} {D = g.row.N-D.Denot} {K = g.row.K.Denot} {X = g.row.X.Denot} {A = g.row.A.Denot} {B = g.row.B.Denot} {E = g.row.E.Denot} {F = g.row.F.Denot} {h = g.J.Handling} {g = g.J.Naming} g.N.L.Listener.state upstream g.C.Clock.to_come g.N.S.Stop.calls policy moments (g.N.Net.state c.args.net.now).told in
     let inv = c.loop-listener.invariant in
     let none : length (into_iter_items c.loop-listener.listener-iterator) ≡ 0 = first_of (search rules, grind (arith, common_steps)) in
     let same : c.loop-listener.number ≡ length c.args.listeners.items = omega (arith, inv.place, none) in
     subst (λ (k : ℕ). AllZip (R c.args.setup.now.site.now.policy (g.C.Clock.of_fork c.args.clock.now)) (ps ++ posts_at (client_post c.args.setup.now.site.now) k) c.loop-listener.jobs.items) same (inv.posted ps all)
+
+pub returns-clause-recorders : goal.returns-clause-recorders
+returns-clause-recorders g c =
+    let inv = c.loop-listener.invariant in
+    let none : length (into_iter_items c.loop-listener.listener-iterator) ≡ 0 = first_of (search rules, grind (arith, common_steps)) in
+    nothing_left (recorders_of_jobs c.loop-listener.jobs.items) (into_iter_items c.loop-listener.recorders) _
+    (omega (arith, inv.recorders_left, none)) inv.recorders

@@ -1,9 +1,12 @@
-use Rattle.std.proofs.Common.{◌≡◌, ◌+◌, ◌++◌, List, ap, arith, length, refl, ◌∙◌}
+use Rattle.std.proofs.Common.{◌≡◌, ◌++◌, List, ap, arith, length, refl, ◌∙◌}
 use Rattle.std.specs.Vec.Iter.{into_iter_items}
+use Rattle.std.specs.Prelude.{Option}
+use Rattle.line_base.specs.declared.socket_address.SocketAddress.{SocketAddress}
 use Rattle.line_base.specs.Dials.{Upstream}
 use Rattle.line_base.specs.Lines.{Line}
 use Rattle.router.specs.declared.pass.Pass.{Pass}
 use Rattle.router.specs.Closing.{numbers_of}
+use Rattle.scrape.specs.Scrapes.{Scraping}
 use Rattle.serving.specs.Jobs.{passes_of_jobs}
 use Rattle.serving.specs.Posts.{jobs_of}
 use Rattle.serving.proofs.Chains.{numbers_stay}
@@ -19,6 +22,8 @@ run_apart-ran-requires-clause-room g c κs within =
 pub returns : goal.returns
 returns g c =
     let line_of = λ (p : g.row.N-L-P.Denot). let l : Line = g.N.L.P.Peer.line p in l in
+    let address_of = λ (p : g.row.N-L-P.Denot). let a : Option SocketAddress = g.N.L.P.Peer.address p in a in
+    let told_of = λ (x : g.row.X.Denot). let s : Scraping = g.X.Scrape.told x in s in
     let upstream = λ (d : g.row.N-D.Denot). let u : Upstream = g.N.D.Dialer.upstream d in u in
     let site = c.args.setup.now.site.now in
     let moments = g.C.Clock.of_fork c.args.clock.now in
@@ -48,7 +53,8 @@ returns g c =
       numbers = numbers_stay passes (passes_of_jobs jobs) rest new.passes.items _ handed same refl;
       stops = posted.stops;
       kept = posted.kept;
-      tended = λ is good. have_tended line_of g.N.L.Listener.state upstream g.C.Clock.to_come
-          g.N.S.Stop.calls site moments told jobs passes rest old new posted.posted handed
-          c.requires.nothing (ran.came is) good;
+      tended = λ is good. have_tended line_of address_of g.K.Recorder g.N.L.Listener.state
+          upstream g.C.Clock.to_come g.N.S.Stop.calls told_of site moments told jobs passes rest
+          c.args.inputs.supplies.instruments.recorders.items old new posted.posted handed
+          posted.recorders c.requires.nothing (ran.came is) good;
     }

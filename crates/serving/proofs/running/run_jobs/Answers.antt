@@ -1,9 +1,10 @@
-use Rattle.std.proofs.Common.{◌≡◌, ℕ, Bool, false, ap, arith, sym, subst, ◌∙◌}
+use Rattle.std.proofs.Common.{ℕ, Bool, List, false, ap, arith, sym, subst, ◌∙◌}
 use Rattle.std.specs.Vec.Iter.{into_iter_items}
+use Rattle.std.specs.Prelude.{Option}
+use Rattle.line_base.specs.declared.socket_address.SocketAddress.{SocketAddress}
 use Rattle.line_base.specs.Dials.{Upstream}
 use Rattle.line_base.specs.Lines.{Line}
 use Rattle.line_base.specs.Nets.{Networking}
-use Rattle.router.specs.declared.pass.Pass.{Pass}
 use Rattle.router.specs.Closing.{numbers_of}
 use Rattle.serving.specs.Faults.{TellsFaults}
 use Rattle.serving.specs.Running.{HasRun, Listens}
@@ -15,7 +16,7 @@ use Rattle.serving.proofs.running.run_jobs.Goals as goal
 pub post_and_run-ran-requires-clause-listens : goal.post_and_run-ran-requires-clause-listens
 post_and_run-ran-requires-clause-listens g c κs within =
     subst (λ (n : Networking g.row.N-L-P.Denot).
-    Listens g.N.L.Listener.state n.told c.args.plan.now.site.now c.args.bound)
+    Listens g.N.L.Listener.state n.told c.args.plan.now.site.now c.args.resources.bound)
     (sym c.make_stock.ensures.kept.0) c.requires.listens
 
 pub close_all-passes-requires-clause-some : goal.close_all-passes-requires-clause-some
@@ -46,30 +47,40 @@ close_all-passes-requires-clause-room g c κs within =
 pub returns : goal.returns
 returns g c =
     let line_of = λ (p : g.row.N-L-P.Denot). let l : Line = g.N.L.P.Peer.line p in l in
+    let address_of = λ (p : g.row.N-L-P.Denot). let a : Option SocketAddress = g.N.L.P.Peer.address p in a in
     let upstream = λ (d : g.row.N-D.Denot). let u : Upstream = g.N.D.Dialer.upstream d in u in
     let kept = c.make_stock.ensures.kept in
     let ran = c.post_and_run-ran.ensures in
     let closed = c.close_all-passes.ensures in
     let passes = c.close_all-passes.result.1.items in
+    let given = c.args.resources.instruments.recorders.items in
+    let back = c.close_all-passes.result.2.items in
     record {
       numbers = ap numbers_of closed.passes ∙ ran.numbers;
       faults = subst (λ (n : ℕ). TellsFaults n (g.N.Net.faults c.close_all-passes.new.net)
           c.close_all-passes.result.0.failed) (ran.kept ∙ kept.1) closed.faults;
-      served = λ is good. subst (λ (b : Bool). HasRun line_of c.args.plan.now.site.now
-          (g.C.Clock.of_fork c.args.clock.now) c.args.passes.items passes
-          (g.N.Net.state c.args.net.now) (g.N.Net.state c.close_all-passes.new.net) b)
-          (sym closed.lacked)
-          (subst (λ (n : Networking g.row.N-L-P.Denot). HasRun line_of
-          c.args.plan.now.site.now (g.C.Clock.of_fork c.args.clock.now) c.args.passes.items passes n
+      served = λ is good. subst (λ (b : Bool). HasRun line_of address_of g.K.Recorder
+          c.args.plan.now.site.now (g.C.Clock.of_fork c.args.clock.now)
+          c.args.resources.passes.items passes given back (g.N.Net.state c.args.net.now)
+          (g.N.Net.state c.close_all-passes.new.net) b) (sym closed.lacked)
+          (subst (λ (n : Networking g.row.N-L-P.Denot). HasRun line_of address_of g.K.Recorder
+          c.args.plan.now.site.now (g.C.Clock.of_fork c.args.clock.now)
+          c.args.resources.passes.items passes given back n
           (g.N.Net.state c.close_all-passes.new.net) c.post_and_run-ran.new.apart.lacked_memory)
           kept.0
-          (has_run line_of g.N.L.Listener.state upstream g.N.S.Stop.calls
-          c.args.plan.now.site.now (g.C.Clock.of_fork c.args.clock.now) c.args.passes.items
-          (into_iter_items c.post_and_run-ran.result.1) passes c.post_and_run-ran.new.apart
-          (g.N.Net.state c.make_stock.new.net) (g.N.Net.state c.post_and_run-ran.new.net)
+          (subst (λ (ks : List g.row.K.Denot). HasRun line_of address_of g.K.Recorder
+          c.args.plan.now.site.now (g.C.Clock.of_fork c.args.clock.now)
+          c.args.resources.passes.items passes ks back (g.N.Net.state c.make_stock.new.net)
+          (g.N.Net.state c.close_all-passes.new.net) c.post_and_run-ran.new.apart.lacked_memory)
+          c.in-Ok.ensures.recorders
+          (has_run line_of address_of g.K.Recorder g.N.L.Listener.state upstream
+          g.N.S.Stop.calls c.args.plan.now.site.now (g.C.Clock.of_fork c.args.clock.now)
+          c.args.resources.passes.items (into_iter_items c.post_and_run-ran.result.1) passes _ back
+          c.post_and_run-ran.new.apart (g.N.Net.state c.make_stock.new.net)
+          (g.N.Net.state c.post_and_run-ran.new.net)
           (g.N.Net.state c.close_all-passes.new.net) g.J.Handling.rule g.J.Handling.tries
           (ran.tended is (sym closed.broken ∙ good)) ran.rest ran.stops closed.ends
-          c.requires.handled closed.passes));
+          c.requires.handled closed.passes closed.recorders)));
     }
 
 pub returns-in_default-clause-faults : goal.returns-in_default-clause-faults

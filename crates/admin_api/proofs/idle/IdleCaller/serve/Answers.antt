@@ -15,8 +15,11 @@ invariant_of-result g c =
       line = line_of i.peer;
       pass = c.learn.new.self;
       stops = g.S.Stop.calls c.args.worker.now.stop;
+      told = g.X.Scrape.told c.args.worker.now.scraper;
     } in
-    let new = standing_by line_of g.S.Stop.calls c.serve_stay.new.peer c.serve_stay.new.worker in
+    let new =
+    standing_by line_of g.S.Stop.calls g.X.Scrape.told c.serve_stay.new.peer
+    c.serve_stay.new.worker in
     let v : Visit g.row.J.Denot g.J.Naming
     = record { from = i.served; upto = c.serve_stay.result.0; old = old; new = new } in
     let idle = idle_by (line_of i.first.value) (line_of i.peer) i.which i.served
@@ -35,8 +38,11 @@ returns-in_default-Quiet-clause-stays g c =
       line = line_of i.peer;
       pass = c.learn.new.self;
       stops = g.S.Stop.calls c.args.worker.now.stop;
+      told = g.X.Scrape.told c.args.worker.now.scraper;
     } in
-    let new = standing_by line_of g.S.Stop.calls c.serve_stay.new.peer c.serve_stay.new.worker in
+    let new =
+    standing_by line_of g.S.Stop.calls g.X.Scrape.told c.serve_stay.new.peer
+    c.serve_stay.new.worker in
     let v : Visit g.row.J.Denot g.J.Naming
     = record { from = i.served; upto = c.serve_stay.result.0; old = old; new = new } in
     let first = line_of i.first.value in
@@ -50,10 +56,12 @@ returns-in_default-Quiet-clause-stays g c =
       more = l.more;
       counts = l.counts;
     } in
-    stayed_with idle c.args.self (worker_value g.S.Stop.calls c.args.worker.now)
-    (worker_value g.S.Stop.calls c.serve_stay.new.worker)
+    stayed_with idle c.args.self
+    (worker_value g.S.Stop.calls g.X.Scrape.told c.args.worker.now)
+    (worker_value g.S.Stop.calls g.X.Scrape.told c.serve_stay.new.worker)
     (idle_by first new.line i.which c.serve_stay.result.0 (told_in c.ticket.result)) v
-    c.serve_stay.result.1 paused.Quiet c.self.view_is learns refl goes c.serve_stay.ensures.stay
+    c.serve_stay.result.1 paused.Quiet c.self.view_is learns refl refl goes
+    c.serve_stay.ensures.stay
     c.in_default-Quiet.is-1 refl
     (ap (λ (ops : List Operation). idle_by first new.line i.which c.serve_stay.result.0 ops)
     c.ticket.ensures)
@@ -67,8 +75,11 @@ returns-in_default-Ended-clause-stays g c =
       line = line_of i.peer;
       pass = c.learn.new.self;
       stops = g.S.Stop.calls c.args.worker.now.stop;
+      told = g.X.Scrape.told c.args.worker.now.scraper;
     } in
-    let new = standing_by line_of g.S.Stop.calls c.serve_stay.new.peer c.serve_stay.new.worker in
+    let new =
+    standing_by line_of g.S.Stop.calls g.X.Scrape.told c.serve_stay.new.peer
+    c.serve_stay.new.worker in
     let v : Visit g.row.J.Denot g.J.Naming
     = record { from = i.served; upto = c.serve_stay.result.0; old = old; new = new } in
     let idle = idle_by (line_of i.first.value) (line_of i.peer) i.which i.served
@@ -84,9 +95,10 @@ returns-in_default-Ended-clause-stays g c =
     } in
     let behind = idle_behind idle v in (
       behind,
-      stayed_with idle c.args.self (worker_value g.S.Stop.calls c.args.worker.now)
-          (worker_value g.S.Stop.calls c.serve_stay.new.worker) behind v c.serve_stay.result.1
-          (paused.Ended c.in_default-Ended.ended) c.self.view_is learns refl goes
-          c.serve_stay.ensures.stay c.in_default-Ended.is-1 refl refl,
+      stayed_with idle c.args.self
+          (worker_value g.S.Stop.calls g.X.Scrape.told c.args.worker.now)
+          (worker_value g.S.Stop.calls g.X.Scrape.told c.serve_stay.new.worker) behind v
+          c.serve_stay.result.1 (paused.Ended c.in_default-Ended.ended) c.self.view_is learns refl
+          refl goes c.serve_stay.ensures.stay c.in_default-Ended.is-1 refl refl,
       refl,
     )

@@ -22,10 +22,12 @@ returns-in-Waits g c =
     record {
       chain = chain_by g.J.Naming.settings old.policy.now g.J.Handling.rule g.J.Handling.tries
           c.args.client old.rule old.tries stayed.chain;
-      served = waits_served upstream moments line_of g.J.Naming.settings old.policy.now
+      served = waits_served upstream moments line_of g.K.Recorder g.J.Naming.settings old.policy.now
           g.J.Handling.rule c.args.client old.server c.serve-stayed.new.server
-          c.end_idle.new.self c.in-Waits.client c.serve-stayed.result old.lacked_memory old.rule
-          idle.pass idle.clock idle.words idle.ends stayed.stays c.in-Waits.is;
+          c.end_idle.new.self old.recorder c.serve-stayed.new.recorder c.step.new.self
+          stayed.told.0 c.in-Waits.client c.serve-stayed.result old.lacked_memory old.rule
+          idle.pass idle.clock idle.words idle.ends stayed.told.1 c.in-Waits.is stayed.told.2
+          c.step.ensures;
       policy = refl;
       number = ap (λ (p : Pass g.row.J.Denot g.J.Naming). number_in p) idle.pass ∙ stayed.number;
     }
@@ -41,11 +43,13 @@ returns-in-Ends g c =
     record {
       chain = chain_by g.J.Naming.settings old.policy.now g.J.Handling.rule g.J.Handling.tries
           c.args.client old.rule old.tries stayed.chain;
-      served = ended_served upstream moments line_of g.J.Naming.settings old.policy.now
+      served = ended_served upstream moments line_of g.K.Recorder g.J.Naming.settings old.policy.now
           g.J.Handling.rule c.args.client old.server c.serve-stayed.new.server
-          c.end_idle.new.self c.in-Ends.peer c.in-Ends.ended c.serve-stayed.result
+          c.end_idle.new.self old.recorder c.serve-stayed.new.recorder c.step-in-Ends.new.self
+          stayed.told.0 c.in-Ends.peer c.in-Ends.ended c.serve-stayed.result
           old.lacked_memory c.lacked_behind-self.result old.rule idle.pass idle.clock idle.words
-          idle.ends stayed.stays c.in-Ends.is c.lacked_behind-self.ensures;
+          idle.ends stayed.told.1 c.in-Ends.is c.lacked_behind-self.ensures stayed.told.2
+          c.step-in-Ends.ensures;
       policy = refl;
       number = ap (λ (p : Pass g.row.J.Denot g.J.Naming). number_in p) idle.pass ∙ stayed.number;
     }

@@ -1,0 +1,109 @@
+//! The metrics as Prometheus scrapes them, of a service with two addresses, one of which is dead
+//! until the moment 6,000.
+use crate::connections::{Connection, Mem, run};
+use crate::rows::{ADMIN, request, said};
+use admin_api::Which::{self, Namerd};
+use std::alloc::Global;
+use std::process::Abort;
+use std::sync::Wait;
+use std::test::Fail;
+
+/// How often the second address fails before a request comes; which interface that goes to, its
+/// method and target, and its body; and how its reply begins behind `HTTP/1.1 `, and ends.
+type Row = (
+    usize,
+    Which,
+    &'static str,
+    &'static str,
+    &'static str,
+    &'static str,
+);
+
+/// The fields of the reply with all metrics, and the first of them.
+const FIRST: &str =
+    "200 OK\r\nContent-Type: text/plain; version=0.0.4; charset=utf-8\r\nContent-Length: 4687\r\n\r\n# HELP linker_changes_total Changes of tables, services and marks that were accepted.\n# TYPE linker_changes_total counter\nlinker_changes_total 6\n# HELP linker_marks Addresses with failures that count against them.\n# TYPE linker_marks gauge\nlinker_marks 1\n# HELP linker_namespaces Namespaces.\n# TYPE linker_namespaces gauge\nlinker_namespaces 0\n# HELP linker_services Services.\n# TYPE linker_services gauge\nlinker_services 1\n# HELP linker_requests_total ";
+
+const ROWS: [Row; 6] = [
+    (
+        0,
+        ADMIN,
+        "PUT /api/1/addrs/web",
+        "127.0.0.1 1\n127.0.0.1 2\n",
+        "204 No Content\r\n\r\n",
+        "",
+    ),
+    // The clock of the worker gives 5,999, and from the next scrape on 6,000.
+    (
+        5,
+        ADMIN,
+        "GET /admin/metrics/prometheus",
+        "",
+        FIRST,
+        "\nlinker_service_addresses{service=\"web\"} 2\n# HELP linker_service_live_addresses Addresses of a service that are alive.\n# TYPE linker_service_live_addresses gauge\nlinker_service_live_addresses{service=\"web\"} 1\n",
+    ),
+    (
+        0,
+        ADMIN,
+        "PUT /admin/metrics/prometheus",
+        "",
+        "405 Method Not Allowed\r\nAllow: GET, HEAD\r\nContent-Type: text/plain\r\nContent-Length: 7\r\n\r\n",
+        "\r\n\r\nmethod\n",
+    ),
+    (
+        0,
+        Namerd,
+        "GET /admin/metrics/prometheus",
+        "",
+        "404 Not Found\r\nContent-Type: text/plain\r\nContent-Length: 5\r\n\r\n",
+        "\r\n\r\npath\n",
+    ),
+    (
+        0,
+        ADMIN,
+        "GET /admin/metrics/prometheus?x=1",
+        "",
+        FIRST,
+        "\nlinker_service_live_addresses{service=\"web\"} 2\n",
+    ),
+    (
+        0,
+        ADMIN,
+        "HEAD /admin/metrics/prometheus",
+        "",
+        "200 OK\r\nContent-Type: text/plain; version=0.0.4; charset=utf-8\r\nContent-Length: 4687\r\n\r\n",
+        "Content-Length: 4687\r\n\r\n",
+    ),
+];
+
+/// The connections of the rows.
+fn connections(alloc: Global) -> Mem<Vec<Connection>> {
+    let mut all = Vec::new(alloc);
+    for (failures, to, asks, body, _begin, _end) in &ROWS {
+        all.push(Connection {
+            failures: *failures,
+            ..Connection::of(*to, request(alloc, asks, "", body.as_bytes())?)
+        })?;
+    }
+    Ok(all)
+}
+
+/// The replies to the requests of the rows, on a new router.
+fn replies<R: Wait + Abort>(rt: &R, alloc: Global) -> Result<Vec<String>, Fail> {
+    let served = run(rt, alloc, connections(alloc)?.as_slice())?;
+    let mut replies = Vec::new(alloc);
+    for one in &served {
+        replies.push(said(alloc, one.given.as_slice())?)?;
+    }
+    Ok(replies)
+}
+
+#[test]
+fn metrics_are_scraped(rt: HostRuntime) -> Result<(), Fail> {
+    let replies = replies(&rt, rt.alloc())?;
+    assert_eq!(rt; replies.len(), ROWS.len());
+    for (told, (_failures, _to, asks, _body, begin, end)) in replies.iter().zip(&ROWS) {
+        assert!(rt; told.as_str().starts_with(*begin), "{asks}: {told}");
+        assert!(rt; told.as_str().ends_with(*end), "{asks}: {told}");
+    }
+    Ok(())
+}
