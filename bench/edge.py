@@ -77,9 +77,9 @@ class Replica:
 
 
 @contextlib.contextmanager
-def proxy(replicas, workers, descriptors=None, server=None, before=()):
+def proxy(replicas, workers, descriptors=None, server=None, before=(), keys=None):
     """A proxy whose services are these replicas, by their names. `server` has further keys of the
-    router's server, and `before` stands before the program's words."""
+    router's server and `keys` of the router, and `before` stands before the program's words."""
     with tempfile.TemporaryDirectory() as folder:
         router, namerd, admin = free_ports(3)
         os.mkdir(os.path.join(folder, "disco"))
@@ -94,6 +94,7 @@ def proxy(replicas, workers, descriptors=None, server=None, before=()):
                 "protocol": "http",
                 "dtab": "/svc => /#/io.l5d.fs",
                 "servers": [{"port": router, **(server or {})}],
+                **(keys or {}),
             }],
             "workers": workers,
         }
@@ -110,6 +111,7 @@ def proxy(replicas, workers, descriptors=None, server=None, before=()):
             line = program.stdout.readline()
             program.router, program.namerd, program.admin = router, namerd, admin
             program.first_line = line
+            program.folder = folder
             try:
                 yield program
             finally:

@@ -5,14 +5,16 @@
 usage: bench/waiting.py [--program PATH] [--only linker|nginx] [--idle 10000] [--busy 64]
            [--workers 64] [--rounds 3] [--seconds 4] [--clients 2000] [--paced-seconds 20]
 
-It takes about four minutes. Both proxies keep connections to replicas. They have one half of the
+It takes about six minutes. Both proxies keep connections to replicas. They have one half of the
 processors, clients and replicas the other.
 
 1. 64 busy clients on 64 workers, with nothing beside and with 10,000 idle ones. Each idle client
    was opened, at 2,000 a second, had one request answered and is silent since. Measured are the
    processor time of a request, memory, and the time from the opening of a new connection to its
-   first answer. The two are taken in turn, `--rounds` times. Then each idle client asks once more.
+   first answer. The two are taken in turn, and each idle client then asks once more.
 2. 2,000 clients that send a request a second for 20 seconds, over a kept connection each.
+
+   Of both there are `--rounds`, and the proxies take turns in them.
 3. `linker` alone, while a table is put 200 times a second through namerd's interface: the same
    2,000 clients, and then busy ones, four times as many as before, so that connections wait though
    they are busy, and go from worker to worker.
@@ -313,43 +315,41 @@ def faults_of(what, said, due=None):
             yield f"{what}: {said[kind]:,} {kind}, the first: {said['problem']}"
 
 
-def idle_beside_busy(load, proxy, options, wrong):
-    """The figures of the first load, each a list over the rounds."""
-    found = {key: [] for key in ("alone", "beside", "requests", "memory", "with_idle", "first",
-                                 "first_beside", "opening", "again")}
-    busy(load, proxy, options.busy, 1)
-    for round_ in range(options.rounds):
-        before = descriptors(proxy.pid)
+def no_figures():
+    """The figures of a proxy before its first round, each a list over the rounds."""
+    return {key: [] for key in ("alone", "beside", "requests", "memory", "with_idle", "first",
+                                "first_beside", "opening", "again", "paced")}
+
+
+def idle_beside_busy(load, proxy, options, wrong, found):
+    """A round of the first load."""
+    before = descriptors(proxy.pid)
+    took, said = busy(load, proxy, options.busy, options.seconds)
+    wrong += faults_of(f"{proxy.name}: busy clients", said)
+    found["alone"].append(took)
+    found["requests"].append(said["answered"] / said["seconds"])
+    probes = load.run("probe", proxy.port, PROBES, PROBE_RATE)
+    wrong += faults_of(f"{proxy.name}: new connections", probes)
+    found["first"].append((probes["p50"], probes["p99"]))
+    found["memory"].append(resident_megabytes(proxy.pid))
+    began = time.monotonic()
+    with load.held(proxy.port, options.idle) as held:
+        wrong += faults_of(f"{proxy.name}: idle clients", held, options.idle)
+        found["opening"].append((held["p50"], held["p99"], held["answered"]))
         took, said = busy(load, proxy, options.busy, options.seconds)
-        wrong += faults_of(f"{proxy.name}: busy clients", said)
-        found["alone"].append(took)
-        found["requests"].append(said["answered"] / said["seconds"])
+        wrong += faults_of(f"{proxy.name}: busy clients beside idle ones", said)
+        found["beside"].append(took)
+        found["with_idle"].append(resident_megabytes(proxy.pid))
         probes = load.run("probe", proxy.port, PROBES, PROBE_RATE)
-        wrong += faults_of(f"{proxy.name}: new connections", probes)
-        found["first"].append((probes["p50"], probes["p99"]))
-        found["memory"].append(resident_megabytes(proxy.pid))
-        began = time.monotonic()
-        with load.held(proxy.port, options.idle) as held:
-            wrong += faults_of(f"{proxy.name}: idle clients", held, options.idle)
-            found["opening"].append((held["p50"], held["p99"], held["answered"]))
-            took, said = busy(load, proxy, options.busy, options.seconds)
-            wrong += faults_of(f"{proxy.name}: busy clients beside idle ones", said)
-            found["beside"].append(took)
-            found["with_idle"].append(resident_megabytes(proxy.pid))
-            probes = load.run("probe", proxy.port, PROBES, PROBE_RATE)
-            wrong += faults_of(f"{proxy.name}: new connections beside idle ones", probes)
-            found["first_beside"].append((probes["p50"], probes["p99"]))
-        at_end = held["at_end"]
-        if (ended := at_end["ended"] + at_end["reopened"]) > 0:
-            wrong.append(f"{proxy.name}: {ended:,} idle clients were ended within "
-                         f"{time.monotonic() - began:.0f} s")
-        wait_for_descriptors(proxy.pid, before + options.busy)
-        if held["answered"] < options.idle:
-            # It doesn't hold so many: further rounds would say the same.
-            break
-        wrong += faults_of(f"{proxy.name}: idle clients that ask again", at_end, 2 * options.idle)
-        found["again"].append((at_end["p50"], at_end["p99"]))
-    return found
+        wrong += faults_of(f"{proxy.name}: new connections beside idle ones", probes)
+        found["first_beside"].append((probes["p50"], probes["p99"]))
+    at_end = held["at_end"]
+    if (ended := at_end["ended"] + at_end["reopened"]) > 0:
+        wrong.append(f"{proxy.name}: {ended:,} idle clients were ended within "
+                     f"{time.monotonic() - began:.0f} s")
+    wait_for_descriptors(proxy.pid, before + options.busy)
+    wrong += faults_of(f"{proxy.name}: idle clients that ask again", at_end, 2 * options.idle)
+    found["again"].append((at_end["p50"], at_end["p99"]))
 
 
 def paced(load, proxy, options, wrong, what):
@@ -373,14 +373,28 @@ def beside_swaps(load, linker, options, wrong):
         swapping.join()
 
 
-def figures_of(load, proxy, options, wrong):
-    with tempfile.TemporaryDirectory() as folder, proxy.running(folder):
-        found = idle_beside_busy(load, proxy, options, wrong)
-        found["paced"] = paced(load, proxy, options, wrong, "paced clients")
-        if isinstance(proxy, Linker):
-            found["swapped"], found["many"] = beside_swaps(load, proxy, options, wrong)
-            found["swaps"] = proxy.swaps, proxy.swap_seconds
-    return found
+def figures_of(load, proxies, options, wrong):
+    """The figures of each proxy, by its name. Rounds are taken in turn, so that what else the
+    machine does meets each of them."""
+    figures = {proxy.name: no_figures() for proxy in proxies}
+    with contextlib.ExitStack() as running:
+        for proxy in proxies:
+            folder = running.enter_context(tempfile.TemporaryDirectory())
+            running.enter_context(proxy.running(folder))
+            busy(load, proxy, options.busy, 1)
+        for _ in range(options.rounds):
+            for proxy in proxies:
+                idle_beside_busy(load, proxy, options, wrong, figures[proxy.name])
+        for _ in range(options.rounds):
+            for proxy in proxies:
+                said = paced(load, proxy, options, wrong, "paced clients")
+                figures[proxy.name]["paced"].append(said)
+        for proxy in proxies:
+            if isinstance(proxy, Linker):
+                found = figures[proxy.name]
+                found["swapped"], found["many"] = beside_swaps(load, proxy, options, wrong)
+                found["swaps"] = proxy.swaps, proxy.swap_seconds
+    return figures
 
 
 def least(values):
@@ -441,12 +455,14 @@ def rows_of(options, figures):
     paced_ = f"{options.clients:,} clients, a request a second"
     count = options.clients * options.paced_seconds
     yield row(f"{paced_}: answered",
-              lambda found: f"{found['paced']['answered']:,} of {count:,}", "all")
-    percentiles = lambda said: " / ".join(
-        f"{said[key] / 1000:.2f}" for key in ("p50", "p99", "most"))
+              lambda found: f"{min(said['answered'] for said in found['paced']):,} of {count:,}",
+              "all")
+    middle = lambda rounds, key: statistics.median(said[key] for said in rounds)
+    percentiles = lambda rounds: " / ".join(
+        f"{middle(rounds, key) / 1000:.2f}" for key in ("p50", "p99", "most"))
     aim = ""
     if linker and nginx:
-        times_nginx = linker["paced"]["p99"] / max(nginx["paced"]["p99"], 0.1)
+        times_nginx = middle(linker["paced"], "p99") / max(middle(nginx["paced"], "p99"), 0.1)
         aim = (f"p99 within {MOST_TIMES_NGINX} times nginx's: "
                f"{told(times_nginx <= MOST_TIMES_NGINX)} ({times_nginx:.2f})")
     yield row("their replies, p50 / p99 / longest ms",
@@ -457,7 +473,7 @@ def rows_of(options, figures):
         yield row(f"beside {swaps / seconds:.0f} swaps of the table a second: answered",
                   swapped(lambda found: f"{found['swapped']['answered']:,} of {count:,}"), "all")
         yield row("their replies, p50 / p99 / longest ms",
-                  swapped(lambda found: percentiles(found["swapped"])))
+                  swapped(lambda found: percentiles([found["swapped"]])))
         yield row(f"{4 * options.busy} busy clients on {options.workers} workers beside the same: "
                   "answered", swapped(lambda found: f"{found['many']['answered']:,} of "
                                                     f"{found['many']['due']:,}"), "all")
@@ -497,10 +513,8 @@ def main():
             if not shutil.which("nginx"):
                 print("nginx is not here, so nothing is compared with it")
                 del proxies["nginx"]
-            figures = {
-                name: figures_of(load, proxy, options, wrong)
-                for name, proxy in proxies.items() if options.only in (None, name)
-            }
+            measured = [proxy for name, proxy in proxies.items() if options.only in (None, name)]
+            figures = figures_of(load, measured, options, wrong)
     print("\n| what |", " | ".join(figures), "| aim |")
     print("|---" * (len(figures) + 2) + "|")
     for row in rows_of(options, figures):
