@@ -60,11 +60,11 @@ impl Cache {
         })
     }
 
-    /// No two bindings have one key, there are at most 1,024, and none cost more than 256 lookups.
-    pub(crate) fn is_cache(&self)
-        ensures { IsCache (bindings_of self.now) }
+    /// How many bindings it has.
+    pub fn len(&self) -> usize
+        ensures { result ≡ length (bindings_of self.now) }
     {
-        let _bindings = &self.bindings;
+        self.bindings.len()
     }
 
     /// What the path came to with the request's own table, where that is kept.

@@ -10,9 +10,7 @@ use crate::cache::Cache;
 /// lookups.
 pub fn bindings_are_apart(cache: &Cache)
     ensures { IsCache (bindings_of cache.now) }
-{
-    cache.is_cache();
-}
+{}
 
 /// A cache in which each binding is right stays so: when a right one is put in, and when it is told
 /// of a change. After a change of the namespace's table each binding that stays is right with the

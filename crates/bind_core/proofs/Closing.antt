@@ -6,7 +6,7 @@ use Rattle.std.proofs.Math.ListN.{set}
 use Rattle.bind_core.specs.Delegation.{Ending, negative, failing, no_replica, too_deep, too_wide, bound, Visit, Told}
 use Rattle.bind_core.specs.Outcome.{ended_as, traced}
 use Rattle.bind_core.specs.Stack.{ends_all, behind, end_at, closed, end_item, end_items, with_item}
-use Rattle.bind_core.specs.declared.trace.Ended.{Ended}
+use Rattle.bind_core.specs.declared.trace.LookupEnd.{LookupEnd}
 use Rattle.bind_core.specs.declared.trace.TraceItem.{TraceItem}
 use Rattle.bind_core.proofs.Narrow.{IsNarrow}
 
@@ -99,19 +99,19 @@ closed-before at vs told lt =
     elim (ends_all told.0) as P [ true ↦ refl | false ↦ ap (λ (xs : List Visit). (told.0, xs)) (end_at-front at told.0 vs told.1 lt) ]
 
 -- an item that is there is changed at its place, and one that is not is not
-end_item-set : (at : ℕ) (items : List TraceItem) (x : TraceItem) (e : Ended) → x ≡ get_or items at x → set items at (record x { ended = e }) ≡ end_item at e items
+end_item-set : (at : ℕ) (items : List TraceItem) (x : TraceItem) (e : LookupEnd) → x ≡ get_or items at x → set items at (record x { ended = e }) ≡ end_item at e items
 end_item-set at [] x e is = refl
 end_item-set zero (i ∷ items) x e is = rw is refl
 end_item-set (suc at) (i ∷ items) x e is = ap (λ (xs : List TraceItem). i ∷ xs) (end_item-set at items x e is)
 
-end_item-past : (at : ℕ) (items : List TraceItem) (e : Ended) → length items ≤ at → items ≡ end_item at e items
+end_item-past : (at : ℕ) (items : List TraceItem) (e : LookupEnd) → length items ≤ at → items ≡ end_item at e items
 end_item-past at [] e past = refl
 end_item-past zero (i ∷ items) e past = absurd (omega arith)
 end_item-past (suc at) (i ∷ items) e past = ap (λ (xs : List TraceItem). i ∷ xs) (end_item-past at items e (omega arith))
 
-pub ended_at : (visit : Option ℕ) (at : ℕ) (items : List TraceItem) (x : TraceItem) (now e : Ended) → visit ≡ Some at → now ≡ e → x ≡ get_or items at x
+pub ended_at : (visit : Option ℕ) (at : ℕ) (items : List TraceItem) (x : TraceItem) (now e : LookupEnd) → visit ≡ Some at → now ≡ e → x ≡ get_or items at x
     → set items at (record x { ended = now }) ≡ end_items visit e items
 ended_at visit at items x now e is now_is x_is = rw (is, ← now_is) (end_item-set at items x now x_is)
 
-pub ended_past : (visit : Option ℕ) (at : ℕ) (items : List TraceItem) (e : Ended) → visit ≡ Some at → length items ≤ at → items ≡ end_items visit e items
+pub ended_past : (visit : Option ℕ) (at : ℕ) (items : List TraceItem) (e : LookupEnd) → visit ≡ Some at → length items ≤ at → items ≡ end_items visit e items
 ended_past visit at items e is past = rw is (end_item-past at items e past)

@@ -9,7 +9,7 @@ use Rattle.dtab_table.specs.declared.lean_tree.LeanTree.{LeanTree}
 use Rattle.dtab_table.specs.Dtab.{rewrites}
 use Rattle.dtab_table.specs.LeanTrees.{lean_trees, lent_trees}
 use Rattle.dtab_table.specs.Rules.{Rule}
-use Rattle.bind_core.specs.declared.frame.Choice.{Choice}
+use Rattle.bind_core.specs.declared.frame.FirstOf.{FirstOf}
 use Rattle.bind_core.specs.declared.frame.Union.{Union}
 use Rattle.bind_core.specs.declared.frame.Frame.{Frame}
 use Rattle.bind_core.specs.declared.frame.Frame.TheVariants as frame
@@ -119,7 +119,7 @@ module _ (depth start now : ℕ) (count : ℕ) (stack : List Frame) (f : Frame) 
     (paid : now + owed_turns (stack ++ f ∷ []) + 0 ≤ start + turns_per_lookup depth * count +
     told_ahead depth (ending_of o)) (trim : StackTrim depth (stack ++ f ∷ [])) where
   own_some : (g : Frame) → 3 ≤ own_turns g
-  own_some (frame.Choice g) = omega arith
+  own_some (frame.FirstOf g) = omega arith
   own_some (frame.Union g) = omega arith
 
   told_on : IsToldOn stack new next → IsPaid depth start (now + 1) new count next
@@ -134,7 +134,7 @@ module _ (depth start now : ℕ) (count : ℕ) (stack : List Frame) (f : Frame) 
       → IsTrim t × (depth_of t ≤ depth) × FrameTrim depth g ×
       (now + 1 + owed_turns stack + own_turns g + 12 * depth_of t ≤ start + turns_per_lookup
       depth * count + tree_ahead depth t)
-  next_of (frame.Choice h) (frame.Choice g) t is left =
+  next_of (frame.FirstOf h) (frame.FirstOf g) t is left =
       let all = subst (FrameTrim depth) (sym is) (trim-pop depth stack f trim).1 in
       let cut : ListTrim depth (t ∷ choice_names g) = subst (ListTrim depth) left.1 all in
       let own : own_turns f ≡ 3 = ap own_turns (sym is) in
@@ -149,8 +149,8 @@ module _ (depth start now : ℕ) (count : ℕ) (stack : List Frame) (f : Frame) 
               (omega (arith, paid, owed-push stack f, own, none)) (omega arith) (λ _. omega arith),
         ),
       )
-  next_of (frame.Choice h) (frame.Union g) t is left = absurd left
-  next_of (frame.Union h) (frame.Choice g) t is left = absurd left
+  next_of (frame.FirstOf h) (frame.Union g) t is left = absurd left
+  next_of (frame.Union h) (frame.FirstOf g) t is left = absurd left
   next_of (frame.Union h) (frame.Union g) t is left =
       let all = subst (FrameTrim depth) (sym is) (trim-pop depth stack f trim).1 in
       let cut = branch_cut depth (union_branches h) (union_branches g) left.0 t
@@ -248,28 +248,28 @@ module _ (depth start now count : ℕ) (stack new : List Frame) (next : Task)
     task_trim = rw is (trim, omega (arith, less, within));
   }
 
-  choice_first : (f : Choice) (ts : List TreeValue)
-      (tried : IsTried (IsNext (frame.Choice f) negative) stack new next) (g : Frame)
+  choice_first : (f : FirstOf) (ts : List TreeValue)
+      (tried : IsTried (IsNext (frame.FirstOf f) negative) stack new next) (g : Frame)
       → g ≡ tried.frame_left → choice_names f ≡ ts → IsHead (depth_of_all (tree_values ts)) ts
       → depth_of_all (tree_values ts) ≤ depth
-      → IsNext (frame.Choice f) negative (tree_of tried.tree) g
+      → IsNext (frame.FirstOf f) negative (tree_of tried.tree) g
       → now + owed_turns stack + 12 * (1 + depth_of_all (tree_values ts)) ≤ start +
       turns_per_lookup depth * count + turns_per_lookup depth + 1
       → IsPaid depth start now new count next
-  choice_first f ts tried (frame.Choice g) same is head within left paid =
+  choice_first f ts tried (frame.FirstOf g) same is head within left paid =
       let most = depth_of_all (tree_values ts) in
       let cut : IsHead most (tree_of tried.tree ∷ choice_names g) =
       subst (IsHead most) (sym is ∙ left.1) head in
-      tried_first tried.tree tried.left (frame.Choice g) most 0 tried.is
+      tried_first tried.tree tried.left (frame.FirstOf g) most 0 tried.is
       (tried.pushed ∙ ap (λ (h : Frame). stack ++ h ∷ []) (sym same)) cut.0 cut.1 cut.2 within
       cut.3 (omega arith) paid
   choice_first f ts tried (frame.Union g) same is head within left paid = absurd left
 
-  pub alt_paid : (f : Choice) (ts : List TreeValue) → choice_names f ≡ ts
+  pub alt_paid : (f : FirstOf) (ts : List TreeValue) → choice_names f ≡ ts
       → IsTrim (alt (tree_values ts)) → depth_of (alt (tree_values ts)) ≤ depth
       → now + owed_turns stack + 12 * depth_of (alt (tree_values ts)) ≤ start + turns_per_lookup
       depth * count + turns_per_lookup depth + 1
-      → IsTurn (frame.Choice f) negative stack new next → IsPaid depth start now new count next
+      → IsTurn (frame.FirstOf f) negative stack new next → IsPaid depth start now new count next
   alt_paid f ts is trim less paid (inl ended) =
       let none_left : ts ≡ [] = sym is ∙ ended.0 refl in
       absurd (subst (λ (us : List TreeValue). BeginAll (tree_values us)) none_left trim.0)
@@ -296,7 +296,7 @@ module _ (depth start now count : ℕ) (stack new : List Frame) (next : Task)
       → now + owed_turns stack + 12 * (1 + depth_of_each bs) ≤ start + turns_per_lookup depth *
       count + turns_per_lookup depth + 1
       → IsPaid depth start now new count next
-  union_first f bs tried (frame.Choice g) same is trim front within left paid = absurd left
+  union_first f bs tried (frame.FirstOf g) same is trim front within left paid = absurd left
   union_first f bs tried (frame.Union g) same is trim front within left paid =
       let most = depth_of_each bs in
       let cut : IsFront most (branch left.0 (tree_of tried.tree) (union_branches g)) =
@@ -345,18 +345,18 @@ module _ (depth start now later count : ℕ) (stack new : List Frame) (next : Ta
       → g ≡ tried.frame_left → ListTrim depth ts → IsNextOf ts (tree_of tried.tree) g
       → IsPaid depth start later new (count + 1) next
   with_frame ts tried (frame.Union g) same trim left = absurd left
-  with_frame ts tried (frame.Choice g) same trim left =
+  with_frame ts tried (frame.FirstOf g) same trim left =
       let cut = head_first depth ts (choice_names g) (tree_of tried.tree) left trim in
-      let pushed : new ≡ stack ++ frame.Choice g ∷ [] = tried.pushed
+      let pushed : new ≡ stack ++ frame.FirstOf g ∷ [] = tried.pushed
       ∙ ap (λ (h : Frame). stack ++ h ∷ []) (sym same) in
       record {
         paid = rw (tried.is, pushed) (omega (
           arith,
-          owed-push stack (frame.Choice g),
+          owed-push stack (frame.FirstOf g),
           try_paid
               (tree_of tried.tree) 3 (omega arith) cut.1,
         ));
-        stack_trim = rw pushed (trim-push depth stack (frame.Choice g) stack_trim cut.2);
+        stack_trim = rw pushed (trim-push depth stack (frame.FirstOf g) stack_trim cut.2);
         task_trim = rw tried.is (cut.0, cut.1);
       }
 
@@ -457,9 +457,9 @@ module _ (depth start now count : ℕ) (stack : List Frame) (tree : Rewritten) (
   long_due path is = let can = leaf_due path is in
       record { paid = omega (arith, can.room); stack_trim = due.stack_trim; task_trim = tt }
 
-  pub alt_due : (f : Choice) (ts : List TreeValue) (new : List Frame) (next : Task)
+  pub alt_due : (f : FirstOf) (ts : List TreeValue) (new : List Frame) (next : Task)
       → tree_of tree ≡ alt (tree_values ts) → choice_names f ≡ ts
-      → IsTurn (frame.Choice f) negative stack new next
+      → IsTurn (frame.FirstOf f) negative stack new next
       → IsPaid depth start now new count next
   alt_due f ts new next is are turn =
       let here : Due (alt (tree_values ts)) = subst Due is due.due in

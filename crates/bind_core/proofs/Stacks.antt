@@ -52,13 +52,13 @@ ended (bound x, n) = refl
 
 module _ (rules : List Rule) (names : Names) where
   pub frame_on-more : (f : Frame) (t : Told) → length t.1 ≤ length (frame_on rules names f t).1
-  frame_on-more (frame.Choice f) t =
+  frame_on-more (frame.FirstOf f) t =
       let told = choice_told rules names f in
       omega (arith, or_else-more t told, closed-more f.visit (or_else t told))
   frame_on-more (frame.Union f) t = union_told-more (kept_of f.gathered) f.weight t (walk_each (lookup rules names f.left) (union_branches f))
 
   frame_on-ended : (f : Frame) (t : Told) → ends_all t.0 ≡ true → frame_on rules names f t ≡ t
-  frame_on-ended (frame.Choice f) t ends = ap (closed f.visit) (or_else-ended t (choice_told rules names f) ends) ∙ closed-ended f.visit t ends
+  frame_on-ended (frame.FirstOf f) t ends = ap (closed f.visit) (or_else-ended t (choice_told rules names f) ends) ∙ closed-ended f.visit t ends
   frame_on-ended (frame.Union f) t ends = union_told-ended (kept_of f.gathered) f.weight t (walk_each (lookup rules names f.left) (union_branches f)) ends
 
   -- frames that were put on later go first

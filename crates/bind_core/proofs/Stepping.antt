@@ -10,7 +10,7 @@ use Rattle.dtab_table.specs.declared.lean_tree.LeanTree.{LeanTree}
 use Rattle.dtab_table.specs.Dtab.{rewrites}
 use Rattle.dtab_table.specs.LeanTrees.{lean_trees, lent_trees}
 use Rattle.dtab_table.specs.Rules.{Rule}
-use Rattle.bind_core.specs.declared.frame.Choice.{Choice}
+use Rattle.bind_core.specs.declared.frame.FirstOf.{FirstOf}
 use Rattle.bind_core.specs.declared.frame.Union.{Union}
 use Rattle.bind_core.specs.declared.frame.Frame.{Frame}
 use Rattle.bind_core.specs.declared.frame.Frame.TheVariants as frame
@@ -101,8 +101,8 @@ module _ (rules : List Rule) (names : Names) (most : ℕ) where
       }
 
   -- a step that leaves a tree to try, and a frame with those behind it
-  pub push_step : (old new : Work) (g : Choice) (tree : Rewritten) (left : ℕ)
-      → old.count ≤ most_wide → new.stack.items ≡ old.stack.items ++ frame.Choice g ∷ []
+  pub push_step : (old new : Work) (g : FirstOf) (tree : Rewritten) (left : ℕ)
+      → old.count ≤ most_wide → new.stack.items ≡ old.stack.items ++ frame.FirstOf g ∷ []
       → new.count ≡ old.count
       → new.visits ≡ old.visits → g.left ≡ left
       → IsStep rules names most
@@ -116,7 +116,7 @@ module _ (rules : List Rule) (names : Names) (most : ℕ) where
       let frame_turns : choice_work rules g ≡ list_work (path_work rules left) (choice_names g) =
       rw left_is refl in
       record {
-        more = frame.Choice g ∷ [];
+        more = frame.FirstOf g ∷ [];
         pushed = pushed;
         less = omega arith;
         leads = λ vs fits. inl (record {
@@ -359,7 +359,7 @@ same_step rules names most asked whole few many old new next same more_turns ste
 module _ (rules : List Rule) (names : Names) (most : ℕ) (tree : TreeValue) (left : ℕ)
     (old new : Work) (next : Task) where
   -- an alternation is what is left of it
-  pub alt_step : (ts : List TreeValue) (f : Choice) → tree ≡ alt (tree_values ts) → f.left ≡ left
+  pub alt_step : (ts : List TreeValue) (f : FirstOf) → tree ≡ alt (tree_values ts) → f.left ≡ left
       → choice_names f ≡ ts → f.named ≡ None → f.visit ≡ None
       → IsStep rules names most (λ vs. choice_on rules names f (negative, vs)) (choice_work rules f)
       old new next

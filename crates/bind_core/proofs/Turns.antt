@@ -9,7 +9,7 @@ use Rattle.std.proofs.lemmas.List.{append-nil}
 use Rattle.name_tree.specs.Path.{Labels}
 use Rattle.name_tree.specs.Value.{TreeValue, Branches, no_branch, branch}
 use Rattle.dtab_table.specs.Rules.{Rule}
-use Rattle.bind_core.specs.declared.frame.Choice.{Choice}
+use Rattle.bind_core.specs.declared.frame.FirstOf.{FirstOf}
 use Rattle.bind_core.specs.declared.frame.Union.{Union}
 use Rattle.bind_core.specs.declared.frame.Frame.{Frame}
 use Rattle.bind_core.specs.declared.frame.Frame.TheVariants as frame
@@ -271,7 +271,7 @@ is_none (Some found) h = cc
 pub none_kept : (most : ℕ) (test : Bool) → test ≡ nat_lt 0 most → test ≡ false → most ≡ 0
 none_kept most test is no_test = grind (arith, nat_tests)
 
-module _ (rules : List Rule) (names : Names) (most : ℕ) (f : Choice) (old new : Work)
+module _ (rules : List Rule) (names : Names) (most : ℕ) (f : FirstOf) (old new : Work)
     (few : old.count ≤ most_wide) where
   -- a lookup or an alternation passes what is not negative
   pub passed : (o : Outcome) → (o ≡ outcome.Neg → ⊥) → ends_all (ending_of o) ≡ false
@@ -305,10 +305,10 @@ module _ (rules : List Rule) (names : Names) (most : ℕ) (f : Choice) (old new 
       (sym (append-nil vs))))
 
   -- else it is left with the trees behind the next
-  pub chosen : (g : Choice) (tree : Rewritten) (told : Outcome) → told ≡ outcome.Neg
+  pub chosen : (g : FirstOf) (tree : Rewritten) (told : Outcome) → told ≡ outcome.Neg
       → choice_names f ≡ tree_of tree ∷ choice_names g → g.left ≡ f.left → g.named ≡ f.named
       → g.visit ≡ f.visit
-      → new.stack.items ≡ old.stack.items ++ frame.Choice g ∷ [] → new.count ≡ old.count
+      → new.stack.items ≡ old.stack.items ++ frame.FirstOf g ∷ [] → new.count ≡ old.count
       → new.visits ≡ old.visits
       → IsStep rules names most (λ vs. choice_on rules names f (ending_of told, vs))
       (choice_work rules f) old new (task.Try tree f.left)
@@ -337,10 +337,10 @@ bare rules names most ts named visit left old new o none few end_is stack_is cou
 
 -- one with trees leaves those behind the first
 pub first : (rules : List Rule) (names : Names) (most : ℕ) (ts : List TreeValue)
-    (named : Option Leaf) (visit left : ℕ) (old new : Work) (g : Choice) (tree : Rewritten)
+    (named : Option Leaf) (visit left : ℕ) (old new : Work) (g : FirstOf) (tree : Rewritten)
     → ts ≡ tree_of tree ∷ choice_names g
     → old.count ≤ most_wide → g.left ≡ left → g.named ≡ named → g.visit ≡ Some visit
-    → new.stack.items ≡ old.stack.items ++ frame.Choice g ∷ [] → new.count ≡ old.count
+    → new.stack.items ≡ old.stack.items ++ frame.FirstOf g ∷ [] → new.count ≡ old.count
     → new.visits ≡ old.visits
     → IsStep rules names most (λ vs. lookup_on rules names ts named visit left vs)
     (list_work (path_work rules left) ts) old new (task.Try tree left)
@@ -418,9 +418,9 @@ module _ (rules : List Rule) (names : Names) (most : ℕ) (f : Union) (kept : Ke
       }
 
 -- a frame that is a lookup or an alternation, or a union
-pub told_choice : {E : Type 0} (rules : List Rule) (names : Names) (most : ℕ) (f : Choice)
+pub told_choice : {E : Type 0} (rules : List Rule) (names : Names) (most : ℕ) (f : FirstOf)
     (frame_of : Frame) (o : Outcome) (old new : Work) (r : Result Task E)
-    → frame_of ≡ frame.Choice f
+    → frame_of ≡ frame.FirstOf f
     → IfOk r (IsStep rules names most (λ vs. choice_on rules names f (ending_of o, vs))
     (choice_work rules f) old new)
     → IfOk r (IsStep rules names most (λ vs. frame_on rules names frame_of (ending_of o, vs))
@@ -472,8 +472,8 @@ gathered_on old f k e o none is = inl (
 )
 
 -- and of a lookup or an alternation
-pub passed_on : (old : List Frame) (f : Choice) (o : Outcome) → (o ≡ outcome.Neg → ⊥)
-    → ends_all (ending_of o) ≡ false → IsTurn (frame.Choice f) (ending_of o) old old (task.Tell o)
+pub passed_on : (old : List Frame) (f : FirstOf) (o : Outcome) → (o ≡ outcome.Neg → ⊥)
+    → ends_all (ending_of o) ≡ false → IsTurn (frame.FirstOf f) (ending_of o) old old (task.Tell o)
 passed_on old f o other goes_on = inl (
   λ is. absurd (other (ending_neg o is)),
   record {
@@ -484,9 +484,9 @@ passed_on old f o other goes_on = inl (
   },
 )
 
-pub emptied_on : (old : List Frame) (f : Choice) (e : Ending) (named : Option Leaf) (o : Outcome)
+pub emptied_on : (old : List Frame) (f : FirstOf) (e : Ending) (named : Option Leaf) (o : Outcome)
     → choice_names f ≡ [] → ending_of o ≡ named_ending named
-    → IsTurn (frame.Choice f) e old old (task.Tell o)
+    → IsTurn (frame.FirstOf f) e old old (task.Tell o)
 emptied_on old f e named o none is =
     inl (
       λ _. none,

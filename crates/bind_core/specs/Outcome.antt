@@ -7,8 +7,8 @@ use Rattle.bind_core.specs.declared.outcome.Outcome.TheVariants as outcome
 use Rattle.bind_core.specs.declared.outcome.Delegated.{Delegated}
 use Rattle.bind_core.specs.declared.outcome.Wanted.{Wanted}
 use Rattle.bind_core.specs.declared.outcome.Wanted.TheVariants as wanted
-use Rattle.bind_core.specs.declared.trace.Ended.{Ended}
-use Rattle.bind_core.specs.declared.trace.Ended.TheVariants as ended
+use Rattle.bind_core.specs.declared.trace.LookupEnd.{LookupEnd}
+use Rattle.bind_core.specs.declared.trace.LookupEnd.TheVariants as ended
 use Rattle.bind_core.specs.declared.trace.TraceItem.{TraceItem}
 use Rattle.addr_book.specs.Bound.{found_of}
 use Rattle.bind_core.specs.Delegation.{Ending, negative, failing, no_replica, too_deep, too_wide}
@@ -24,7 +24,7 @@ ending_of outcome.TooWide = too_wide
 ending_of (outcome.Bound found) = bound (found_of found)
 
 -- how a lookup ended. None is too wide: that is for the whole delegation to say
-abbrev pub ended_as : Ending → Ended
+abbrev pub ended_as : Ending → LookupEnd
 ended_as negative = ended.Negative
 ended_as failing = ended.Failing
 ended_as no_replica = ended.Empty

@@ -14,7 +14,7 @@ use Rattle.name_tree.specs.declared.tree.Tree.{Tree}
 use Rattle.dtab_table.specs.Dtab.{rewrites}
 use Rattle.dtab_table.specs.LeanTrees.{lean_trees, lent_trees}
 use Rattle.dtab_table.specs.Rules.{Rule}
-use Rattle.bind_core.specs.declared.frame.Choice.{Choice}
+use Rattle.bind_core.specs.declared.frame.FirstOf.{FirstOf}
 use Rattle.bind_core.specs.declared.frame.TreesLeft.{TreesLeft}
 use Rattle.bind_core.specs.declared.frame.TreesLeft.TheVariants as trees
 use Rattle.bind_core.specs.declared.frame.Union.{Union}
@@ -23,7 +23,7 @@ use Rattle.bind_core.specs.declared.frame.Frame.TheVariants as frame
 use Rattle.addr_book.specs.declared.leaf.Leaf.{Leaf}
 use Rattle.bind_core.specs.declared.outcome.Outcome.{Outcome}
 use Rattle.bind_core.specs.declared.outcome.Outcome.TheVariants as outcome
-use Rattle.bind_core.specs.declared.trace.Ended.{Ended}
+use Rattle.bind_core.specs.declared.trace.LookupEnd.{LookupEnd}
 use Rattle.bind_core.specs.declared.trace.TraceItem.{TraceItem}
 use Rattle.bind_core.specs.declared.work.Scene.{Scene}
 use Rattle.bind_core.specs.declared.work.Work.{Work}
@@ -119,7 +119,7 @@ IsNextTree old new (Some next) = (path : Labels)
     ≡ append_rest (value_of next.0.now) (drop next.1 path) ∷ trees_left new path
 
 -- the trees that are left in a frame
-abbrev pub choice_names : Choice → List TreeValue
+abbrev pub choice_names : FirstOf → List TreeValue
 choice_names f = trees_left f.trees (labels_of f.path)
 
 -- the branches that are left in a frame
@@ -139,13 +139,13 @@ union_told k n told (b ∷ bs) = unless_ended told
     (union_told (kept_with k n told.0) b.weight (behind told.1 b.told) bs)
 
 -- a lookup of the code, counted from 0, ended so
-abbrev pub end_item : ℕ → Ended → List TraceItem → List TraceItem
+abbrev pub end_item : ℕ → LookupEnd → List TraceItem → List TraceItem
 end_item at ended [] = []
 end_item zero ended (i ∷ is) = record i { ended = ended } ∷ is
 end_item (suc at) ended (i ∷ is) = i ∷ end_item at ended is
 
 -- so does the lookup that a frame is of, if it is of one
-abbrev pub end_items : Option ℕ → Ended → List TraceItem → List TraceItem
+abbrev pub end_items : Option ℕ → LookupEnd → List TraceItem → List TraceItem
 end_items None ended items = items
 end_items (Some at) ended items = end_item at ended items
 
@@ -182,14 +182,14 @@ module _ (rules : List Rule) where
   path_work (suc left) path = 1 + list_work (path_work left) (lean_trees (rewrites rules path))
 
   -- the turns that are left for a frame, and for a stack
-  abbrev pub choice_work : Choice → ℕ
+  abbrev pub choice_work : FirstOf → ℕ
   choice_work f = list_work (path_work f.left) (choice_names f)
 
   abbrev pub union_work : Union → ℕ
   union_work f = each_work (path_work f.left) (union_branches f)
 
   abbrev pub frame_work : Frame → ℕ
-  frame_work (frame.Choice f) = choice_work f
+  frame_work (frame.FirstOf f) = choice_work f
   frame_work (frame.Union f) = union_work f
 
   abbrev pub stack_work : List Frame → ℕ
@@ -204,12 +204,12 @@ module _ (rules : List Rule) where
 module _ (rules : List Rule) (names : Names) where
   -- what a lookup or an alternation comes to: its trees in order, and then what its path names by
   -- itself
-  abbrev pub choice_told : Choice → Told
+  abbrev pub choice_told : FirstOf → Told
   choice_told f = or_else (first_of (lookup rules names f.left) (choice_names f))
       (named_ending f.named, [])
 
   -- what it tells on, after what was told before it
-  abbrev pub choice_on : Choice → Told → Told
+  abbrev pub choice_on : FirstOf → Told → Told
   choice_on f told = closed f.visit (or_else told (choice_told f))
 
   -- what the lookup that began last comes to, with these trees, and what its path names
@@ -225,7 +225,7 @@ module _ (rules : List Rule) (names : Names) where
 
   -- what a frame makes of what is told before it
   abbrev pub frame_on : Frame → Told → Told
-  frame_on (frame.Choice f) told = choice_on f told
+  frame_on (frame.FirstOf f) told = choice_on f told
   frame_on (frame.Union f) told = union_on f told
 
   -- what a stack makes of what is told, the last frame first

@@ -63,7 +63,7 @@ ListTrim depth [] = Unit {0}
 ListTrim depth (t ∷ ts) = IsTrim t × (depth_of t ≤ depth) × ListTrim depth ts
 
 abbrev pub FrameTrim : ℕ → Frame → Type 0
-FrameTrim depth (frame.Choice f) = ListTrim depth (choice_names f)
+FrameTrim depth (frame.FirstOf f) = ListTrim depth (choice_names f)
 FrameTrim depth (frame.Union f) = EachTrim (union_branches f) ×
     (depth_of_each (union_branches f) ≤ depth)
 
@@ -77,7 +77,7 @@ TaskTrim depth (task.Tell outcome) = Unit {0}
 
 -- the turns that a frame still takes by itself: its end, and what its marks take
 abbrev pub own_turns : Frame → ℕ
-own_turns (frame.Choice f) = 3
+own_turns (frame.FirstOf f) = 3
 own_turns (frame.Union f) = 3 + 4 * marks_in (union_branches f)
 
 abbrev pub owed_turns : List Frame → ℕ
@@ -125,15 +125,15 @@ pub record CanLookUp (depth start now : ℕ) (stack : List Frame) (count : ℕ) 
 
 -- nothing is tried next of a frame that is told this
 abbrev pub IsEnded : Frame → Ending → Type 0
-IsEnded (frame.Choice f) told = told ≡ negative → choice_names f ≡ []
+IsEnded (frame.FirstOf f) told = told ≡ negative → choice_names f ≡ []
 IsEnded (frame.Union f) told = weighted (union_branches f) ≡ no_branch
 
 -- this tree is tried next, and then this frame is left
 abbrev pub IsNext : Frame → Ending → TreeValue → Frame → Type 0
-IsNext (frame.Choice f) told t (frame.Choice g) =
+IsNext (frame.FirstOf f) told t (frame.FirstOf g) =
     (told ≡ negative) × (choice_names f ≡ t ∷ choice_names g)
-IsNext (frame.Choice f) told t (frame.Union g) = ⊥
-IsNext (frame.Union f) told t (frame.Choice g) = ⊥
+IsNext (frame.FirstOf f) told t (frame.Union g) = ⊥
+IsNext (frame.Union f) told t (frame.FirstOf g) = ⊥
 IsNext (frame.Union f) told t (frame.Union g) =
     (n : ℕ) × (weighted (union_branches f) ≡ branch n t (union_branches g))
 
@@ -168,7 +168,7 @@ pub record IsTriedLast (ts : List TreeValue) (old new : List Frame) (next : Task
   pub of_trees : ts ≡ tree_of tree ∷ []
 
 abbrev pub IsNextOf : List TreeValue → TreeValue → Frame → Type 0
-IsNextOf ts t (frame.Choice g) = ts ≡ t ∷ choice_names g
+IsNextOf ts t (frame.FirstOf g) = ts ≡ t ∷ choice_names g
 IsNextOf ts t (frame.Union g) = ⊥
 
 -- what a lookup with these trees does first

@@ -17,7 +17,7 @@ ghost use Rattle.bind_core.specs.Stack.{union_on, union_work, lookup_on, path_wo
 ghost use Rattle.bind_core.specs.Stack.{list_work, trees_left};
 
 use crate::Mem;
-use crate::frame::{Alternatives, Choice, Frame, TreesLeft, Union, next_weighted};
+use crate::frame::{Alternatives, FirstOf, Frame, TreesLeft, Union, next_weighted};
 use crate::gathered::Gathered;
 use crate::outcome::{Delegated, Outcome, Wanted};
 use crate::rewritten::{HeldPath, MOST_PATH_BYTES, Rewritten};
@@ -194,21 +194,21 @@ fn turn<'a>(work: &mut Work<'a>, frame: Frame<'a>, told: Outcome) -> Mem<Task<'a
     ensures count { work.new.count ≡ work.old.count }
 {
     match frame {
-        Frame::Choice(choice) => next_tree(work, choice, told),
+        Frame::FirstOf(choice) => next_tree(work, choice, told),
         Frame::Union(union) => next_branch(work, union, told),
     }
 }
 
 /// A turn of a lookup or an alternation: its next tree is tried where negative was told, and what
 /// its path names where there is none. Anything else that was told is told on.
-fn next_tree<'a>(work: &mut Work<'a>, mut choice: Choice<'a>, told: Outcome) -> Mem<Task<'a>>
+fn next_tree<'a>(work: &mut Work<'a>, mut choice: FirstOf<'a>, told: Outcome) -> Mem<Task<'a>>
     requires few { work.old.count ≤ 10000 }
     requires goes_on { ends_all (ending_of told) ≡ false }
     ensures step { (rules : List Rule) → (names : Names)
         → IfOk result (IsStep rules names work.old.visits.most
         (λ visits. choice_on rules names choice.entry (ending_of told, visits))
         (choice_work rules choice.entry) work.old work.new) }
-    ensures moves { IfOk result (IsTurn (Frame.Choice choice.entry) (ending_of told)
+    ensures moves { IfOk result (IsTurn (Frame.FirstOf choice.entry) (ending_of told)
         work.old.stack.items work.new.stack.items) }
     ensures count { work.new.count ≡ work.old.count }
 {
@@ -223,7 +223,7 @@ fn next_tree<'a>(work: &mut Work<'a>, mut choice: Choice<'a>, told: Outcome) -> 
     };
     let path = choice.path.share()?;
     let left = choice.left;
-    work.stack.push(Frame::Choice(choice))?;
+    work.stack.push(Frame::FirstOf(choice))?;
     Ok(Task::Try(Rewritten { tree, path, from }, left))
 }
 
@@ -289,7 +289,7 @@ fn step<'a, L: Ledger>(
             }
         }
         Tree::Alt(trees) => {
-            let choice = Choice {
+            let choice = FirstOf {
                 trees: TreesLeft::Alternatives(Alternatives {
                     trees: trees.items().iter(),
                     from: tried.from,
@@ -386,7 +386,7 @@ fn first_tree<'a>(
         return Ok(Task::Try(Rewritten { tree, path, from }, left));
     }
     let kept = path.share()?;
-    work.stack.push(Frame::Choice(Choice {
+    work.stack.push(Frame::FirstOf(FirstOf {
         trees,
         path: kept,
         named,

@@ -17,14 +17,15 @@ use std::vec::IntoIter;
 #[derive(Drop)]
 pub(crate) enum Frame<'a> {
     /// A lookup or an alternation.
-    Choice(Choice<'a>),
+    FirstOf(FirstOf<'a>),
     /// A union.
     Union(Union<'a>),
 }
 
-/// What is left of a lookup or of an alternation, where all that was tried of it came to nothing.
+/// What is left of a lookup or of an alternation, where all that was tried of it came to nothing:
+/// it comes to what the first of its trees does that comes to something.
 #[derive(Drop)]
-pub(crate) struct Choice<'a> {
+pub(crate) struct FirstOf<'a> {
     /// The trees that are left, which are tried in order.
     pub(crate) trees: TreesLeft<'a>,
     /// The path that was looked up, whose rest stands behind their leaves.

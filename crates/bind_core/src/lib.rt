@@ -52,7 +52,7 @@ pub use delegate::bind;
 pub use laws::{delegation_is_local, lean_trees_are_walked_alike};
 pub use outcome::{Delegated, Outcome, Wanted};
 pub use tables::Tables;
-pub use trace::{Ended, PathList, Trace, TraceItem};
+pub use trace::{LookupEnd, PathList, Trace, TraceItem};
 
 /// A value, unless there was no memory for it.
 pub type Mem<T> = Result<T, AllocError>;

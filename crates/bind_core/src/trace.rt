@@ -7,7 +7,7 @@ use std::marker::Model;
 
 /// How a lookup ended.
 #[derive(Debug, Clone, Copy, PartialEq, Eq, Drop)]
-pub enum Ended {
+pub enum LookupEnd {
     /// The path named nothing.
     Negative,
     /// `!` was reached.
@@ -20,19 +20,19 @@ pub enum Ended {
     Bound,
 }
 
-impl Ended {
+impl LookupEnd {
     ghost use Rattle.bind_core.specs.Outcome.{ending_of, ended_as};
 
     /// As a lookup with this outcome. None is too wide by itself.
-    pub(crate) fn of(outcome: &Outcome) -> Ended
+    pub(crate) fn of(outcome: &Outcome) -> LookupEnd
         ensures { result ≡ ended_as (ending_of outcome.now) }
     {
         match outcome {
-            Outcome::Neg => Ended::Negative,
-            Outcome::Fail => Ended::Failing,
-            Outcome::Empty => Ended::Empty,
-            Outcome::TooDeep | Outcome::TooWide => Ended::TooDeep,
-            Outcome::Bound(_) => Ended::Bound,
+            Outcome::Neg => LookupEnd::Negative,
+            Outcome::Fail => LookupEnd::Failing,
+            Outcome::Empty => LookupEnd::Empty,
+            Outcome::TooDeep | Outcome::TooWide => LookupEnd::TooDeep,
+            Outcome::Bound(_) => LookupEnd::Bound,
         }
     }
 }
@@ -45,7 +45,7 @@ pub struct TraceItem {
     /// The path that was looked up.
     pub path: Path,
     /// How it ended.
-    pub ended: Ended,
+    pub ended: LookupEnd,
 }
 
 /// The lookups of a delegation, in the order in which they began. Contracts see the list of them.

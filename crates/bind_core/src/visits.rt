@@ -3,7 +3,7 @@ ghost use Rattle.std.specs.Prelude.{◌≡◌, map, IfOk, OnOk};
 
 use crate::Mem;
 use crate::outcome::Outcome;
-use crate::trace::{Ended, PathList, Trace, TraceItem};
+use crate::trace::{LookupEnd, PathList, Trace, TraceItem};
 use name_tree::Path;
 use std::alloc::Global;
 
@@ -17,7 +17,7 @@ pub(crate) struct Visits {
 
 impl Visits {
     ghost use Rattle.std.specs.Prelude.{[], nat_lt};
-    ghost use Rattle.bind_core.specs.declared.trace.Ended.TheVariants.{TooDeep};
+    ghost use Rattle.bind_core.specs.declared.trace.LookupEnd.TheVariants.{TooDeep};
     ghost use Rattle.bind_core.specs.Outcome.{ending_of, ended_as};
     ghost use Rattle.bind_core.specs.Stack.{with_item, end_items};
 
@@ -55,7 +55,7 @@ impl Visits {
         self.items.push(TraceItem {
             depth,
             path,
-            ended: Ended::TooDeep,
+            ended: LookupEnd::TooDeep,
         })?;
         Ok(())
     }
@@ -71,7 +71,7 @@ impl Visits {
         };
         let at = at as usize;
         if at < self.items.len() {
-            self.items[at].ended = Ended::of(outcome);
+            self.items[at].ended = LookupEnd::of(outcome);
         }
     }
 

@@ -9,7 +9,7 @@ use Rattle.addr_book.specs.declared.bound.BoundList.{BoundList}
 use Rattle.addr_book.specs.Found.{IsFilled, AreFilled, IsBounded, AreBounded}
 use Rattle.addr_book.specs.Bound.{found_of, members_of, listed_items}
 use Rattle.addr_book.proofs.Bounds.{found_size}
-use Rattle.choose_core.specs.declared.way.Choice.{Choice}
+use Rattle.choose_core.specs.declared.way.Reached.{Reached}
 use Rattle.choose_core.specs.Way.{IsBranch, items_size, choice_size}
 use Rattle.choose_core.proofs.Branches.{same_item, bounded_at, filled_at}
 use Rattle.choose_core.proofs.Passing.{cut}
@@ -39,7 +39,7 @@ size_later items i x lt is = omega (arith, ap items_size (cut items i x lt is), 
     size_drop [] (suc i) = omega arith
     size_drop (x ∷ items) (suc i) = omega (arith, size_drop items i)
 
-pub some_below : (choice : Option Choice) (m n : ℕ) → m ≤ n → IfSome choice (λ c. choice_size c < m) → IfSome choice (λ c. choice_size c < n)
+pub some_below : (choice : Option Reached) (m n : ℕ) → m ≤ n → IfSome choice (λ c. choice_size c < m) → IfSome choice (λ c. choice_size c < n)
 some_below None m n le h = tt
 some_below (Some choice) m n le h = omega arith
 

@@ -7,9 +7,9 @@ use Rattle.addr_book.specs.Bound.{listed_items}
 use Rattle.addr_book.specs.Found.{Found, many, member, AreFilled, AreBounded}
 use Rattle.addr_book.proofs.Bounds.{list_size}
 use Rattle.choose_core.specs.declared.way.Among.{Among}
-use Rattle.choose_core.specs.declared.way.Choice.{Choice}
-use Rattle.choose_core.specs.declared.way.Choice.TheVariants.{Leaf as the_leaf}
-use Rattle.choose_core.specs.declared.way.Choice.TheVariants.{Among as among_items}
+use Rattle.choose_core.specs.declared.way.Reached.{Reached}
+use Rattle.choose_core.specs.declared.way.Reached.TheVariants.{Leaf as the_leaf}
+use Rattle.choose_core.specs.declared.way.Reached.TheVariants.{Among as among_items}
 use Rattle.choose_core.specs.declared.way.Turn.{Turn}
 use Rattle.choose_core.specs.declared.way.Turn.TheVariants.{Into, Away}
 use Rattle.choose_core.specs.declared.way.Way.{Way, Word, Through'}
@@ -21,7 +21,7 @@ leaf_among services among =
     branch_over (pruned_members services (listed_items among.items.now)) among.over among.word
 
 -- the leaf that a choice comes to
-abbrev pub leaf_in : Services → Choice → Option Leaf
+abbrev pub leaf_in : Services → Reached → Option Leaf
 leaf_in services (the_leaf leaf) = Some leaf.now
 leaf_in services (among_items among) = leaf_among services among
 
@@ -63,7 +63,7 @@ abbrev pub IsGoodTurn : Services → Turn → Type 0
 IsGoodTurn services (Into word) = word < 2 ^ 64
 IsGoodTurn services (Away among) = IsGoodAmong services among
 
-abbrev pub IsGoodChoice : Services → Choice → Type 0
+abbrev pub IsGoodChoice : Services → Reached → Type 0
 IsGoodChoice services (the_leaf leaf) = Unit {0}
 IsGoodChoice services (among_items among) = IsGoodAmong services among
 
@@ -76,7 +76,7 @@ abbrev pub turn_size : Turn → ℕ
 turn_size (Into word) = 0
 turn_size (Away among) = items_size among.items.now
 
-abbrev pub choice_size : Choice → ℕ
+abbrev pub choice_size : Reached → ℕ
 choice_size (the_leaf leaf) = 0
 choice_size (among_items among) = items_size among.items.now
 
@@ -84,6 +84,6 @@ abbrev pub way_size : Way → ℕ
 way_size (Word word) = 0
 way_size (Through' weight later p above) = items_size later.now + way_size above
 
-abbrev pub choice_left : Option Choice → ℕ
+abbrev pub choice_left : Option Reached → ℕ
 choice_left None = 0
 choice_left (Some choice) = choice_size choice + 1

@@ -9,7 +9,7 @@ ghost use Rattle.choose_core.specs.Way.{through, leaf_among, leaf_in, items_size
 ghost use Rattle.choose_core.specs.Way.{way_size, IsGoodWay, IsGoodAmong, IsGoodChoice};
 
 use crate::left::{is_left, is_open};
-use crate::way::{Among, Choice, Turn, Way, turn_of};
+use crate::way::{Among, Reached, Turn, Way, turn_of};
 use addr_book::{Book, Bound, Leaf};
 
 /// The leaf that a word chooses. Leaves whose service has no address are left out, and so are
@@ -34,15 +34,15 @@ pub fn branch<'a>(bound: &'a Bound, book: &Book, word: u64) -> Option<&'a Leaf>
     loop {
         match choice {
             None => return None,
-            Some(Choice::Leaf(leaf)) => return Some(leaf),
-            Some(Choice::Among(among)) => choice = among_later(&among, book),
+            Some(Reached::Leaf(leaf)) => return Some(leaf),
+            Some(Reached::Among(among)) => choice = among_later(&among, book),
         }
     }
 }
 
 /// How far a choice comes that goes through the first leaf that is left of a bound, at the end of a
 /// way: to that leaf, or to later branches. `None` exactly where nothing is left.
-fn first_left<'a>(bound: &'a Bound, book: &Book, way: &Way<'a, '_>) -> Option<Choice<'a>>
+fn first_left<'a>(bound: &'a Bound, book: &Book, way: &Way<'a, '_>) -> Option<Reached<'a>>
     requires filled { IsFilled (found_of bound.now) }
     requires bounded { IsBounded (found_of bound.now) }
     requires way { IsGoodWay way.now }
@@ -81,7 +81,7 @@ fn first_left<'a>(bound: &'a Bound, book: &Book, way: &Way<'a, '_>) -> Option<Ch
 }
 
 /// How far a choice comes at the end of a way, where this leaf is left.
-fn choice_at<'a>(leaf: &'a Leaf, way: &Way<'a, '_>, book: &Book) -> Choice<'a>
+fn choice_at<'a>(leaf: &'a Leaf, way: &Way<'a, '_>, book: &Book) -> Reached<'a>
     requires { IsGoodWay way.now }
     ensures leaf { leaf_in book.now.services result
         ≡ through book.now.services way.now (one leaf.now) }
@@ -89,13 +89,13 @@ fn choice_at<'a>(leaf: &'a Leaf, way: &Way<'a, '_>, book: &Book) -> Choice<'a>
     ensures size { choice_size result ≤ way_size way.now }
 {
     match turn_of(way, book) {
-        Turn::Into(_) => Choice::Leaf(leaf),
-        Turn::Away(among) => Choice::Among(among),
+        Turn::Into(_) => Reached::Leaf(leaf),
+        Turn::Away(among) => Reached::Among(among),
     }
 }
 
 /// How far a choice comes that goes on among some branches.
-fn among_later<'a>(among: &Among<'a>, book: &Book) -> Option<Choice<'a>>
+fn among_later<'a>(among: &Among<'a>, book: &Book) -> Option<Reached<'a>>
     requires { IsGoodAmong book.now.services among.now }
     ensures leaf { option_and_then (leaf_in book.now.services) result
         ≡ leaf_among book.now.services among.now }

@@ -48,7 +48,7 @@ pub(crate) enum Turn<'a> {
 
 /// How far a choice came.
 #[derive(Clone, Copy)]
-pub(crate) enum Choice<'a> {
+pub(crate) enum Reached<'a> {
     /// To a leaf, which is left.
     Leaf(&'a Leaf),
     /// To some branches.

@@ -6,8 +6,8 @@ use Rattle.text_parts.specs.Json.{json_string}
 use Rattle.name_tree.specs.Path.{Labels, canon_path}
 use Rattle.bind_core.specs.Delegation.{Ending, negative, failing, no_replica, too_deep, too_wide}
 use Rattle.bind_core.specs.Delegation.{bound}
-use Rattle.bind_core.specs.declared.trace.Ended.{Ended}
-use Rattle.bind_core.specs.declared.trace.Ended.TheVariants as ended
+use Rattle.bind_core.specs.declared.trace.LookupEnd.{LookupEnd}
+use Rattle.bind_core.specs.declared.trace.LookupEnd.TheVariants as ended
 use Rattle.bind_core.specs.declared.trace.TraceItem.{TraceItem}
 
 -- what a delegation came to, in a word
@@ -20,7 +20,7 @@ outcome_word too_wide = codes "too-wide"
 outcome_word (bound found) = codes "bound"
 
 -- how a lookup ended, in a word
-abbrev pub ended_word : Ended → List ℕ
+abbrev pub ended_word : LookupEnd → List ℕ
 ended_word ended.Negative = codes "negative"
 ended_word ended.Failing = codes "failing"
 ended_word ended.Empty = codes "empty"

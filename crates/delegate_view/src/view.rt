@@ -5,7 +5,7 @@ ghost use Rattle.delegate_view.specs.View.{lookup_text, lookups_text, more_looku
 ghost use Rattle.delegate_view.specs.View.{path_string, outcome_word, ended_word, view_of};
 
 use crate::{Bytes, Mem};
-use bind_core::{Ended, Outcome, Trace, TraceItem};
+use bind_core::{LookupEnd, Outcome, Trace, TraceItem};
 use name_tree::{Path, write_path};
 use std::alloc::Global;
 use text_parts::{append_json_string, append_number};
@@ -42,15 +42,15 @@ fn outcome_word(outcome: &Outcome) -> &'static [u8]
 }
 
 /// How a lookup ended, in a word.
-fn ended_word(ended: Ended) -> &'static [u8]
+fn ended_word(ended: LookupEnd) -> &'static [u8]
     ensures { result.now ≡ ended_word ended }
 {
     match ended {
-        Ended::Negative => b"negative",
-        Ended::Failing => b"failing",
-        Ended::Empty => b"empty",
-        Ended::TooDeep => b"too-deep",
-        Ended::Bound => b"bound",
+        LookupEnd::Negative => b"negative",
+        LookupEnd::Failing => b"failing",
+        LookupEnd::Empty => b"empty",
+        LookupEnd::TooDeep => b"too-deep",
+        LookupEnd::Bound => b"bound",
     }
 }
 

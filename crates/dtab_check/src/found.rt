@@ -6,9 +6,9 @@ ghost use Rattle.dtab_check.specs.Rounds.{IsFound, AreKnown, LeadersKnown, Grows
 use crate::Mem;
 use std::alloc::Global;
 
-/// What was found so far.
+/// The members that are known so far.
 #[derive(Drop)]
-struct Found {
+struct KnownMembers {
     /// Which members are known.
     known: Vec<bool>,
     /// Their places, in the order in which they were found.
@@ -24,7 +24,7 @@ pub(crate) fn leading_to(alloc: Global, own: &[bool], rows: &[Vec<bool>]) -> Mem
     ensures { IfOk result (λ known. known.items
         ≡ after_rounds own.now (map (λ row. row.items) rows.now) (length own.now)) }
 {
-    let mut found = Found::start(alloc, own)?;
+    let mut found = KnownMembers::start(alloc, own)?;
     let mut at = 0;
     while at < found.order.len() {
         let to = found.order[at];
@@ -41,15 +41,15 @@ pub(crate) fn is_set(flags: &[bool], at: usize) -> bool
     flags.get(at).copied().unwrap_or(false)
 }
 
-impl Found {
+impl KnownMembers {
     /// Those that are known by themselves.
-    fn start(alloc: Global, own: &[bool]) -> Mem<Found>
+    fn start(alloc: Global, own: &[bool]) -> Mem<KnownMembers>
         ensures found { IfOk result (λ found. (rows : List (List Bool))
             → length rows ≡ length own.now
             → IsFound own.now rows found.known.items found.order.items) }
         ensures owned { IfOk result (λ found. AreKnown own.now found.known.items) }
     {
-        let mut found = Found {
+        let mut found = KnownMembers {
             known: vec![in alloc; false; own.len()]?,
             order: Vec::new(alloc),
         };

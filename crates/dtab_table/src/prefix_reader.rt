@@ -3,7 +3,7 @@ ghost use Rattle.std.specs.Prelude.{◌≡◌, None, Some, option_map, IfSome};
 ghost use Rattle.name_tree.specs.Taken.{Takes, Ends};
 
 use crate::prefix::{Prefix, PrefixLabel};
-use name_tree::{LabelReader, Refused};
+use name_tree::{LabelReader, TakeError};
 use std::alloc::Global;
 use std::mem::replace;
 
@@ -32,25 +32,25 @@ impl PrefixReader {
     }
 
     /// Takes the next byte in. After an `Err` the reader is of no use.
-    pub(crate) fn take(&mut self, alloc: Global, byte: u8) -> Result<(), Refused>
+    pub(crate) fn take(&mut self, alloc: Global, byte: u8) -> Result<(), TakeError>
         ensures { Takes (next_walk (walk_of self.old) byte) (walk_of self.new) result }
     {
         if byte == b'/' {
             let Some(label) = self.end_label(alloc) else {
-                return Err(Refused::Byte);
+                return Err(TakeError::Byte);
             };
             self.prefix.push(label)?;
             return Ok(());
         }
         if byte == b'*' {
             if self.is_star || !self.label.is_new() {
-                return Err(Refused::Byte);
+                return Err(TakeError::Byte);
             }
             self.is_star = true;
             return Ok(());
         }
         if self.is_star {
-            return Err(Refused::Byte);
+            return Err(TakeError::Byte);
         }
         self.label.take(byte)
     }
@@ -73,14 +73,14 @@ impl PrefixReader {
     }
 
     /// The prefix, if it may end here.
-    pub(crate) fn end(mut self, alloc: Global) -> Result<Prefix, Refused>
+    pub(crate) fn end(mut self, alloc: Global) -> Result<Prefix, TakeError>
         ensures { Ends (λ prefix. prefix) (end_walk (walk_of self)) result }
     {
         if self.prefix.is_empty() && !self.is_star && self.label.is_new() {
             return Ok(self.prefix);
         }
         let Some(label) = self.end_label(alloc) else {
-            return Err(Refused::Byte);
+            return Err(TakeError::Byte);
         };
         self.prefix.push(label)?;
         Ok(self.prefix)

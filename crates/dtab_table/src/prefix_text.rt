@@ -5,7 +5,7 @@ ghost use Rattle.name_tree.specs.Taken.{Takes, Ends};
 
 use crate::prefix::Prefix;
 use crate::prefix_reader::PrefixReader;
-use name_tree::{Refused, is_blank_byte, is_in_paths};
+use name_tree::{TakeError, is_blank_byte, is_in_paths};
 use std::alloc::Global;
 use std::mem::replace;
 
@@ -51,7 +51,7 @@ impl PrefixTextReader {
     }
 
     /// Takes the next byte in. After an `Err` the reader is of no use.
-    pub(crate) fn take(&mut self, alloc: Global, byte: u8) -> Result<(), Refused>
+    pub(crate) fn take(&mut self, alloc: Global, byte: u8) -> Result<(), TakeError>
         ensures { Takes (next_prefix (prefix_at_of self.old) byte) (prefix_at_of self.new) result }
     {
         match self.place {
@@ -60,7 +60,7 @@ impl PrefixTextReader {
                     return Ok(());
                 }
                 if byte != b'/' {
-                    return Err(Refused::Byte);
+                    return Err(TakeError::Byte);
                 }
                 self.reader = PrefixReader::new(alloc);
                 self.place = PrefixPlace::Inside;
@@ -71,7 +71,7 @@ impl PrefixTextReader {
                     return self.reader.take(alloc, byte);
                 }
                 if !is_blank_byte(byte) {
-                    return Err(Refused::Byte);
+                    return Err(TakeError::Byte);
                 }
                 self.prefix = replace(&mut self.reader, PrefixReader::new(alloc)).end(alloc)?;
                 self.place = PrefixPlace::Behind;
@@ -79,7 +79,7 @@ impl PrefixTextReader {
             }
             PrefixPlace::Behind => {
                 if !is_blank_byte(byte) {
-                    return Err(Refused::Byte);
+                    return Err(TakeError::Byte);
                 }
                 Ok(())
             }
@@ -87,11 +87,11 @@ impl PrefixTextReader {
     }
 
     /// The prefix, if its text may end here.
-    pub(crate) fn end(self, alloc: Global) -> Result<Prefix, Refused>
+    pub(crate) fn end(self, alloc: Global) -> Result<Prefix, TakeError>
         ensures { Ends (λ prefix. prefix) (end_prefix (prefix_at_of self)) result }
     {
         match self.place {
-            PrefixPlace::Before => Err(Refused::Byte),
+            PrefixPlace::Before => Err(TakeError::Byte),
             PrefixPlace::Inside => self.reader.end(alloc),
             PrefixPlace::Behind => Ok(self.prefix),
         }

@@ -13,7 +13,7 @@ use crate::entry::EntryList;
 use crate::prefix::Prefix;
 use crate::prefix_text::PrefixTextReader;
 use crate::table_reader::TableReader;
-use name_tree::{MOST_BYTES, MOST_OPEN, Refused};
+use name_tree::{MOST_BYTES, MOST_OPEN, TakeError};
 use std::alloc::Global;
 use thiserror::Error;
 
@@ -76,14 +76,14 @@ fn prefix_in(alloc: Global, text: &[u8]) -> Result<Prefix, PrefixFault>
     for byte in text {
         match reader.take(alloc, *byte) {
             Ok(()) => {}
-            Err(Refused::Byte) => return Err(PrefixFault::NotPrefix),
-            Err(Refused::OutOfMemory) => return Err(PrefixFault::OutOfMemory),
+            Err(TakeError::Byte) => return Err(PrefixFault::NotPrefix),
+            Err(TakeError::OutOfMemory) => return Err(PrefixFault::OutOfMemory),
         }
     }
     match reader.end(alloc) {
         Ok(prefix) => Ok(prefix),
-        Err(Refused::Byte) => Err(PrefixFault::NotPrefix),
-        Err(Refused::OutOfMemory) => Err(PrefixFault::OutOfMemory),
+        Err(TakeError::Byte) => Err(PrefixFault::NotPrefix),
+        Err(TakeError::OutOfMemory) => Err(PrefixFault::OutOfMemory),
     }
 }
 
@@ -147,8 +147,8 @@ fn entries_in(alloc: Global, text: &[u8]) -> Result<EntryList, DtabFault>
     for (at, byte) in text.iter().enumerate() {
         match reader.take(alloc, *byte) {
             Ok(()) => {}
-            Err(Refused::Byte) => return Err(DtabFault::Syntax(at)),
-            Err(Refused::OutOfMemory) => return Err(DtabFault::OutOfMemory),
+            Err(TakeError::Byte) => return Err(DtabFault::Syntax(at)),
+            Err(TakeError::OutOfMemory) => return Err(DtabFault::OutOfMemory),
         }
         if reader.depth() > MOST_OPEN {
             return Err(DtabFault::TooNested(at));
@@ -156,8 +156,8 @@ fn entries_in(alloc: Global, text: &[u8]) -> Result<EntryList, DtabFault>
     }
     let entries = match reader.end(alloc) {
         Ok(entries) => entries,
-        Err(Refused::Byte) => return Err(DtabFault::Syntax(text.len())),
-        Err(Refused::OutOfMemory) => return Err(DtabFault::OutOfMemory),
+        Err(TakeError::Byte) => return Err(DtabFault::Syntax(text.len())),
+        Err(TakeError::OutOfMemory) => return Err(DtabFault::OutOfMemory),
     };
     let count = entries.len();
     if count > MOST_ENTRIES {

@@ -13,7 +13,7 @@ use crate::entry::Entry;
 use crate::prefix::Prefix;
 use crate::prefix_reader::PrefixReader;
 use crate::prefix_text::is_in_prefixes;
-use name_tree::{Refused, TreeReader, is_blank_byte};
+use name_tree::{TakeError, TreeReader, is_blank_byte};
 use std::alloc::Global;
 use std::mem::replace;
 
@@ -70,7 +70,7 @@ impl TableReader {
     }
 
     /// Takes in a byte before an entry.
-    fn take_at_start(&mut self, alloc: Global, byte: u8) -> Result<(), Refused>
+    fn take_at_start(&mut self, alloc: Global, byte: u8) -> Result<(), TakeError>
         requires { self.old.mode ≡ Mode.Start }
         ensures { Takes (next_state (state_of self.old) byte) (state_of self.new) result }
     {
@@ -78,7 +78,7 @@ impl TableReader {
             return Ok(());
         }
         if byte != b'/' {
-            return Err(Refused::Byte);
+            return Err(TakeError::Byte);
         }
         self.walk = PrefixReader::new(alloc);
         self.mode = Mode::Walk;
@@ -86,7 +86,7 @@ impl TableReader {
     }
 
     /// Takes in a byte behind a prefix.
-    fn take_behind(&mut self, byte: u8) -> Result<(), Refused>
+    fn take_behind(&mut self, byte: u8) -> Result<(), TakeError>
         requires { self.old.mode ≡ Mode.Behind }
         ensures { Takes (behind_prefix (rules_in self.old) (prefix_in self.old) byte)
             (state_of self.new) result }
@@ -95,14 +95,14 @@ impl TableReader {
             return Ok(());
         }
         if byte != b'=' {
-            return Err(Refused::Byte);
+            return Err(TakeError::Byte);
         }
         self.mode = Mode::Arrow;
         Ok(())
     }
 
     /// Ends a prefix.
-    fn end_prefix(&mut self, alloc: Global) -> Result<(), Refused>
+    fn end_prefix(&mut self, alloc: Global) -> Result<(), TakeError>
         ensures rules { rules_in self.new ≡ rules_in self.old }
         ensures prefix { Takes (end_walk (walk_in self.old)) (prefix_in self.new) result }
         ensures mode { OnOk result (self.new.mode ≡ Mode.Behind) }
@@ -113,7 +113,7 @@ impl TableReader {
     }
 
     /// Takes in a byte in a prefix.
-    fn take_in_prefix(&mut self, alloc: Global, byte: u8) -> Result<(), Refused>
+    fn take_in_prefix(&mut self, alloc: Global, byte: u8) -> Result<(), TakeError>
         requires { self.old.mode ≡ Mode.Walk }
         ensures { Takes (next_state (state_of self.old) byte) (state_of self.new) result }
     {
@@ -125,7 +125,7 @@ impl TableReader {
     }
 
     /// Ends an entry.
-    fn end_entry(&mut self, alloc: Global) -> Result<(), Refused>
+    fn end_entry(&mut self, alloc: Global) -> Result<(), TakeError>
         ensures { Takes (tree_behind (rules_in self.old) (prefix_in self.old)
             (ended_tree (tree_in self.old))) (state_of self.new) result }
     {
@@ -137,7 +137,7 @@ impl TableReader {
     }
 
     /// Takes in a byte in a tree.
-    fn take_in_tree(&mut self, alloc: Global, byte: u8) -> Result<(), Refused>
+    fn take_in_tree(&mut self, alloc: Global, byte: u8) -> Result<(), TakeError>
         requires { self.old.mode ≡ Mode.Tree }
         ensures { Takes (next_state (state_of self.old) byte) (state_of self.new) result }
     {
@@ -148,7 +148,7 @@ impl TableReader {
     }
 
     /// Takes the next byte in. After an `Err` the reader is of no use.
-    pub(crate) fn take(&mut self, alloc: Global, byte: u8) -> Result<(), Refused>
+    pub(crate) fn take(&mut self, alloc: Global, byte: u8) -> Result<(), TakeError>
         ensures { Takes (next_state (state_of self.old) byte) (state_of self.new) result }
     {
         match self.mode {
@@ -157,7 +157,7 @@ impl TableReader {
             Mode::Behind => self.take_behind(byte),
             Mode::Arrow => {
                 if byte != b'>' {
-                    return Err(Refused::Byte);
+                    return Err(TakeError::Byte);
                 }
                 self.tree = TreeReader::new(alloc);
                 self.mode = Mode::Tree;
@@ -168,20 +168,20 @@ impl TableReader {
     }
 
     /// Ends the last entry, if it may end here.
-    fn end_last(&mut self, alloc: Global) -> Result<(), Refused>
+    fn end_last(&mut self, alloc: Global) -> Result<(), TakeError>
         ensures { Takes (ended_state (state_of self.old)) (rules_in self.new) result }
     {
         match self.mode {
             Mode::Start => Ok(()),
             Mode::Tree => self.end_entry(alloc),
-            Mode::Walk => Err(Refused::Byte),
-            Mode::Behind => Err(Refused::Byte),
-            Mode::Arrow => Err(Refused::Byte),
+            Mode::Walk => Err(TakeError::Byte),
+            Mode::Behind => Err(TakeError::Byte),
+            Mode::Arrow => Err(TakeError::Byte),
         }
     }
 
     /// The entries of the table, if its text may end here.
-    pub(crate) fn end(mut self, alloc: Global) -> Result<Vec<Entry>, Refused>
+    pub(crate) fn end(mut self, alloc: Global) -> Result<Vec<Entry>, TakeError>
         ensures { Ends (λ entries. map rule_of entries.items) (ended_state (state_of self)) result }
     {
         self.end_last(alloc)?;

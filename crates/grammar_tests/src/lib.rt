@@ -5,6 +5,8 @@
 #[cfg(test)]
 mod index;
 #[cfg(test)]
+mod long_paths;
+#[cfg(test)]
 mod names;
 #[cfg(test)]
 mod outside;

@@ -139,14 +139,10 @@ fn connect_once<D: Dialer>(
     bytes: &[u8],
     into: &mut [u8],
 ) -> Result<[Result<usize, Failed>; 3], Failed> {
-    match dialer.dial(0x7f00_0001, 9001) {
-        Ok(()) => {
-            let calls = [dialer.send(bytes), dialer.recv(into), dialer.recv(into)];
-            dialer.hang();
-            Ok(calls)
-        }
-        Err(failed) => Err(failed),
-    }
+    dialer.dial(0x7f00_0001, 9001)?;
+    let calls = [dialer.send(bytes), dialer.recv(into), dialer.recv(into)];
+    dialer.hang();
+    Ok(calls)
 }
 
 /// A log as text: a letter for each event, with the bytes that it moved.
@@ -204,10 +200,7 @@ fn visit<D: Dialer>(dialer: &mut D, port: u16, room: usize, keeps: bool) -> Resu
     requires { room ≤ 4 }
 {
     if !dialer.resume(7, port) {
-        match dialer.dial(7, port) {
-            Ok(()) => {}
-            Err(failed) => return Err(failed),
-        }
+        dialer.dial(7, port)?;
     }
     let mut into = [0u8; 4];
     let got = dialer.recv(&mut into[..room]);
@@ -301,11 +294,10 @@ fn size_at<F: Folder>(
     path: &str,
     most: usize,
 ) -> Result<Option<usize>, FolderFault> {
-    match folder.read(path, most) {
-        Ok(Found::Bytes(bytes)) => Ok(Some(bytes.len())),
-        Ok(Found::Longer) => Ok(Some(usize::MAX)),
-        Ok(Found::Absent) => Ok(None),
-        Err(fault) => Err(fault),
+    match folder.read(path, most)? {
+        Found::Bytes(bytes) => Ok(Some(bytes.len())),
+        Found::Longer => Ok(Some(usize::MAX)),
+        Found::Absent => Ok(None),
     }
 }
 
@@ -376,10 +368,7 @@ fn answer_and_end<N: Net>(net: &mut N, listener: N::L) -> Result<[u8; 5], NetFau
 /// Listens on port 80 of an address, at two places, and gives each listener back behind its five
 /// answers, all in one text.
 fn listen_twice<N: Net>(net: &mut N, alloc: Global, ip: u32) -> Result<Vec<u8>, NetFault> {
-    let listeners = match net.listen(ip, 80, 2, 0) {
-        Ok(listeners) => listeners.into_items(),
-        Err(fault) => return Err(fault),
-    };
+    let listeners = net.listen(ip, 80, 2, 0)?.into_items();
     let mut told = Vec::new(alloc);
     for listener in listeners {
         let answers = answer_and_end(net, listener)?;

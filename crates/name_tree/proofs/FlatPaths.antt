@@ -1,23 +1,23 @@
 -- Paths as one list of bytes: their labels, parts of them and paths behind each other.
-use Rattle.std.proofs.Common.{◌≡◌, ℕ, zero, suc, ◌+◌, ◌-◌, ◌<◌, ◌≤◌, ◌==◌, Bool, true, false, IsTrue, List, [], ◌∷◌, ◌++◌, length, take, drop, get_or, Option, Some, SomeIff, refl, sym, ap, subst, ◌∙◌, arith, length-append, length-drop}
+use Rattle.std.proofs.Common.{◌≡◌, ℕ, zero, suc, ◌+◌, ◌-◌, ◌<◌, ◌≤◌, ◌==◌, Bool, not, true, false, IsTrue, List, [], ◌∷◌, ◌++◌, length, take, drop, get_or, Option, Some, SomeIff, refl, sym, ap, subst, ◌∙◌, arith, length-append, length-drop}
 use Rattle.std.specs.Prelude.{slice_get, ◌↔◌}
 use Rattle.std.specs.Cmp.Lexicographic.{bytes_decides}
 use Rattle.std.specs.Str.{bytes_eq}
 use Rattle.std.proofs.lemmas.Bool.Decides.{nat_tests}
-use Rattle.std.proofs.lemmas.List.{get_or_read}
+use Rattle.std.proofs.lemmas.List.{take_more_same}
+use Rattle.std.proofs.lemmas.Option.{slice_get_within, get_or_from_slice_get}
 use Rattle.std.proofs.lemmas.List.{take-append-drop}
 use Rattle.std.proofs.lemmas.List.{take_all, take-append-le, drop-append-le, length-take, length-take-le, take-take, drop-take, drop-drop}
 use Rattle.std.specs.List.{concat}
-use Rattle.name_tree.specs.Path.{Label, Labels, AreLabels}
+use Rattle.name_tree.specs.Path.{Label, Labels}
 use Rattle.name_tree.specs.FlatPath.{labels_in, AreCut, start_at, moved}
 
 pub length-labels : (from : ℕ) (es bs : List ℕ) → length (labels_in from es bs) ≡ length es
 length-labels from [] bs = refl
 length-labels from (e ∷ es) bs = ap (λ (n : ℕ). suc n) (length-labels e es (drop (e - from) bs))
 
-pub are_labels : (from : ℕ) (es bs : List ℕ) → AreCut from es bs → AreLabels (labels_in from es bs)
-are_labels from [] bs cut = tt
-are_labels from (e ∷ es) bs cut = (omega (arith, cut.0, length-take-le (e - from) bs cut.1), are_labels e es (drop (e - from) bs) cut.2)
+pub labels_long : (es bs : List ℕ) (ls : Labels) → labels_in 0 es bs ≡ ls → length ls ≡ length es
+labels_long es bs ls view = ap length (sym view) ∙ length-labels 0 es bs
 
 -- ---- where labels begin and end
 pub start_first : (from : ℕ) (es : List ℕ) (at : ℕ) → at < length es → start_at from es (at + 1) ≡ get_or es at 0
@@ -143,10 +143,11 @@ labels-moved from old new (e ∷ es) bs within cut =
     let rest = labels-moved e old new es (drop (e - from) bs) (omega (arith, within, cut.0)) cut.2 in
     rw same (ap (λ (ls : Labels). take (e - from) bs ∷ ls) rest.0, (omega (arith, within, cut.0), cut.1, rest.1))
 
-pub part_is : (es bs : List ℕ) (from to start end : ℕ) → AreCut 0 es bs → from ≤ to → to ≤ length es → start ≡ start_at 0 es from → end ≡ start_at 0 es to
-    → (labels_in 0 (moved start 0 (take (to - from) (drop from es))) (take (end - start) (drop start bs)) ≡ take (to - from) (drop from (labels_in 0 es bs)))
-    × AreCut 0 (moved start 0 (take (to - from) (drop from es))) (take (end - start) (drop start bs))
-part_is es bs from to start end cut order within start_is end_is =
+-- the labels from one place to before another, where they stand
+part_at : (es bs : List ℕ) (from to : ℕ) → AreCut 0 es bs → from ≤ to → to ≤ length es
+    → (labels_in (start_at 0 es from) (take (to - from) (drop from es)) (take (start_at 0 es to - start_at 0 es from) (drop (start_at 0 es from) bs)) ≡ take (to - from) (drop from (labels_in 0 es bs)))
+    × AreCut (start_at 0 es from) (take (to - from) (drop from es)) (take (start_at 0 es to - start_at 0 es from) (drop (start_at 0 es from) bs))
+part_at es bs from to cut order within =
     let tail = labels-drop 0 es bs from cut (omega (arith, order, within)) in
     let here : start_at 0 es from - 0 ≡ start_at 0 es from = omega arith in
     let tail_cut : AreCut (start_at 0 es from) (drop from es) (drop (start_at 0 es from) bs) = rw here at tail.1 in
@@ -156,9 +157,7 @@ part_is es bs from to start end cut order within start_is end_is =
     start-drop 0 es from (to - from) (omega (arith, order, within)) ∙ ap (start_at 0 es) (let all : from + (to - from) ≡ to = omega (arith, order) in all) in
     let front_is = rw last at front.0 in
     let front_cut = rw last at front.1 in
-    let all = labels-moved (start_at 0 es from) (start_at 0 es from) 0 (take (to - from) (drop from es)) (take (start_at 0 es to - start_at 0 es from) (drop (start_at 0 es from) bs)) (omega arith) front_cut in
-    let zeroed : start_at 0 es from - start_at 0 es from + 0 ≡ 0 = omega arith in
-    rw (start_is, end_is) (rw zeroed at all.0 ∙ (front_is ∙ ap (take (to - from)) tail_is), rw zeroed at all.1)
+    (front_is ∙ ap (take (to - from)) tail_is, front_cut)
 
 -- ---- one path behind another
 pub labels-append : (from : ℕ) (es ds bs cs : List ℕ) → AreCut from es bs → AreCut (from + length bs) ds cs
@@ -172,23 +171,9 @@ labels-append from (e ∷ es) ds bs cs cut behind =
     (ap (λ (ls : Labels). take (e - from) bs ∷ ls) rest.0, (cut.0, omega (arith, cut.1, length-append bs cs), rest.1))
 
 -- ---- the labels say all
-pub bytes_are : (from : ℕ) (es bs : List ℕ) → AreCut from es bs → concat (labels_in from es bs) ≡ bs
+bytes_are : (from : ℕ) (es bs : List ℕ) → AreCut from es bs → concat (labels_in from es bs) ≡ bs
 bytes_are from [] bs cut = sym cut
 bytes_are from (e ∷ es) bs cut = ap (λ (xs : List ℕ). take (e - from) bs ++ xs) (bytes_are e es (drop (e - from) bs) cut.2) ∙ take-append-drop (e - from) bs
-
-abbrev ends_of : ℕ → Labels → List ℕ
-ends_of from [] = []
-ends_of from (l ∷ ls) = (from + length l) ∷ ends_of (from + length l) ls
-
-ends_are : (from : ℕ) (es bs : List ℕ) → AreCut from es bs → ends_of from (labels_in from es bs) ≡ es
-ends_are from [] bs cut = refl
-ends_are from (e ∷ es) bs cut =
-    let here : from + length (take (e - from) bs) ≡ e = omega (arith, cut.0, length-take-le (e - from) bs cut.1) in
-    rw here (ap (λ (xs : List ℕ). e ∷ xs) (ends_are e es (drop (e - from) bs) cut.2))
-
-pub same_parts : (es bs ds cs : List ℕ) → AreCut 0 es bs → AreCut 0 ds cs → labels_in 0 es bs ≡ labels_in 0 ds cs → (es ≡ ds) × (bs ≡ cs)
-same_parts es bs ds cs cut other same =
-    (sym (ends_are 0 es bs cut) ∙ (ap (ends_of 0) same ∙ ends_are 0 ds cs other), sym (bytes_are 0 es bs cut) ∙ (ap concat same ∙ bytes_are 0 ds cs other))
 
 -- ---- a label behind the others, and one path behind another, as the code makes them
 pub label_put : (es bs : List ℕ) (ls : Labels) (l : Label) (start end : ℕ) → AreCut 0 es bs → labels_in 0 es bs ≡ ls → start ≡ start_at 0 es (length es) → end ≡ start + length l → 0 < length l
@@ -197,53 +182,34 @@ label_put es bs ls l start end cut view start_is end_is some =
     let all : end ≡ 0 + length bs + length l = omega (arith, start_is, end_is, start_last 0 es bs cut) in
     (labels-push 0 es bs l end cut some all ∙ ap (λ (xs : Labels). xs ++ l ∷ []) view, cut-push 0 es bs l end cut some all)
 
-pub path_put : (es bs ds cs : List ℕ) (ls rest : Labels) (from base start : ℕ) → AreCut 0 es bs → AreCut 0 ds cs → labels_in 0 es bs ≡ ls → labels_in 0 ds cs ≡ rest → base ≡ start_at 0 es (length es) → start ≡ start_at 0 ds from
-    → from ≤ length ds
-    → (labels_in 0 (es ++ moved start base (drop from ds)) (bs ++ drop start cs) ≡ ls ++ drop from rest) × AreCut 0 (es ++ moved start base (drop from ds)) (bs ++ drop start cs)
-path_put es bs ds cs ls rest from base start cut other view behind base_is start_is within =
-    let ended : base ≡ 0 + length bs = base_is ∙ start_last 0 es bs cut in
-    let tail = labels-drop 0 ds cs from other within in
-    let none : start_at 0 ds from - 0 ≡ start = omega (arith, start_is) in
-    let begun : start_at 0 ds from ≡ start = sym start_is in
-    let tail_is : labels_in start (drop from ds) (drop start cs) ≡ drop from (labels_in 0 ds cs) = rw (none, begun) at tail.0 in
-    let tail_cut : AreCut start (drop from ds) (drop start cs) = rw (none, begun) at tail.1 in
-    let shifted = labels-moved start start base (drop from ds) (drop start cs) (omega arith) tail_cut in
-    let zeroed : start - start + base ≡ 0 + length bs = omega (arith, ended) in
-    let all = labels-append 0 es (moved start base (drop from ds)) bs (drop start cs) cut (rw zeroed at shifted.1) in
-    (all.0 ∙ (λ i. view i ++ (((let same : labels_in (0 + length bs) (moved start base (drop from ds)) (drop start cs) ≡ labels_in start (drop from ds) (drop start cs) = rw zeroed at shifted.0 in same) ∙ (tail_is ∙ ap (drop from) behind)) i)), all.1)
+-- the labels from one place to before another of other ones behind these
+pub part_put : (es bs ds cs : List ℕ) (ls others : Labels) (from to base start end : ℕ) → AreCut 0 es bs → AreCut 0 ds cs → labels_in 0 es bs ≡ ls → labels_in 0 ds cs ≡ others
+    → from ≤ to → to ≤ length others → base ≡ start_at 0 es (length es) → start ≡ start_at 0 ds from → end ≡ start_at 0 ds to → (new_ends new_bytes : List ℕ)
+    → new_ends ≡ es ++ moved start base (take (to - from) (drop from ds)) → new_bytes ≡ bs ++ take (end - start) (drop start cs)
+    → (labels_in 0 new_ends new_bytes ≡ ls ++ take (to - from) (drop from others)) × AreCut 0 new_ends new_bytes
+part_put es bs ds cs ls others from to base start end cut other view behind order within base_is start_is end_is new_ends new_bytes ends_are_these bytes_are_these =
+    let inside : to ≤ length ds = omega (arith, within, labels_long ds cs others behind) in
+    let part = part_at ds cs from to other order inside in
+    let part_ends = take (to - from) (drop from ds) in
+    let part_bytes = take (start_at 0 ds to - start_at 0 ds from) (drop (start_at 0 ds from) cs) in
+    let shifted = labels-moved (start_at 0 ds from) (start_at 0 ds from) base part_ends part_bytes (omega arith) part.1 in
+    let zeroed : start_at 0 ds from - start_at 0 ds from + base ≡ 0 + length bs = omega (arith, base_is, start_last 0 es bs cut) in
+    let same : labels_in (0 + length bs) (moved (start_at 0 ds from) base part_ends) part_bytes ≡ labels_in (start_at 0 ds from) part_ends part_bytes = rw zeroed at shifted.0 in
+    let all = labels-append 0 es (moved (start_at 0 ds from) base part_ends) bs part_bytes cut (rw zeroed at shifted.1) in
+    rw (ends_are_these, bytes_are_these, start_is, end_is) (all.0 ∙ (λ i. view i ++ ((same ∙ (part.0 ∙ ap (λ (xs : Labels). take (to - from) (drop from xs)) behind)) i)), all.1)
 
 -- ---- the same of a path, whose labels contracts see
-pub labels_long : (es bs : List ℕ) (ls : Labels) → labels_in 0 es bs ≡ ls → length ls ≡ length es
-labels_long es bs ls view = ap length (sym view) ∙ length-labels 0 es bs
-
-zero_from : (n : ℕ) → (n == 0) ≡ true → n ≡ 0
-zero_from n h = grind (arith, nat_tests)
-
-pub empty_is : (ls : Labels) (n : ℕ) (told : Bool) → length ls ≡ n → told ≡ (n == 0) → IsTrue told ↔ (ls ≡ [])
-empty_is [] n told long is = (λ h. refl, λ none. is ∙ ap (λ (k : ℕ). k == 0) (sym long))
-empty_is (l ∷ ls) n told long is = (λ h. absurd (let zero_is : n ≡ 0 = zero_from n (sym is ∙ h) in omega (arith, long, zero_is)), λ none. absurd (cc))
-
--- the bytes of a label, between its places
-pub record IsBetween (ls : Labels) (bytes : List ℕ) (at start end : ℕ) : Type 0 where
-  pub order : start ≤ end
-  pub within : end ≤ length bytes
-  pub label : slice_get ls at ≡ Some (take (end - start) (drop start bytes))
-
-pub label_between : (es bs : List ℕ) (ls : Labels) (ends bytes : List ℕ) (at start end : ℕ) → AreCut 0 es bs → labels_in 0 es bs ≡ ls → at < length ls → ends ≡ es → bytes ≡ bs → start ≡ start_at 0 ends at → end ≡ get_or es at end
-    → IsBetween ls bytes at start end
-label_between es bs ls ends bytes at start end cut view within same_ends same_bytes start_is end_is =
-    let inside : at < length es = omega (arith, within, labels_long es bs ls view) in
-    let begins : start ≡ start_at 0 es at = start_is ∙ ap (λ (xs : List ℕ). start_at 0 xs at) same_ends in
-    let here = label_is es bs at start end cut inside begins (get_or_read es at end inside end_is 0) in
-    record {
-      order = here.order;
-      within = omega (arith, here.within, ap length same_bytes);
-      label = ap (λ (xs : Labels). slice_get xs at) (sym view) ∙ (here.label ∙ ap (λ (xs : List ℕ). Some (take (end - start) (drop start xs))) (sym same_bytes));
-    }
-
 pub label_pushed : (es bs new_ends new_bytes : List ℕ) (ls : Labels) (l : Label) (start end : ℕ) → AreCut 0 es bs → labels_in 0 es bs ≡ ls → start ≡ start_at 0 es (length es) → end ≡ start + length l → 0 < length l
     → new_ends ≡ es ++ end ∷ [] → new_bytes ≡ bs ++ l → (labels_in 0 new_ends new_bytes ≡ ls ++ l ∷ []) × AreCut 0 new_ends new_bytes
 label_pushed es bs new_ends new_bytes ls l start end cut view start_is end_is some ends_are_these bytes_are_these = rw (ends_are_these, bytes_are_these) (label_put es bs ls l start end cut view start_is end_is some)
+
+-- a label that was put behind the others, and taken away again
+pub label_kept : (es bs new_ends new_bytes : List ℕ) (ls : Labels) (l : Label) (start : ℕ) → AreCut 0 es bs → labels_in 0 es bs ≡ ls → start ≡ start_at 0 es (length es) → new_ends ≡ es → new_bytes ≡ take start (bs ++ l)
+    → (labels_in 0 new_ends new_bytes ≡ ls) × AreCut 0 new_ends new_bytes
+label_kept es bs new_ends new_bytes ls l start cut view start_is ends_are_these bytes_are_these =
+    let last : start ≡ length bs = omega (arith, start_is, start_last 0 es bs cut) in
+    let all : new_bytes ≡ bs = bytes_are_these ∙ (take-append-le start bs l (omega (arith, last)) ∙ take_all start bs (omega (arith, last))) in
+    rw (ends_are_these, all) (view, cut)
 
 pub moved_more : (old new : ℕ) (es : List ℕ) (k : ℕ) → k < length es → moved old new (take (k + 1) es) ≡ moved old new (take k es) ++ (get_or es k 0 - old + new) ∷ []
 moved_more old new [] k within = absurd (omega arith)
@@ -252,64 +218,44 @@ moved_more old new (e ∷ es) (suc k) within =
     let next : suc k + 1 ≡ suc (k + 1) = omega arith in
     rw next (ap (λ (xs : List ℕ). (e - old + new) ∷ xs) (moved_more old new es k (omega arith)))
 
--- two paths are the same where their bytes and their ends are
-pub both_same : (es bs ds cs : List ℕ) (ls ms : Labels) → AreCut 0 es bs → AreCut 0 ds cs → labels_in 0 es bs ≡ ls → labels_in 0 ds cs ≡ ms → (xs ys zs ws : List ℕ) → xs ≡ bs → ys ≡ cs → zs ≡ es → ws ≡ ds
-    → bytes_eq xs ys ≡ true → (told : Bool) → told ≡ bytes_eq zs ws → IsTrue told ↔ (ls ≡ ms)
-both_same es bs ds cs ls ms cut other view seen xs ys zs ws x y z w same_bytes told is =
-    let bytes_same : bs ≡ cs = sym x ∙ ((bytes_decides xs ys).0 same_bytes ∙ y) in (
-      λ h.
-          let ends_same : es ≡ ds = sym z ∙ ((bytes_decides zs ws).0 (sym is ∙ h) ∙ w) in
-          sym view ∙ ((λ i. labels_in 0 (ends_same i) (bytes_same i)) ∙ seen),
-      λ same.
-          let parts = same_parts es bs ds cs cut other (view ∙ (same ∙ sym seen)) in
-          is ∙ (bytes_decides zs ws).1 (z ∙ (parts.0 ∙ sym w)),
-    )
+-- ---- paths label by label
+pub empty_is : (ls : Labels) (n : ℕ) → n ≡ length ls → IsTrue (n == 0) ↔ (ls ≡ [])
+empty_is [] n long = (λ h. refl, λ none. ap (λ (k : ℕ). k == 0) long)
+empty_is (l ∷ ls) n long = (λ h. absurd (let zero_is : n ≡ 0 = let is : (n == 0) ≡ true = h in grind (arith, nat_tests) in omega (arith, long, zero_is)), λ none. absurd (cc))
 
-pub bytes_differ : (es bs ds cs : List ℕ) (ls ms : Labels) → AreCut 0 es bs → AreCut 0 ds cs → labels_in 0 es bs ≡ ls → labels_in 0 ds cs ≡ ms → (xs ys : List ℕ) → xs ≡ bs → ys ≡ cs
-    → (told : Bool) → told ≡ bytes_eq xs ys → told ≡ false → IsTrue told ↔ (ls ≡ ms)
-bytes_differ es bs ds cs ls ms cut other view seen xs ys x y told is unlike = (
-  λ h. absurd (let clash : false ≡ true = sym unlike ∙ h in cc),
-  λ same.
-      let parts = same_parts es bs ds cs cut other (view ∙ (same ∙ sym seen)) in
-      is ∙ (bytes_decides xs ys).1 (x ∙ (parts.1 ∙ sym y)),
-)
+is_told : (told : Bool) → false ≡ not told → told ≡ true
+is_told true is = refl
+is_told false is = absurd (cc)
+
+pub same_more : (xs ys : Labels) (k : ℕ) (l m : Label) → take k xs ≡ take k ys → slice_get xs k ≡ Some l → slice_get ys k ≡ Some m → false ≡ not (bytes_eq l m) → take (k + 1) xs ≡ take (k + 1) ys
+same_more xs ys k l m same first second is =
+    take_more_same xs ys k [] (slice_get_within xs k l first) (slice_get_within ys k m second) same
+    (get_or_from_slice_get xs k l [] first ∙ ((bytes_decides l m).0 (is_told (bytes_eq l m) is) ∙ sym (get_or_from_slice_get ys k m [] second)))
 
 -- the bytes of a part, between its places
-pub record ArePlaces (bytes : List ℕ) (start end : ℕ) : Type 0 where
+pub record ArePlaces (ls : Labels) (bytes : List ℕ) (from to start end : ℕ) : Type 0 where
   pub order : start ≤ end
   pub within : end ≤ length bytes
+  pub count : length (concat (take (to - from) (drop from ls))) ≡ end - start
 
-pub part_between : (es bs first second bytes : List ℕ) (from to start end : ℕ) → AreCut 0 es bs → from ≤ to → first ≡ es → second ≡ es → bytes ≡ bs → start ≡ start_at 0 first from → end ≡ start_at 0 second to
-    → ArePlaces bytes start end
-part_between es bs first second bytes from to start end cut order same_first same_second same_bytes start_is end_is =
-    let begins : start ≡ start_at 0 es from = start_is ∙ ap (λ (xs : List ℕ). start_at 0 xs from) same_first in
-    let ends : end ≡ start_at 0 es to = end_is ∙ ap (λ (xs : List ℕ). start_at 0 xs to) same_second in
+pub part_places : (es bs : List ℕ) (ls : Labels) (from to start end : ℕ) → AreCut 0 es bs → labels_in 0 es bs ≡ ls → from ≤ to → to ≤ length ls → start ≡ start_at 0 es from → end ≡ start_at 0 es to
+    → ArePlaces ls bs from to start end
+part_places es bs ls from to start end cut view order within start_is end_is =
     let whole : from + (to - from) ≡ to = omega (arith, order) in
     let later : start_at 0 es from ≤ start_at 0 es to = rw whole at (start_later 0 es bs from (to - from) cut) in
+    let inside : start_at 0 es to ≤ length bs = omega (arith, start_within 0 es bs to cut) in
+    let part = part_at es bs from to cut order (omega (arith, within, labels_long es bs ls view)) in
+    let part_ends = take (to - from) (drop from es) in
+    let part_bytes = take (start_at 0 es to - start_at 0 es from) (drop (start_at 0 es from) bs) in
+    let bytes : concat (take (to - from) (drop from ls)) ≡ part_bytes =
+    ap (λ (xs : Labels). concat (take (to - from) (drop from xs))) (sym view) ∙ (ap concat (sym part.0) ∙ bytes_are (start_at 0 es from) part_ends part_bytes part.1) in
+    let long : length part_bytes ≡ start_at 0 es to - start_at 0 es from =
+    length-take-le (start_at 0 es to - start_at 0 es from) (drop (start_at 0 es from) bs) (omega (arith, later, inside, length-drop (start_at 0 es from) bs)) in
     record {
-      order = omega (arith, begins, ends, later);
-      within = omega (arith, ends, start_within 0 es bs to cut, ap length same_bytes);
+      order = omega (arith, start_is, end_is, later);
+      within = omega (arith, end_is, inside);
+      count = ap length bytes ∙ (long ∙ (λ i. sym end_is i - sym start_is i));
     }
-
-pub part_made : (es bs new_ends new_bytes : List ℕ) (ls : Labels) (from to start end : ℕ) → AreCut 0 es bs → labels_in 0 es bs ≡ ls → from ≤ to → to ≤ length ls → start ≡ start_at 0 es from → end ≡ start_at 0 es to
-    → new_ends ≡ moved start 0 (take (to - from) (drop from es)) → new_bytes ≡ take (end - start) (drop start bs)
-    → (labels_in 0 new_ends new_bytes ≡ take (to - from) (drop from ls)) × AreCut 0 new_ends new_bytes
-part_made es bs new_ends new_bytes ls from to start end cut view order within start_is end_is ends_are_these bytes_are_these =
-    let inside : to ≤ length es = omega (arith, within, labels_long es bs ls view) in
-    let all = part_is es bs from to start end cut order inside start_is end_is in
-    rw (ends_are_these, bytes_are_these) (all.0 ∙ ap (λ (xs : Labels). take (to - from) (drop from xs)) view, all.1)
-
-tail_is : (xs : List ℕ) (n : ℕ) → take (length xs - n) (drop n xs) ≡ drop n xs
-tail_is xs n = take_all (length xs - n) (drop n xs) (omega (arith, length-drop n xs))
-
-pub joined_made : (es bs ds cs new_ends new_bytes : List ℕ) (ls rest : Labels) (from base start : ℕ) → AreCut 0 es bs → AreCut 0 ds cs → labels_in 0 es bs ≡ ls → labels_in 0 ds cs ≡ rest
-    → base ≡ start_at 0 es (length es) → start ≡ start_at 0 ds from → from ≤ length rest → new_ends ≡ es ++ moved start base (take (length ds - from) (drop from ds)) → new_bytes ≡ bs ++ take (length cs - start) (drop start cs)
-    → (labels_in 0 new_ends new_bytes ≡ ls ++ drop from rest) × AreCut 0 new_ends new_bytes
-joined_made es bs ds cs new_ends new_bytes ls rest from base start cut other view behind base_is start_is within ends_are_these bytes_are_these =
-    let inside : from ≤ length ds = omega (arith, within, labels_long ds cs rest behind) in
-    let ends_all : new_ends ≡ es ++ moved start base (drop from ds) = ends_are_these ∙ ap (λ (xs : List ℕ). es ++ moved start base xs) (tail_is ds from) in
-    let bytes_all : new_bytes ≡ bs ++ drop start cs = bytes_are_these ∙ ap (λ (xs : List ℕ). bs ++ xs) (tail_is cs start) in
-    rw (ends_all, bytes_all) (path_put es bs ds cs ls rest from base start cut other view behind base_is start_is inside)
 
 -- a sum that was found to fit
 pub sum_is : (sum : Option ℕ) (x v : ℕ) (fits : Type 0) → SomeIff sum fits v → sum ≡ Some x → x ≡ v

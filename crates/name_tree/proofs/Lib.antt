@@ -11,6 +11,7 @@ pub mod FlatPaths
 pub mod Frames
 pub mod Fronts
 pub mod LabelLists
+pub mod LongestTexts
 pub mod Leaning
 pub mod Labels
 pub mod Numbers

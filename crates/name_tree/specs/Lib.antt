@@ -14,6 +14,7 @@ pub mod Path
 pub mod PathReading
 pub mod Recogniser
 pub mod Separated
+pub mod SharedPath
 pub mod Taken
 pub mod Tree
 pub mod TreeReaders

@@ -10,7 +10,7 @@ use thiserror::Error;
 
 /// Why a byte was not taken in.
 #[derive(Clone, Copy, Debug, PartialEq, Eq, Error)]
-pub enum Refused {
+pub enum TakeError {
     /// No text goes on with it.
     #[error("no text goes on with the byte")]
     Byte,
@@ -19,23 +19,23 @@ pub enum Refused {
     OutOfMemory,
 }
 
-impl From<AllocError> for Refused {
-    ghost use Rattle.name_tree.specs.declared.label.Refused.{Refused};
+impl From<AllocError> for TakeError {
+    ghost use Rattle.name_tree.specs.declared.label.TakeError.{TakeError};
 
-    ghost from_gives = { λ _ refused. refused ≡ Refused.OutOfMemory };
+    ghost from_gives = { λ _ error. error ≡ TakeError.OutOfMemory };
 
-    fn from(_error: AllocError) -> Refused {
-        Refused::OutOfMemory
+    fn from(_error: AllocError) -> TakeError {
+        TakeError::OutOfMemory
     }
 }
 
-impl<T: Drop> From<AllocFailed<T>> for Refused {
-    ghost use Rattle.name_tree.specs.declared.label.Refused.{Refused};
+impl<T: Drop> From<AllocFailed<T>> for TakeError {
+    ghost use Rattle.name_tree.specs.declared.label.TakeError.{TakeError};
 
-    ghost from_gives = { λ _ refused. refused ≡ Refused.OutOfMemory };
+    ghost from_gives = { λ _ error. error ≡ TakeError.OutOfMemory };
 
-    fn from(_error: AllocFailed<T>) -> Refused {
-        Refused::OutOfMemory
+    fn from(_error: AllocFailed<T>) -> TakeError {
+        TakeError::OutOfMemory
     }
 }
 
@@ -117,7 +117,7 @@ impl LabelReader {
     }
 
     /// Takes the next byte in. After an `Err` the reader is of no use.
-    pub fn take(&mut self, byte: u8) -> Result<(), Refused>
+    pub fn take(&mut self, byte: u8) -> Result<(), TakeError>
         ensures { Takes (next_spelling (spelling_of self.old) byte) (spelling_of self.new) result }
     {
         match self.place {
@@ -127,28 +127,28 @@ impl LabelReader {
                     return Ok(());
                 }
                 if byte != b'\\' {
-                    return Err(Refused::Byte);
+                    return Err(TakeError::Byte);
                 }
                 self.place = InLabel::Escape;
                 Ok(())
             }
             InLabel::Escape => {
                 if byte != b'x' {
-                    return Err(Refused::Byte);
+                    return Err(TakeError::Byte);
                 }
                 self.place = InLabel::Hex;
                 Ok(())
             }
             InLabel::Hex => {
                 let Some(high) = hex_digit(byte) else {
-                    return Err(Refused::Byte);
+                    return Err(TakeError::Byte);
                 };
                 self.place = InLabel::Digit(high);
                 Ok(())
             }
             InLabel::Digit(high) => {
                 let Some(low) = hex_digit(byte) else {
-                    return Err(Refused::Byte);
+                    return Err(TakeError::Byte);
                 };
                 self.bytes.push(16 * high.value + low.value)?;
                 self.place = InLabel::Bytes;

@@ -39,12 +39,15 @@
 
 use std::alloc::AllocError;
 
+mod flat_labels;
 mod label;
+mod label_ends;
 mod laws;
 mod lean;
 mod path;
 mod path_text;
 mod read;
+mod shared_labels;
 mod tree;
 mod tree_text;
 mod union;
@@ -53,7 +56,7 @@ mod weight;
 mod weight_text;
 mod write;
 
-pub use label::{LabelReader, Refused, is_blank_byte, is_plain_byte};
+pub use label::{LabelReader, TakeError, is_blank_byte, is_plain_byte};
 pub use laws::{canonical_texts_read_back, computed_values_are_exact, texts_have_one_value};
 pub use path::Path;
 pub use path_text::is_in_paths;

@@ -1,53 +1,66 @@
 //! A path, which contracts see as the list of its labels.
 ghost use Rattle.std.specs.Prelude.{◌≡◌, ◌<◌, ◌≤◌, ◌-◌, ◌+◌, ◌↔◌, [], ◌∷◌, ◌++◌, length, take};
 ghost use Rattle.std.specs.Prelude.{drop, IsTrue, IfOk, OnOk, OnErr, Some, slice_get, MatchOption};
-ghost use Rattle.name_tree.specs.FlatPath.{start_at, moved};
 ghost use Rattle.name_tree.specs.Path.{canon_byte, canon_label, canon_path};
 
 use crate::Mem;
+use crate::flat_labels::FlatLabels;
 use crate::label::is_plain_byte;
-use std::alloc::{AllocError, Global};
+use crate::shared_labels::SharedLabels;
+use std::alloc::Global;
 use std::marker::Model;
 
 /// A path: a list of labels, each one or more bytes of any value. `/` is the path with no label.
 ///
-/// Contracts see the list of its labels. Their bytes stand in one buffer, and their ends in
-/// another, so that a copy takes two pieces of memory, however many labels there are.
+/// Contracts see the list of its labels. A path is the end of a list of labels that other paths may
+/// share, so that what is left behind a prefix, and a copy of a whole path, take no memory: a
+/// router makes many of these, and a path that somebody else wrote may be long. What shares them
+/// keeps all of the labels.
 #[derive(Debug, Drop)]
 pub struct Path {
-    bytes: Vec<u8>,
-    /// How many bytes there are up to the end of each label.
-    ends: Vec<u32>,
+    /// Its labels are the last of these.
+    labels: SharedLabels,
+    /// How many labels it has.
+    len: usize,
 }
 
 impl Model for Path {
-    ghost use Rattle.std.specs.Prelude.{List, ℕ};
+    ghost use Rattle.std.specs.Prelude.{List, ℕ, ◌≤◌, ◌-◌, length, drop};
 
     ghost Value = { List (List ℕ) };
 
-    ghost use Rattle.name_tree.specs.FlatPath.{labels_in, AreCut};
+    ghost view = { λ p. drop (length p.labels - p.len) p.labels };
 
-    ghost view = { λ p. labels_in 0 p.ends.items p.bytes.items };
-
-    ghost invariant = { λ p. AreCut 0 p.ends.items p.bytes.items };
+    ghost invariant = { λ p. p.len ≤ length p.labels };
 }
 
 impl Path {
     /// The path with no label, `/`. It takes no memory.
-    pub fn new(alloc: Global) -> Path
+    pub fn new(_alloc: Global) -> Path
         ensures { result ≡ [] }
     {
         Path {
-            bytes: Vec::new(alloc),
-            ends: Vec::new(alloc),
+            labels: SharedLabels::new(),
+            len: 0,
         }
+    }
+
+    /// The path of these labels.
+    fn of(alloc: Global, labels: FlatLabels) -> Mem<Path>
+        ensures { IfOk result (λ p. p ≡ labels) }
+    {
+        let len = labels.len();
+        Ok(Path {
+            labels: SharedLabels::of(alloc, labels)?,
+            len,
+        })
     }
 
     /// How many labels it has. The path `/svc/web` has 2.
     pub fn len(&self) -> usize
         ensures { result ≡ length self.now }
     {
-        self.ends.len()
+        self.len
     }
 
     /// Its label at a place, counted from 0, without the `/` before it.
@@ -55,55 +68,75 @@ impl Path {
         requires { at < length self.now }
         ensures { slice_get self.now at ≡ Some result.now }
     {
-        let start = start_of(self.ends.as_slice(), at);
-        let end = self.ends[at];
-        &self.bytes[start as usize..end as usize]
+        let before = self.labels.len() - self.len;
+        self.labels.label(before + at)
     }
 
     /// Whether it has no label.
     pub fn is_empty(&self) -> bool
         ensures { IsTrue result ↔ (self.now ≡ []) }
     {
-        self.ends.is_empty()
+        self.len() == 0
     }
 
     /// Whether the other one has the same labels. It takes no memory.
     pub fn same(&self, other: &Path) -> bool
         ensures { IsTrue result ↔ (self.now ≡ other.now) }
     {
-        self.bytes.as_slice() == other.bytes.as_slice()
-            && self.ends.as_slice() == other.ends.as_slice()
+        if self.len() != other.len() {
+            return false;
+        }
+        for at in 0..self.len() {
+            if self.label(at) != other.label(at) {
+                return false;
+            }
+        }
+        true
     }
 
-    /// Puts a label behind the others. An `Err` changes nothing.
+    /// Puts a label behind the others. An `Err` changes nothing. Where other paths share its
+    /// labels, it copies them first.
     pub fn push(&mut self, label: Vec<u8>) -> Mem<()>
         requires { 0 < length label.items }
         ensures ok { OnOk result (self.new ≡ self.old ++ label.items ∷ []) }
         ensures err { OnErr result (self.new ≡ self.old) }
     {
-        let start = start_of(self.ends.as_slice(), self.ends.len());
-        let end = end_of(start, label.len())?;
-        self.ends.reserve(1)?;
-        self.bytes.extend_from_slice(label.as_slice())?;
-        self.ends.push_reserved(end);
+        let alloc = *label.allocator();
+        let all = self.labels.len();
+        if self.len == all {
+            self.labels.push(alloc, label.as_slice())?;
+            self.len = self.labels.len();
+            return Ok(());
+        }
+        let mut labels = self.labels.part(alloc, all - self.len, all)?;
+        labels.push(label.as_slice())?;
+        *self = Path::of(alloc, labels)?;
         Ok(())
     }
 
-    /// The labels from one place to before another, counted from 0. It copies them.
+    /// The labels from one place to before another, counted from 0. Up to the last label it shares
+    /// them and takes no memory; fewer it copies.
     pub fn part(&self, alloc: Global, from: usize, to: usize) -> Mem<Path>
         requires order { from ≤ to }
         requires within { to ≤ length self.now }
         ensures { IfOk result (λ p. p ≡ take (to - from) (drop from self.now)) }
     {
-        let start = start_of(self.ends.as_slice(), from);
-        let end = start_of(self.ends.as_slice(), to);
-        let bytes = Vec::from_slice(alloc, &self.bytes[start as usize..end as usize])?;
-        let mut ends = Vec::with_capacity(alloc, to - from)?;
-        put_moved(&self.ends[from..to], start, 0, &mut ends)?;
-        Ok(Path { bytes, ends })
+        if from == to {
+            return Ok(Path::new(alloc));
+        }
+        if to == self.len() {
+            return Ok(Path {
+                labels: self.labels.copied()?,
+                len: to - from,
+            });
+        }
+        let before = self.labels.len() - self.len;
+        let part = self.labels.part(alloc, before + from, before + to)?;
+        Path::of(alloc, part)
     }
 
-    /// The labels of this path, and then those of the other. It copies them.
+    /// The labels of this path, and then those of the other. It copies them, unless one of the two
+    /// has none.
     pub fn joined(&self, alloc: Global, rest: &Path) -> Mem<Path>
         ensures { IfOk result (λ p. p ≡ self.now ++ rest.now) }
     {
@@ -111,24 +144,47 @@ impl Path {
     }
 
     /// The labels of this path, and then those of the other from a place on, counted from 0. It
-    /// copies them.
+    /// copies them, unless one of the two gives none: then it shares those of the other.
     pub fn joined_from(&self, alloc: Global, rest: &Path, from: usize) -> Mem<Path>
         requires { from ≤ length rest.now }
         ensures { IfOk result (λ p. p ≡ self.now ++ drop from rest.now) }
     {
-        let base = start_of(self.ends.as_slice(), self.ends.len());
-        let start = start_of(rest.ends.as_slice(), from);
-        let bytes = joined_bytes(alloc, self.bytes.as_slice(), &rest.bytes[start as usize..])?;
-        let behind = &rest.ends[from..];
-        let mut ends = Vec::with_capacity(alloc, self.ends.len().saturating_add(behind.len()))?;
-        ends.extend_from_slice(self.ends.as_slice())?;
-        put_moved(behind, start, base, &mut ends)?;
-        Ok(Path { bytes, ends })
+        if from == rest.len() {
+            return self.part(alloc, 0, self.len());
+        }
+        if self.is_empty() {
+            return rest.part(alloc, from, rest.len());
+        }
+        Path::of(alloc, joined_labels(alloc, self, rest, from)?)
     }
 
     /// Whether the canonical text has at most so many bytes. It takes no memory and makes no text,
-    /// and looks at no more bytes of the labels than that.
+    /// and looks at no more bytes of the labels than that: at none where all of them might be
+    /// escapes and fit.
     pub fn text_fits(&self, most: usize) -> bool
+        ensures { IsTrue result ↔ (length (canon_path self.now) ≤ most) }
+    {
+        if self.surely_fits(most) {
+            return true;
+        }
+        self.fits_by_bytes(most)
+    }
+
+    /// Whether the canonical text would have at most so many bytes if each byte of a label were an
+    /// escape of four.
+    fn surely_fits(&self, most: usize) -> bool
+        ensures { IsTrue result → length (canon_path self.now) ≤ most }
+    {
+        let first = self.labels.len() - self.len;
+        match self.labels.bytes_from(first).checked_mul(4) {
+            Some(escaped) => escaped < most && self.len < most - escaped,
+            None => false,
+        }
+    }
+
+    /// Whether the canonical text has at most so many bytes. It looks at each byte, as far as they
+    /// fit.
+    fn fits_by_bytes(&self, most: usize) -> bool
         ensures { IsTrue result ↔ (length (canon_path self.now) ≤ most) }
     {
         if self.is_empty() {
@@ -145,44 +201,20 @@ impl Path {
     }
 }
 
-/// Where the label at a place begins, where labels have these ends; at the place behind the last,
-/// where that ends.
-fn start_of(ends: &[u32], at: usize) -> u32
-    requires { at ≤ length ends.now }
-    ensures { result ≡ start_at 0 ends.now at }
+/// A copy of the labels of a path, and then of those of another from a place on, counted from 0.
+fn joined_labels(alloc: Global, path: &Path, rest: &Path, from: usize) -> Mem<FlatLabels>
+    requires { from ≤ length rest.now }
+    ensures { IfOk result (λ all. all ≡ path.now ++ drop from rest.now) }
 {
-    if at == 0 { 0 } else { ends[at - 1] }
-}
-
-/// Where a label of so many bytes ends. A path of 4 GiB finds no memory.
-fn end_of(start: u32, len: usize) -> Mem<u32>
-    ensures { IfOk result (λ end. end ≡ start + len) }
-{
-    let Ok(len) = u32::try_from(len) else {
-        return Err(AllocError);
-    };
-    start.checked_add(len).ok_or(AllocError)
-}
-
-/// The bytes of two slices, one behind the other.
-fn joined_bytes(alloc: Global, front: &[u8], behind: &[u8]) -> Mem<Vec<u8>>
-    ensures { IfOk result (λ all. all.items ≡ front.now ++ behind.now) }
-{
-    let mut all = Vec::with_capacity(alloc, front.len().saturating_add(behind.len()))?;
-    all.extend_from_slice(front)?;
-    all.extend_from_slice(behind)?;
-    Ok(all)
-}
-
-/// Puts the ends of labels behind some others, where the bytes of the labels are moved from one
-/// place to another.
-fn put_moved(some: &[u32], old: u32, new: u32, ends: &mut Vec<u32>) -> Mem<()>
-    ensures { OnOk result (ends.new.items ≡ ends.old.items ++ moved old new some.now) }
-{
-    for end in some {
-        ends.push(end.saturating_sub(old).checked_add(new).ok_or(AllocError)?)?;
-    }
-    Ok(())
+    let first = path.labels.len() - path.len;
+    let from = rest.labels.len() - rest.len + from;
+    let count = path.len.saturating_add(rest.labels.len() - from);
+    let bytes = path
+        .labels
+        .bytes_from(first)
+        .saturating_add(rest.labels.bytes_from(from));
+    let all = FlatLabels::with_room(alloc, count, bytes)?;
+    rest.labels.behind(path.labels.behind(all, first)?, from)
 }
 
 /// How many bytes a byte of a label has in a canonical text: 1, or 4 for an escape.

@@ -3,7 +3,7 @@ ghost use Rattle.std.specs.Prelude.{◌≡◌};
 ghost use Rattle.name_tree.specs.LabelReading.{is_path_byte};
 ghost use Rattle.name_tree.specs.Taken.{Takes, Ends};
 
-use crate::label::{Refused, is_blank_byte, is_plain_byte};
+use crate::label::{TakeError, is_blank_byte, is_plain_byte};
 use crate::path::Path;
 use crate::walk::PathReader;
 use std::alloc::Global;
@@ -51,7 +51,7 @@ impl PathTextReader {
     }
 
     /// Takes the next byte in. After an `Err` the reader is of no use.
-    pub(crate) fn take(&mut self, alloc: Global, byte: u8) -> Result<(), Refused>
+    pub(crate) fn take(&mut self, alloc: Global, byte: u8) -> Result<(), TakeError>
         ensures { Takes (next_path (path_at_of self.old) byte) (path_at_of self.new) result }
     {
         match self.place {
@@ -60,7 +60,7 @@ impl PathTextReader {
                     return Ok(());
                 }
                 if byte != b'/' {
-                    return Err(Refused::Byte);
+                    return Err(TakeError::Byte);
                 }
                 self.reader = PathReader::new(alloc);
                 self.place = PathPlace::Inside;
@@ -71,7 +71,7 @@ impl PathTextReader {
                     return self.reader.take(alloc, byte);
                 }
                 if !is_blank_byte(byte) {
-                    return Err(Refused::Byte);
+                    return Err(TakeError::Byte);
                 }
                 self.path = replace(&mut self.reader, PathReader::new(alloc)).end()?;
                 self.place = PathPlace::Behind;
@@ -79,7 +79,7 @@ impl PathTextReader {
             }
             PathPlace::Behind => {
                 if !is_blank_byte(byte) {
-                    return Err(Refused::Byte);
+                    return Err(TakeError::Byte);
                 }
                 Ok(())
             }
@@ -87,11 +87,11 @@ impl PathTextReader {
     }
 
     /// The path, if its text may end here.
-    pub(crate) fn end(self) -> Result<Path, Refused>
+    pub(crate) fn end(self) -> Result<Path, TakeError>
         ensures { Ends (λ path. path) (end_path (path_at_of self)) result }
     {
         match self.place {
-            PathPlace::Before => Err(Refused::Byte),
+            PathPlace::Before => Err(TakeError::Byte),
             PathPlace::Inside => self.reader.end(),
             PathPlace::Behind => Ok(self.path),
         }

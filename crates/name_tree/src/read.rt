@@ -9,7 +9,7 @@ ghost use Rattle.name_tree.specs.Computed.{path_of, tree_of};
 ghost use Rattle.name_tree.specs.Answers.{FaultFits};
 ghost use Rattle.name_tree.specs.Tree.{value_of};
 
-use crate::label::Refused;
+use crate::label::TakeError;
 use crate::path::Path;
 use crate::path_text::PathTextReader;
 use crate::tree::Tree;
@@ -70,14 +70,14 @@ fn path_in(alloc: Global, text: &[u8]) -> Result<Path, TextFault>
     for (at, byte) in text.iter().enumerate() {
         match reader.take(alloc, *byte) {
             Ok(()) => {}
-            Err(Refused::Byte) => return Err(TextFault::Syntax(at)),
-            Err(Refused::OutOfMemory) => return Err(TextFault::OutOfMemory),
+            Err(TakeError::Byte) => return Err(TextFault::Syntax(at)),
+            Err(TakeError::OutOfMemory) => return Err(TextFault::OutOfMemory),
         }
     }
     match reader.end() {
         Ok(path) => Ok(path),
-        Err(Refused::Byte) => Err(TextFault::Syntax(text.len())),
-        Err(Refused::OutOfMemory) => Err(TextFault::OutOfMemory),
+        Err(TakeError::Byte) => Err(TextFault::Syntax(text.len())),
+        Err(TakeError::OutOfMemory) => Err(TextFault::OutOfMemory),
     }
 }
 
@@ -114,8 +114,8 @@ fn tree_in(alloc: Global, text: &[u8]) -> Result<Tree, TextFault>
     for (at, byte) in text.iter().enumerate() {
         match reader.take(alloc, *byte) {
             Ok(()) => {}
-            Err(Refused::Byte) => return Err(TextFault::Syntax(at)),
-            Err(Refused::OutOfMemory) => return Err(TextFault::OutOfMemory),
+            Err(TakeError::Byte) => return Err(TextFault::Syntax(at)),
+            Err(TakeError::OutOfMemory) => return Err(TextFault::OutOfMemory),
         }
         if reader.depth() > MOST_OPEN {
             return Err(TextFault::TooNested(at));
@@ -123,7 +123,7 @@ fn tree_in(alloc: Global, text: &[u8]) -> Result<Tree, TextFault>
     }
     match reader.end(alloc) {
         Ok(tree) => Ok(tree),
-        Err(Refused::Byte) => Err(TextFault::Syntax(text.len())),
-        Err(Refused::OutOfMemory) => Err(TextFault::OutOfMemory),
+        Err(TakeError::Byte) => Err(TextFault::Syntax(text.len())),
+        Err(TakeError::OutOfMemory) => Err(TextFault::OutOfMemory),
     }
 }

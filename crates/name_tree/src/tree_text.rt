@@ -13,7 +13,7 @@ ghost use Rattle.name_tree.specs.Taken.{Takes, Ends};
 ghost use Rattle.name_tree.specs.TreeReaders.{place_of, state_of, walk_in};
 
 use crate::Mem;
-use crate::label::{Refused, is_blank_byte};
+use crate::label::{TakeError, is_blank_byte};
 use crate::path_text::is_in_paths;
 use crate::tree::Tree;
 use crate::union::{WrittenBranch, choice_of, union_of_parts};
@@ -111,7 +111,12 @@ impl TreeReader {
     }
 
     /// Takes in a byte with which a path, a mark or a parenthesis may begin.
-    fn begin_simple(&mut self, alloc: Global, weight: Option<u64>, byte: u8) -> Result<(), Refused>
+    fn begin_simple(
+        &mut self,
+        alloc: Global,
+        weight: Option<u64>,
+        byte: u8,
+    ) -> Result<(), TakeError>
         ensures { Takes (begin_simple (place_of self.old) weight byte) (state_of self.new) result }
     {
         if byte == b'/' {
@@ -127,14 +132,14 @@ impl TreeReader {
             b'~' => Tree::Neg,
             b'!' => Tree::Fail,
             b'$' => Tree::Empty,
-            _ => return Err(Refused::Byte),
+            _ => return Err(TakeError::Byte),
         };
         self.end_branch(weight, mark)?;
         Ok(())
     }
 
     /// Takes in a byte behind a weight.
-    fn take_behind_weight(&mut self, weight: u64, byte: u8) -> Result<(), Refused>
+    fn take_behind_weight(&mut self, weight: u64, byte: u8) -> Result<(), TakeError>
         ensures { Takes (behind_weight (place_of self.old) weight byte) (state_of self.new) result }
     {
         if is_blank_byte(byte) {
@@ -142,14 +147,14 @@ impl TreeReader {
             return Ok(());
         }
         if byte != b'*' {
-            return Err(Refused::Byte);
+            return Err(TakeError::Byte);
         }
         self.mode = Mode::Star(weight);
         Ok(())
     }
 
     /// Takes in a byte before a branch.
-    fn take_at_start(&mut self, alloc: Global, byte: u8) -> Result<(), Refused>
+    fn take_at_start(&mut self, alloc: Global, byte: u8) -> Result<(), TakeError>
         requires { self.old.mode ≡ Mode.Start }
         ensures { Takes (next (place_of self.old) start byte) (state_of self.new) result }
     {
@@ -168,13 +173,13 @@ impl TreeReader {
     }
 
     /// Takes in a byte behind digits of a weight.
-    fn take_in_whole(&mut self, whole: Whole, byte: u8) -> Result<(), Refused>
+    fn take_in_whole(&mut self, whole: Whole, byte: u8) -> Result<(), TakeError>
         ensures { Takes (next (place_of self.old) (at_whole whole.value whole.digits) byte)
             (state_of self.new) result }
     {
         if byte.is_ascii_digit() {
             let Some(more) = whole.with(byte - b'0') else {
-                return Err(Refused::Byte);
+                return Err(TakeError::Byte);
             };
             self.mode = Mode::Whole(more);
             return Ok(());
@@ -187,19 +192,19 @@ impl TreeReader {
     }
 
     /// Takes in a byte behind a weight's point.
-    fn take_behind_point(&mut self, whole: Whole, byte: u8) -> Result<(), Refused>
+    fn take_behind_point(&mut self, whole: Whole, byte: u8) -> Result<(), TakeError>
         ensures { Takes (next (place_of self.old) (at_point (whole.value * 1000000)) byte)
             (state_of self.new) result }
     {
         if !byte.is_ascii_digit() {
-            return Err(Refused::Byte);
+            return Err(TakeError::Byte);
         }
         self.mode = Mode::Decimals(Decimals::of(whole, byte - b'0'));
         Ok(())
     }
 
     /// Takes in a byte behind decimals of a weight.
-    fn take_in_decimals(&mut self, decimals: Decimals, byte: u8) -> Result<(), Refused>
+    fn take_in_decimals(&mut self, decimals: Decimals, byte: u8) -> Result<(), TakeError>
         ensures { Takes (next (place_of self.old) (at_decimals decimals.millionths decimals.unit)
             byte) (state_of self.new) result }
     {
@@ -211,7 +216,7 @@ impl TreeReader {
     }
 
     /// Takes in a byte behind a weight's `*`.
-    fn take_behind_star(&mut self, alloc: Global, weight: u64, byte: u8) -> Result<(), Refused>
+    fn take_behind_star(&mut self, alloc: Global, weight: u64, byte: u8) -> Result<(), TakeError>
         requires { self.old.mode ≡ Mode.Star weight }
         ensures { Takes (next (place_of self.old) (at_star weight) byte) (state_of self.new)
             result }
@@ -245,12 +250,12 @@ impl TreeReader {
 
     /// Closes the innermost parenthesis.
     #[tactic(auto, using(crate::proofs::Frames::frames_pushed))]
-    fn close(&mut self, alloc: Global) -> Result<(), Refused>
+    fn close(&mut self, alloc: Global) -> Result<(), TakeError>
         ensures { Takes (closed (place_of self.old).outer (inner (place_of self.old)))
             (state_of self.new) result }
     {
         let Some(frame) = self.outer.pop() else {
-            return Err(Refused::Byte);
+            return Err(TakeError::Byte);
         };
         let tree = self.end_tree(alloc)?;
         self.alts = frame.alts;
@@ -260,7 +265,7 @@ impl TreeReader {
     }
 
     /// Takes in a byte behind a branch.
-    fn take_behind(&mut self, alloc: Global, byte: u8) -> Result<(), Refused>
+    fn take_behind(&mut self, alloc: Global, byte: u8) -> Result<(), TakeError>
         requires { self.old.mode ≡ Mode.Behind }
         ensures { Takes (behind_branch (place_of self.old) byte) (state_of self.new) result }
     {
@@ -278,13 +283,13 @@ impl TreeReader {
             return Ok(());
         }
         if byte != b')' {
-            return Err(Refused::Byte);
+            return Err(TakeError::Byte);
         }
         self.close(alloc)
     }
 
     /// Ends a path, and its branch.
-    fn end_path(&mut self, alloc: Global, weight: Option<u64>) -> Result<(), Refused>
+    fn end_path(&mut self, alloc: Global, weight: Option<u64>) -> Result<(), TakeError>
         ensures { Takes (path_behind (place_of self.old) weight (end_walk (walk_in self.old)))
             (state_of self.new) result }
     {
@@ -294,7 +299,12 @@ impl TreeReader {
     }
 
     /// Takes in a byte in a path.
-    fn take_in_path(&mut self, alloc: Global, weight: Option<u64>, byte: u8) -> Result<(), Refused>
+    fn take_in_path(
+        &mut self,
+        alloc: Global,
+        weight: Option<u64>,
+        byte: u8,
+    ) -> Result<(), TakeError>
         requires { self.old.mode ≡ Mode.Walk weight }
         ensures { Takes (next (place_of self.old) (at_walk weight (walk_in self.old)) byte)
             (state_of self.new) result }
@@ -307,7 +317,7 @@ impl TreeReader {
     }
 
     /// Takes the next byte in. After an `Err` the reader is of no use.
-    pub fn take(&mut self, alloc: Global, byte: u8) -> Result<(), Refused>
+    pub fn take(&mut self, alloc: Global, byte: u8) -> Result<(), TakeError>
         ensures { Takes (next_state (state_of self.old) byte) (state_of self.new) result }
     {
         match self.mode {
@@ -323,25 +333,25 @@ impl TreeReader {
     }
 
     /// Ends the last branch, if it may end here.
-    fn end_last(&mut self, alloc: Global) -> Result<(), Refused>
+    fn end_last(&mut self, alloc: Global) -> Result<(), TakeError>
         ensures { MatchResult result
             (λ _. ended_state (state_of self.old) ≡ end_tree (place_of self.new))
-            (λ refused. refused ≡ Refused.Byte → ended_state (state_of self.old) ≡ None) }
+            (λ refused. refused ≡ TakeError.Byte → ended_state (state_of self.old) ≡ None) }
     {
         match self.mode {
             Mode::Walk(weight) => self.end_path(alloc, weight),
             Mode::Behind => Ok(()),
-            _ => Err(Refused::Byte),
+            _ => Err(TakeError::Byte),
         }
     }
 
     /// The tree, if its text may end here.
-    pub fn end(mut self, alloc: Global) -> Result<Tree, Refused>
+    pub fn end(mut self, alloc: Global) -> Result<Tree, TakeError>
         ensures { Ends value_of (ended_state (state_of self)) result }
     {
         self.end_last(alloc)?;
         if self.depth() > 0 {
-            return Err(Refused::Byte);
+            return Err(TakeError::Byte);
         }
         Ok(self.end_tree(alloc)?)
     }

@@ -2,7 +2,7 @@
 ghost use Rattle.std.specs.Prelude.{◌≡◌, Some};
 ghost use Rattle.name_tree.specs.Taken.{Takes, Ends};
 
-use crate::label::{LabelReader, Refused};
+use crate::label::{LabelReader, TakeError};
 use crate::path::Path;
 use std::alloc::Global;
 use std::mem::replace;
@@ -29,21 +29,21 @@ impl PathReader {
     }
 
     /// Takes the next byte in. After an `Err` the reader is of no use.
-    pub(crate) fn take(&mut self, alloc: Global, byte: u8) -> Result<(), Refused>
+    pub(crate) fn take(&mut self, alloc: Global, byte: u8) -> Result<(), TakeError>
         ensures { Takes (next_walk (walk_of self.old) byte) (walk_of self.new) result }
     {
         if byte != b'/' {
             return self.label.take(byte);
         }
         let Some(label) = replace(&mut self.label, LabelReader::new(alloc)).end() else {
-            return Err(Refused::Byte);
+            return Err(TakeError::Byte);
         };
         self.path.push(label)?;
         Ok(())
     }
 
     /// The path, if it may end here.
-    pub(crate) fn end(self) -> Result<Path, Refused>
+    pub(crate) fn end(self) -> Result<Path, TakeError>
         ensures { Ends (λ path. path) (end_walk (walk_of self)) result }
     {
         let PathReader { mut path, label } = self;
@@ -51,7 +51,7 @@ impl PathReader {
             return Ok(path);
         }
         let Some(label) = label.end() else {
-            return Err(Refused::Byte);
+            return Err(TakeError::Byte);
         };
         path.push(label)?;
         Ok(path)

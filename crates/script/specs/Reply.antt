@@ -59,7 +59,7 @@ reply_text (table n rules) =
 reply_text (namespaces names) = codes "names" ++ flat_map (λ name. 32 ∷ name) names
 reply_text (addrs list) = codes "addrs" ++ flat_map (λ item. 32 ∷ addr_text item.addr) list
 reply_text (counts changes marks spaces served) = counts_text changes marks spaces served
-reply_text (services changes marks spaces served) =
+reply_text (services changes marks spaces tables_written served) =
     counts_text changes marks spaces (length served)
 reply_text (viewed ending items) = view_of ending items
 

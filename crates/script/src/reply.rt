@@ -115,6 +115,7 @@ fn text_of_reply(alloc: Global, reply: &Reply) -> Mem<Bytes>
             changes,
             marks,
             namespaces,
+            tables_written: _,
             services,
         } => text_of_counts(alloc, *changes, *marks, *namespaces, services.len() as u64),
         Reply::Viewed { outcome, trace } => view_text(alloc, outcome, trace),

@@ -1,6 +1,6 @@
 -- The lines of a text.
-use Rattle.std.specs.Prelude.{◌≡◌, ◌≢◌, ℕ, ◌≤◌, ◌==◌, ◌&&◌, Bool, false, if◌then◌else◌, List, []}
-use Rattle.std.specs.Prelude.{◌∷◌, ◌++◌, length}
+use Rattle.std.specs.Prelude.{◌≡◌, ◌≢◌, ℕ, ◌≤◌, ◌<◌, ◌-◌, ◌==◌, ◌&&◌, ◌⊎◌, Bool, false, if◌then◌else◌}
+use Rattle.std.specs.Prelude.{List, [], ◌∷◌, ◌++◌, length, slice_index}
 
 -- a byte at the front of the first line
 abbrev pub joined : ℕ → List (List ℕ) → List (List ℕ)
@@ -18,6 +18,17 @@ lines_of [] = []
 lines_of (b ∷ bs) =
     if b == 10 then [] ∷ lines_of bs
     else (if b == 13 && begins_feed bs then lines_of bs else joined b (lines_of bs))
+
+-- no line feed stands at a place of the text from one to before another
+abbrev pub HasNoFeedIn : List ℕ → ℕ → ℕ → Type 0
+HasNoFeedIn text from to = (k : ℕ) → from ≤ k → k < to → slice_index text k ≡ 10 → ⊥
+
+-- where the line that follows the one at a place begins: right behind the first line feed from there
+-- on, or at the text's end where there is none
+abbrev pub IsNextLine : List ℕ → ℕ → ℕ → Type 0
+IsNextLine text at next =
+    ((next ≡ length text) × HasNoFeedIn text at next)
+    ⊎ ((slice_index text (next - 1) ≡ 10) × HasNoFeedIn text at (next - 1))
 
 -- a text without a line feed
 pub data HasNoFeed : List ℕ → Type 0 where

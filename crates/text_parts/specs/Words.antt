@@ -1,6 +1,6 @@
 -- The words of a line: the pieces between its gaps, and those around a byte.
-use Rattle.std.specs.Prelude.{ℕ, Bool, true, false, ◌||◌, ◌==◌, if◌then◌else◌, List, [], ◌∷◌, IsTrue}
-use Rattle.std.specs.Prelude.{Option, Some, None}
+use Rattle.std.specs.Prelude.{ℕ, Bool, true, false, ◌||◌, ◌==◌, if◌then◌else◌, List, [], ◌∷◌}
+use Rattle.std.specs.Prelude.{IsTrue, Option, Some, None}
 
 -- a space or a tab
 abbrev pub is_gap : ℕ → Bool

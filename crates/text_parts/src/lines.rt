@@ -1,7 +1,7 @@
 //! The lines of a text.
 ghost use Rattle.std.specs.Prelude.{◌≡◌, ◌≤◌, ◌<◌, ◌∷◌, ℕ, length, drop, slice_range};
 ghost use Rattle.std.specs.Prelude.{slice_index};
-ghost use Rattle.text_parts.specs.Lines.{lines_of};
+ghost use Rattle.text_parts.specs.Lines.{lines_of, IsNextLine};
 
 /// A line of a text.
 #[derive(Clone, Copy, Debug, PartialEq, Eq)]
@@ -19,6 +19,7 @@ pub fn cut_line(text: &[u8], at: usize) -> Cut
         ≡ slice_range text.now at result.stop ∷ lines_of (drop result.next text.now) }
     ensures stop { (at ≤ result.stop) × (result.stop ≤ length text.now) }
     ensures next { (at < result.next) × (result.next ≤ length text.now) }
+    ensures feed { IsNextLine text.now at result.next }
 {
     let end = feed_place(text, at);
     if end == text.len() {

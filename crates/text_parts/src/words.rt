@@ -1,5 +1,6 @@
 //! The words of a line.
-ghost use Rattle.std.specs.Prelude.{◌≡◌, ◌≤◌, ◌++◌, length, take, drop, option_map, OnOk};
+ghost use Rattle.std.specs.Prelude.{◌≡◌, ◌≤◌, ◌++◌, length, take, drop, option_map};
+ghost use Rattle.std.specs.Prelude.{OnErr, OnOk};
 ghost use Rattle.text_parts.specs.Words.{before_byte, behind_byte, behind_word, drop_gaps, is_gap};
 ghost use Rattle.text_parts.specs.Words.{single_word, spaced, word_of};
 
@@ -48,10 +49,11 @@ pub fn cut_at(text: &[u8], mark: u8) -> (&[u8], Option<&[u8]>)
     (text, None)
 }
 
-/// Puts a space and a text behind some bytes, unless the text is empty. An `Err` may leave the space
-/// there.
+/// Puts a space and a text behind some bytes, unless the text is empty. An `Err` may leave the
+/// space there; what stood before stays.
 pub fn append_spaced(text: &[u8], out: &mut Bytes) -> Mem<()>
-    ensures { OnOk result (out.new.items ≡ out.old.items ++ spaced text.now) }
+    ensures ok { OnOk result (out.new.items ≡ out.old.items ++ spaced text.now) }
+    ensures err { OnErr result (take (length out.old.items) out.new.items ≡ out.old.items) }
 {
     if text.is_empty() {
         return Ok(());

@@ -3,7 +3,7 @@ use Rattle.std.specs.Prelude.{not}
 use Rattle.name_tree.specs.Path.{Labels}
 use Rattle.bind_core.specs.Rewritten.{labels_of, tree_of}
 use Rattle.bind_core.specs.Stack.{trees_left}
-use Rattle.bind_core.specs.declared.frame.Frame.TheVariants.{Choice}
+use Rattle.bind_core.specs.declared.frame.Frame.TheVariants.{FirstOf}
 use Rattle.bind_core.proofs.Turns.{bare, first, last, is_none, none_kept, named_on}
 use Rattle.bind_core.proofs.delegate.first_tree.Goals as goal
 
@@ -60,7 +60,7 @@ pub returns-clause-moves : goal.returns-clause-moves
 returns-clause-moves c = inr (inl (record {
   tree = record { tree = c.in-Some.tree; path = c.args.path; from = c.in-Some.from };
   left = c.args.left;
-  frame_left = Choice (record {
+  frame_left = FirstOf (record {
     trees = c.next.new.self;
     path = c.in_ok-kept.kept;
     named = c.args.named;

@@ -5,7 +5,7 @@ use Rattle.name_tree.specs.Value.{append_rest}
 use Rattle.bind_core.specs.Rewritten.{labels_of}
 use Rattle.bind_core.specs.Stack.{trees_left}
 use Rattle.bind_core.specs.Outcome.{ending_of}
-use Rattle.bind_core.specs.declared.frame.Frame.TheVariants.{Choice}
+use Rattle.bind_core.specs.declared.frame.Frame.TheVariants.{FirstOf}
 use Rattle.bind_core.proofs.Turns.{passed, emptied, chosen, passed_on, emptied_on}
 use Rattle.bind_core.proofs.delegate.next_tree.Goals as goal
 
@@ -35,7 +35,7 @@ pub returns-clause-moves : goal.returns-clause-moves
 returns-clause-moves c = inr (record {
   tree = record { tree = c.in-Some.tree; path = c.in_ok-path.path; from = c.in-Some.from };
   left = c.args.choice.left;
-  frame_left = Choice (record {
+  frame_left = FirstOf (record {
     trees = c.next.new.self;
     path = c.args.choice.path;
     named = c.args.choice.named;
