@@ -74,8 +74,8 @@ reply_value (reply.Table n dtab) = table n (rules_of dtab)
 reply_value (reply.Names names) = namespaces names
 reply_value (reply.Addrs list) = addrs list
 reply_value (reply.Counts changes marks spaces served) = counts changes marks spaces served
-reply_value (reply.Services changes marks spaces served) =
-    services changes marks spaces served.items
+reply_value (reply.Services changes marks spaces tables_written served) =
+    services changes marks spaces tables_written served.items
 reply_value (reply.Viewed outcome trace) = viewed (ending_of outcome) trace
 
 abbrev pub chosen_value : Chosen → ChosenValue

@@ -1,5 +1,5 @@
--- What there is of each service at a moment.
-use Rattle.std.specs.Prelude.{ℕ, List, length, filter, map}
+-- What there is of each service at a moment, and how many tables were written.
+use Rattle.std.specs.Prelude.{ℕ, ◌-◌, List, length, filter, map}
 use Rattle.std.specs.FinMap.{get, len, keys}
 use Rattle.addr_book.specs.declared.addr.Weighted.{Weighted}
 use Rattle.addr_book.specs.Uses.{list_of}
@@ -22,8 +22,13 @@ service_state limits state moment name =
       alive = length (alive_in limits state moment list);
     }
 
+-- how many tables were created or put. The first version is 1, and each such change takes the next
+-- one; no other change takes any
+abbrev pub tables_written : StateValue → ℕ
+tables_written state = state.store.next - 1
+
 -- what a state has, and of each service, in the order of the names, how many addresses are alive
 abbrev pub services_reply : Limits → StateValue → ℕ → ReplyValue
 services_reply limits state moment =
-    services state.place (len state.marks) (len state.store.spaces)
+    services state.place (len state.marks) (len state.store.spaces) (tables_written state)
     (map (service_state limits state moment) (keys state.book.services))

@@ -86,8 +86,9 @@ pub data ReplyValue : Type 0 where
   -- how many changes were accepted, how many addresses have a mark, how many namespaces and
   -- services there are
   counts : ℕ → ℕ → ℕ → ℕ → ReplyValue
-  -- as in `counts`, but with the services one by one
-  services : ℕ → ℕ → ℕ → List ServiceState → ReplyValue
+  -- how many changes were accepted, how many addresses have a mark, how many namespaces there are,
+  -- and how many tables were written; and the services, one by one
+  services : ℕ → ℕ → ℕ → ℕ → List ServiceState → ReplyValue
   viewed : Ending → List TraceItem → ReplyValue
 
 -- a replica that is picked: its address, its slot where it is one of a service, the labels that

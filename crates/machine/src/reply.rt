@@ -68,6 +68,9 @@ pub enum Reply {
         marks: u32,
         /// How many namespaces there are.
         namespaces: u32,
+        /// How many tables were created or put, which is how many versions were given. It never
+        /// falls: a namespace that is deleted takes its table along, and no version.
+        tables_written: u64,
         /// The services, in the order of their names' bytes: at most 4,096. The names share their
         /// bytes with those of the book.
         services: Vec<ServiceState>,

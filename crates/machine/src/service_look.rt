@@ -1,8 +1,8 @@
-//! What there is of each service.
+//! What there is of each service, and how many tables were written.
 ghost use Rattle.std.specs.Prelude.{◌≡◌, ◌≤◌, length, map as each, IfOk};
 ghost use Rattle.std.specs.FinMap as fin;
 ghost use Rattle.machine.specs.Code.{state_of, reply_value};
-ghost use Rattle.machine.specs.Services.{alive_in, service_state, services_reply};
+ghost use Rattle.machine.specs.Services.{alive_in, service_state, services_reply, tables_written};
 
 use crate::Mem;
 use crate::reply::{Reply, ServiceState};
@@ -21,8 +21,16 @@ impl State {
             changes: self.place,
             marks: self.marks.count(),
             namespaces: self.store.count() as u32,
+            tables_written: self.tables_written(),
             services: self.listed(alloc, limits, moment)?,
         })
+    }
+
+    /// How many tables were created or put. A delete is not among them: it takes no version.
+    fn tables_written(&self) -> u64
+        ensures { result ≡ tables_written (state_of self.now) }
+    {
+        self.store.next_version().saturating_sub(1)
     }
 
     /// What there is of each service at a moment, in the order of the names.

@@ -22,7 +22,7 @@ pub struct State {
     pub(crate) book: Book,
     pub(crate) marks: Marks,
     pub(crate) place: u64,
-    ghost sound: { AreSoundSpaces (contents_of store).spaces } by { AreSoundSpaces-prop (contents_of store).spaces },
+    ghost sound: { AreSoundSpaces (contents_of store).spaces } by { AreSoundSpaces-prop _ },
     ghost known: { (addr : Addr) → fin.contains_key marks addr ≡ true
         → is_used book.services addr ≡ true },
 }

@@ -27,8 +27,8 @@ use Rattle.router_log.proofs.Taking.{change_taken, kept_taken}
 use Rattle.router.specs.declared.update.Update.{Update}
 use Rattle.router.specs.declared.update.Update.TheVariants as update
 use Rattle.router.specs.declared.detached.Detached.{Detached}
-use Rattle.router.specs.declared.picking.Found.{Found}
-use Rattle.router.specs.Detached.{IsOut, IsFound}
+use Rattle.router.specs.declared.picking.CacheLookup.{CacheLookup}
+use Rattle.router.specs.Detached.{IsOut, IsLookedUp}
 use Rattle.router.specs.declared.answer.Peek.{Peek}
 use Rattle.router.specs.declared.names.Names.{Names}
 use Rattle.router.specs.Peeked.{IsPeek}
@@ -147,16 +147,19 @@ module _ (v o : Current) (seen : List Update) (empty : IsEmpty o) (is : shown_by
         (subst (λ (s : SettingsValue). P s (value_in v)) entered_settings
         (subst (λ (x : Current). P (settings_in x) (value_in x)) same p)))
 
+    pub told_kept : (kept : ℕ) → kept ≡ length (value_in c).cache → kept ≡ length (value_of (settings_in o) (operations_of seen')).cache
+    told_kept kept told = told_of (λ s w. kept ≡ length w.cache) told
+
     pub told_out : {E : Type 0} (r : Result Detached E) → IfOk r (IsOut (settings_in c) (value_in c).state)
         → IfOk r (IsOut (settings_in o) (value_of (settings_in o) (operations_of seen')).state)
     told_out r told = told_of (λ s w. IfOk r (IsOut s w.state)) told
 
-    pub told_found : {E : Type 0} (r : Result Found E) (place : ℕ) (ask : AskValue) (before after : List (ℕ × ℕ)) → place ≡ (value_in c).state.place
-        → IfOk r (IsFound (settings_in c) (value_in c) (value_in c).state.place ask before after)
-        → IfOk r (IsFound (settings_in o) (value_of (settings_in o) (operations_of seen')) place ask before after)
+    pub told_found : {E : Type 0} (r : Result CacheLookup E) (place : ℕ) (ask : AskValue) (before after : List (ℕ × ℕ)) → place ≡ (value_in c).state.place
+        → IfOk r (IsLookedUp (settings_in c) (value_in c) (value_in c).state.place ask before after)
+        → IfOk r (IsLookedUp (settings_in o) (value_of (settings_in o) (operations_of seen')) place ask before after)
     told_found r place ask before after at told =
-        told_of (λ s w. IfOk r (IsFound s w place ask before after))
-        (subst (λ (n : ℕ). IfOk r (IsFound (settings_in c) (value_in c) n ask before after)) (sym at) told)
+        told_of (λ s w. IfOk r (IsLookedUp s w place ask before after))
+        (subst (λ (n : ℕ). IfOk r (IsLookedUp (settings_in c) (value_in c) n ask before after)) (sym at) told)
 
     pub told_read : {A E : Type 0} (r : Result A E) (ask : AskValue) (before after : List (ℕ × ℕ)) → OnErr r (MayHaveRead (offer_of (settings_in c) (value_in c).state ask) before after)
         → OnErr r (MayHaveRead (offer_of (settings_in o) (value_of (settings_in o) (operations_of seen')).state ask) before after)

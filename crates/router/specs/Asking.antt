@@ -1,5 +1,5 @@
 -- What looks and picks answer, and what they do to their pass.
-use Rattle.std.specs.Prelude.{◌≡◌, ℕ}
+use Rattle.std.specs.Prelude.{◌≡◌, ℕ, length}
 use Rattle.machine.specs.Code.{reply_value}
 use Rattle.machine.specs.declared.reply.Reply.{Reply}
 use Rattle.machine.specs.Looking.{look_of}
@@ -21,17 +21,18 @@ use Rattle.router.specs.Passes.{seen_in, reads_in, Entered, NotLetIn}
 use Rattle.router.specs.Picked.{IsAnswer}
 
 module _ {J : Type 0} {g : Ghosts J} where
-  -- a look was answered from the state at its point
-  pub record IsLooked (old new : Pass J g) (asks : LookValue) (place : ℕ) (reply : Reply) : Type 0
-    where
-      pub entered : Entered old new (looked asks)
-      pub reads : reads_in new ≡ reads_in old
-      pub at_place : place ≡ place_of (seen_in new)
-      pub answered : reply_value reply
-          ≡ look_of g.settings (value_of g.settings (seen_in new)).state asks
+  -- a look was answered from the state at its point, with how many delegations were kept there
+  pub record IsLooked (old new : Pass J g) (asks : LookValue) (place : ℕ) (reply : Reply) (kept : ℕ)
+      : Type 0 where
+    pub entered : Entered old new (looked asks)
+    pub reads : reads_in new ≡ reads_in old
+    pub at_place : place ≡ place_of (seen_in new)
+    pub answered : reply_value reply
+        ≡ look_of g.settings (value_of g.settings (seen_in new)).state asks
+    pub kept_is : kept ≡ length (value_of g.settings (seen_in new)).cache
 
   abbrev pub Looks : Pass J g → Pass J g → LookValue → Looked → Type 0
-  Looks old new asks (look.Said place reply) = IsLooked old new asks place reply
+  Looks old new asks (look.Said place reply kept) = IsLooked old new asks place reply kept
   Looks old new asks look.NoEntry = NotLetIn old new
 
   -- a pick was answered from the value at its point

@@ -7,8 +7,8 @@ use Rattle.bind_cache.specs.Stored.{kept_of}
 use Rattle.bind_cache.specs.declared.binding.Binding.{Binding}
 use Rattle.router_log.specs.Value.{Value}
 use Rattle.router.specs.declared.answer.Answer.{Answer}
-use Rattle.router.specs.declared.picking.Found.{Found}
-use Rattle.router.specs.declared.picking.Found.TheVariants as found
+use Rattle.router.specs.declared.picking.CacheLookup.{CacheLookup}
+use Rattle.router.specs.declared.picking.CacheLookup.TheVariants as lookup
 use Rattle.router.specs.declared.detached.Detached.{Detached}
 use Rattle.router.specs.Chosen.{IsPermitted}
 use Rattle.router.specs.Picked.{IsAnswer, IsAsked, IsWorkedOut, is_kept_for, is_let_in, said_by}
@@ -46,11 +46,11 @@ pub record IsMissed (settings : SettingsValue) (value : Value) (place : ℕ) (as
   pub at_place : place ≡ value.state.place
   pub out : IsOut settings value.state d
 
--- what a pick finds in a value: the answer, by what is kept for it; or, exactly where nothing is
--- kept for it, the state to delegate in
-abbrev pub IsFound : SettingsValue → Value → ℕ → AskValue → List (ℕ × ℕ) → List (ℕ × ℕ) → Found
-    → Type 0
-IsFound settings value place ask before after (found.Kept a) =
+-- what a pick comes to by what a value keeps: the answer, by what is kept for it; or, exactly where
+-- nothing is kept for it, the state to delegate in
+abbrev pub IsLookedUp : SettingsValue → Value → ℕ → AskValue → List (ℕ × ℕ) → List (ℕ × ℕ)
+    → CacheLookup → Type 0
+IsLookedUp settings value place ask before after (lookup.Hit a) =
     (is_kept_for value ask ≡ true) × IsAnswer settings value place ask before after a
-IsFound settings value place ask before after (found.Nothing d) =
+IsLookedUp settings value place ask before after (lookup.Miss d) =
     IsMissed settings value place ask before after d

@@ -68,8 +68,15 @@ pub enum Peek {
 /// The answer to a look.
 #[derive(Drop)]
 pub enum Looked {
-    /// How many changes stood before it, and the reply.
-    Said(u64, Reply),
+    /// It was answered at its point.
+    Said {
+        /// How many changes stood before it.
+        place: u64,
+        /// The reply.
+        reply: Reply,
+        /// How many delegations were kept: up to 1,024, of this same point.
+        kept: usize,
+    },
     /// The pass was not let in, which its count of refusals shows. Nothing was asked.
     NoEntry,
 }

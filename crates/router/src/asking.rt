@@ -1,5 +1,5 @@
 //! What is asked of the value that a reader enters.
-ghost use Rattle.std.specs.Prelude.{◌≡◌, true, IfSome, IfNone, IfOk, OnErr};
+ghost use Rattle.std.specs.Prelude.{◌≡◌, true, length, IfSome, IfNone, IfOk, OnErr};
 ghost use Rattle.snap_cell.specs.Views.{IsThere, Refused};
 ghost use Rattle.load_words.specs.Seats.{IsOf, slot_of, reads_of, taken_of};
 ghost use Rattle.machine.specs.Code.{look_value, reply_value, ask_of};
@@ -8,7 +8,7 @@ ghost use Rattle.machine.specs.Looking.{look_of};
 ghost use Rattle.router_log.specs.Call.{looked, asked};
 ghost use Rattle.router_log.specs.Operation.{place_of};
 ghost use Rattle.router_log.specs.Value.{value_of};
-ghost use Rattle.router.specs.Detached.{IsFound, IsOut};
+ghost use Rattle.router.specs.Detached.{IsLookedUp, IsOut};
 ghost use Rattle.router.specs.Loads.{MayHaveRead};
 ghost use Rattle.router.specs.Peeked.{IsPeek};
 ghost use Rattle.router.specs.Picked.{IsAnswer, is_kept_for};
@@ -20,7 +20,7 @@ use crate::call::Call;
 use crate::current::Current;
 use crate::detached::Detached;
 use crate::names::Names;
-use crate::picking::Found;
+use crate::picking::CacheLookup;
 use crate::update::Update;
 use load_words::{LoadSeat, Loads};
 use machine::{Ask, Look, Reply};
@@ -30,17 +30,28 @@ use std::snapshot::Snapshot;
 use std::sync::ledger::Ledger;
 use step_count::Steps;
 
-/// Enters for a look, and takes the state out of the value at that point: the place there, and the
-/// state. `None` where the reader is not let in.
+/// What a value has at the point at which a reader entered it.
+#[derive(Clone, Copy)]
+pub(crate) struct Point {
+    /// How many changes stood before.
+    pub(crate) place: u64,
+    /// How many delegations are kept.
+    pub(crate) kept: usize,
+}
+
+/// Enters for a look, and takes the state out of the value at that point: what the point has, and
+/// the state. `None` where the reader is not let in.
 fn detach_through(
     reader: &mut Reader<Current, Update, Call>,
     alloc: Global,
     look: &Look,
-) -> Option<(u64, Mem<Detached>)>
+) -> Option<(Point, Mem<Detached>)>
     requires empty { BeganEmpty reader.old }
     ensures entered { IfSome result (λ r. Entered reader.old reader.new
         (looked (look_value look.now))) }
-    ensures place { IfSome result (λ r. r.0 ≡ place_of (seen_by reader.new)) }
+    ensures place { IfSome result (λ r. r.0.place ≡ place_of (seen_by reader.new)) }
+    ensures kept { IfSome result (λ r. r.0.kept ≡ length
+        (value_of (settings_by reader.old) (seen_by reader.new)).cache) }
     ensures detached { IfSome result (λ r. IfOk r.1 (IsOut (settings_by reader.old)
         (value_of (settings_by reader.old) (seen_by reader.new)).state)) }
     ensures there { IfSome result (λ r. IsThere reader.new) }
@@ -49,10 +60,14 @@ fn detach_through(
     let call = Call::Looked(Snapshot::of(look));
     let guard = reader.enter(Some(Snapshot::of(&call)))?;
     let current = guard.get();
-    Some((current.place(), current.detach(alloc)))
+    let point = Point {
+        place: current.place(),
+        kept: current.kept(),
+    };
+    Some((point, current.detach(alloc)))
 }
 
-/// Enters, and answers a look at that point: the place there, and the reply. `None` where the
+/// Enters, and answers a look at that point: what the point has, and the reply. `None` where the
 /// reader is not let in. The reply is worked out once the reader has left.
 #[tactic(auto, using(crate::proofs::Detaching::look_out))]
 pub(crate) fn look_through<L: Ledger>(
@@ -60,38 +75,40 @@ pub(crate) fn look_through<L: Ledger>(
     alloc: Global,
     look: &Look,
     steps: &mut Steps<L>,
-) -> Option<(u64, Mem<Reply>)>
+) -> Option<(Point, Mem<Reply>)>
     requires empty { BeganEmpty reader.old }
     ensures entered { IfSome result (λ r. Entered reader.old reader.new
         (looked (look_value look.now))) }
-    ensures place { IfSome result (λ r. r.0 ≡ place_of (seen_by reader.new)) }
+    ensures place { IfSome result (λ r. r.0.place ≡ place_of (seen_by reader.new)) }
+    ensures kept { IfSome result (λ r. r.0.kept ≡ length
+        (value_of (settings_by reader.old) (seen_by reader.new)).cache) }
     ensures reply { IfSome result (λ r. IfOk r.1 (λ reply. reply_value reply
         ≡ look_of (settings_by reader.old) (value_of (settings_by reader.old)
         (seen_by reader.new)).state (look_value look.now))) }
     ensures there { IfSome result (λ r. IsThere reader.new) }
     ensures none { IfNone result (Refused reader.old reader.new) }
 {
-    let (place, detached) = detach_through(reader, alloc, look)?;
+    let (point, detached) = detach_through(reader, alloc, look)?;
     match detached {
-        Ok(detached) => Some((place, detached.look(alloc, look, steps))),
-        Err(want) => Some((place, Err(want))),
+        Ok(detached) => Some((point, detached.look(alloc, look, steps))),
+        Err(want) => Some((point, Err(want))),
     }
 }
 
-/// Enters, and gives what a pick finds at that point: the place there, and the answer by what is
-/// kept, or the state. `None` where the reader is not let in.
+/// Enters, and looks a pick up at that point among what is kept: the place there, and the answer,
+/// or the state. `None` where the reader is not let in.
 fn find_through(
     reader: &mut Reader<Current, Update, Call>,
     alloc: Global,
     ask: &Ask,
     loads: &Loads,
     seat: &mut LoadSeat,
-) -> Option<(u64, Mem<Found>)>
+) -> Option<(u64, Mem<CacheLookup>)>
     requires empty { BeganEmpty reader.old }
     requires seat { IsOf loads.now seat.old }
     ensures entered { IfSome result (λ r. Entered reader.old reader.new (asked (ask_of ask.now))) }
     ensures place { IfSome result (λ r. r.0 ≡ place_of (seen_by reader.new)) }
-    ensures found { IfSome result (λ r. IfOk r.1 (IsFound (settings_by reader.old)
+    ensures found { IfSome result (λ r. IfOk r.1 (IsLookedUp (settings_by reader.old)
         (value_of (settings_by reader.old) (seen_by reader.new)) r.0 (ask_of ask.now)
         (reads_of seat.old) (reads_of seat.new))) }
     ensures err { IfSome result (λ r. OnErr r.1 (MayHaveRead
@@ -143,8 +160,8 @@ pub(crate) fn pick_through<L: Ledger>(
 {
     let (place, found) = find_through(reader, alloc, ask, loads, seat)?;
     match found {
-        Ok(Found::Kept(answer)) => Some((place, Ok(answer))),
-        Ok(Found::Nothing(detached)) => {
+        Ok(CacheLookup::Hit(answer)) => Some((place, Ok(answer))),
+        Ok(CacheLookup::Miss(detached)) => {
             Some((place, detached.pick(alloc, ask, loads, seat, steps)))
         }
         Err(want) => Some((place, Err(want))),

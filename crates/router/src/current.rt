@@ -1,5 +1,5 @@
 //! The value that all callers share: the state, and the delegations that are kept for it.
-ghost use Rattle.std.specs.Prelude.{◌≡◌, ◌∷◌, ◌++◌, [], OnOk, OnErr, IfOk, option_map};
+ghost use Rattle.std.specs.Prelude.{◌≡◌, ◌∷◌, ◌++◌, [], length, OnOk, OnErr, IfOk, option_map};
 ghost use Rattle.std.specs.Prelude.{if◌then◌else◌};
 ghost use Rattle.std.specs.Arc.{arc_value};
 ghost use Rattle.std.specs.Coded.{Coded-set};
@@ -90,6 +90,13 @@ impl Current {
         ensures { result ≡ (value_in self.now).state.place }
     {
         self.state.place()
+    }
+
+    /// How many delegations are kept.
+    pub(crate) fn kept(&self) -> usize
+        ensures { result ≡ length (value_in self.now).cache }
+    {
+        self.cache.len()
     }
 
     /// The state and the settings, for what is to be worked out once the reader has left. It costs

@@ -1,19 +1,16 @@
 //! How a router begins.
-ghost use Rattle.std.specs.Prelude.{◌≡◌, ◌≤◌, ◌<◌, All, Some, [], length, map, IfOk, vec_len};
+ghost use Rattle.std.specs.Prelude.{◌≡◌, ◌≤◌, All, Some, length, map, IfOk, vec_len};
 ghost use Rattle.std.specs.Prelude.{vec_capacity};
-ghost use Rattle.load_words.specs.Seats.{IsOf, IsUnused, words_of, words_of_seat};
+ghost use Rattle.load_words.specs.Seats.{IsUnused, words_of_seat};
 ghost use Rattle.machine.specs.Code.{settings_of};
-ghost use Rattle.snap_cell.specs.Views.{EachNew, EachThere};
-ghost use Rattle.snap_cell.specs.Writers.{published_by, cell_written, opening_written};
-ghost use Rattle.snap_cell.specs.Writers.{reader_count};
-ghost use Rattle.router.specs.Opening.{IsReady, AreNew};
-ghost use Rattle.router.specs.Values.{settings_in, IsEmpty};
+ghost use Rattle.router.specs.Opening.{IsReady, IsNamedBy, AreNew, beginning_of};
 
 use crate::Mem;
 use crate::call::Call;
 use crate::current::Current;
 use crate::desk::Desk;
 use crate::naming::Naming;
+use crate::opened::Opened;
 use crate::pass::Pass;
 use crate::router::Router;
 use crate::update::Update;
@@ -24,30 +21,11 @@ use std::alloc::{AllocError, Global};
 use std::sync::ledger::{Blank, Share};
 use std::sync::{Arc, Mutex, Wait};
 
-/// A router that has no name yet. [`Opened::named`] gives it one.
-pub struct Opened {
-    pub writer: Writer<Current, Update>,
-    pub readers: Vec<Reader<Current, Update, Call>>,
-    pub blank: Blank,
-    pub loads: Loads,
-    pub places: Vec<LoadSeat>,
-    pub seats: u32,
-    ghost new: { published_by writer ≡ [] },
-    ghost empty: { IsEmpty (opening_written writer) },
-    ghost each: { EachNew (cell_written writer) readers.items },
-    ghost count: { (length readers.items ≡ seats) × (reader_count writer ≡ seats) },
-    ghost parts: { blank.parts ≡ seats },
-    ghost there: { EachThere readers.items },
-    ghost words: { (length places.items ≡ seats) × All (IsOf loads) places.items },
-    ghost unused: { All IsUnused places.items },
-}
-
 /// A router for so many passes. Nothing was changed in it, and nothing is kept.
 pub fn open<R: Wait>(rt: &R, alloc: Global, settings: Settings, seats: u32) -> Mem<Opened>
     requires { (1 ≤ seats) × (seats ≤ 1024) }
-    ensures seats { IfOk result (λ o. o.seats ≡ seats) }
-    ensures settings { IfOk result (λ o. settings_in (opening_written o.writer)
-        ≡ settings_of settings) }
+    ensures seats { IfOk result (λ o. (beginning_of o).seats ≡ seats) }
+    ensures settings { IfOk result (λ o. (beginning_of o).settings ≡ settings_of settings) }
 {
     let settings = Arc::new(alloc, settings)?;
     let first = Current::start(alloc, Arc::try_clone(&settings)?)?;
@@ -117,12 +95,7 @@ impl Opened {
     /// The router and its passes, numbered from 0, under a name, which says which router it is.
     /// Want of memory is the one error; the router then never was.
     pub fn named<J: Naming, R: Wait>(self, rt: &R, alloc: Global) -> Mem<(Router<J>, Vec<Pass<J>>)>
-        requires cell { Some (cell_written self.writer) ≡ J.cell }
-        requires settings { settings_in (opening_written self.writer) ≡ J.settings }
-        requires words { Some (words_of self.loads) ≡ J.words }
-        requires name { self.blank.name ≡ J.name }
-        requires parts { self.blank.parts ≡ J.parts }
-        requires seats { self.seats ≡ J.seats }
+        requires named { IsNamedBy (beginning_of self) J.Naming.own J.Ledger.own }
         ensures passes { IfOk result (λ r. AreNew r.1.items) }
         ensures count { IfOk result (λ r. length r.1.items ≡ J.seats) }
     {

@@ -6,7 +6,7 @@ ghost use Rattle.machine.specs.Code.{settings_of, state_of, ask_of};
 ghost use Rattle.machine.specs.Choosing.{ending_in, offer_of};
 ghost use Rattle.router_log.specs.Value.{IsRightValue};
 ghost use Rattle.router.specs.Chosen.{IsPermitted, decision_value, decision_loads};
-ghost use Rattle.router.specs.Detached.{IsFound};
+ghost use Rattle.router.specs.Detached.{IsLookedUp};
 ghost use Rattle.router.specs.Loads.{MayHaveRead};
 ghost use Rattle.router.specs.Picked.{IsAnswer, IsFresh, is_kept_for, is_let_in, said_by, loads_by};
 ghost use Rattle.router.specs.Picked.{place_by, fresh_by};
@@ -23,13 +23,13 @@ use load_words::{LoadSeat, Loads};
 use machine::Ask;
 use std::alloc::Global;
 
-/// What a pick finds in a value.
+/// What a pick comes to by the delegations that a value keeps.
 #[derive(Drop)]
-pub(crate) enum Found {
+pub(crate) enum CacheLookup {
     /// A delegation is kept for it, and this is the answer.
-    Kept(Answer),
+    Hit(Answer),
     /// None is kept. This is the state to delegate in.
-    Nothing(Detached),
+    Miss(Detached),
 }
 
 /// The answer that a decision stands for, without a delegation. It copies the names of the replica.
@@ -98,7 +98,7 @@ pub(crate) fn with_fresh(answer: Answer, binding: Binding) -> Answer
 }
 
 impl Current {
-    /// What a pick finds in this value: the answer by what is kept for its path and table, or else
+    /// Looks a pick up in this value: the answer by what is kept for its path and table, or else
     /// the state, to delegate in once the reader has left.
     pub(crate) fn pick(
         &self,
@@ -106,13 +106,13 @@ impl Current {
         ask: &Ask,
         loads: &Loads,
         seat: &mut LoadSeat,
-    ) -> Mem<Found>
+    ) -> Mem<CacheLookup>
         requires right { IsRightValue (settings_in self.now) (value_in self.now) }
         requires seat { IsOf loads.now seat.old }
         ensures seat { IsOf loads.now seat.new }
         ensures taken { taken_of seat.new ≡ taken_of seat.old }
         ensures slot { slot_of seat.new ≡ slot_of seat.old }
-        ensures found { IfOk result (IsFound (settings_in self.now) (value_in self.now)
+        ensures found { IfOk result (IsLookedUp (settings_in self.now) (value_in self.now)
             (value_in self.now).state.place (ask_of ask.now) (reads_of seat.old)
             (reads_of seat.new)) }
         ensures err { OnErr result (MayHaveRead (offer_of (settings_in self.now)
@@ -121,9 +121,9 @@ impl Current {
         match self.find(&ask.path, &ask.local) {
             Some(outcome) => {
                 let answer = self.pick_kept(alloc, outcome, ask, loads, seat)?;
-                Ok(Found::Kept(answer))
+                Ok(CacheLookup::Hit(answer))
             }
-            None => Ok(Found::Nothing(self.detach(alloc)?)),
+            None => Ok(CacheLookup::Miss(self.detach(alloc)?)),
         }
     }
 

@@ -39,7 +39,10 @@ impl<J: Naming> Router<J> {
     ghost use Rattle.router.specs.Changing.{WasWorkedOut};
     ghost use Rattle.router.specs.Picked.{fresh_by, is_kept_for};
 
-    /// Answers a look.
+    /// Answers a look, and tells how many delegations are kept at its point.
+    ///
+    /// Both are of one point: the pass enters the value once. A long look, as a delegation, is
+    /// worked out once it has left, so that no publish waits for it.
     pub fn look<L: Ledger>(
         &self,
         alloc: Global,
@@ -54,12 +57,14 @@ impl<J: Naming> Router<J> {
     {
         match look_through(&mut pass.reader, alloc, look, steps) {
             None => Ok(Looked::NoEntry),
-            Some((place, reply)) => {
-                pass.place = place;
-                match reply {
-                    Ok(reply) => Ok(Looked::Said(place, reply)),
-                    Err(want) => Err(want),
-                }
+            Some((point, reply)) => {
+                pass.place = point.place;
+                let reply = reply?;
+                Ok(Looked::Said {
+                    place: point.place,
+                    reply,
+                    kept: point.kept,
+                })
             }
         }
     }

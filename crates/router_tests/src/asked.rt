@@ -172,7 +172,7 @@ pub fn succeeded<J: Naming>(
     }
 }
 
-/// The place of a look for the namespace `default`, and its reply.
+/// The place of a look for the namespace `default`, its reply, and how many delegations are kept.
 pub fn looked<J: Naming, L: Ledger>(
     alloc: Global,
     router: &Router<J>,
@@ -183,9 +183,9 @@ pub fn looked<J: Naming, L: Ledger>(
         name: name(alloc, "default")?,
     };
     match router.look(alloc, pass, &look, steps).ok()? {
-        Looked::Said(place, reply) => {
+        Looked::Said { place, reply, kept } => {
             let said = reply_text(alloc, &reply)?;
-            format!(in alloc; "at {place} {said}").ok()
+            format!(in alloc; "at {place} {said}, kept {kept}").ok()
         }
         Looked::NoEntry => None,
     }

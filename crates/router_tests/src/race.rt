@@ -1,8 +1,6 @@
 //! Two readers beside a writer.
-ghost use Rattle.std.specs.Prelude.{◌≡◌, ◌<◌, Some};
-ghost use Rattle.load_words.specs.Seats.{words_of};
-ghost use Rattle.snap_cell.specs.Writers.{cell_written, opening_written};
-ghost use Rattle.router.specs.Values.{settings_in};
+ghost use Rattle.std.specs.Prelude.{◌≡◌, ◌<◌};
+ghost use Rattle.router.specs.Opening.{IsNamedBy, beginning_of};
 
 use crate::asked::{ask, created, picked, put, set, settings};
 use crate::stage::ended;
@@ -203,12 +201,8 @@ fn raced<J: Naming + Send + Sync, R: Wait + Threads + Abort + Sync>(
     alloc: Global,
     opened: Opened,
 ) -> Option<u64>
-    requires cell { Some (cell_written opened.writer) ≡ J.cell }
-    requires settings { settings_in (opening_written opened.writer) ≡ J.settings }
-    requires words { Some (words_of opened.loads) ≡ J.words }
-    requires name { opened.blank.name ≡ J.name }
-    requires parts { (opened.blank.parts ≡ J.parts) × (J.parts ≡ J.seats) }
-    requires seats { (opened.seats ≡ J.seats) × (opened.seats ≡ 3) }
+    requires named { IsNamedBy (beginning_of opened) J.Naming.own J.Ledger.own }
+    requires seats { J.seats ≡ 3 }
 {
     let (router, mut passes) = opened.named::<J, R>(rt, alloc).ok()?;
     let picks = contest::<J, Brand, R>(rt, alloc, &router, passes.as_mut_slice(), Blank::new(1));

@@ -12,14 +12,14 @@ const C: usize = 2;
 /// A change of one caller is seen by another that asks later, by both where two meet, and by one
 /// that is told what the other has seen.
 const MEETING: [Row; 16] = [
-    (B, Act::Look, "at 0 missing"),
+    (B, Act::Look, "at 0 missing, kept 0"),
     (
         A,
         Act::Create("default", "/svc => /$/inet/127.0.0.1/9"),
         "version 1",
     ),
     (C, Act::Count, "pass 2 place 0 made 0 kept 0 refused 0"),
-    (B, Act::Look, "at 1 table 1"),
+    (B, Act::Look, "at 1 table 1, kept 0"),
     (B, Act::Meet, "places 1 1"),
     (C, Act::Pick, "at 1 port 9"),
     (A, Act::Count, "pass 0 place 1 made 1 kept 0 refused 0"),
@@ -76,14 +76,15 @@ const REPORTS: [Row; 12] = [
 ];
 
 /// A delegation is kept where no change was made since it was worked out, and found until a change
-/// touches it.
-const REMEMBERED: [Row; 16] = [
+/// touches it. A look tells how many are kept.
+const REMEMBERED: [Row; 18] = [
     (B, Act::Create("one", "/x => /y"), "version 1"),
     (B, Act::Create("two", "/x => /y"), "version 2"),
     (B, Act::Set("web", "127.0.0.1 1"), "set 1"),
     (A, Act::Peek, "miss at 3 names 0"),
     (A, Act::RememberLate("three"), "late 3 4"),
     (A, Act::RememberTwice, "kept, had"),
+    (C, Act::Look, "at 4 missing, kept 1"),
     (
         A,
         Act::Peek,
@@ -110,6 +111,7 @@ const REMEMBERED: [Row; 16] = [
         "version 6",
     ),
     (A, Act::Peek, "miss at 8 names 0"),
+    (C, Act::Look, "at 8 table 6, kept 0"),
 ];
 
 /// Seven branches at each of three lookups, which come to nothing.

@@ -1,8 +1,6 @@
 //! A new router of three passes, and its end.
-ghost use Rattle.std.specs.Prelude.{◌≡◌, ◌<◌, Some};
-ghost use Rattle.load_words.specs.Seats.{words_of};
-ghost use Rattle.snap_cell.specs.Writers.{cell_written, opening_written};
-ghost use Rattle.router.specs.Values.{settings_in};
+ghost use Rattle.std.specs.Prelude.{◌≡◌, ◌<◌};
+ghost use Rattle.router.specs.Opening.{IsNamedBy, beginning_of};
 
 use crate::acts::{Act, answer};
 use crate::asked::settings;
@@ -86,12 +84,8 @@ fn staged<J: Naming, R: Wait + Abort>(
     opened: Opened,
     rows: &[Row],
 ) -> Option<u64>
-    requires cell { Some (cell_written opened.writer) ≡ J.cell }
-    requires settings { settings_in (opening_written opened.writer) ≡ J.settings }
-    requires words { Some (words_of opened.loads) ≡ J.words }
-    requires name { opened.blank.name ≡ J.name }
-    requires parts { (opened.blank.parts ≡ J.parts) × (J.parts ≡ J.seats) }
-    requires seats { (opened.seats ≡ J.seats) × (opened.seats ≡ 3) }
+    requires named { IsNamedBy (beginning_of opened) J.Naming.own J.Ledger.own }
+    requires seats { J.seats ≡ 3 }
 {
     let (router, mut passes) = opened.named::<J, R>(rt, alloc).ok()?;
     play::<J, Brand, R>(

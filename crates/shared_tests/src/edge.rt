@@ -202,11 +202,10 @@ fn moments<C: Clock + Drop>(clock: &mut C) -> (u64, u64) {
 }
 
 fn found<F: Folder>(folder: &mut F, path: &str, most: usize) -> Result<Option<usize>, FolderFault> {
-    match folder.read(path, most) {
-        Ok(Found::Bytes(bytes)) => Ok(Some(bytes.len())),
-        Ok(Found::Longer) => Ok(Some(usize::MAX)),
-        Ok(Found::Absent) => Ok(None),
-        Err(fault) => Err(fault),
+    match folder.read(path, most)? {
+        Found::Bytes(bytes) => Ok(Some(bytes.len())),
+        Found::Longer => Ok(Some(usize::MAX)),
+        Found::Absent => Ok(None),
     }
 }
 

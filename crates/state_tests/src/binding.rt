@@ -3,7 +3,7 @@ ghost use Rattle.std.specs.Prelude.{◌≡◌, ◌<◌};
 
 use crate::given::{path, table};
 use addr_book::{Book, Bound, Cluster, Leaf, Name, append_addr, read_addrs};
-use bind_core::{Delegated, Ended, Mem, Outcome, Tables, TraceItem, Wanted, bind};
+use bind_core::{Delegated, LookupEnd, Mem, Outcome, Tables, TraceItem, Wanted, bind};
 use dtab_table::Dtab;
 use name_tree::{Path, append_path};
 use std::alloc::Global;
@@ -128,13 +128,13 @@ fn outcome_text(alloc: Global, outcome: &Outcome) -> Mem<Vec<u8>> {
 }
 
 /// How a lookup ended, in a word.
-fn ended_word(ended: Ended) -> &'static str {
+fn ended_word(ended: LookupEnd) -> &'static str {
     match ended {
-        Ended::Negative => "negative",
-        Ended::Failing => "failing",
-        Ended::Empty => "empty",
-        Ended::TooDeep => "too-deep",
-        Ended::Bound => "bound",
+        LookupEnd::Negative => "negative",
+        LookupEnd::Failing => "failing",
+        LookupEnd::Empty => "empty",
+        LookupEnd::TooDeep => "too-deep",
+        LookupEnd::Bound => "bound",
     }
 }
 
@@ -535,69 +535,25 @@ fn is_outcome(text: &[u8], outcome: &str) -> bool {
     }
 }
 
-/// Whether a path comes to an outcome with this cost and so many paths and lookups.
-fn is_measured(
-    alloc: Global,
-    table: &str,
-    path: &str,
-    outcome: &str,
-    counts: Counts,
-) -> Result<bool, Fail> {
-    let (_text, asked) = counted(alloc, table, path, Wanted::Asked)?;
-    let (text, traced) = counted(alloc, table, path, Wanted::Trace)?;
-    let is_counted = (traced.0, asked.1, traced.2) == counts && asked.0 == traced.0;
-    Ok(is_counted && is_outcome(text.as_slice(), outcome))
+/// A table that is made.
+#[derive(Clone, Copy)]
+enum Made {
+    /// A chain of so many links.
+    Chain(u32),
+    /// Unions of two branches on so many levels.
+    Unions(u32),
+    /// Alternatives on twelve levels, with this entry behind them. `/aN` is looked up
+    /// `2^(13 - N) - 1` times there.
+    Levels(&'static str),
 }
 
-/// `/aN` is looked up `2^(13 - N) - 1` times in a table of twelve levels: these sums come to 255,
-/// 256, 257, 9,999, 10,000 and 10,001, with the first lookup.
-const SUMS: [(&str, &str, Counts); 6] = [
-    ("/s => /a6 | /a6", "negative", (255, 255, 255)),
-    ("/s => /a5", "negative", (256, 256, 256)),
-    ("/s => /a5 | /a12", "negative", (257, 0, 257)),
-    (
-        "/s => /a0 | /a3 | /a4 | /a5 | /a9 | /a11",
-        "negative",
-        (9_999, 0, 9_999),
-    ),
-    (
-        "/s => /a0 | /a3 | /a4 | /a5 | /a9 | /a11 | /a12",
-        "negative",
-        (10_000, 0, 10_000),
-    ),
-    (
-        "/s => /a0 | /a3 | /a4 | /a5 | /a9 | /a11 | /a12 | /a12",
-        "too wide",
-        (10_001, 0, 0),
-    ),
-];
-
-/// How many links a chain has or how many levels a union, the path at its front, what that comes
-/// to, and the counts.
-const LIMITS: [(u32, &str, &str, Counts); 4] = [
-    (98, "/c0", "bound", (100, 100, 100)),
-    (99, "/c0", "too deep", (100, 100, 100)),
-    (11, "/a0", "bound", (6_143, 0, 6_143)),
-    (12, "/a0", "too wide", (10_001, 0, 0)),
-];
-
-/// The table of a chain, or of unions.
-fn large_table(alloc: Global, path: &str, count: u32) -> Mem<String> {
-    if path == "/c0" {
-        chain(alloc, count)
-    } else {
-        doubling_unions(alloc, count)
+/// The text of a table that is made.
+fn made_text(alloc: Global, table: Made) -> Mem<String> {
+    match table {
+        Made::Chain(links) => chain(alloc, links),
+        Made::Unions(levels) => doubling_unions(alloc, levels),
+        Made::Levels(entry) => twelve_levels(alloc, entry),
     }
-}
-
-#[test]
-fn limits(rt: HostRuntime) -> Result<(), Fail> {
-    for (count, path, outcome, counts) in &LIMITS {
-        let table = large_table(rt.alloc(), path, *count)?;
-        let is_measured = is_measured(rt.alloc(), table.as_str(), path, outcome, *counts)?;
-        assert!(rt; is_measured, "{path} of {count}");
-    }
-    Ok(())
 }
 
 /// The table of twelve levels, with this entry behind them.
@@ -607,12 +563,81 @@ fn twelve_levels(alloc: Global, entry: &str) -> Mem<String> {
     Ok(table)
 }
 
+/// Whether a path comes to an outcome with this cost and so many paths and lookups.
+fn is_measured(
+    alloc: Global,
+    table: Made,
+    path: &str,
+    outcome: &str,
+    counts: Counts,
+) -> Result<bool, Fail> {
+    let table = made_text(alloc, table)?;
+    let (_text, asked) = counted(alloc, table.as_str(), path, Wanted::Asked)?;
+    let (text, traced) = counted(alloc, table.as_str(), path, Wanted::Trace)?;
+    let is_counted = (traced.0, asked.1, traced.2) == counts && asked.0 == traced.0;
+    Ok(is_counted && is_outcome(text.as_slice(), outcome))
+}
+
+/// A table, a path, what it comes to, and the counts.
+type Measured = (Made, &'static str, &'static str, Counts);
+
+/// Chains of 100 lookups and 101, and unions of less than 10,000 and more.
+const LIMITS: [Measured; 4] = [
+    (Made::Chain(98), "/c0", "bound", (100, 100, 100)),
+    (Made::Chain(99), "/c0", "too deep", (100, 100, 100)),
+    (Made::Unions(11), "/a0", "bound", (6_143, 0, 6_143)),
+    (Made::Unions(12), "/a0", "too wide", (10_001, 0, 0)),
+];
+
+#[test]
+fn limits(rt: HostRuntime) -> Result<(), Fail> {
+    for (table, path, outcome, counts) in &LIMITS {
+        let is_measured = is_measured(rt.alloc(), *table, path, outcome, *counts)?;
+        assert!(rt; is_measured, "{path}: {counts:?}");
+    }
+    Ok(())
+}
+
+/// With the first lookup, these sums come to 255, 256, 257, 9,999, 10,000 and 10,001.
+const SUMS: [Measured; 6] = [
+    (
+        Made::Levels("/s => /a6 | /a6"),
+        "/s",
+        "negative",
+        (255, 255, 255),
+    ),
+    (Made::Levels("/s => /a5"), "/s", "negative", (256, 256, 256)),
+    (
+        Made::Levels("/s => /a5 | /a12"),
+        "/s",
+        "negative",
+        (257, 0, 257),
+    ),
+    (
+        Made::Levels("/s => /a0 | /a3 | /a4 | /a5 | /a9 | /a11"),
+        "/s",
+        "negative",
+        (9_999, 0, 9_999),
+    ),
+    (
+        Made::Levels("/s => /a0 | /a3 | /a4 | /a5 | /a9 | /a11 | /a12"),
+        "/s",
+        "negative",
+        (10_000, 0, 10_000),
+    ),
+    (
+        Made::Levels("/s => /a0 | /a3 | /a4 | /a5 | /a9 | /a11 | /a12 | /a12"),
+        "/s",
+        "too wide",
+        (10_001, 0, 0),
+    ),
+];
+
 #[test]
 fn sums(rt: HostRuntime) -> Result<(), Fail> {
-    for (entry, outcome, counts) in &SUMS {
-        let table = twelve_levels(rt.alloc(), entry)?;
-        let is_measured = is_measured(rt.alloc(), table.as_str(), "/s", outcome, *counts)?;
-        assert!(rt; is_measured, "{entry}");
+    for (table, path, outcome, counts) in &SUMS {
+        let is_measured = is_measured(rt.alloc(), *table, path, outcome, *counts)?;
+        assert!(rt; is_measured, "{path}: {counts:?}");
     }
     Ok(())
 }

@@ -9,8 +9,6 @@ mod cache;
 #[cfg(test)]
 mod given;
 #[cfg(test)]
-mod history;
-#[cfg(test)]
 mod lines;
 #[cfg(test)]
 mod schedule;

@@ -55,48 +55,35 @@ fn tells_lines_apart(rt: HostRuntime) {
     }
 }
 
-#[test]
-fn names_have_255_bytes(rt: HostRuntime) -> Result<(), Fail> {
-    for (bytes, want) in [(255, "change"), (256, "bad")] {
-        let drop = drop_line(rt.alloc(), bytes)?;
-        assert!(rt; kind(rt.alloc(), drop.as_slice()) == want, "{bytes}");
-    }
-    Ok(())
-}
-
-/// A line that drops a service with a name of so many bytes.
-fn drop_line(alloc: Global, bytes: usize) -> Mem<Bytes> {
-    let mut line = Vec::from_slice(alloc, b"drop ")?;
-    line.append(&mut Vec::from_elem(alloc, b'a', bytes)?)?;
-    Ok(line)
-}
-
-/// A line of a command, then so many blanks, so many `;`, which are a table with no entry, and a
-/// blank at the end.
-fn table_line(alloc: Global, command: &str, blanks: usize, semicolons: usize) -> Mem<Bytes> {
+/// A line of a command, then so many blanks, a byte so many times, and a blank at the end.
+fn long_line(alloc: Global, command: &str, blanks: usize, byte: u8, count: usize) -> Mem<Bytes> {
     let mut line = Vec::from_slice(alloc, command.as_bytes())?;
     line.append(&mut Vec::from_elem(alloc, b' ', blanks)?)?;
-    line.append(&mut Vec::from_elem(alloc, b';', semicolons)?)?;
+    line.append(&mut Vec::from_elem(alloc, byte, count)?)?;
     line.push(b' ')?;
     Ok(line)
 }
 
-/// Commands, how many blanks and semicolons stand behind them, and of what kind the lines are.
-const TABLES: [(&str, usize, usize, &str); 6] = [
-    ("create web", 9, 65_535, "change"),
-    ("create web", 1, 65_536, "bad"),
-    ("put web *", 9, 65_535, "change"),
-    ("put web *", 1, 65_536, "bad"),
-    ("pick /a 0 0 0 0", 9, 65_535, "ask"),
-    ("pick /a 0 0 0 0", 1, 65_536, "bad"),
+/// Commands, how many blanks stand behind them, a byte and how often it stands behind those, and of
+/// what kind the lines are. Names have at most 255 bytes. Tables, of which `;` are one with no
+/// entry, are measured from their first byte on.
+const LONG_LINES: [(&str, usize, u8, usize, &str); 8] = [
+    ("drop", 1, b'a', 255, "change"),
+    ("drop", 1, b'a', 256, "bad"),
+    ("create web", 9, b';', 65_535, "change"),
+    ("create web", 1, b';', 65_536, "bad"),
+    ("put web *", 9, b';', 65_535, "change"),
+    ("put web *", 1, b';', 65_536, "bad"),
+    ("pick /a 0 0 0 0", 9, b';', 65_535, "ask"),
+    ("pick /a 0 0 0 0", 1, b';', 65_536, "bad"),
 ];
 
 #[test]
-fn measures_tables_from_their_first_byte_on(rt: HostRuntime) -> Result<(), Fail> {
-    for (command, blanks, semicolons, want) in &TABLES {
-        let line = table_line(rt.alloc(), command, *blanks, *semicolons)?;
+fn measures_names_and_tables(rt: HostRuntime) -> Result<(), Fail> {
+    for (command, blanks, byte, count, want) in &LONG_LINES {
+        let line = long_line(rt.alloc(), command, *blanks, *byte, *count)?;
         let kind = kind(rt.alloc(), line.as_slice());
-        assert!(rt; kind == *want, "{command}, {semicolons}");
+        assert!(rt; kind == *want, "{command}, {count}");
     }
     Ok(())
 }
@@ -124,29 +111,6 @@ fn count_of(alloc: Global, count: usize) -> Result<Option<usize>, Fail> {
 fn takes_1024_addresses(rt: HostRuntime) -> Result<(), Fail> {
     for (count, want) in [(1_024, Some(1)), (1_025, None)] {
         assert!(rt; count_of(rt.alloc(), count)? == want, "{count}");
-    }
-    Ok(())
-}
-
-/// The text of an answer is this.
-fn is_text(alloc: Global, said: &Said, want: &[u8]) -> Mem<bool> {
-    Ok(reply_text(alloc, said)?.as_slice() == want)
-}
-
-#[test]
-fn writes_short_replies(rt: HostRuntime) -> Result<(), Fail> {
-    let mark = Mark {
-        count: 5,
-        until: 5_000,
-    };
-    let rows = [
-        (Said::Ok, "ok"),
-        (Said::Reply(Reply::Set(3)), "ok 3"),
-        (Said::Reply(Reply::Marked(mark)), "mark 5 5000"),
-        (Said::Chosen(Chosen::None(Why::TooDeep)), "too-deep"),
-    ];
-    for (said, want) in &rows {
-        assert!(rt; is_text(rt.alloc(), said, want.as_bytes())?, "{want}");
     }
     Ok(())
 }
@@ -181,38 +145,64 @@ fn picked(alloc: Global) -> Said {
 /// A kind of answer.
 #[derive(Clone, Copy)]
 enum Answer {
+    /// That a line was carried out.
+    Done,
+    /// How many addresses a service has.
+    Set(u32),
+    /// The mark of an address.
+    Marked(Mark),
+    /// Two names.
     Names,
-    /// With this version and this text.
+    /// A table with this version and this text.
     Table(u64, &'static str),
+    /// A replica.
     Picked,
+    /// Why there is none.
+    None(Why),
 }
 
 /// An answer of a kind.
 fn said_of(alloc: Global, answer: Answer) -> Result<Said, Fail> {
     match answer {
+        Answer::Done => Ok(Said::Ok),
+        Answer::Set(count) => Ok(Said::Reply(Reply::Set(count))),
+        Answer::Marked(mark) => Ok(Said::Reply(Reply::Marked(mark))),
         Answer::Names => names(alloc),
         Answer::Table(version, text) => Ok(named_table(alloc, version, text)),
         Answer::Picked => Ok(picked(alloc)),
+        Answer::None(why) => Ok(Said::Chosen(Chosen::None(why))),
     }
 }
 
-/// Whether the text of an answer of a kind is this.
-fn is_told(alloc: Global, answer: Answer, want: &str) -> Result<bool, Fail> {
+/// The text of an answer of a kind.
+fn text_of(alloc: Global, answer: Answer) -> Result<Bytes, Fail> {
     let said = said_of(alloc, answer)?;
-    Ok(is_text(alloc, &said, want.as_bytes())?)
+    Ok(reply_text(alloc, &said)?)
 }
 
-const ANSWERS: [(Answer, &str); 4] = [
+/// A mark of five failures.
+const MARK: Mark = Mark {
+    count: 5,
+    until: 5_000,
+};
+
+/// Answers, and their texts.
+const ANSWERS: [(Answer, &str); 8] = [
+    (Answer::Done, "ok"),
+    (Answer::Set(3), "ok 3"),
+    (Answer::Marked(MARK), "mark 5 5000"),
     (Answer::Names, "names a b.c"),
     (Answer::Table(3, "/svc => /c"), "version 3 dtab /svc=>/c"),
     (Answer::Table(4, ""), "version 4 dtab"),
     (Answer::Picked, "127.0.0.1:9 /a /"),
+    (Answer::None(Why::TooDeep), "too-deep"),
 ];
 
 #[test]
 fn writes_replies(rt: HostRuntime) -> Result<(), Fail> {
     for (answer, want) in &ANSWERS {
-        assert!(rt; is_told(rt.alloc(), *answer, want)?, "{want}");
+        let text = text_of(rt.alloc(), *answer)?;
+        assert!(rt; text.as_slice() == want.as_bytes(), "{want}");
     }
     Ok(())
 }

@@ -126,66 +126,75 @@ fn told_text(alloc: Global, rows: &[Row<'_>]) -> Result<String, Fail> {
     Ok(text)
 }
 
-/// A pass is answered behind a change.
-const LATE_ANSWER: [Row<'static>; 7] = [
-    (0, "create default /s => /$/inet/127.0.0.1/1"),
-    (1, "pick /s"),
-    (0, "put default * /s => /$/inet/127.0.0.1/2"),
-    (1, "answer"),
-    (1, "pick /s"),
-    (1, "answer"),
-    (1, "answer"),
+/// Schedules, and what is told in them.
+const SCHEDULES: [(&[Row<'static>], &str); 4] = [
+    // A pass is answered behind a change.
+    (
+        &[
+            (0, "create default /s => /$/inet/127.0.0.1/1"),
+            (1, "pick /s"),
+            (0, "put default * /s => /$/inet/127.0.0.1/2"),
+            (1, "answer"),
+            (1, "pick /s"),
+            (1, "answer"),
+            (1, "answer"),
+        ],
+        "; at 0 version 1; -; at 1 version 2; at 1 port 1; -; at 2 port 2; -",
+    ),
+    // A question takes the place of one that waits, and a pass that is not there makes no step.
+    (
+        &[
+            (0, "create default /s => /$/inet/127.0.0.1/1"),
+            (1, "pick /s"),
+            (1, "counts"),
+            (1, "answer"),
+            (1, "answer"),
+            (1, "remember"),
+            (3, "meet"),
+            (3, "counts"),
+            (3, "answer"),
+        ],
+        "; at 0 version 1; -; -; at 1 changes 1; -; -; -; -; -",
+    ),
+    // Two passes offer the same, and one of them again behind a change.
+    (
+        &[
+            (0, "create default /s => /$/inet/127.0.0.1/1"),
+            (1, "pick /s"),
+            (2, "pick /s"),
+            (1, "answer"),
+            (2, "answer"),
+            (1, "remember"),
+            (2, "remember"),
+            (0, "put default * /s => /$/inet/127.0.0.1/2"),
+            (1, "remember"),
+        ],
+        "; at 0 version 1; -; -; at 1 port 1; at 1 port 1; kept; not kept; at 1 version 2; not kept",
+    ),
+    // What is kept for a path is kept for the request's own table too, and for no other one.
+    (
+        &[
+            (0, "create default /s => /$/inet/127.0.0.1/1"),
+            (1, "pick /s"),
+            (1, "answer"),
+            (1, "remember"),
+            (2, "pick /s 0 0 0 0 /a => /b"),
+            (2, "answer"),
+            (2, "remember"),
+            (0, "pick /s"),
+            (0, "answer"),
+            (0, "remember"),
+        ],
+        "; at 0 version 1; -; at 1 port 1; kept; -; at 1 port 1; kept; -; at 1 port 1; -",
+    ),
 ];
 
 #[test]
-fn answers_are_those_of_where_they_were_asked_for(rt: HostRuntime) -> Result<(), Fail> {
-    let told = told_text(rt.alloc(), &LATE_ANSWER)?;
-    let want = "; at 0 version 1; -; at 1 version 2; at 1 port 1; -; at 2 port 2; -";
-    assert_eq!(rt; told.as_str(), want);
-    Ok(())
-}
-
-/// A pass asks twice, and one that is not there does.
-const TWO_QUESTIONS: [Row<'static>; 9] = [
-    (0, "create default /s => /$/inet/127.0.0.1/1"),
-    (1, "pick /s"),
-    (1, "counts"),
-    (1, "answer"),
-    (1, "answer"),
-    (1, "remember"),
-    (3, "meet"),
-    (3, "counts"),
-    (3, "answer"),
-];
-
-/// A question takes the place of one that waits, and a pass that is not there makes no step.
-#[test]
-fn waits_for_one_answer(rt: HostRuntime) -> Result<(), Fail> {
-    let told = told_text(rt.alloc(), &TWO_QUESTIONS)?;
-    let want = "; at 0 version 1; -; -; at 1 changes 1; -; -; -; -; -";
-    assert_eq!(rt; told.as_str(), want);
-    Ok(())
-}
-
-/// Two passes offer the same, and one of them again behind a change.
-const LATE_DELEGATION: [Row<'static>; 9] = [
-    (0, "create default /s => /$/inet/127.0.0.1/1"),
-    (1, "pick /s"),
-    (2, "pick /s"),
-    (1, "answer"),
-    (2, "answer"),
-    (1, "remember"),
-    (2, "remember"),
-    (0, "put default * /s => /$/inet/127.0.0.1/2"),
-    (1, "remember"),
-];
-
-#[test]
-fn late_delegations_are_not_kept(rt: HostRuntime) -> Result<(), Fail> {
-    let told = told_text(rt.alloc(), &LATE_DELEGATION)?;
-    let want =
-        "; at 0 version 1; -; -; at 1 port 1; at 1 port 1; kept; not kept; at 1 version 2; not kept";
-    assert_eq!(rt; told.as_str(), want);
+fn schedules_are_carried_out(rt: HostRuntime) -> Result<(), Fail> {
+    for (rows, want) in &SCHEDULES {
+        let told = told_text(rt.alloc(), rows)?;
+        assert!(rt; told.as_str() == *want, "{told}");
+    }
     Ok(())
 }
 
@@ -272,7 +281,7 @@ fn told_behind(alloc: Global, change: &str) -> Result<String, Fail> {
 
 /// Changes, and what is told behind them: nothing at the end of a pick where its delegation is kept
 /// still.
-const CHANGES: [(&str, &str); 6] = [
+const CHANGES: [(&str, &str); 8] = [
     (
         "put default * /svc => /#/io.l5d.fs; /a => /c",
         "; -; at 3 port 1; -; -; at 3 none 0; kept",
@@ -281,7 +290,16 @@ const CHANGES: [(&str, &str); 6] = [
         "put default * /svc => /#/io.l5d.fs; /a => /b",
         "; -; at 3 port 1; -; -; at 3 none 0; -",
     ),
+    (
+        "put default * /svc => /b; /a => /b",
+        "; -; at 3 none 0; kept; -; at 3 none 0; -",
+    ),
     ("drop web", "; -; at 3 none 0; kept; -; at 3 none 0; -"),
+    // A service whose name begins one that is kept.
+    (
+        "addrs we 127.0.0.1:2",
+        "; -; at 3 port 1; -; -; at 3 none 0; -",
+    ),
     (
         "addrs web 127.0.0.1:2",
         "; -; at 3 port 2; -; -; at 3 none 0; -",

@@ -6,9 +6,12 @@ use script::script_settings;
 use std::alloc::{AllocError, Global};
 use std::test::Fail;
 
-/// The changes behind which the services are looked at. The last of the failures leaves its
-/// address out until the moment 5,000.
-const CHANGES: [&str; 8] = [
+/// The changes behind which the services are looked at. Two of them write a table, and a delete
+/// writes none. The last of the failures leaves its address out until the moment 5,000.
+const CHANGES: [&str; 11] = [
+    "create default /a=>/b",
+    "put default * /a=>/c",
+    "delete default *",
     "addrs web 127.0.0.1:1 127.0.0.1:2 127.0.0.1:3",
     "addrs one 127.0.0.1:1",
     "addrs none",
@@ -34,12 +37,15 @@ fn words(alloc: Global, reply: &Reply) -> Result<String, AllocError> {
         changes,
         marks,
         namespaces,
+        tables_written,
         services,
     } = reply
     else {
         return String::from_str(alloc, "something else");
     };
-    let mut words = format!(in alloc; "changes {changes} marks {marks} namespaces {namespaces}")?;
+    let mut words = format!(in alloc;
+        "changes {changes} marks {marks} namespaces {namespaces} tables {tables_written}"
+    )?;
     for service in services.as_slice() {
         let name = &service.name;
         let (addresses, alive) = (service.addresses, service.alive);
@@ -61,11 +67,11 @@ fn looked(alloc: Global, state: &State, moment: u64) -> Result<String, Fail> {
 const MOMENTS: [(u64, &str); 2] = [
     (
         4_999,
-        "changes 8 marks 1 namespaces 0; none 0 0; one 1 0; web 3 2",
+        "changes 11 marks 1 namespaces 0 tables 2; none 0 0; one 1 0; web 3 2",
     ),
     (
         5_000,
-        "changes 8 marks 1 namespaces 0; none 0 0; one 1 1; web 3 3",
+        "changes 11 marks 1 namespaces 0 tables 2; none 0 0; one 1 1; web 3 3",
     ),
 ];
 

@@ -1,6 +1,6 @@
 //! A view with an escape and one of two lookups, and queries.
 use crate::given::path;
-use bind_core::{Ended, Outcome, Trace, TraceItem};
+use bind_core::{LookupEnd, Outcome, Trace, TraceItem};
 use delegate_view::{Bytes, Mem, ViewFault, view_ask, view_text};
 use dtab_table::{Dtab, write_dtab};
 use name_tree::{Path, write_path};
@@ -8,7 +8,7 @@ use std::alloc::Global;
 use std::test::Fail;
 
 /// A lookup of the path of a text.
-fn lookup(alloc: Global, depth: u32, text: &str, ended: Ended) -> TraceItem {
+fn lookup(alloc: Global, depth: u32, text: &str, ended: LookupEnd) -> TraceItem {
     TraceItem {
         depth,
         path: path(alloc, text),
@@ -17,7 +17,7 @@ fn lookup(alloc: Global, depth: u32, text: &str, ended: Ended) -> TraceItem {
 }
 
 /// Lookups: their depths, their paths, and how they ended.
-type Row = (u32, &'static str, Ended);
+type Row = (u32, &'static str, LookupEnd);
 
 /// The view of some lookups that came to this.
 fn viewed(alloc: Global, outcome: &Outcome, rows: &[Row]) -> Mem<Bytes> {
@@ -29,8 +29,8 @@ fn viewed(alloc: Global, outcome: &Outcome, rows: &[Row]) -> Mem<Bytes> {
 }
 
 const LOOKUPS: [Row; 2] = [
-    (0, "/svc/a\\x2Fb", Ended::Negative),
-    (11, "/", Ended::TooDeep),
+    (0, "/svc/a\\x2Fb", LookupEnd::Negative),
+    (11, "/", LookupEnd::TooDeep),
 ];
 
 const VIEW: &str =

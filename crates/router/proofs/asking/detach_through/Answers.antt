@@ -1,7 +1,7 @@
 use Rattle.std.proofs.Common.{rules}
 use Rattle.snap_cell.specs.Views.{opening_of, seen_of}
 use Rattle.snap_cell.specs.Guards as guards
-use Rattle.router.proofs.Entering.{told_place, told_out}
+use Rattle.router.proofs.Entering.{told_place, told_kept, told_out}
 use Rattle.router.proofs.Calling.{entered_is}
 use Rattle.router.proofs.asking.detach_through.Goals as goal
 
@@ -10,6 +10,13 @@ returns-clause-place c =
     let e = c.in_ok-guard.ensures in
     let h = told_place (guards.value_in c.in_ok-guard.guard) (opening_of c.args.reader.now) (seen_of (guards.reader_in c.in_ok-guard.guard)) c.requires.empty e.value e.legal.fit
     c.get-current.result.now c.get-current.ensures (seen_of c.drop-guard.new.self.0) c.drop-guard.ensures.seen c.place.result c.place.ensures in
+    search (rules, h)
+
+pub returns-clause-kept : goal.returns-clause-kept
+returns-clause-kept c =
+    let e = c.in_ok-guard.ensures in
+    let h = told_kept (guards.value_in c.in_ok-guard.guard) (opening_of c.args.reader.now) (seen_of (guards.reader_in c.in_ok-guard.guard)) c.requires.empty e.value e.legal.fit
+    c.get-current.result.now c.get-current.ensures (seen_of c.drop-guard.new.self.0) c.drop-guard.ensures.seen c.kept.result c.kept.ensures in
     search (rules, h)
 
 pub returns-clause-detached : goal.returns-clause-detached
