@@ -1,17 +1,21 @@
 -- Chunk lines at the front of bytes.
-use Rattle.std.proofs.Common.{◌≡◌, ℕ, ◌<◌, ◌≤◌, List, ◌++◌, length, take, drop, sym, ap, ◌∙◌, subst, arith, length-append}
+use Rattle.std.proofs.Common.{◌≡◌, ℕ, ◌<◌, ◌≤◌, List, ◌++◌, length, take, drop, sym, ap, ◌∙◌, subst}
+use Rattle.std.proofs.Common.{arith, length-append}
 use Rattle.std.proofs.lemmas.List.{length-take, take_all, take-append-le, take-append-drop}
-use Rattle.httparse.specs.Grammar.{ChunkLine, IsChunkLine, print_chunk_line, HasNoChunkLine, MayBecomeChunkLine}
+use Rattle.httparse.specs.Grammar.{ChunkLine, IsChunkLine, print_chunk_line, HasNoChunkLine}
+use Rattle.httparse.specs.Grammar.{MayBecomeChunkLine}
 use Rattle.body_wire.specs.declared.decoder.Decoder.{Decoder}
 use Rattle.body_wire.specs.Chunks.{most_line, IsOpenLine}
 use Rattle.body_wire.specs.Pieces.{IsLineAt}
 use Rattle.body_wire.specs.Stands.{GoesOn, Moves}
 
 take_take : (n m : ℕ) (xs : List ℕ) → n ≤ length (take m xs) → take n (take m xs) ≡ take n xs
-take_take n m xs le = sym (take-append-le n (take m xs) (drop m xs) le) ∙ ap (take n) (take-append-drop m xs)
+take_take n m xs le =
+    sym (take-append-le n (take m xs) (drop m xs) le) ∙ ap (take n) (take-append-drop m xs)
 
 -- a line in the first so many bytes
-pub found : (bytes : List ℕ) (len size : ℕ) → IsLineAt (take most_line bytes) len size → IsLineAt bytes len size
+pub found : (bytes : List ℕ) (len size : ℕ) → IsLineAt (take most_line bytes) len size
+    → IsLineAt bytes len size
 found bytes len size at =
     let fits = at.within in
     record {
@@ -25,7 +29,8 @@ found bytes len size at =
 few : (bytes : List ℕ) → length bytes < most_line → take most_line bytes ≡ bytes
 few bytes less = take_all most_line bytes (omega arith)
 
-pub open_line : (bytes : List ℕ) → length bytes < most_line → HasNoChunkLine (take most_line bytes) → MayBecomeChunkLine (take most_line bytes) → IsOpenLine bytes
+pub open_line : (bytes : List ℕ) → length bytes < most_line → HasNoChunkLine (take most_line bytes)
+    → MayBecomeChunkLine (take most_line bytes) → IsOpenLine bytes
 open_line bytes less none may = record {
   few = less;
   none = subst HasNoChunkLine (few bytes less) none;
@@ -40,7 +45,8 @@ print_some line good =
     simp length-append (omega arith)
 
 -- a decoder that takes the line moves it
-pub moves_line : (old new : Decoder) (kept out_old out_new put : List ℕ) (len size : ℕ) → (at : IsLineAt kept len size) → out_new ≡ out_old ++ put
+pub moves_line : (old new : Decoder) (kept out_old out_new put : List ℕ) (len size : ℕ)
+    → (at : IsLineAt kept len size) → out_new ≡ out_old ++ put
     → GoesOn old new (print_chunk_line at.line) put → Moves old new kept len out_old out_new
 moves_line old new kept out_old out_new put len size at out goes = record {
   some =

@@ -1,5 +1,5 @@
 -- What of a body was taken, by its framing, and what a decoder that stands inside a body has taken.
-use Rattle.std.specs.Prelude.{◌≡◌, ℕ, ◌+◌, ◌*◌, ◌-◌, ◌<◌, ◌≤◌, List, [], ◌++◌, length, take, Some}
+use Rattle.std.specs.Prelude.{◌≡◌, ℕ, ◌+◌, ◌-◌, ◌<◌, ◌≤◌, List, [], ◌++◌, length, take, Some}
 use Rattle.std.specs.Prelude.{Result, Ok, Err}
 use Rattle.std.specs.declared.alloc.AllocError.{AllocError}
 use Rattle.http_wire.specs.declared.frames.Framing.{Framing}
@@ -8,11 +8,13 @@ use Rattle.body_wire.specs.declared.decoder.Decoder.{Decoder}
 use Rattle.body_wire.specs.declared.decoder.Place.{Place}
 use Rattle.body_wire.specs.declared.decoder.Step.{Step}
 use Rattle.body_wire.specs.declared.decoder.Step.TheVariants.{Moved, Stopped}
-use Rattle.body_wire.specs.declared.decoder.Stop.{Stop}
+use Rattle.body_wire.specs.declared.decoder.StopCause.{StopCause}
+use Rattle.body_wire.specs.declared.trailers.LineAt.{LineAt}
 use Rattle.body_wire.specs.declared.trailers.LineAt.TheVariants.{Fresh}
 use Rattle.body_wire.specs.Chunks.{line_behind, most_line, AreChunks, InChunk, AtLine, InTrailers}
 use Rattle.body_wire.specs.Chunks.{AreAllChunks}
 use Rattle.body_wire.specs.Bodies.{IsPlain, IsWholeBody, IsUnfinished, IsBadBody, IsTooLong}
+use Rattle.body_wire.specs.Places.{CanEnd, most_at}
 
 -- the framing has this length
 abbrev pub IsCounted : Framing → ℕ → Type 0
@@ -35,12 +37,13 @@ pub record InContent (form : Form) (bytes passed : List ℕ) (count left : ℕ) 
   pub chunk : InChunk form bytes passed count size got
   pub rest : got + left ≡ size
 
--- the trailers that were taken
-pub record Following (form : Form) (bytes passed : List ℕ) (decoder : Decoder) : Type 0 where
+-- the trailers that were taken, whose line stands there
+pub record Following (form : Form) (bytes passed : List ℕ) (count : ℕ) (at : LineAt) (seen : ℕ)
+    : Type 0 where
   pub trailers : List ℕ
-  pub taken : InTrailers form bytes passed decoder.count trailers
-  pub line : line_behind Fresh trailers ≡ Some decoder.line_at
-  pub seen : length trailers ≡ decoder.seen
+  pub taken : InTrailers form bytes passed count trailers
+  pub line : line_behind Fresh trailers ≡ Some at
+  pub seen_is : length trailers ≡ seen
 
 -- a line of a chunk over the limit, or a length over it
 pub record LineOver (form : Form) (bytes passed : List ℕ) (count limit : ℕ) : Type 0 where
@@ -50,16 +53,16 @@ pub record LineOver (form : Form) (bytes passed : List ℕ) (count limit : ℕ) 
 
 -- what a decoder at this place has taken of a body of this framing, and what of it goes on
 abbrev pub HoldsAt : Place → Framing → Decoder → List ℕ → List ℕ → Type 0
-HoldsAt Place.Counted framing d taken passed =
-    IsCounted framing (d.count + d.left) × IsPlain taken passed d.count
-HoldsAt Place.ToEnd framing d taken passed =
-    (framing ≡ Framing.ToEnd) × IsPlain taken passed d.count × (d.count + d.left ≡ d.limit)
+HoldsAt (Place.Counted left) framing d taken passed =
+    IsCounted framing (d.count + left) × IsPlain taken passed d.count
+HoldsAt (Place.ToEnd left) framing d taken passed =
+    (framing ≡ Framing.ToEnd) × IsPlain taken passed d.count × (d.count + left ≡ d.limit)
 HoldsAt Place.Line framing d taken passed =
     (framing ≡ Framing.Chunked) × AreChunks d.form taken passed d.count
-HoldsAt Place.Content framing d taken passed =
-    (framing ≡ Framing.Chunked) × InContent d.form taken passed d.count d.left
-HoldsAt Place.Trailers framing d taken passed =
-    (framing ≡ Framing.Chunked) × Following d.form taken passed d
+HoldsAt (Place.Content left) framing d taken passed =
+    (framing ≡ Framing.Chunked) × InContent d.form taken passed d.count left
+HoldsAt (Place.Trailers at seen) framing d taken passed =
+    (framing ≡ Framing.Chunked) × Following d.form taken passed d.count at seen
 HoldsAt Place.LongLength framing d taken passed =
     IsLonger framing d.limit × IsPlain taken passed d.count × (taken ≡ [])
 HoldsAt Place.LongChunk framing d taken passed =
@@ -70,20 +73,9 @@ HoldsAt Place.Whole framing d taken passed =
 abbrev pub Holds : Framing → Decoder → List ℕ → List ℕ → Type 0
 Holds framing d taken passed = HoldsAt d.place framing d taken passed
 
--- the most bytes that a body can have behind this place: `room` content bytes to the limit, `left`
--- of them announced
-abbrev pub most_at : Place → ℕ → ℕ → ℕ → ℕ
-most_at Place.Counted room left seen = left
-most_at Place.ToEnd room left seen = left + 1
-most_at Place.Line room left seen = room * 4099 + 69632
-most_at Place.Content room left seen = left + 2 + (room - left) * 4099 + 69632
-most_at Place.Trailers room left seen = 65536 - seen
-most_at Place.LongLength room left seen = 0
-most_at Place.LongChunk room left seen = 0
-most_at Place.Whole room left seen = 0
-
+-- the most bytes that a body can have behind those that were taken
 abbrev pub most_left : Decoder → ℕ
-most_left d = most_at d.place (d.limit - d.count) d.left d.seen
+most_left d = most_at d.place (d.limit - d.count)
 
 -- one decoder goes on as the other, of the same body, behind `took` bytes of it, of which `put`
 -- goes on
@@ -104,34 +96,24 @@ pub record Moves (old new : Decoder) (kept : List ℕ) (n : ℕ) (out_old out_ne
     pub goes : GoesOn old new (take n kept) put
 
 -- what the bytes show behind which a decoder stopped
-abbrev pub Shown : Framing → Decoder → List ℕ → List ℕ → List ℕ → Stop → Type 0
-Shown framing d taken passed kept Stop.More =
+abbrev pub Shown : Framing → Decoder → List ℕ → List ℕ → List ℕ → StopCause → Type 0
+Shown framing d taken passed kept StopCause.More =
     IsUnfinished framing d.form d.limit taken passed d.count kept
-Shown framing d taken passed kept Stop.Whole = IsWholeBody framing d.form taken passed d.count kept
-Shown framing d taken passed kept Stop.Bad = IsBadBody framing d.form taken passed d.count kept
-Shown framing d taken passed kept Stop.TooLong =
+Shown framing d taken passed kept StopCause.Whole =
+    IsWholeBody framing d.form taken passed d.count kept
+Shown framing d taken passed kept StopCause.Bad = IsBadBody framing d.form taken passed d.count kept
+Shown framing d taken passed kept StopCause.TooLong =
     IsTooLong framing d.form d.limit taken passed d.count kept
 
--- a body may be whole here, whatever follows
-abbrev pub CanEnd : Place → Type 0
-CanEnd Place.Counted = Unit {0}
-CanEnd Place.Whole = Unit {0}
-CanEnd Place.ToEnd = ⊥
-CanEnd Place.Content = ⊥
-CanEnd Place.Line = ⊥
-CanEnd Place.Trailers = ⊥
-CanEnd Place.LongLength = ⊥
-CanEnd Place.LongChunk = ⊥
-
 -- where more bytes are wanted, few are kept, and more may come
-abbrev pub WaitsFor : Decoder → List ℕ → Stop → Type 0
-WaitsFor d kept Stop.More = (length kept < most_line) × (length kept < most_left d)
-WaitsFor d kept Stop.Whole = CanEnd d.place
-WaitsFor d kept Stop.Bad = Unit {0}
-WaitsFor d kept Stop.TooLong = Unit {0}
+abbrev pub WaitsFor : Decoder → List ℕ → StopCause → Type 0
+WaitsFor d kept StopCause.More = (length kept < most_line) × (length kept < most_left d)
+WaitsFor d kept StopCause.Whole = CanEnd d.place
+WaitsFor d kept StopCause.Bad = Unit {0}
+WaitsFor d kept StopCause.TooLong = Unit {0}
 
 -- a decoder stopped before these bytes
-pub record Stops (d : Decoder) (kept : List ℕ) (stop : Stop) : Type 0 where
+pub record Stops (d : Decoder) (kept : List ℕ) (stop : StopCause) : Type 0 where
   pub shows : (framing : Framing) (taken passed : List ℕ) → Holds framing d taken passed
       → Shown framing d taken passed kept stop
   pub waits : WaitsFor d kept stop
@@ -142,14 +124,3 @@ Steps old new kept out_old out_new (Ok (Moved n)) = Moves old new kept n out_old
 Steps old new kept out_old out_new (Ok (Stopped stop)) =
     (new ≡ old) × (out_new ≡ out_old) × Stops old kept stop
 Steps old new kept out_old out_new (Err e) = (new ≡ old) × (out_new ≡ out_old)
-
--- content stands at this place
-abbrev pub IsRun : Place → Type 0
-IsRun Place.Counted = Unit {0}
-IsRun Place.ToEnd = Unit {0}
-IsRun Place.Content = Unit {0}
-IsRun Place.Line = ⊥
-IsRun Place.Trailers = ⊥
-IsRun Place.LongLength = ⊥
-IsRun Place.LongChunk = ⊥
-IsRun Place.Whole = ⊥

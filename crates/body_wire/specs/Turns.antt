@@ -9,8 +9,8 @@ use Rattle.line_base.specs.declared.outside.Failed.{Failed}
 use Rattle.http_wire.specs.declared.frames.Framing.{Framing}
 use Rattle.http_wire.specs.declared.frames.Framing.TheVariants.{Nothing, Length, Chunked, ToEnd}
 use Rattle.body_wire.specs.declared.decoder.Decoder.{Decoder}
-use Rattle.body_wire.specs.declared.decoder.Stop.{Stop}
-use Rattle.body_wire.specs.declared.decoder.Stop.TheVariants.{More, Whole, Bad, TooLong}
+use Rattle.body_wire.specs.declared.decoder.StopCause.{StopCause}
+use Rattle.body_wire.specs.declared.decoder.StopCause.TheVariants.{More, Whole, Bad, TooLong}
 use Rattle.body_wire.specs.declared.end.BodyEnd.{BodyEnd}
 use Rattle.body_wire.specs.declared.turn.TurnFault.{TurnFault}
 use Rattle.body_wire.specs.Passing.{IsFrontOf}
@@ -26,7 +26,8 @@ pub record Taken (old new : Decoder) (kept_old kept_new out_old out_new : List �
   pub goes : GoesOn old new took put
 
 -- and stopped there, unless there was no memory
-abbrev pub TakesAll : Decoder → Decoder → List ℕ → List ℕ → List ℕ → List ℕ → Result Stop AllocError
+abbrev pub TakesAll : Decoder → Decoder → List ℕ → List ℕ → List ℕ → List ℕ
+    → Result StopCause AllocError
     → Type 0
 TakesAll old new kept_old kept_new out_old out_new (Ok stop) =
     Taken old new kept_old kept_new out_old out_new × Stops new kept_new stop
@@ -52,12 +53,12 @@ pub record RunGoes (old new : Decoder) (kept_old kept_new waiting sent : List �
   pub sends : SendsAll run sent result
 
 -- what was sent of `waiting` and of what goes on behind it, and where the decoder stopped
-abbrev pub TurnSends : List ℕ → List ℕ → Decoder → List ℕ → Result Stop TurnFault → Type 0
+abbrev pub TurnSends : List ℕ → List ℕ → Decoder → List ℕ → Result StopCause TurnFault → Type 0
 TurnSends all sent new kept_new (Ok stop) = (sent ≡ all) × Stops new kept_new stop
 TurnSends all sent new kept_new (Err fault) = IsFrontOf all sent
 
 pub record Turns (old new : Decoder) (kept_old kept_new waiting sent : List ℕ)
-    (result : Result Stop TurnFault) : Type 0 where
+    (result : Result StopCause TurnFault) : Type 0 where
   pub took : List ℕ
   pub put : List ℕ
   pub kept : kept_old ≡ took ++ kept_new
@@ -65,19 +66,20 @@ pub record Turns (old new : Decoder) (kept_old kept_new waiting sent : List ℕ)
   pub sends : TurnSends (waiting ++ put) sent new kept_new result
 
 -- what was sent of what goes on
-abbrev pub TakenGoes : Result Stop AllocError → List ℕ → List ℕ → Result Stop TurnFault → Type 0
+abbrev pub TakenGoes : Result StopCause AllocError → List ℕ → List ℕ → Result StopCause TurnFault
+    → Type 0
 TakenGoes (Ok stop) all sent (Ok other) = (other ≡ stop) × (sent ≡ all)
 TakenGoes (Ok stop) all sent (Err fault) = IsFrontOf all sent
 TakenGoes (Err e) all sent (Ok other) = ⊥
 TakenGoes (Err e) all sent (Err fault) = IsFrontOf all sent
 
 -- a turn failed exactly where the count of faults rose
-pub record TurnCause (before now : ℕ) (result : Result Stop TurnFault) : Type 0 where
+pub record TurnCause (before now : ℕ) (result : Result StopCause TurnFault) : Type 0 where
   pub failed : result ≡ Err TurnFault.Failed → now ≡ raised before
   pub others : result ≢ Err TurnFault.Failed → now ≡ before
 
 -- what a turn answers; nothing where more bytes are wanted. `fault` is what a failed call answers
-abbrev pub answer_of : ℕ → BodyEnd → Result Stop TurnFault → Option (Result ℕ BodyEnd)
+abbrev pub answer_of : ℕ → BodyEnd → Result StopCause TurnFault → Option (Result ℕ BodyEnd)
 answer_of count fault (Ok More) = None
 answer_of count fault (Ok Whole) = Some (Ok count)
 answer_of count fault (Ok Bad) = Some (Err (BodyEnd.BadChunk count))

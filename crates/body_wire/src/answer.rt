@@ -2,7 +2,7 @@
 ghost use Rattle.std.specs.Prelude.{◌≡◌};
 ghost use Rattle.body_wire.specs.Turns.{answer_of, end_answer};
 
-use crate::decoder::Stop;
+use crate::decoder::StopCause;
 use crate::end::BodyEnd;
 use crate::turn::TurnFault;
 use http_wire::Framing;
@@ -15,15 +15,15 @@ pub(crate) const MOST_PASSED: u64 = 9223372036854775807;
 pub(crate) fn answer(
     count: u64,
     fault: BodyEnd,
-    turn: Result<Stop, TurnFault>,
+    turn: Result<StopCause, TurnFault>,
 ) -> Option<Result<u64, BodyEnd>>
     ensures { result ≡ answer_of count fault turn }
 {
     match turn {
-        Ok(Stop::More) => None,
-        Ok(Stop::Whole) => Some(Ok(count)),
-        Ok(Stop::Bad) => Some(Err(BodyEnd::BadChunk(count))),
-        Ok(Stop::TooLong) => Some(Err(BodyEnd::TooLong)),
+        Ok(StopCause::More) => None,
+        Ok(StopCause::Whole) => Some(Ok(count)),
+        Ok(StopCause::Bad) => Some(Err(BodyEnd::BadChunk(count))),
+        Ok(StopCause::TooLong) => Some(Err(BodyEnd::TooLong)),
         Err(TurnFault::Failed) => Some(Err(fault)),
         Err(TurnFault::OutOfMemory) => Some(Err(BodyEnd::OutOfMemory)),
     }

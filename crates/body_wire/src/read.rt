@@ -6,7 +6,7 @@ ghost use Rattle.body_wire.specs.Passing.{CountsEnd, HasNoneBehind, RaisedAt, Re
 ghost use Rattle.body_wire.specs.Turns.{read_at_end};
 
 use crate::Bytes;
-use crate::decoder::{Decoder, Stop};
+use crate::decoder::{Decoder, StopCause};
 use crate::end::BodyEnd;
 use crate::form::Form;
 use crate::turn::take_all;
@@ -44,10 +44,10 @@ pub fn read_body<P: Peer>(
     let mut content = Vec::new(alloc);
     'pieces: loop {
         match take_all(&mut decoder, rest, &mut content) {
-            Ok(Stop::More) => {}
-            Ok(Stop::Whole) => return Ok(content),
-            Ok(Stop::Bad) => return Err(BodyEnd::BadChunk(decoder.count)),
-            Ok(Stop::TooLong) => return Err(BodyEnd::TooLong),
+            Ok(StopCause::More) => {}
+            Ok(StopCause::Whole) => return Ok(content),
+            Ok(StopCause::Bad) => return Err(BodyEnd::BadChunk(decoder.count)),
+            Ok(StopCause::TooLong) => return Err(BodyEnd::TooLong),
             Err(_) => return Err(BodyEnd::OutOfMemory),
         }
         match rest.pull(peer) {

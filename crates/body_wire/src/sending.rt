@@ -6,7 +6,7 @@ ghost use Rattle.line_base.specs.Counts.{HasCause};
 ghost use Rattle.body_wire.specs.Passing.{Sends};
 ghost use Rattle.body_wire.specs.Turns.{RunGoes, SendsAll, TakenGoes, TurnCause, Turns};
 
-use crate::decoder::{Decoder, Stop};
+use crate::decoder::{Decoder, StopCause};
 use crate::turn::{TurnFault, lone_run, take_all};
 use crate::{Bytes, Mem};
 use http_wire::Rest;
@@ -64,7 +64,7 @@ pub(crate) fn send_turn<D: Dialer>(
     rest: &mut Rest,
     out: &mut Bytes,
     dialer: &mut D,
-) -> Result<Stop, TurnFault>
+) -> Result<StopCause, TurnFault>
     requires { IsSome (D.upstream dialer.old).open_to }
     ensures bytes { (sent : List ℕ)
         × Sends (D.upstream dialer.old).log (D.upstream dialer.new).log sent
@@ -88,7 +88,11 @@ pub(crate) fn send_turn<D: Dialer>(
 }
 
 /// Sends what goes on, unless there was no memory for it.
-fn send_taken<D: Dialer>(taken: &Mem<Stop>, out: &Bytes, dialer: &mut D) -> Result<Stop, TurnFault>
+fn send_taken<D: Dialer>(
+    taken: &Mem<StopCause>,
+    out: &Bytes,
+    dialer: &mut D,
+) -> Result<StopCause, TurnFault>
     requires { IsSome (D.upstream dialer.old).open_to }
     ensures bytes { (sent : List ℕ)
         × Sends (D.upstream dialer.old).log (D.upstream dialer.new).log sent

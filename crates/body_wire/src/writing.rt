@@ -5,7 +5,7 @@ ghost use Rattle.line_base.specs.Counts.{HasCause};
 ghost use Rattle.line_base.specs.Lines.{IsUnread};
 ghost use Rattle.body_wire.specs.Turns.{RunGoes, SendsAll, TakenGoes, TurnCause, Turns};
 
-use crate::decoder::{Decoder, Stop};
+use crate::decoder::{Decoder, StopCause};
 use crate::turn::{TurnFault, lone_run, take_all};
 use crate::{Bytes, Mem};
 use http_wire::Rest;
@@ -57,7 +57,7 @@ pub(crate) fn write_turn<P: Peer>(
     rest: &mut Rest,
     out: &mut Bytes,
     peer: &mut P,
-) -> Result<Stop, TurnFault>
+) -> Result<StopCause, TurnFault>
     ensures bytes { (sent : List ℕ) × Appends (P.line peer.old).given (P.line peer.new).given sent
         × Turns decoder.old decoder.new rest.old rest.new out.old.items sent result }
     ensures out { out.new.items ≡ [] }
@@ -78,7 +78,11 @@ pub(crate) fn write_turn<P: Peer>(
 }
 
 /// Writes what goes on, unless there was no memory for it.
-fn write_taken<P: Peer>(taken: &Mem<Stop>, out: &Bytes, peer: &mut P) -> Result<Stop, TurnFault>
+fn write_taken<P: Peer>(
+    taken: &Mem<StopCause>,
+    out: &Bytes,
+    peer: &mut P,
+) -> Result<StopCause, TurnFault>
     ensures bytes { (sent : List ℕ) × Appends (P.line peer.old).given (P.line peer.new).given sent
         × TakenGoes taken.now out.now.items sent result }
     ensures others { IsUnread (P.line peer.old) (P.line peer.new) }

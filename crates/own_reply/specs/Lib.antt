@@ -1,2 +1,4 @@
 pub mod Reply
 pub mod Laws
+pub mod Tests
+pub mod Closing

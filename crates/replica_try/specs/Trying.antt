@@ -22,6 +22,7 @@ use Rattle.body_wire.specs.declared.end.BodyEnd.TheVariants.{OutOfMemory}
 use Rattle.body_wire.specs.Passing.{CountsEnd, EndsPieces, HasNoneBehind, PassesOn, RaisedAt}
 use Rattle.body_wire.specs.Passing.{form_of, most_passed, runs_to_end}
 use Rattle.forward.specs.Returned.{returned}
+use Rattle.own_reply.specs.Closing.{asks_to_close}
 use Rattle.replica_try.specs.declared.final_head.HeadFault.{HeadFault}
 use Rattle.replica_try.specs.declared.moved.Moved.{Moved}
 use Rattle.replica_try.specs.declared.tried.Tried.{Tried}
@@ -105,12 +106,8 @@ tried_of_back moved status closes reusable (Err RecvFault) = tried.ReplyCut move
 tried_of_back moved status closes reusable (Err OutOfMemory) =
     tried.OutOfMemory moved (Some status)
 
--- a request behind which its connection closes, whatever the reply is: one of HTTP/1.0, and one
--- that asks for that
-abbrev pub asks_to_close : Head → Bool
-asks_to_close head = (head.version == 0) || names_close head.fields
-
--- so does a reply whose body runs to the end of the connection
+-- a connection closes behind a request that asks for that, and behind a reply whose body runs to
+-- its end
 abbrev pub closes_behind : Head → Framing → Bool
 closes_behind head framing = asks_to_close head || runs_to_end framing
 

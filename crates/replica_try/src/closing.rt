@@ -1,24 +1,16 @@
 //! Behind which replies a connection closes, and behind which one is kept.
 ghost use Rattle.std.specs.Prelude.{◌≡◌, ◌||◌};
 ghost use Rattle.body_wire.specs.Passing.{runs_to_end};
-ghost use Rattle.replica_try.specs.Trying.{asks_to_close, closes_behind, is_reusable};
-ghost use Rattle.replica_try.specs.Trying.{knows_chunks};
+ghost use Rattle.replica_try.specs.Trying.{closes_behind, is_reusable, knows_chunks};
 
 use http_wire::{Framing, Head, ReplyHead, Rest, names_close};
+use own_reply::asks_to_close;
 
 /// Whether the client knows chunks.
 pub(crate) fn knows_chunks(head: &Head) -> bool
     ensures { result ≡ knows_chunks head.now }
 {
     head.version != 0
-}
-
-/// Whether the client's connection closes behind a request, whatever the reply is (RFC 9112 section
-/// 9.3): it is of HTTP/1.0, or asks for that.
-pub fn asks_to_close(head: &Head) -> bool
-    ensures { result ≡ asks_to_close head.now }
-{
-    head.version == 0 || names_close(&head.fields)
 }
 
 /// Whether the connection closes behind a reply that is passed on, whose body is framed so.

@@ -50,7 +50,6 @@ mod tried;
 mod trying;
 mod way;
 
-pub use closing::asks_to_close;
 pub use final_head::HeadFault;
 pub use moved::Moved;
 use std::alloc::AllocError;

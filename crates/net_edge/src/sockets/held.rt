@@ -21,6 +21,10 @@ const OTHER_DESCRIPTORS: u64 = 16;
 /// reads: no waiting client takes them.
 const SPARE_DESCRIPTORS: u32 = 16;
 
+/// What no waiting client takes of a listener either: one for its client, and two for what its job
+/// writes of what it serves, as the file of an access log, which is open while it is opened anew.
+const LISTENER_DESCRIPTORS: u32 = 3;
+
 /// The queues of a net's addresses, and the sockets of the dialers to come.
 ///
 /// A listener serves one client at a time, and a dialer has one socket beside those of its pool. So
@@ -29,8 +33,8 @@ const SPARE_DESCRIPTORS: u32 = 16;
 /// clients of all listeners and for what their dialers may keep was seen. What is closed later, a
 /// client's connection or a dialer's socket, gives its descriptor back before the same job opens
 /// the next. Clients that wait have descriptors beside those, as many as `waiting_room` saw, and
-/// [`SPARE_DESCRIPTORS`] are left. So where a process opens no more than those behind that, no
-/// accept and no dial ever lacks a descriptor.
+/// [`SPARE_DESCRIPTORS`] are left, and two for the file of each job. So where a process opens no
+/// more than those after that, no accept and no dial ever lacks a descriptor.
 #[derive(Drop)]
 pub(crate) struct HeldSockets {
     pub(crate) alloc: Global,
@@ -129,6 +133,7 @@ impl HeldSockets {
         };
         let promised = self
             .listeners
+            .saturating_mul(LISTENER_DESCRIPTORS)
             .saturating_add(self.kept)
             .saturating_add(SPARE_DESCRIPTORS);
         let spare = queue.count_spare(self.alloc, promised.saturating_add(most));

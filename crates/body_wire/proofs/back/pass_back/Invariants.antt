@@ -10,9 +10,13 @@ use Rattle.body_wire.proofs.back.pass_back.Given as goal
 abbrev pub invariant-pieces : goal.invariant-pieces
 invariant-pieces g l = record {
   way :
-      (pieces : List (List ℕ)) × (sent : List ℕ) × Consumes (g.D.Dialer.upstream l.fn.dialer).left (g.D.Dialer.upstream l.dialer).left (concat pieces)
-      × ReceivesPieces (g.D.Dialer.upstream l.fn.dialer).log (g.D.Dialer.upstream l.dialer).log pieces × Appends (g.P.Peer.line l.fn.peer).given (g.P.Peer.line l.peer).given sent
-      × OnWay l.fn.framing (form_of l.fn.chunked) most_passed l.decoder l.fn.out.items l.fn.rest pieces sent l.out.items l.rest;
+      (pieces : List (List ℕ)) × (sent : List ℕ)
+      × Consumes (g.D.Dialer.upstream l.fn.dialer).left (g.D.Dialer.upstream l.dialer).left
+      (concat pieces)
+      × ReceivesPieces (g.D.Dialer.upstream l.fn.dialer).log (g.D.Dialer.upstream l.dialer).log
+      pieces × Appends (g.P.Peer.line l.fn.peer).given (g.P.Peer.line l.peer).given sent
+      × OnWay l.fn.framing (form_of l.fn.chunked) most_passed l.decoder l.fn.out.items l.fn.rest
+      pieces sent l.out.items l.rest;
   faults : (g.D.Dialer.upstream l.dialer).faults ≡ (g.D.Dialer.upstream l.fn.dialer).faults;
   open_ : HasSameLinks (g.D.Dialer.upstream l.fn.dialer) (g.D.Dialer.upstream l.dialer);
   writes : (g.P.Peer.line l.peer).write_faults ≡ (g.P.Peer.line l.fn.peer).write_faults;

@@ -4,7 +4,8 @@ use Rattle.std.proofs.KnownBytes.{Consumes-nil, Consumes-kept, Keeps-refl, Keeps
 use Rattle.body_wire.specs.declared.end.BodyEnd.{BodyEnd}
 use Rattle.body_wire.specs.declared.form.Form.{Form}
 use Rattle.body_wire.specs.Passing.{most_passed}
-use Rattle.body_wire.proofs.Passes.{begins, answered, answer_not_at_end, no_answer, on_piece, on_end, on_fault}
+use Rattle.body_wire.proofs.Passes.{begins, answered, answer_not_at_end, no_answer, on_piece}
+use Rattle.body_wire.proofs.Passes.{on_end, on_fault}
 use Rattle.body_wire.proofs.Sent.{Sends-nil, Sends-trans, came_piece}
 use Rattle.body_wire.proofs.onward.pass_body.Goals as goal
 
@@ -15,7 +16,8 @@ pieces-init g c = record {
     [],
     Consumes-nil (g.P.Peer.line c.args.peer.now).left,
     Sends-nil (g.D.Dialer.upstream c.args.dialer.now).log,
-    begins c.args.framing Form.Chunks most_passed c.of-decoder.result c.args.out.now.items c.args.rest.now c.of-decoder.ensures.holds c.of-decoder.ensures.form
+    begins c.args.framing Form.Chunks most_passed c.of-decoder.result c.args.out.now.items
+        c.args.rest.now c.of-decoder.ensures.holds c.of-decoder.ensures.form
         c.of-decoder.ensures.limit,
   );
   ends = refl;
@@ -36,9 +38,13 @@ returns-in-Some-clause-body g c =
       w.0,
       w.1 ++ t.0,
       w.2,
-      Sends-trans (g.D.Dialer.upstream c.args.dialer.now).log (g.D.Dialer.upstream c.pieces.dialer).log (g.D.Dialer.upstream c.send_turn-turn.new.dialer).log w.1 t.0 w.3 t.1,
-      answered c.args.framing Form.Chunks most_passed c.pieces.decoder c.send_turn-turn.new.decoder c.args.out.now.items c.args.rest.now w.0 w.1 c.pieces.out.items
-          c.pieces.rest c.send_turn-turn.new.rest t.0 w.4 BodyEnd.SendFault c.send_turn-turn.result c.in-Some.end (λ all went front. front) (λ taken passed rest front. front) t.2
+      Sends-trans (g.D.Dialer.upstream c.args.dialer.now).log
+          (g.D.Dialer.upstream c.pieces.dialer).log
+          (g.D.Dialer.upstream c.send_turn-turn.new.dialer).log w.1 t.0 w.3 t.1,
+      answered c.args.framing Form.Chunks most_passed c.pieces.decoder c.send_turn-turn.new.decoder
+          c.args.out.now.items c.args.rest.now w.0 w.1 c.pieces.out.items
+          c.pieces.rest c.send_turn-turn.new.rest t.0 w.4 BodyEnd.SendFault c.send_turn-turn.result
+          c.in-Some.end (λ all went front. front) (λ taken passed rest front. front) t.2
           (sym c.answer.ensures ∙ c.in-Some.is),
     )
 
@@ -47,8 +53,10 @@ returns-in-Some-clause-ends g c =
     let w = c.pieces.invariant.way in
     let t = c.send_turn-turn.ensures.bytes in
     let quiet =
-    answer_not_at_end c.args.framing Form.Chunks most_passed c.pieces.decoder c.send_turn-turn.new.decoder c.args.out.now.items c.args.rest.now w.0 w.1 c.pieces.out.items
-    c.pieces.rest c.send_turn-turn.new.rest t.0 BodyEnd.SendFault c.send_turn-turn.result c.in-Some.end w.4 refl t.2 (sym c.answer.ensures ∙ c.in-Some.is) in
+    answer_not_at_end c.args.framing Form.Chunks most_passed c.pieces.decoder
+    c.send_turn-turn.new.decoder c.args.out.now.items c.args.rest.now w.0 w.1 c.pieces.out.items
+    c.pieces.rest c.send_turn-turn.new.rest t.0 BodyEnd.SendFault c.send_turn-turn.result
+    c.in-Some.end w.4 refl t.2 (sym c.answer.ensures ∙ c.in-Some.is) in
     record { ended = λ at. cc; others = λ no. c.pieces.invariant.ends }
 
 pub returns-in-Some-clause-none_left : goal.returns-in-Some-clause-none_left
@@ -56,8 +64,10 @@ returns-in-Some-clause-none_left g c =
     let w = c.pieces.invariant.way in
     let t = c.send_turn-turn.ensures.bytes in
     let quiet =
-    answer_not_at_end c.args.framing Form.Chunks most_passed c.pieces.decoder c.send_turn-turn.new.decoder c.args.out.now.items c.args.rest.now w.0 w.1 c.pieces.out.items
-    c.pieces.rest c.send_turn-turn.new.rest t.0 BodyEnd.SendFault c.send_turn-turn.result c.in-Some.end w.4 refl t.2 (sym c.answer.ensures ∙ c.in-Some.is) in
+    answer_not_at_end c.args.framing Form.Chunks most_passed c.pieces.decoder
+    c.send_turn-turn.new.decoder c.args.out.now.items c.args.rest.now w.0 w.1 c.pieces.out.items
+    c.pieces.rest c.send_turn-turn.new.rest t.0 BodyEnd.SendFault c.send_turn-turn.result
+    c.in-Some.end w.4 refl t.2 (sym c.answer.ensures ∙ c.in-Some.is) in
     λ at. cc
 
 pub returns-in-Ok-eq0-clause-none_left : goal.returns-in-Ok-eq0-clause-none_left
@@ -70,11 +80,16 @@ returns-in-Ok-eq0-clause-body g c =
     let b = c.in-Ok-eq0.ensures.bytes in (
       w.0 ++ b.0 ∷ [],
       w.1 ++ t.0,
-      came_piece (g.P.Peer.line c.args.peer.now).left (g.P.Peer.line c.pieces.peer).left (g.P.Peer.line c.pull.new.peer).left w.0 b.0 w.2 b.1,
-      Sends-trans (g.D.Dialer.upstream c.args.dialer.now).log (g.D.Dialer.upstream c.pieces.dialer).log (g.D.Dialer.upstream c.send_turn-turn.new.dialer).log w.1 t.0 w.3 t.1,
-      on_end c.args.framing Form.Chunks most_passed c.pieces.decoder c.send_turn-turn.new.decoder c.args.out.now.items c.args.rest.now w.0 w.1 c.pieces.out.items
+      came_piece (g.P.Peer.line c.args.peer.now).left (g.P.Peer.line c.pieces.peer).left
+          (g.P.Peer.line c.pull.new.peer).left w.0 b.0 w.2 b.1,
+      Sends-trans (g.D.Dialer.upstream c.args.dialer.now).log
+          (g.D.Dialer.upstream c.pieces.dialer).log
+          (g.D.Dialer.upstream c.send_turn-turn.new.dialer).log w.1 t.0 w.3 t.1,
+      on_end c.args.framing Form.Chunks most_passed c.pieces.decoder c.send_turn-turn.new.decoder
+          c.args.out.now.items c.args.rest.now w.0 w.1 c.pieces.out.items
           c.pieces.rest c.send_turn-turn.new.rest t.0 c.send_turn-turn.result w.4 t.2
-          (no_answer c.send_turn-turn.new.decoder.count BodyEnd.SendFault c.send_turn-turn.result (sym c.answer.ensures ∙ c.in-None.is)) b.0 c.pull.new.self c.at_end.result
+          (no_answer c.send_turn-turn.new.decoder.count BodyEnd.SendFault c.send_turn-turn.result
+          (sym c.answer.ensures ∙ c.in-None.is)) b.0 c.pull.new.self c.at_end.result
           (b.2 ∙ c.in-Ok-eq0.field-0-test) b.4 c.at_end.ensures,
     )
 
@@ -85,26 +100,36 @@ pieces-preserved g c =
     let t = c.send_turn-turn.ensures.bytes in
     let b = c.in-Ok.ensures.bytes in
     let some : 0 < c.in-Ok.field-0 = let none = c.in-Ok.field-0-test in omega arith in
-    let more = no_answer c.send_turn-turn.new.decoder.count BodyEnd.SendFault c.send_turn-turn.result (sym c.answer.ensures ∙ c.in-None.is) in
+    let more = no_answer c.send_turn-turn.new.decoder.count BodyEnd.SendFault
+    c.send_turn-turn.result (sym c.answer.ensures ∙ c.in-None.is) in
     record {
       way = (
         w.0 ++ b.0 ∷ [],
         w.1 ++ t.0,
-        came_piece (g.P.Peer.line c.args.peer.now).left (g.P.Peer.line c.pieces.peer).left (g.P.Peer.line c.pull.new.peer).left w.0 b.0 w.2 b.1,
-        Sends-trans (g.D.Dialer.upstream c.args.dialer.now).log (g.D.Dialer.upstream c.pieces.dialer).log (g.D.Dialer.upstream c.send_turn-turn.new.dialer).log w.1 t.0 w.3 t.1,
-        on_piece c.args.framing Form.Chunks most_passed c.pieces.decoder c.send_turn-turn.new.decoder c.args.out.now.items c.args.rest.now w.0 w.1 c.pieces.out.items
-            c.pieces.rest c.send_turn-turn.new.rest t.0 c.send_turn-turn.result w.4 t.2 more c.send_turn-turn.new.out.items b.0 c.pull.new.self c.send_turn-turn.ensures.out b.4
+        came_piece (g.P.Peer.line c.args.peer.now).left (g.P.Peer.line c.pieces.peer).left
+            (g.P.Peer.line c.pull.new.peer).left w.0 b.0 w.2 b.1,
+        Sends-trans (g.D.Dialer.upstream c.args.dialer.now).log
+            (g.D.Dialer.upstream c.pieces.dialer).log
+            (g.D.Dialer.upstream c.send_turn-turn.new.dialer).log w.1 t.0 w.3 t.1,
+        on_piece c.args.framing Form.Chunks most_passed c.pieces.decoder
+            c.send_turn-turn.new.decoder c.args.out.now.items c.args.rest.now w.0 w.1 c.pieces.out.items
+            c.pieces.rest c.send_turn-turn.new.rest t.0 c.send_turn-turn.result w.4 t.2 more
+            c.send_turn-turn.new.out.items b.0 c.pull.new.self c.send_turn-turn.ensures.out b.4
             c.in-Ok.ensures.most,
       );
       ends = c.in-Ok.ensures.end.given some ∙ i.ends;
       closings = c.in-Ok.ensures.others.closings ∙ i.closings;
       quiets = c.in-Ok.ensures.others.quiets ∙ i.quiets;
       reads = c.in-Ok.ensures.cause.kept ∙ i.reads;
-      given = Keeps-trans (g.P.Peer.line c.args.peer.now).given (g.P.Peer.line c.pieces.peer).given (g.P.Peer.line c.pull.new.peer).given i.given c.in-Ok.ensures.others.given;
+      given = Keeps-trans (g.P.Peer.line c.args.peer.now).given (g.P.Peer.line c.pieces.peer).given
+          (g.P.Peer.line c.pull.new.peer).given i.given c.in-Ok.ensures.others.given;
       writes = c.in-Ok.ensures.others.write_faults ∙ i.writes;
       faults = c.send_turn-turn.ensures.cause.others (λ failed. cc) ∙ i.faults;
       open_ = links_on i.open_ c.send_turn-turn.ensures.stays.0;
-      left = Keeps-trans (g.D.Dialer.upstream c.args.dialer.now).left (g.D.Dialer.upstream c.pieces.dialer).left (g.D.Dialer.upstream c.send_turn-turn.new.dialer).left i.left c.send_turn-turn.ensures.stays.1;
+      left = Keeps-trans (g.D.Dialer.upstream c.args.dialer.now).left
+          (g.D.Dialer.upstream c.pieces.dialer).left
+          (g.D.Dialer.upstream c.send_turn-turn.new.dialer).left i.left
+          c.send_turn-turn.ensures.stays.1;
     }
 
 pub returns-in-Err-clause-body : goal.returns-in-Err-clause-body
@@ -112,13 +137,18 @@ returns-in-Err-clause-body g c =
     let w = c.pieces.invariant.way in
     let t = c.send_turn-turn.ensures.bytes in
     let b = c.in-Err.ensures.bytes in
-    let more = no_answer c.send_turn-turn.new.decoder.count BodyEnd.SendFault c.send_turn-turn.result (sym c.answer.ensures ∙ c.in-None.is) in
+    let more = no_answer c.send_turn-turn.new.decoder.count BodyEnd.SendFault
+    c.send_turn-turn.result (sym c.answer.ensures ∙ c.in-None.is) in
     let faults =
-    on_fault c.args.framing Form.Chunks most_passed c.pieces.decoder c.send_turn-turn.new.decoder c.args.out.now.items c.args.rest.now w.0 w.1 c.pieces.out.items c.pieces.rest
+    on_fault c.args.framing Form.Chunks most_passed c.pieces.decoder c.send_turn-turn.new.decoder
+    c.args.out.now.items c.args.rest.now w.0 w.1 c.pieces.out.items c.pieces.rest
     c.send_turn-turn.new.rest t.0 c.send_turn-turn.result w.4 t.2 more c.pull.new.self b.1 in (
       w.0,
       w.1 ++ t.0,
-      Consumes-kept (g.P.Peer.line c.args.peer.now).left (g.P.Peer.line c.pieces.peer).left (g.P.Peer.line c.pull.new.peer).left _ w.2 b.0,
-      Sends-trans (g.D.Dialer.upstream c.args.dialer.now).log (g.D.Dialer.upstream c.pieces.dialer).log (g.D.Dialer.upstream c.send_turn-turn.new.dialer).log w.1 t.0 w.3 t.1,
+      Consumes-kept (g.P.Peer.line c.args.peer.now).left (g.P.Peer.line c.pieces.peer).left
+          (g.P.Peer.line c.pull.new.peer).left _ w.2 b.0,
+      Sends-trans (g.D.Dialer.upstream c.args.dialer.now).log
+          (g.D.Dialer.upstream c.pieces.dialer).log
+          (g.D.Dialer.upstream c.send_turn-turn.new.dialer).log w.1 t.0 w.3 t.1,
       faults.0,
     )

@@ -11,9 +11,11 @@ use Rattle.body_wire.proofs.onward.pass_body.Given as goal
 abbrev pub invariant-pieces : goal.invariant-pieces
 invariant-pieces g l = record {
   way :
-      (pieces : List (List ℕ)) × (sent : List ℕ) × Consumes (g.P.Peer.line l.fn.peer).left (g.P.Peer.line l.peer).left (concat pieces)
+      (pieces : List (List ℕ)) × (sent : List ℕ)
+      × Consumes (g.P.Peer.line l.fn.peer).left (g.P.Peer.line l.peer).left (concat pieces)
       × Sends (g.D.Dialer.upstream l.fn.dialer).log (g.D.Dialer.upstream l.dialer).log sent
-      × OnWay l.fn.framing Form.Chunks most_passed l.decoder l.fn.out.items l.fn.rest pieces sent l.out.items l.rest;
+      × OnWay l.fn.framing Form.Chunks most_passed l.decoder l.fn.out.items l.fn.rest pieces sent
+      l.out.items l.rest;
   ends : (g.P.Peer.line l.peer).ends ≡ (g.P.Peer.line l.fn.peer).ends;
   closings : (g.P.Peer.line l.peer).closings ≡ (g.P.Peer.line l.fn.peer).closings;
   quiets : (g.P.Peer.line l.peer).quiets ≡ (g.P.Peer.line l.fn.peer).quiets;

@@ -18,7 +18,8 @@ loop-at-init g c = record {
 pub loop-at-preserved : goal.loop-at-preserved
 loop-at-preserved g c = record {
   within = let b = c.in-Ok.ensures.bound in omega arith;
-  sent = given_more _ _ _ c.args.bytes.now c.loop-at.at c.in-Ok.count c.loop-at.invariant.sent c.in-Ok.ensures.bytes;
+  sent = given_more _ _ _ c.args.bytes.now c.loop-at.at c.in-Ok.count c.loop-at.invariant.sent
+      c.in-Ok.ensures.bytes;
   left = Keeps-trans _ _ _ c.loop-at.invariant.left c.in-Ok.ensures.others.left;
   reads = c.in-Ok.ensures.others.read_faults ∙ c.loop-at.invariant.reads;
   ends = c.in-Ok.ensures.others.ends ∙ c.loop-at.invariant.ends;
@@ -28,7 +29,8 @@ loop-at-preserved g c = record {
 }
 
 pub returns-in-Err-clause-bytes : goal.returns-in-Err-clause-bytes
-returns-in-Err-clause-bytes g c = front_given _ _ _ c.args.bytes.now c.loop-at.at c.loop-at.invariant.sent c.in-Err.ensures.bytes
+returns-in-Err-clause-bytes g c =
+    front_given _ _ _ c.args.bytes.now c.loop-at.at c.loop-at.invariant.sent c.in-Err.ensures.bytes
 
 pub returns-in-Err-clause-others : goal.returns-in-Err-clause-others
 returns-in-Err-clause-others g c = record {
@@ -40,4 +42,5 @@ returns-in-Err-clause-others g c = record {
 }
 
 pub returns-clause-bytes : goal.returns-clause-bytes
-returns-clause-bytes g c = all_given _ _ c.args.bytes.now c.loop-at.at c.loop-at.invariant.sent c.loop-at-test.false
+returns-clause-bytes g c =
+    all_given _ _ c.args.bytes.now c.loop-at.at c.loop-at.invariant.sent c.loop-at-test.false

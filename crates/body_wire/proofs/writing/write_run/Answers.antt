@@ -11,7 +11,10 @@ returns-clause-bytes g c =
     let whole = c.lone_run-run.ensures.whole some ∙ ap length c.kept.ensures in (
       b.0,
       b.1,
-      whole_run c.args.decoder.now _ c.args.rest.now c.skip.new.self c.args.out.now.items b.0 c.lone_run-run.result c.write_all-sent.result
-          c.pass.ensures whole (c.skip.ensures ∙ drop_all c.lone_run-run.result c.args.rest.now (omega (arith, whole))) (c.lone_run-run.ensures.alone some)
+      whole_run c.args.decoder.now _ c.args.rest.now c.skip.new.self c.args.out.now.items b.0
+          c.lone_run-run.result c.write_all-sent.result
+          c.pass.ensures whole (c.skip.ensures
+          ∙ drop_all c.lone_run-run.result c.args.rest.now (omega (arith, whole)))
+          (c.lone_run-run.ensures.alone some)
           (subst (λ (xs : List ℕ). SendsAll xs b.0 c.write_all-sent.result) c.kept-2.ensures b.2),
     )

@@ -5,5 +5,9 @@ use Rattle.body_wire.proofs.decoder.Decoder.content.Goals as goal
 pub returns-then-run-eq0 : goal.returns-then-run-eq0
 returns-then-run-eq0 c =
     let all = c.run-run.ensures.all c.requires.content in
-    let none : length c.args.kept.now ≡ 0 = omega arith in
-    (refl, refl, waits_for_content c.args.self.now c.args.kept.now c.requires.content c.requires.some (no_bytes c.args.kept.now none))
+    let none : length c.args.kept.now ≡ 0 = omega arith in (
+      refl,
+      refl,
+      waits_for_content c.args.self.now c.args.kept.now c.requires.content
+          c.requires.some (no_bytes c.args.kept.now none),
+    )
