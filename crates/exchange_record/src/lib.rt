@@ -8,8 +8,8 @@
 //! count.
 //!
 //! # What is proved
-//! A recorder says by three relations what it is behind each call. `Records` of `specs/Told.antt`
-//! is what it is behind a list of exchanges: it was told of each, in order, and of each once.
+//! A recorder says by three relations what it is after each call. `Records` of `specs/Told.antt`
+//! is what it is after a list of exchanges: it was told of each, in order, and of each once.
 //!
 //! # Example
 //! ```

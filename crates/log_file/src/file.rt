@@ -29,8 +29,8 @@ fn is_due(tried: Option<u64>, moment: u64) -> bool {
     }
 }
 
-/// Writes bytes, or a front of them where a call fails, and gives how many were written.
-fn write_front<W: Write>(out: &mut W, bytes: &[u8]) -> usize
+/// Writes bytes, or a prefix of them where a call fails, and gives how many were written.
+fn write_prefix<W: Write>(out: &mut W, bytes: &[u8]) -> usize
     ensures { result ≤ length bytes.now }
 {
     let mut at = 0;
@@ -76,12 +76,12 @@ impl<'a, R: Files> AppendedFile<'a, R> {
             return false;
         };
         if self.torn {
-            if write_front(file, b"\n") == 0 {
+            if write_prefix(file, b"\n") == 0 {
                 return false;
             }
             self.torn = false;
         }
-        let count = write_front(file, line);
+        let count = write_prefix(file, line);
         self.torn = count > 0 && count < line.len();
         count == line.len()
     }

@@ -23,6 +23,8 @@ unfoldable pub state_text : Counts → List ℕ
 state_text c =
     single_text (codes "linker_changes_total") Counter
     (codes "Changes of tables, services and marks that were accepted.") c.changes
+    ++ single_text (codes "linker_tables_written_total") Counter
+    (codes "Tables that were created or put.") c.tables_written
     ++ single_text (codes "linker_marks") Gauge
     (codes "Addresses with failures that count against them.") c.marks
     ++ single_text (codes "linker_namespaces") Gauge
@@ -56,13 +58,15 @@ bytes_text c =
     ++ single_text (codes "linker_reply_body_bytes_total") Counter
     (codes "Bytes of replies' bodies that went back to clients.") c.reply_bytes
 
--- the asks for a replica
+-- the asks for a replica, and the delegations that are kept
 unfoldable pub delegations_text : Counts → List ℕ
 delegations_text c =
     single_text (codes "linker_delegation_hits_total") Counter
     (codes "Asks for which a delegation was kept.") c.hits
     ++ single_text (codes "linker_delegation_misses_total") Counter
     (codes "Asks for which no delegation was kept.") c.misses
+    ++ single_text (codes "linker_delegations_kept") Gauge
+    (codes "Delegations that are kept.") c.kept
 
 -- the lines of the access log
 unfoldable pub log_text : Counts → List ℕ

@@ -52,6 +52,8 @@ pub struct OwnReplies {
 pub struct Counts {
     /// The changes that were accepted.
     pub changes: u64,
+    /// The tables that were created or put.
+    pub tables_written: u64,
     /// The addresses with failures that count against them.
     pub marks: u64,
     /// The namespaces.
@@ -82,6 +84,8 @@ pub struct Counts {
     pub hits: u64,
     /// The asks for which none was.
     pub misses: u64,
+    /// The delegations that are kept now.
+    pub kept: u64,
     /// The lines that were written to the access log.
     pub log_lines: u64,
     /// The lines that could not be.

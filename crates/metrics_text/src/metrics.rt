@@ -76,6 +76,13 @@ fn put_state(counts: &Counts, out: &mut Bytes) -> Mem<()>
         out,
     )?;
     put_single(
+        "linker_tables_written_total",
+        Kind::Counter,
+        "Tables that were created or put.",
+        counts.tables_written,
+        out,
+    )?;
+    put_single(
         "linker_marks",
         Kind::Gauge,
         "Addresses with failures that count against them.",
@@ -168,7 +175,7 @@ fn put_bytes(counts: &Counts, out: &mut Bytes) -> Mem<()>
     )
 }
 
-/// Puts the metrics after some bytes about the asks for a replica.
+/// Puts the metrics after some bytes about the asks for a replica, and the delegations kept.
 #[tactic(auto, unfolding(crate::specs::Metrics::delegations_text))]
 fn put_delegations(counts: &Counts, out: &mut Bytes) -> Mem<()>
     ensures { OnOk result (out.new.items ≡ out.old.items ++ delegations_text counts.now) }
@@ -185,6 +192,13 @@ fn put_delegations(counts: &Counts, out: &mut Bytes) -> Mem<()>
         Kind::Counter,
         "Asks for which no delegation was kept.",
         counts.misses,
+        out,
+    )?;
+    put_single(
+        "linker_delegations_kept",
+        Kind::Gauge,
+        "Delegations that are kept.",
+        counts.kept,
         out,
     )
 }

@@ -5,6 +5,8 @@
 #[cfg(test)]
 mod classes;
 #[cfg(test)]
+mod cut_files;
+#[cfg(test)]
 mod lines;
 #[cfg(test)]
 mod metrics;
@@ -13,4 +15,8 @@ mod published;
 #[cfg(test)]
 mod recorded;
 #[cfg(test)]
+mod rotated;
+#[cfg(test)]
 mod tallies;
+#[cfg(test)]
+mod torn;

@@ -139,14 +139,14 @@ const ROWS: [Row; 9] = [
         line: "1970-01-01T00:00:00.000Z 10.0.0.7:51234 \"GET /a?b HTTP/1.1\" - 0 4 /svc/web \
             10.0.1.3:8080 read-fault\n",
     },
-    // a target with a quotation mark, a backslash, a line feed and bytes past ASCII, and an own
-    // reply that could not be written
+    // a target with a quotation mark, a backslash, a line feed, an escape and bytes past ASCII, and
+    // an own reply that could not be written
     Row {
         moment: 0,
         client: None,
         request: Some(RequestLine {
             method: b"G\"T",
-            target: b"/\"\\x\n\x7f\xc3\xa9 ~",
+            target: b"/\"\\x\n\x1b\x7f\xc3\xa9 ~",
             version: 1,
         }),
         answer: Answer::Own(OwnError::Target),
@@ -155,8 +155,8 @@ const ROWS: [Row; 9] = [
         name: "",
         replica: None,
         broken: Some(Break::WriteFault),
-        line: "1970-01-01T00:00:00.000Z - \"G\\x22T /\\x22\\x5cx\\x0a\\x7f\\xc3\\xa9 ~ HTTP/1.1\" \
-            400 7 0 - - write-fault\n",
+        line: "1970-01-01T00:00:00.000Z - \"G\\x22T /\\x22\\x5cx\\x0a\\x1b\\x7f\\xc3\\xa9 ~ \
+            HTTP/1.1\" 400 7 0 - - write-fault\n",
     },
     // past the year 9999, out of memory, and a name with a byte that is no plain one
     Row {

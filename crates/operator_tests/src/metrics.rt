@@ -7,6 +7,7 @@ use std::test::Fail;
 /// Counts of which each has a number of its own.
 const COUNTS: Counts = Counts {
     changes: 5,
+    tables_written: 4,
     marks: 1,
     namespaces: 3,
     services: 2,
@@ -52,6 +53,7 @@ const COUNTS: Counts = Counts {
     },
     hits: 51,
     misses: 52,
+    kept: 53,
     log_lines: 60,
     lost_lines: 61,
 };
@@ -70,10 +72,13 @@ const SERVICES: [ServiceCounts<'static>; 2] = [
 ];
 
 /// The lines of their text.
-const LINES: [&str; 100] = [
+const LINES: [&str; 106] = [
     "# HELP linker_changes_total Changes of tables, services and marks that were accepted.",
     "# TYPE linker_changes_total counter",
     "linker_changes_total 5",
+    "# HELP linker_tables_written_total Tables that were created or put.",
+    "# TYPE linker_tables_written_total counter",
+    "linker_tables_written_total 4",
     "# HELP linker_marks Addresses with failures that count against them.",
     "# TYPE linker_marks gauge",
     "linker_marks 1",
@@ -139,6 +144,9 @@ const LINES: [&str; 100] = [
     "# HELP linker_delegation_misses_total Asks for which no delegation was kept.",
     "# TYPE linker_delegation_misses_total counter",
     "linker_delegation_misses_total 52",
+    "# HELP linker_delegations_kept Delegations that are kept.",
+    "# TYPE linker_delegations_kept gauge",
+    "linker_delegations_kept 53",
     "# HELP linker_access_log_lines_total Lines that were written to the access log.",
     "# TYPE linker_access_log_lines_total counter",
     "linker_access_log_lines_total 60",

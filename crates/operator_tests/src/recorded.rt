@@ -7,18 +7,18 @@ use access_log::{Answer, Break};
 use addr_book::Addr;
 use count_words::{CountReader, CountWriter, Counts, start};
 use exchange_record::{ConnectionStep, Exchange, Recorder};
-use exchange_tally::Done;
+use exchange_tally::{Done, Figure};
 use http::Method;
 use http_wire::{FieldList, Head, Text};
-use line_base::{MemClock, SocketAddress};
-use line_log::{Journals, MemJournals};
+use line_base::{Clock, MemClock, SocketAddress};
+use line_log::{Journal, Journals, MemJournals};
 use metrics_text::Counts as Numbers;
 use name_tree::{Path, read_path};
 use own_reply::OwnError;
-use scrape::{Scrape, Scraper, State};
+use scrape::{NoWords, Scrape, Scraper, State};
 use std::alloc::Global;
 use std::test::Fail;
-use worker_record::WorkerRecord;
+use worker_record::{WorkerRecord, records_add_up};
 
 const CLIENT: Option<SocketAddress> = Some(SocketAddress {
     ip: 0x0a00_0007,
@@ -30,7 +30,7 @@ const REPLICA: Option<Addr> = Some(Addr {
     port: 8_080,
 });
 
-/// A reply that was passed on whole behind a try that failed.
+/// A reply that was passed on whole after a try that failed.
 const PASSED: Done = Done {
     answer: Answer::Passed { status: 200 },
     replica: REPLICA,
@@ -223,6 +223,11 @@ fn tell<K: Recorder>(alloc: Global, recorder: &mut K) -> Result<(), Fail> {
     Ok(())
 }
 
+/// Whether a worker's own counts are those of the exchanges.
+fn has_counted<C: Clock, L: Journal>(record: &WorkerRecord<'_, C, L>) -> bool {
+    record.count(Figure::Tries) == 9 && record.lines().lost == 1 && record.connections().came == 2
+}
+
 /// Records all exchanges, and gives the lines of the journals that were closed.
 fn lines_of(alloc: Global, counts: &Counts, writer: CountWriter) -> Result<Vec<u8>, Fail>
     requires writer { IsWriterOf counts.now writer }
@@ -233,6 +238,9 @@ fn lines_of(alloc: Global, counts: &Counts, writer: CountWriter) -> Result<Vec<u
     let journal = journals.open(alloc, "access.log")?;
     let mut record = WorkerRecord::new(alloc, clock, counts, writer, Some(journal));
     tell(alloc, &mut record)?;
+    if !has_counted(&record) {
+        return Err("other counts".into());
+    }
     if let Some(journal) = record.into_journal() {
         journals.close(journal)?;
     }
@@ -268,9 +276,11 @@ fn wrong_count(counts: &Counts, reader: &mut CountReader) -> Option<(u32, u64)>
 /// What the state tells at the scrape.
 const STATE: State = State {
     changes: 5,
+    tables_written: 4,
     marks: 1,
     namespaces: 3,
     services: 2,
+    kept: 6,
 };
 
 /// What is scraped, and when.
@@ -295,10 +305,21 @@ fn exchanges_are_counted_and_logged(rt: HostRuntime) -> Result<(), Fail> {
     let wrong = wrong_count(&counts, &mut reader);
     assert!(rt; wrong.is_none(), "{wrong:?}");
     let (moment, found) = scraped(rt.alloc(), &counts, reader)?;
-    assert!(rt; moment == 21_000 && found.namespaces == 3);
+    assert!(rt; moment == 21_000 && found.tables_written == 4 && found.kept == 6);
     assert!(rt; found.accepted == 2 && found.open == 1 && found.waiting == 0);
     assert!(rt; found.requests.client_error == 2 && found.own_replies.upstream == 1);
     assert!(rt; found.durations.buckets == [3, 0, 0, 0, 1, 0, 0, 0, 1, 0, 0, 0, 0, 1]);
     assert!(rt; found.misses == 3 && found.log_lines == 5 && found.lost_lines == 1);
+    Ok(())
+}
+
+#[test]
+fn nothing_is_scraped_where_there_are_no_words(rt: HostRuntime) -> Result<(), Fail> {
+    records_add_up();
+    let clock = MemClock::of(rt.alloc(), Vec::from_slice(rt.alloc(), &[7])?)?;
+    let mut scraper = NoWords::of(clock);
+    let found = scraper.sums().counts(&STATE);
+    assert!(rt; scraper.moment() == 7 && found.changes == 5);
+    assert!(rt; found.accepted == 0 && found.tries == 0 && found.requests.success == 0);
     Ok(())
 }

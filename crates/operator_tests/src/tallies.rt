@@ -6,7 +6,7 @@ use exchange_tally::{Done, FIGURES, Figure, Tally, Timed, tallies_add_up};
 use metrics_text::Class;
 use own_reply::OwnError;
 
-/// A reply that was passed on whole behind a try that failed.
+/// A reply that was passed on whole after a try that failed.
 const PASSED: Timed = Timed {
     done: Done {
         answer: Answer::Passed { status: 299 },

@@ -62,6 +62,7 @@ buckets_by sum =
 abbrev pub counts_by : (ℕ → ℕ) → State → Counts
 counts_by sum state = record {
   changes = state.changes;
+  tables_written = state.tables_written;
   marks = state.marks;
   namespaces = state.namespaces;
   services = state.services;
@@ -80,6 +81,7 @@ counts_by sum state = record {
   };
   hits = sum (place_of figure.Hits);
   misses = sum (place_of figure.Misses);
+  kept = state.kept;
   log_lines = sum 46;
   lost_lines = sum 47;
 }

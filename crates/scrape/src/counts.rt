@@ -10,12 +10,16 @@ use metrics_text::{BUCKETS, Classes, Counts, Durations, OwnReplies};
 pub struct State {
     /// The changes that were accepted.
     pub changes: u64,
+    /// The tables that were created or put.
+    pub tables_written: u64,
     /// The addresses with failures that count against them.
     pub marks: u64,
     /// The namespaces.
     pub namespaces: u64,
     /// The services.
     pub services: u64,
+    /// The delegations that are kept.
+    pub kept: u64,
 }
 
 impl Sums {
@@ -27,6 +31,7 @@ impl Sums {
         let at = &self.counts;
         Counts {
             changes: state.changes,
+            tables_written: state.tables_written,
             marks: state.marks,
             namespaces: state.namespaces,
             services: state.services,
@@ -45,6 +50,7 @@ impl Sums {
             },
             hits: at[44],
             misses: at[45],
+            kept: state.kept,
             log_lines: at[46],
             lost_lines: at[47],
         }

@@ -1,4 +1,4 @@
--- The counts of a worker behind many exchanges.
+-- The counts of a worker after many exchanges.
 use Rattle.std.specs.Prelude.{◌≡◌, List, map}
 use Rattle.exchange_record.specs.Told.{Records, Told}
 use Rattle.exchange_tally.specs.declared.done.Done.{Done}

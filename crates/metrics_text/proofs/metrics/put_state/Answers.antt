@@ -7,4 +7,5 @@ unfolding state_text
 returns c =
     let e2 = more _ _ _ _ _ c.in_ok-put_single.ensures c.in_ok-put_single-2.ensures in
     let e3 = more _ _ _ _ _ e2 c.in_ok-put_single-3.ensures in
-    last _ _ _ _ _ _ e3 c.put_single-4.ensures
+    let e4 = more _ _ _ _ _ e3 c.in_ok-put_single-4.ensures in
+    last _ _ _ _ _ _ e4 c.put_single-5.ensures
