@@ -26,12 +26,12 @@ use Rattle.router.specs.Loads.{MayHaveRead}
 use Rattle.router.specs.Passes.{Entered, NotLetIn, SawMore, Unanswered, number_in, seen_in, reads_in}
 use Rattle.router.specs.Peeked.{IsSaid}
 use Rattle.router.specs.Picked.{IsFresh, is_kept_for, loads_by, said_by, fresh_by}
-use Rattle.proxy_session.specs.declared.asking.Picked.{Picked}
-use Rattle.proxy_session.specs.declared.asking.Picked.TheVariants as picked
-use Rattle.proxy_session.specs.declared.asking.Seen.TheVariants as seen
+use Rattle.proxy_session.specs.declared.asking.AdmittedAnswer.{AdmittedAnswer}
+use Rattle.proxy_session.specs.declared.asking.AdmittedAnswer.TheVariants as admitted
+use Rattle.proxy_session.specs.declared.asking.AdmittedPeek.TheVariants as peeked
 use Rattle.proxy_session.specs.Asking.{FindingAnew, StopsAnew}
 use Rattle.proxy_session.specs.Callers.{Caller, Asks, Finds, Misses, Reports, Returns, SeesMore, caller_of}
-use Rattle.proxy_session.specs.Found.{Picks, PicksOnce, ReturnsSome, Sees, StopsPick, fresh_in, picked_of, said_in}
+use Rattle.proxy_session.specs.AskAnswers.{Picks, PicksOnce, ReturnsSome, Sees, StopsPick, fresh_in, picked_of, said_in}
 
 -- two views of a pass that agree are one
 pub same_caller : (a b : Caller) → a.number ≡ b.number → a.seen ≡ b.seen → a.items ≡ b.items
@@ -53,13 +53,13 @@ none_word (none w) why place names is = tt
 
 module _ (settings : SettingsValue) (old new : Caller) (ask : AskValue) (names : Names) where
   hit_says : (choice : Choice) (said : PickValue) → Finds settings old new ask true said
-      → IsSaid said (peek.Hit choice) names → Sees settings old new ask names (seen.Hit choice)
+      → IsSaid said (peek.Hit choice) names → Sees settings old new ask names (peeked.Hit choice)
   hit_says choice (replica r) finds is =
       (r, finds, record { addr = is.0; slot = is.1; client_is = is.2; residual_is = is.3 })
   hit_says choice (none why) finds is = absurd is
 
   none_says : (why : Why) (place : ℕ) (said : PickValue) → Finds settings old new ask true said
-      → IsSaid said (peek.HitNone why place) names → Sees settings old new ask names (seen.None why)
+      → IsSaid said (peek.HitNone why place) names → Sees settings old new ask names (peeked.None why)
   none_says why place (replica r) finds is = absurd is
   none_says why place (none w) finds is =
       subst (λ (v : Why). Finds settings old new ask true (none v)) (sym is.0) finds
@@ -79,7 +79,7 @@ module _ {J : Type 0} {g : Ghosts J} where
   module _ (before : Caller) (mid new : Pass J g) (ask : AskValue) (names : Names)
       (since : caller_of mid ≡ before) (same : number_in new ≡ number_in mid) where
     pub sees_hit : (choice : Choice) → IsPeeked mid new ask names (peek.Hit choice)
-        → Sees g.settings before (caller_of new) ask names (seen.Hit choice)
+        → Sees g.settings before (caller_of new) ask names (peeked.Hit choice)
     sees_hit choice p =
         let h = p.answer.0 in
         let value = value_of g.settings (seen_in new) in
@@ -95,11 +95,11 @@ module _ {J : Type 0} {g : Ghosts J} where
             word = hit_word _ choice names h.said h.word;
           };
         } in
-        subst (λ (b : Caller). Sees g.settings b (caller_of new) ask names (seen.Hit choice)) since
+        subst (λ (b : Caller). Sees g.settings b (caller_of new) ask names (peeked.Hit choice)) since
         (hit_says g.settings (caller_of mid) (caller_of new) ask names choice _ finds h.said)
 
     pub sees_none : (why : Why) (place : ℕ) → IsPeeked mid new ask names (peek.HitNone why place)
-        → Sees g.settings before (caller_of new) ask names (seen.None why)
+        → Sees g.settings before (caller_of new) ask names (peeked.None why)
     sees_none why place p =
         let h = p.answer.0 in
         let value = value_of g.settings (seen_in new) in
@@ -115,11 +115,11 @@ module _ {J : Type 0} {g : Ghosts J} where
             word = none_word _ why place names h.said;
           };
         } in
-        subst (λ (b : Caller). Sees g.settings b (caller_of new) ask names (seen.None why)) since
+        subst (λ (b : Caller). Sees g.settings b (caller_of new) ask names (peeked.None why)) since
         (none_says g.settings (caller_of mid) (caller_of new) ask names why place _ finds h.said)
 
     pub sees_nothing : (place : ℕ) → IsPeeked mid new ask names (peek.Miss place)
-        → Sees g.settings before (caller_of new) ask names seen.Miss
+        → Sees g.settings before (caller_of new) ask names peeked.Miss
     sees_nothing place p =
         subst (λ (b : Caller). Misses g.settings b (caller_of new) ask) since
         (record {
@@ -134,7 +134,7 @@ module _ {J : Type 0} {g : Ghosts J} where
         refused.seat.reads refused.seat.taken refused.seat.slot ∙ since
 
   module _ (old new : Pass J g) (ask : AskValue) (same : number_in new ≡ number_in old) where
-    picks_by : (a : Answer) (p : Picked) → IsPicked old new ask a → said_by a ≡ said_in p
+    picks_by : (a : Answer) (p : AdmittedAnswer) → IsPicked old new ask a → said_by a ≡ said_in p
         → fresh_by a ≡ fresh_in p → Picks g.settings (caller_of old) (caller_of new) ask p
     picks_by a p is said fresh =
         let value = value_of g.settings (seen_in new) in
@@ -155,9 +155,9 @@ module _ {J : Type 0} {g : Ghosts J} where
         → PicksOnce g.settings (caller_of old) (caller_of new) ask (picked_of a)
     picks_once (answer.Picked choice client residual fresh) is =
         picks_by (answer.Picked choice client residual fresh)
-        (picked.Replica choice client residual fresh) is refl refl
+        (admitted.Replica choice client residual fresh) is refl refl
     picks_once (answer.None why place fresh) is =
-        picks_by (answer.None why place fresh) (picked.None why fresh) is refl refl
+        picks_by (answer.None why place fresh) (admitted.None why fresh) is refl refl
     picks_once answer.NoEntry refused =
         same_caller (caller_of new) (caller_of old) same refused.seen refused.items
         refused.seat.reads refused.seat.taken refused.seat.slot
@@ -210,7 +210,7 @@ module _ {J : Type 0} {g : Ghosts J} where
     }
 
 -- what was picked since the views of the pass were one
-pub picks_since : (settings : SettingsValue) (before mid new : Caller) (ask : AskValue) (p : Picked)
+pub picks_since : (settings : SettingsValue) (before mid new : Caller) (ask : AskValue) (p : AdmittedAnswer)
     → mid ≡ before → Picks settings mid new ask p → Picks settings before new ask p
 picks_since settings before mid new ask p since picks =
     subst (λ (b : Caller). Picks settings b new ask p) since picks
@@ -220,7 +220,7 @@ pub stops_since : (settings : SettingsValue) (before mid new : Caller) (ask : As
 stops_since settings before mid new ask since stops =
     subst (λ (b : Caller). StopsPick settings b new ask) since stops
 
-module _ (settings : SettingsValue) (old mid new : Caller) (ask : AskValue) (p : Picked)
+module _ (settings : SettingsValue) (old mid new : Caller) (ask : AskValue) (p : AdmittedAnswer)
     (picks : Picks settings old mid ask p) where
   finds_as : (kept : Bool) → is_kept_for (value_of settings mid.seen) ask ≡ kept
       → Finds settings old mid ask kept (said_in p)

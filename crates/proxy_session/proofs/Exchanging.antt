@@ -17,12 +17,12 @@ use Rattle.router.specs.declared.names.Names.{Names}
 use Rattle.replica_try.specs.declared.tried.Tried.{Tried}
 use Rattle.proxy_session.specs.declared.attempt.Attempt.{Attempt}
 use Rattle.proxy_session.specs.declared.attempt.Attempt.TheVariants as attempt
-use Rattle.proxy_session.specs.declared.asking.Found.{Found}
-use Rattle.proxy_session.specs.declared.asking.Found.TheVariants as found
+use Rattle.proxy_session.specs.declared.asking.ReplicaPick.{ReplicaPick}
+use Rattle.proxy_session.specs.declared.asking.ReplicaPick.TheVariants as pick
 use Rattle.proxy_session.specs.declared.asking.Texts.{Texts}
 use Rattle.proxy_session.specs.declared.onward.Onward.{Onward}
-use Rattle.proxy_session.specs.declared.seeking.Refusal.{Refusal}
-use Rattle.proxy_session.specs.declared.seeking.Refusal.TheVariants as refusal
+use Rattle.own_reply.specs.declared.request.Refusal.{Refusal}
+use Rattle.own_reply.specs.declared.request.Refusal.TheVariants as refusal
 use Rattle.proxy_session.specs.Answering.{Refuses, own_of_why}
 use Rattle.proxy_session.specs.Asking.{Finding}
 use Rattle.proxy_session.specs.Callers.{Caller}
@@ -31,7 +31,7 @@ use Rattle.proxy_session.specs.Done.{stopped_done, tried_done, unbound_done, vai
 use Rattle.proxy_session.specs.Exchange.{AsksNothing, IsSent, Settles, Standing, having_asked}
 use Rattle.proxy_session.specs.Requests.{TriesAgain}
 use Rattle.retry_budget.specs.Budget.{BudgetValue}
-use Rattle.proxy_session.specs.Found.{IsReplica, Says, client_in, residual_in}
+use Rattle.proxy_session.specs.AskAnswers.{IsReplica, Says, client_in, residual_in}
 use Rattle.proxy_session.specs.Onward.{IsForwarded, host_for}
 use Rattle.proxy_session.specs.Seeking.{Sought}
 use Rattle.proxy_session.specs.Sending.{HasWord, IsHeadOf, RefusesAs}
@@ -77,13 +77,14 @@ refused_so settings rule head last budget old new result name done refusal.OutOf
     )
 
 -- the slot of a replica that was said is that of the one that was found
-pub word_found : (said : PickValue) (names : Names) (f : Found) → Says said names f → IsWord said
+pub word_found : (said : PickValue) (names : Names) (f : ReplicaPick) → Says said names f
+    → IsWord said
     → HasWord f
-word_found (replica r) names (found.Replica choice texts) says word =
+word_found (replica r) names (pick.Replica choice texts) says word =
     subst (λ (o : Option ℕ). IfSome o (λ slot. slot < 8192)) (sym says.slot) word
-word_found (replica r) names (found.None why) says word = absurd says
-word_found (none why) names (found.Replica choice texts) says word = absurd says
-word_found (none why) names (found.None other) says word = tt
+word_found (replica r) names (pick.None why) says word = absurd says
+word_found (none why) names (pick.Replica choice texts) says word = absurd says
+word_found (none why) names (pick.None other) says word = tt
 
 -- a request goes on as one that seeks this
 pub record IsFor (sought : Sought) (keeps : Bool) (going : Onward) : Type 0 where
@@ -209,14 +210,14 @@ module _
         finds
 
     -- what was found for the request's ask was tried, or there was none
-    pub asks_sent : (said : PickValue) (names : Names) (f : Found) (how : Attempt) (done : Done)
+    pub asks_sent : (said : PickValue) (names : Names) (f : ReplicaPick) (how : Attempt) (done : Done)
         (finds : FoundThen said found_by) → Says said names f → going.hit ≡ is_first finds
         → new.words ≡ old.words
         → FoundAs settings going names f before behind mid new how done
         → AsksAs settings going.head.now going.last sought ask going.fewer before behind old new
         how done
     unfolding resent resent_in_vain
-    asks_sent (replica r) names (found.Replica choice texts) (attempt.Last result) done finds says
+    asks_sent (replica r) names (pick.Replica choice texts) (attempt.Last result) done finds says
         hit same ((kept, inl x), is) = (
           (
             same,
@@ -233,7 +234,7 @@ module _
               ∙ ap (λ (h : Bool). stopped_done h result)
               (hit ∙ hit_later (replica r) x.nothing.caller finds),
         )
-    asks_sent (replica r) names (found.Replica choice texts) (attempt.Last result) done finds says
+    asks_sent (replica r) names (pick.Replica choice texts) (attempt.Last result) done finds says
         hit same ((kept, inr (s, last)), is) =
         let to = resent result r choice names texts says s in (
           (
@@ -250,7 +251,7 @@ module _
               ∙ ap (λ (h : Bool). tried_done h r.addr s.how (is_first to.settles) going.head.now
               result) hit),
         )
-    asks_sent (replica r) names (found.Replica choice texts) attempt.Failed done finds says hit same
+    asks_sent (replica r) names (pick.Replica choice texts) attempt.Failed done finds says hit same
         ((charged, s), is) = (
           (
             same,
@@ -266,10 +267,10 @@ module _
               ∙ (ap (λ (a : Addr). vain_done going.hit a s.how) says.addr
               ∙ ap (λ (h : Bool). vain_done h r.addr s.how) hit),
         )
-    asks_sent (replica r) names (found.None why) how done finds says hit same sends = absurd says
-    asks_sent (none why) names (found.Replica choice texts) how done finds says hit same sends =
+    asks_sent (replica r) names (pick.None why) how done finds says hit same sends = absurd says
+    asks_sent (none why) names (pick.Replica choice texts) how done finds says hit same sends =
         absurd says
-    asks_sent (none why) names (found.None other) (attempt.Last result) done finds says hit same
+    asks_sent (none why) names (pick.None other) (attempt.Last result) done finds says hit same
         ((kept, alone), is) =
         let later = seen_later (none why) alone.nothing.caller finds in (
           (
@@ -294,5 +295,5 @@ module _
               ∙ ap (λ (w : Why). unbound_done (is_first later) (own_of_why w) going.head.now result)
               says),
         )
-    asks_sent (none why) names (found.None other) attempt.Failed done finds says hit same
+    asks_sent (none why) names (pick.None other) attempt.Failed done finds says hit same
         (never, is) = absurd never

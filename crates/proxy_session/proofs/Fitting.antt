@@ -10,7 +10,8 @@ use Rattle.machine.specs.Values.{SettingsValue}
 use Rattle.own_reply.specs.declared.error.OwnError.{OwnError}
 use Rattle.replica_try.specs.declared.tried.Tried.{Tried}
 use Rattle.replica_try.specs.declared.tried.Tried.TheVariants as tried
-use Rattle.proxy_session.specs.Answering.{Ends, Refuses, Writes, end_behind, end_of}
+use Rattle.own_reply.specs.Closing.{end_of}
+use Rattle.proxy_session.specs.Answering.{Ends, Refuses, Writes, end_behind}
 use Rattle.proxy_session.specs.Callers.{Caller}
 use Rattle.proxy_session.specs.Causes.{FitsLast}
 use Rattle.proxy_session.specs.Exchange.{Exchanges, Settles, Standing}

@@ -22,7 +22,8 @@ use Rattle.replica_try.specs.declared.final_head.HeadFault.{HeadFault}
 use Rattle.replica_try.specs.declared.moved.Moved.{Moved}
 use Rattle.replica_try.specs.declared.tried.Tried.{Tried}
 use Rattle.replica_try.specs.declared.tried.Tried.TheVariants as tried
-use Rattle.proxy_session.specs.Answering.{Ends, Refuses, Writes, end_behind, end_of}
+use Rattle.own_reply.specs.Closing.{end_of}
+use Rattle.proxy_session.specs.Answering.{Ends, Refuses, Writes, end_behind}
 use Rattle.proxy_session.specs.Callers.{Caller}
 use Rattle.proxy_session.specs.Causes.{HasCauseOf, HasEnded, HasGivenAll, Later, NoneFell}
 use Rattle.proxy_session.specs.Causes.{TellsStill}

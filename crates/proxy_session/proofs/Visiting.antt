@@ -18,7 +18,7 @@ use Rattle.http_wire.specs.declared.paused.Paused.{Paused}
 use Rattle.http_wire.specs.declared.paused.Paused.TheVariants as paused
 use Rattle.proxy_session.specs.Laws.{StaysReadBack, Visits, WasRead}
 use Rattle.proxy_session.specs.Session.{Served, Serves, Sessions, Stays, having_told}
-use Rattle.proxy_session.specs.Session.{most_requests}
+use Rattle.own_reply.specs.Closing.{most_requests}
 use Rattle.replica_try.proofs.Growing.{grows_nothing, grows_on}
 use Rattle.proxy_session.proofs.ReadingBack.{requests_read_back}
 use Rattle.proxy_session.proofs.Supplying.{head_supplies, request_supplies, told_supplies}

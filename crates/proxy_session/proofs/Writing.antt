@@ -8,7 +8,9 @@ use Rattle.http_wire.specs.declared.ended.Ended.TheVariants as ended
 use Rattle.http_wire.specs.declared.head.Head.{Head}
 use Rattle.own_reply.specs.declared.error.OwnError.{OwnError}
 use Rattle.own_reply.specs.Reply.{reply_of}
-use Rattle.proxy_session.specs.Answering.{Refuses, Writes, end_behind, end_of, has_reply_body, own_closes}
+use Rattle.own_reply.specs.Closing.{end_of}
+use Rattle.proxy_session.specs.Answering.{Refuses, Writes, end_behind, has_reply_body}
+use Rattle.proxy_session.specs.Answering.{own_closes}
 use Rattle.line_base.specs.Lines.{Gives, Line}
 
 module _ (old new : Line) (bytes reply : List ℕ) (same : bytes

@@ -17,7 +17,7 @@ use Rattle.own_reply.specs.Reply.{reply_of}
 use Rattle.replica_try.specs.declared.tried.Tried.{Tried}
 use Rattle.replica_try.specs.declared.tried.Tried.TheVariants as tried
 use Rattle.line_base.specs.Lines.{Line, Gives, Rests}
-use Rattle.replica_try.specs.Trying.{asks_to_close}
+use Rattle.own_reply.specs.Closing.{asks_to_close, end_of}
 
 -- ---- which replies close
 
@@ -62,15 +62,9 @@ own_closes err head =
 abbrev pub has_reply_body : Head → Bool
 has_reply_body head = not (bytes_eq head.method (codes "HEAD"))
 
--- how an exchange ends behind a reply that closes or not, on the connection's last request or not
-abbrev pub end_of : Bool → Bool → Option Ended
-end_of true last = Some ended.Closed
-end_of false true = Some ended.Spent
-end_of false false = None
-
 -- ---- the replies that the router makes
 
--- a reply was written whole, or a front of it, which the count of failed writes shows; or there was
+-- a reply was written whole, or a prefix of it, which the count of failed writes shows; or there was
 -- no memory for it
 abbrev pub Writes : Line → Line → List ℕ → Result (Unit {0}) Ended → Type 0
 Writes old new reply (Ok x) = Gives old new reply × (new.write_faults ≡ old.write_faults)

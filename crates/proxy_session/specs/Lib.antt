@@ -1,6 +1,6 @@
 pub mod Callers
 pub mod Asking
-pub mod Found
+pub mod AskAnswers
 pub mod Seeking
 pub mod Sought
 pub mod Onward

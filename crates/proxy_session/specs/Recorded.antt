@@ -16,7 +16,8 @@ use Rattle.proxy_session.specs.declared.served.Served.{Served as ServedRequest}
 use Rattle.proxy_session.specs.Done.{unread_done}
 use Rattle.proxy_session.specs.Exchange.{Standing}
 use Rattle.proxy_session.specs.Session.{Served, Serves, ServesNext, ServesSo, Sessions, Stays}
-use Rattle.proxy_session.specs.Session.{StaysTo, Stops, begun, having_told, most_requests}
+use Rattle.own_reply.specs.Closing.{most_requests}
+use Rattle.proxy_session.specs.Session.{StaysTo, Stops, begun, having_told}
 use Rattle.proxy_session.specs.Session.{own_of_end}
 use Rattle.proxy_session.specs.Ways.{request_done, request_name}
 

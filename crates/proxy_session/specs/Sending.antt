@@ -9,18 +9,18 @@ use Rattle.machine.specs.declared.chosen.Why.{Why}
 use Rattle.machine.specs.Values.{SettingsValue, AskValue}
 use Rattle.retry_budget.specs.Budget.{BudgetValue}
 use Rattle.router.specs.declared.names.Names.{Names}
-use Rattle.proxy_session.specs.declared.asking.Found.{Found}
-use Rattle.proxy_session.specs.declared.asking.Found.TheVariants as found
+use Rattle.proxy_session.specs.declared.asking.ReplicaPick.{ReplicaPick}
+use Rattle.proxy_session.specs.declared.asking.ReplicaPick.TheVariants as pick
 use Rattle.proxy_session.specs.declared.asking.Texts.{Texts}
 use Rattle.proxy_session.specs.declared.attempt.Attempt.{Attempt}
 use Rattle.proxy_session.specs.declared.attempt.Attempt.TheVariants as attempt
 use Rattle.proxy_session.specs.declared.onward.Onward.{Onward}
-use Rattle.proxy_session.specs.declared.seeking.Refusal.{Refusal}
-use Rattle.proxy_session.specs.declared.seeking.Refusal.TheVariants as refusal
+use Rattle.own_reply.specs.declared.request.Refusal.{Refusal}
+use Rattle.own_reply.specs.declared.request.Refusal.TheVariants as refusal
 use Rattle.proxy_session.specs.Answering.{Refuses, own_of_why}
 use Rattle.proxy_session.specs.Attempts.{IsLast, IsSentInVain, IsTriedInVain, LastWays, spent}
 use Rattle.proxy_session.specs.Exchange.{AsksNothing, IsSent, Standing, StopsShort}
-use Rattle.proxy_session.specs.Found.{client_in, residual_in}
+use Rattle.proxy_session.specs.AskAnswers.{client_in, residual_in}
 use Rattle.proxy_session.specs.Onward.{IsHeadTo, host_for}
 use Rattle.line_base.specs.Lines.{Line, Rests}
 use Rattle.proxy_session.specs.Seeking.{Sought}
@@ -32,9 +32,9 @@ RefusesAs refusal.OutOfMemory head last old new result =
     Rests old new × (result ≡ Some ended.OutOfMemory)
 
 -- the slot of the replica, where it has one, is that of a load word
-abbrev pub HasWord : Found → Type 0
-HasWord (found.Replica choice texts) = IfSome choice.slot (λ slot. slot < 8192)
-HasWord (found.None why) = Unit {0}
+abbrev pub HasWord : ReplicaPick → Type 0
+HasWord (pick.Replica choice texts) = IfSome choice.slot (λ slot. slot < 8192)
+HasWord (pick.None why) = Unit {0}
 
 -- nothing moved but the answer to the client
 pub record AnswersAlone
@@ -74,12 +74,12 @@ RefusesFound why going before behind old new (attempt.Last result) =
     new result
 RefusesFound why going before behind old new attempt.Failed = ⊥
 
-abbrev pub SendsFound : SettingsValue → Onward → Names → Found → Option BudgetValue
+abbrev pub SendsFound : SettingsValue → Onward → Names → ReplicaPick → Option BudgetValue
     → Option BudgetValue → Standing → Standing → Attempt → Type 0
-SendsFound settings going names (found.Replica choice texts) before behind old new how =
+SendsFound settings going names (pick.Replica choice texts) before behind old new how =
     SendsSo settings going choice.addr choice.slot (IsHeadOf going choice.addr names texts) before
     behind old new how
-SendsFound settings going names (found.None why) before behind old new how =
+SendsFound settings going names (pick.None why) before behind old new how =
     RefusesFound why going before behind old new how
 
 -- an attempt by an ask that was drawn

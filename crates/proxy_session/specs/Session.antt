@@ -26,10 +26,7 @@ use Rattle.retry_budget.specs.Budget.{BudgetValue}
 use Rattle.line_base.specs.Dials.{IsIdle}
 use Rattle.line_base.specs.Counts.{raised}
 use Rattle.line_base.specs.Lines.{Line, Rests, told_closing, told_quiet}
-
--- the most requests of one connection
-abbrev pub most_requests : ℕ
-most_requests = 10000
+use Rattle.own_reply.specs.Closing.{most_requests}
 
 -- a connection of which nothing was read yet
 abbrev pub begun : Standing → Standing

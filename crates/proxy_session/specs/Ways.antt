@@ -12,13 +12,13 @@ use Rattle.machine.specs.Values.{SettingsValue, AskValue, PickValue}
 use Rattle.name_tree.specs.Path.{Labels}
 use Rattle.retry_budget.specs.Budget.{BudgetValue}
 use Rattle.router.specs.declared.names.Names.{Names}
-use Rattle.proxy_session.specs.declared.asking.Found.{Found}
-use Rattle.proxy_session.specs.declared.asking.Found.TheVariants as found
+use Rattle.proxy_session.specs.declared.asking.ReplicaPick.{ReplicaPick}
+use Rattle.proxy_session.specs.declared.asking.ReplicaPick.TheVariants as pick
 use Rattle.proxy_session.specs.declared.attempt.Attempt.{Attempt}
 use Rattle.proxy_session.specs.declared.attempt.Attempt.TheVariants as attempt
 use Rattle.proxy_session.specs.declared.onward.Onward.{Onward}
-use Rattle.proxy_session.specs.declared.seeking.Refusal.{Refusal}
-use Rattle.proxy_session.specs.declared.seeking.Refusal.TheVariants as refusal
+use Rattle.own_reply.specs.declared.request.Refusal.{Refusal}
+use Rattle.own_reply.specs.declared.request.Refusal.TheVariants as refusal
 use Rattle.proxy_session.specs.Answering.{own_of_why}
 use Rattle.proxy_session.specs.Asking.{Finding, StopsAsking, drawn}
 use Rattle.proxy_session.specs.Attempts.{Attempts, Failed, LastAttempt, LastWays, most_of, paid}
@@ -207,10 +207,10 @@ refuses_done why going (attempt.Last result) =
 refuses_done why going attempt.Failed = nothing_done None
 
 -- what was done for what was found
-abbrev pub FoundAs : SettingsValue → Onward → Names → Found → Option BudgetValue
+abbrev pub FoundAs : SettingsValue → Onward → Names → ReplicaPick → Option BudgetValue
     → Option BudgetValue → Standing → Standing → Attempt → Done → Type 0
-FoundAs settings going names (found.Replica choice texts) before behind old new how done =
+FoundAs settings going names (pick.Replica choice texts) before behind old new how done =
     SendsAs settings going choice.addr choice.slot (IsHeadOf going choice.addr names texts) before
     behind old new how done
-FoundAs settings going names (found.None why) before behind old new how done =
+FoundAs settings going names (pick.None why) before behind old new how done =
     RefusesFound why going before behind old new how × (done ≡ refuses_done why going how)

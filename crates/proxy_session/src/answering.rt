@@ -5,14 +5,13 @@ ghost use Rattle.proxy_session.specs.Callers.{caller_of};
 ghost use Rattle.proxy_session.specs.Exchange.{ReportDone, ReportFails};
 
 use crate::Mem;
-use crate::closing::end_of;
 use crate::context::Context;
 use crate::held_try::HeldTry;
 use crate::refusing::refuse;
 use crate::reporting::report;
 use http_wire::Ended;
 use line_base::{Clock, Peer};
-use own_reply::OwnError;
+use own_reply::{OwnError, end_of};
 use replica_try::Tried;
 use router::{Naming, Pass};
 use std::alloc::Global;

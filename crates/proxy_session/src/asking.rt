@@ -11,8 +11,9 @@ ghost use Rattle.router.specs.Changing.{WasWorkedOut};
 ghost use Rattle.proxy_session.specs.Asking.{Finding, FindingAnew, StopsAnew, StopsAsking};
 ghost use Rattle.proxy_session.specs.Asking.{behind_draw, drawn};
 ghost use Rattle.proxy_session.specs.Callers.{SeesMore, caller_of};
-ghost use Rattle.proxy_session.specs.Found.{Picks, PicksOnce, ReturnsSome, Says, Sees, StopsPick};
-ghost use Rattle.proxy_session.specs.Found.{client_in, fresh_in, picked_of, residual_in, said_in};
+ghost use Rattle.proxy_session.specs.AskAnswers.{Picks, PicksOnce, ReturnsSome, Says, Sees};
+ghost use Rattle.proxy_session.specs.AskAnswers.{StopsPick, client_in, fresh_in, picked_of};
+ghost use Rattle.proxy_session.specs.AskAnswers.{residual_in, said_in};
 ghost use Rattle.proxy_session.specs.Ways.{is_first};
 
 use crate::context::Context;
@@ -44,10 +45,10 @@ pub(crate) enum Texts {
     },
 }
 
-/// What an ask found.
+/// The replica that was picked for an ask, if there is one.
 #[derive(Drop)]
-pub(crate) enum Found {
-    /// A replica.
+pub(crate) enum ReplicaPick {
+    /// There is one.
     Replica {
         /// Which.
         choice: Choice,
@@ -60,16 +61,16 @@ pub(crate) enum Found {
 
 /// An ask that was answered.
 #[derive(Drop)]
-pub(crate) struct Asked {
-    /// What it found.
-    pub(crate) found: Found,
+pub(crate) struct AnsweredAsk {
+    /// Its answer.
+    pub(crate) pick: ReplicaPick,
     /// Whether a delegation was kept for it.
     pub(crate) hit: bool,
 }
 
-/// What a second ask was answered.
+/// The answer to a second ask, of a pass that was let in.
 #[derive(Drop)]
-enum Picked {
+enum AdmittedAnswer {
     /// A replica.
     Replica {
         /// Which.
@@ -90,9 +91,9 @@ enum Picked {
     },
 }
 
-impl Picked {
-    /// What an answer says, where the pass was let in.
-    fn of(answer: Answer) -> Option<Picked>
+impl AdmittedAnswer {
+    /// An answer of the router, where the pass was let in.
+    fn of(answer: Answer) -> Option<AdmittedAnswer>
         ensures { result ≡ picked_of answer }
     {
         match answer {
@@ -101,7 +102,7 @@ impl Picked {
                 client,
                 residual,
                 fresh,
-            } => Some(Picked::Replica {
+            } => Some(AdmittedAnswer::Replica {
                 choice,
                 client,
                 residual,
@@ -111,15 +112,15 @@ impl Picked {
                 why,
                 place: _,
                 fresh,
-            } => Some(Picked::None { why, fresh }),
+            } => Some(AdmittedAnswer::None { why, fresh }),
             Answer::NoEntry => None,
         }
     }
 }
 
-/// What is kept for an ask.
+/// What is kept for an ask, as a pass saw it that was let in.
 #[derive(Clone, Copy, Debug, PartialEq, Eq)]
-enum Seen {
+enum AdmittedPeek {
     /// A delegation, and there is this replica. Its names were written.
     Hit(Choice),
     /// A delegation, and there is no replica.
@@ -151,27 +152,27 @@ pub(crate) fn find<J: Naming, R: Wait>(
     pass: &mut Pass<J>,
     ask: &Ask,
     names: &mut Names,
-) -> Mem<Asked>
+) -> Mem<AnsweredAsk>
     ensures ok { IfOk result (λ a. (said : PickValue) × (finds : Finding J.settings
         (caller_of pass.old) (caller_of pass.new) (ask_of ask.now) said)
-        × Says said names.new a.found × (a.hit ≡ is_first finds)) }
+        × Says said names.new a.pick × (a.hit ≡ is_first finds)) }
     ensures err { OnErr result (StopsAsking J.settings (caller_of pass.old) (caller_of pass.new)
         (ask_of ask.now)) }
 {
     match peek(context, pass, ask, names) {
-        Seen::Hit(choice) => Ok(Asked {
-            found: Found::Replica {
+        AdmittedPeek::Hit(choice) => Ok(AnsweredAsk {
+            pick: ReplicaPick::Replica {
                 choice,
                 texts: Texts::Kept,
             },
             hit: true,
         }),
-        Seen::None(why) => Ok(Asked {
-            found: Found::None(why),
+        AdmittedPeek::None(why) => Ok(AnsweredAsk {
+            pick: ReplicaPick::None(why),
             hit: true,
         }),
-        Seen::Miss => match find_anew(context, pass, ask) {
-            Ok(found) => Ok(Asked { found, hit: false }),
+        AdmittedPeek::Miss => match find_anew(context, pass, ask) {
+            Ok(pick) => Ok(AnsweredAsk { pick, hit: false }),
             Err(want) => Err(want),
         },
     }
@@ -183,15 +184,15 @@ fn peek<J: Naming, R: Wait>(
     pass: &mut Pass<J>,
     ask: &Ask,
     names: &mut Names,
-) -> Seen
+) -> AdmittedPeek
     ensures { Sees J.settings (caller_of pass.old) (caller_of pass.new) (ask_of ask.now) names.new
         result }
 {
     'asking: for _ in context.rt.forever() {
         match context.router.peek(pass, ask, names) {
-            Peek::Hit(choice) => return Seen::Hit(choice),
-            Peek::HitNone { why, place: _ } => return Seen::None(why),
-            Peek::Miss(_) => return Seen::Miss,
+            Peek::Hit(choice) => return AdmittedPeek::Hit(choice),
+            Peek::HitNone { why, place: _ } => return AdmittedPeek::None(why),
+            Peek::Miss(_) => return AdmittedPeek::Miss,
             Peek::NoEntry => {}
         }
     }
@@ -203,14 +204,14 @@ fn find_anew<J: Naming, R: Wait>(
     context: &Context<'_, J, R>,
     pass: &mut Pass<J>,
     ask: &Ask,
-) -> Mem<Found>
+) -> Mem<ReplicaPick>
     ensures ok { IfOk result (λ f. (said : PickValue) × FindingAnew J.settings (caller_of pass.old)
         (caller_of pass.new) (ask_of ask.now) said × ((names : NamesOf) → Says said names f)) }
     ensures err { OnErr result (StopsAnew J.settings (caller_of pass.old) (caller_of pass.new)
         (ask_of ask.now)) }
 {
     match pick(context, pass, ask) {
-        Ok(picked) => keep(context, pass, picked),
+        Ok(answer) => keep(context, pass, answer),
         Err(want) => Err(want),
     }
 }
@@ -219,28 +220,28 @@ fn find_anew<J: Naming, R: Wait>(
 fn keep<J: Naming, R: Wait>(
     context: &Context<'_, J, R>,
     pass: &mut Pass<J>,
-    picked: Picked,
-) -> Mem<Found>
-    requires { IfSome (fresh_in picked) (λ b. WasWorkedOut pass.old (kept_of b)) }
+    answer: AdmittedAnswer,
+) -> Mem<ReplicaPick>
+    requires { IfSome (fresh_in answer) (λ b. WasWorkedOut pass.old (kept_of b)) }
     ensures ok { IfOk result (λ f. ReturnsSome J.settings (caller_of pass.old) (caller_of pass.new)
-        (fresh_in picked) × ((names : NamesOf) → Says (said_in picked) names f)) }
+        (fresh_in answer) × ((names : NamesOf) → Says (said_in answer) names f)) }
     ensures err { OnErr result (SeesMore (caller_of pass.old) (caller_of pass.new)) }
 {
-    match picked {
-        Picked::Replica {
+    match answer {
+        AdmittedAnswer::Replica {
             choice,
             client,
             residual,
             fresh,
         } => match texts_of(context.alloc, &client, &residual) {
             Ok(texts) => match give_back(context, pass, fresh) {
-                Ok(()) => Ok(Found::Replica { choice, texts }),
+                Ok(()) => Ok(ReplicaPick::Replica { choice, texts }),
                 Err(want) => Err(want),
             },
             Err(want) => Err(want),
         },
-        Picked::None { why, fresh } => match give_back(context, pass, fresh) {
-            Ok(()) => Ok(Found::None(why)),
+        AdmittedAnswer::None { why, fresh } => match give_back(context, pass, fresh) {
+            Ok(()) => Ok(ReplicaPick::None(why)),
             Err(want) => Err(want),
         },
     }
@@ -262,7 +263,7 @@ fn pick<J: Naming, R: Wait>(
     context: &Context<'_, J, R>,
     pass: &mut Pass<J>,
     ask: &Ask,
-) -> Mem<Picked>
+) -> Mem<AdmittedAnswer>
     ensures said { IfOk result (Picks J.settings (caller_of pass.old) (caller_of pass.new)
         (ask_of ask.now)) }
     ensures fresh { IfOk result
@@ -272,7 +273,7 @@ fn pick<J: Naming, R: Wait>(
 {
     'asking: for _ in context.rt.forever() {
         match pick_once::<J, Brand>(context.alloc, context.router, pass, ask, Blank::new(1)) {
-            Ok(Some(picked)) => return Ok(picked),
+            Ok(Some(answer)) => return Ok(answer),
             Ok(None) => {}
             Err(want) => return Err(want),
         }
@@ -287,7 +288,7 @@ fn pick_once<J: Naming, L: Ledger>(
     pass: &mut Pass<J>,
     ask: &Ask,
     blank: Blank,
-) -> Mem<Option<Picked>>
+) -> Mem<Option<AdmittedAnswer>>
     requires name { blank.name ≡ L.name }
     requires parts { blank.parts ≡ L.parts }
     requires some { 0 < blank.parts }
@@ -300,7 +301,7 @@ fn pick_once<J: Naming, L: Ledger>(
 {
     let mut steps = Steps::<L>::start(blank);
     match router.pick(alloc, pass, ask, &mut steps) {
-        Ok(answer) => Ok(Picked::of(answer)),
+        Ok(answer) => Ok(AdmittedAnswer::of(answer)),
         Err(want) => Err(want),
     }
 }

@@ -9,14 +9,14 @@ ghost use Rattle.proxy_session.specs.Sought.{sought_of};
 ghost use Rattle.proxy_session.specs.Standing.{standing};
 ghost use Rattle.proxy_session.specs.Ways.{AsksAs, FoundAs, SendsAs};
 
-use crate::asking::{Found, Texts, find};
+use crate::asking::{ReplicaPick, Texts, find};
 use crate::connection::Connection;
 use crate::context::Context;
 use crate::done::{stopped, unbound};
 use crate::held_try::HeldTry;
 use crate::onward::Onward;
 use crate::refusing::refuse;
-use crate::seeking::Request;
+use crate::seeking::SoughtRequest;
 use crate::server::Server;
 use exchange_tally::Done;
 use http_wire::{Ended, Head};
@@ -56,7 +56,7 @@ impl<J: Naming, D: Dialer, C: Clock> Server<J, D, C> {
         head: &Head,
         last: bool,
         fewer: bool,
-        request: &Request,
+        request: &SoughtRequest,
     ) -> Made
         requires free { slot_in self.old.pass ≡ None }
         ensures asks { let at = standing P.line D.upstream C.to_come in AsksAs J.settings head.now
@@ -81,7 +81,7 @@ impl<J: Naming, D: Dialer, C: Clock> Server<J, D, C> {
                     closes: !self.way.dialer.keeps(),
                     hit: asked.hit,
                 };
-                self.send_found(context, connection, &going, &asked.found)
+                self.send_found(context, connection, &going, &asked.pick)
             }
             Err(_) => {
                 let end = Some(Ended::OutOfMemory);
@@ -93,18 +93,18 @@ impl<J: Naming, D: Dialer, C: Clock> Server<J, D, C> {
         }
     }
 
-    /// Sends a request to the replica that was found, if one was.
+    /// Sends a request to the replica that was picked, if there is one.
     fn send_found<P: Peer, R: Wait>(
         &mut self,
         context: &Context<'_, J, R>,
         connection: &mut Connection<P>,
         going: &Onward<'_>,
-        found: &Found,
+        pick: &ReplicaPick,
     ) -> Made
-        requires word { HasWord found.now }
+        requires word { HasWord pick.now }
         requires free { slot_in self.old.pass ≡ None }
         ensures sends { let at = standing P.line D.upstream C.to_come in FoundAs J.settings
-            going.now self.old.names found.now connection.old.budget connection.new.budget
+            going.now self.old.names pick.now connection.old.budget connection.new.budget
             (at connection.old self.old) (at connection.new self.new) result.how result.done }
         ensures few { CountsUpTo 1 result.done }
         ensures slot { slot_in self.new.pass ≡ None }
@@ -112,8 +112,8 @@ impl<J: Naming, D: Dialer, C: Clock> Server<J, D, C> {
         ensures client { connection.new.client ≡ connection.old.client }
         ensures served { connection.new.served ≡ connection.old.served }
     {
-        match found {
-            Found::None(why) => {
+        match pick {
+            ReplicaPick::None(why) => {
                 let err = own_error(*why);
                 let end = refuse(
                     context.alloc,
@@ -127,7 +127,7 @@ impl<J: Naming, D: Dialer, C: Clock> Server<J, D, C> {
                     done: unbound(going.hit, err, going.head, end),
                 }
             }
-            Found::Replica { choice, texts } => {
+            ReplicaPick::Replica { choice, texts } => {
                 self.send_to(context, connection, going, *choice, texts)
             }
         }

@@ -1,11 +1,9 @@
 //! Behind which of the router's own replies a connection closes.
 ghost use Rattle.std.specs.Prelude.{◌≡◌, ◌||◌};
-ghost use Rattle.proxy_session.specs.Answering.{end_of, has_body, has_reply_body, is_early};
-ghost use Rattle.proxy_session.specs.Answering.{own_closes};
+ghost use Rattle.proxy_session.specs.Answering.{has_body, has_reply_body, is_early, own_closes};
 
-use http_wire::{Ended, Framing, FramingFault, Head, framing};
-use own_reply::OwnError;
-use replica_try::asks_to_close;
+use http_wire::{Framing, FramingFault, Head, framing};
+use own_reply::{OwnError, asks_to_close};
 
 /// Whether a reply to a request may have a body.
 pub(crate) fn has_reply_body(head: &Head) -> bool
@@ -66,17 +64,4 @@ pub(crate) fn is_closing(closes: bool, last: bool) -> bool
     ensures { result ≡ (closes || last) }
 {
     closes || last
-}
-
-/// How a request ends behind its reply.
-pub(crate) fn end_of(closes: bool, last: bool) -> Option<Ended>
-    ensures { result ≡ end_of closes last }
-{
-    if closes {
-        Some(Ended::Closed)
-    } else if last {
-        Some(Ended::Spent)
-    } else {
-        None
-    }
 }

@@ -14,11 +14,12 @@ use crate::context::Context;
 use crate::done::{followed_by, nothing, refused};
 use crate::refusing::refuse;
 use crate::repeating::{most_retries, pay};
-use crate::seeking::{Refusal, Request, seek};
+use crate::seeking::{SoughtRequest, seek};
 use crate::served::Served;
 use crate::server::Server;
 use http_wire::{Ended, Head};
 use line_base::{Clock, Dialer, Peer};
+use own_reply::Refusal;
 use router::Naming;
 use std::alloc::Global;
 use std::sync::Wait;
@@ -72,7 +73,7 @@ impl<J: Naming, D: Dialer, C: Clock> Server<J, D, C> {
         connection: &mut Connection<P>,
         head: &Head,
         last: bool,
-        mut request: Request,
+        mut request: SoughtRequest,
     ) -> Served
         requires free { slot_in self.old.pass ≡ None }
         ensures routes { let at = standing P.line D.upstream C.to_come in (retries : ℕ)

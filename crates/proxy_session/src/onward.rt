@@ -2,7 +2,7 @@
 ghost use Rattle.std.specs.Prelude.{◌≡◌, IfOk, OnOk};
 ghost use Rattle.addr_book.specs.Addr.{addr_text};
 ghost use Rattle.dtab_table.specs.Dtab.{rules_of};
-ghost use Rattle.proxy_session.specs.Found.{client_in, residual_in};
+ghost use Rattle.proxy_session.specs.AskAnswers.{client_in, residual_in};
 ghost use Rattle.proxy_session.specs.Onward.{IsHeadTo, host_for};
 
 use crate::asking::Texts;
@@ -79,10 +79,8 @@ impl Onward<'_> {
         if !self.host.is_empty() {
             return self.write_to(alloc, self.host, client, residual, out);
         }
-        match address(alloc, addr.ip, addr.port) {
-            Ok(text) => self.write_to(alloc, text.as_slice(), client, residual, out),
-            Err(want) => Err(want),
-        }
+        let text = address(alloc, addr.ip, addr.port)?;
+        self.write_to(alloc, text.as_slice(), client, residual, out)
     }
 
     /// The same, for this host.
@@ -118,8 +116,6 @@ fn address(alloc: Global, ip: u32, port: u16) -> Mem<Bytes>
     ensures { IfOk result (λ text. text.items ≡ addr_text (record { ip = ip; port = port })) }
 {
     let mut text = Vec::new(alloc);
-    match append_addr(Addr { ip, port }, &mut text) {
-        Ok(()) => Ok(text),
-        Err(want) => Err(want),
-    }
+    append_addr(Addr { ip, port }, &mut text)?;
+    Ok(text)
 }

@@ -3,11 +3,11 @@ ghost use Rattle.std.specs.Prelude.{◌≡◌};
 ghost use Rattle.own_reply.specs.Reply.{reply_of};
 ghost use Rattle.proxy_session.specs.Answering.{Refuses, Writes};
 
-use crate::closing::{end_of, has_reply_body, is_closing, own_closes};
+use crate::closing::{has_reply_body, is_closing, own_closes};
 use body_wire::write_all;
 use http_wire::{Ended, Head};
 use line_base::Peer;
-use own_reply::{OwnError, own_reply};
+use own_reply::{OwnError, end_of, own_reply};
 use std::alloc::Global;
 
 /// Writes one of the router's own replies, and says how the session ends where that fails.

@@ -3,13 +3,14 @@ ghost use Rattle.std.specs.Prelude.{◌≡◌, ◌+◌, ◌<◌, ◌==◌, ◌||
 ghost use mathlib.Core.List.{IsPrefix};
 ghost use Rattle.exchange_record.specs.Told.{Records, Told};
 ghost use Rattle.http_wire.specs.Paused.{IfEnds, quiets_behind};
+ghost use Rattle.own_reply.specs.Closing.{most_requests};
 ghost use Rattle.router.specs.Passes.{number_in, seen_in, slot_in};
 ghost use Rattle.proxy_session.specs.Causes.{CauseOf, IsNoFault, NoneFailed};
 ghost use Rattle.proxy_session.specs.Idle.{EndsIdle};
 ghost use Rattle.proxy_session.specs.Recorded.{ServesNextAs, StaysToAs, told_by, unread_told};
 ghost use Rattle.proxy_session.specs.Recorded.{unread_refusal};
 ghost use Rattle.proxy_session.specs.Session.{AnswersEnd, HearsClosing, ReadsNext, Spends};
-ghost use Rattle.proxy_session.specs.Session.{StaysTo, ended_of_end, most_requests, own_of_end};
+ghost use Rattle.proxy_session.specs.Session.{StaysTo, ended_of_end, own_of_end};
 ghost use Rattle.proxy_session.specs.Standing.{standing};
 
 use crate::connection::Connection;
@@ -24,13 +25,10 @@ use http_wire::{
 };
 use identifier::hear;
 use line_base::{Clock, Dialer, Gate, Peer, SocketAddress};
-use own_reply::OwnError;
+use own_reply::{MOST_REQUESTS, OwnError};
 use router::Naming;
 use std::alloc::Global;
 use std::sync::Wait;
-
-/// The most requests of one connection.
-const MOST_REQUESTS: u32 = 10_000;
 
 impl<J: Naming, D: Dialer, C: Clock> Server<J, D, C> {
     /// Serves a connection for a stay: its requests, one after another, until it ends, or one

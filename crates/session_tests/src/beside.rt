@@ -1,21 +1,21 @@
 //! Two sessions beside one another, of which a request of the one is held until the other's is
 //! answered, and what a worker's stack has room for.
-ghost use Rattle.std.specs.Prelude.{◌≡◌, None, Some, IfOk};
-ghost use Rattle.load_words.specs.Seats.{words_of};
+ghost use Rattle.std.specs.Prelude.{◌≡◌, None, IfOk};
+ghost use Rattle.machine.specs.Code.{change_of};
+ghost use Rattle.machine.specs.State.{IsSoundChange};
+ghost use Rattle.router.specs.Opening.{IsNamedBy, beginning_of};
 ghost use Rattle.router.specs.Passes.{slot_in};
-ghost use Rattle.router.specs.Values.{settings_in};
-ghost use Rattle.snap_cell.specs.Writers.{cell_written, opening_written};
 
-use crate::scene::{Mem, Scene, by_host, client, clock, settings, spelling, spelt};
+use crate::played::{begin, close, parts_of, put_sent, server};
+use crate::scene::{BOOK, Mem, Scene, addresses, by_host, client, spelling, spelt};
 use exchange_record::NoRecorder;
 use http_wire::{Ended, Paused};
 use identifier::Rule;
 use line_base::{Failed, Gate, MemClock, MemDialer, MemPeer, Next, Peer, SocketAddress};
+use machine::Change;
 use name_tree::MOST_OPEN;
-use proxy_session::{Connection, Context, Parts, Room, Server};
-use rand_core::SeedableRng;
-use rand_pcg::Pcg64;
-use router::{Naming, Opened, Pass, Router, open};
+use proxy_session::{Connection, Context, Server};
+use router::{Naming, Opened, Pass, Router};
 use std::alloc::{AllocError, Global};
 use std::marker::Brand;
 use std::process::Abort;
@@ -48,11 +48,22 @@ const NO_REPLY: &str =
 /// How many lookups a chain may have.
 const LOOKUPS: u32 = 100;
 
+/// Where the first worker's request is held.
+#[derive(Clone, Copy)]
+enum Moment {
+    /// As it begins.
+    Begin,
+    /// As its reply goes back, while its replica is being tried.
+    Reply,
+}
+
 /// Holds the first worker's request until the second worker's is answered, and that one until the
-/// first's has begun.
+/// first's is held.
 #[derive(Drop)]
 struct Crossing {
-    /// Whether the first request has begun.
+    /// Where the first request is held.
+    at: Moment,
+    /// Whether the first request is held, or was.
     begun: AtomicU64,
     /// How many bytes both clients were given.
     written: AtomicU64,
@@ -64,8 +75,9 @@ struct Crossing {
 
 impl Crossing {
     /// No request has begun.
-    fn new() -> Crossing {
+    fn new(at: Moment) -> Crossing {
         Crossing {
+            at,
             begun: AtomicU64::new(0),
             written: AtomicU64::new(0),
             answered: AtomicU64::new(0),
@@ -83,15 +95,22 @@ impl Crossing {
             thread::yield_now();
         }
     }
+
+    /// Holds the first request, once.
+    fn hold_first(&self) {
+        if self.begun.load(Ordering::SeqCst) == 0 {
+            self.begun.store(1, Ordering::SeqCst);
+            self.hold(&self.answered);
+        }
+    }
 }
 
 impl Gate for Crossing {
     fn begin(&self, worker: u32) {
-        if worker == 0 {
-            self.begun.store(1, Ordering::SeqCst);
-            self.hold(&self.answered);
-        } else {
+        if worker > 0 {
             self.hold(&self.begun);
+        } else if let Moment::Begin = self.at {
+            self.hold_first();
         }
     }
 
@@ -103,11 +122,13 @@ impl Gate for Crossing {
     }
 }
 
-/// A client whose bytes are counted together with the other's.
+/// A client whose bytes are counted together with the other's. The first one's reply is held, where
+/// it is to be.
 #[derive(Drop)]
 struct Client<'a> {
     peer: MemPeer,
-    written: &'a AtomicU64,
+    is_first: bool,
+    crossing: &'a Crossing,
 }
 
 impl Peer for Client<'_> {
@@ -134,9 +155,16 @@ impl Peer for Client<'_> {
     }
 
     fn write(&mut self, bytes: &[u8]) -> Result<usize, Failed> {
+        if self.is_first
+            && let Moment::Reply = self.crossing.at
+        {
+            self.crossing.hold_first();
+        }
         let moved = self.peer.write(bytes);
         if let Ok(count) = moved {
-            self.written.fetch_add(count as u64, Ordering::SeqCst);
+            self.crossing
+                .written
+                .fetch_add(count as u64, Ordering::SeqCst);
         }
         moved
     }
@@ -182,59 +210,73 @@ impl<J: Naming> Job for Visit<'_, J> {
     }
 }
 
-/// A server in memory with this pass.
-fn server<J: Naming>(alloc: Global, pass: Pass<J>) -> Mem<Server<J, MemDialer, MemClock>>
-    ensures { IfOk result (λ s. s.pass ≡ pass) }
-{
-    let room = Room::new(alloc)?;
-    let clock = clock(alloc)?;
-    let parts = Parts {
-        pass,
-        dialer: MemDialer::of(alloc, Vec::new(alloc), Vec::new(alloc), Vec::new(alloc)),
-        clock,
-        words: Pcg64::seed_from_u64(7),
-    };
-    Ok(Server::of(room, parts))
+/// What came of a session.
+#[derive(Drop)]
+struct Outcome {
+    /// How its stay ended.
+    paused: Paused,
+    /// What its client was given.
+    written: String,
+    /// What its dialer did, as in `Played`.
+    sent: String,
 }
 
-/// How a stay ended, and what its client was given.
-type Told = (Paused, String);
+/// What came of the session of a client over this dialer.
+fn outcome_of(
+    alloc: Global,
+    client: &Client<'_>,
+    dialer: &MemDialer,
+    paused: Paused,
+) -> Mem<Outcome> {
+    let mut sent = Vec::new(alloc);
+    put_sent(dialer.log(), &mut sent)?;
+    Ok(Outcome {
+        paused,
+        written: spelling(alloc, client.peer.sink().held())?,
+        sent: spelling(alloc, sent.as_slice())?,
+    })
+}
 
 /// The pass of a job that has run, and what came of its stay.
-fn told<J: Naming>(alloc: Global, job: Visit<'_, J>, paused: Paused) -> (Pass<J>, Mem<Told>) {
+fn ended_job<J: Naming>(
+    alloc: Global,
+    job: Visit<'_, J>,
+    paused: Paused,
+) -> (Pass<J>, Mem<Outcome>) {
     let Visit { server, client, .. } = job;
-    let Parts {
-        pass,
-        dialer: _,
-        clock: _,
-        words: _,
-    } = server.into_parts();
-    let told = match client {
-        Some(client) => match spelling(alloc, client.peer.sink().held()) {
-            Ok(written) => Ok((paused, written)),
-            Err(want) => Err(want),
-        },
+    let (pass, dialer) = parts_of(server);
+    let outcome = match client {
+        Some(client) => outcome_of(alloc, &client, &dialer, paused),
         None => Err(AllocError),
     };
-    (pass, told)
+    (pass, outcome)
 }
 
 /// Serves both clients beside one another, each with a pass of its own: the passes, and what came of
 /// the sessions.
 fn serve_both<J: Naming + Send + Sync, R: Wait + Threads + Abort + Sync>(
-    rt: &R,
-    alloc: Global,
-    router: &Router<J>,
-    rule: &Rule,
+    context: &Context<'_, J, R>,
     passes: (Pass<J>, Pass<J>),
-    clients: (MemPeer, MemPeer),
+    scenes: (&Scene<'_>, &Scene<'_>),
     crossing: &Crossing,
-) -> ((Pass<J>, Mem<Told>), (Pass<J>, Mem<Told>)) {
+) -> ((Pass<J>, Mem<Outcome>), (Pass<J>, Mem<Outcome>)) {
+    let Context {
+        rt,
+        alloc,
+        router,
+        rule,
+    } = *context;
     let (None, None) = (passes.0.holds(), passes.1.holds()) else {
         panic!(rt; "a pass holds a slot")
     };
-    let (Ok(first), Ok(second)) = (server(alloc, passes.0), server(alloc, passes.1)) else {
+    let (Ok(first), Ok(second)) = (
+        server(alloc, passes.0, scenes.0),
+        server(alloc, passes.1, scenes.1),
+    ) else {
         panic!(rt; "no memory for the servers")
+    };
+    let (Ok(one), Ok(other)) = (client(alloc, scenes.0), client(alloc, scenes.1)) else {
+        panic!(rt; "no memory for the clients")
     };
     let jobs = vec![in alloc;
         Visit {
@@ -244,8 +286,9 @@ fn serve_both<J: Naming + Send + Sync, R: Wait + Threads + Abort + Sync>(
             rule,
             server: first,
             client: Some(Client {
-                peer: clients.0,
-                written: &crossing.written
+                peer: one,
+                is_first: true,
+                crossing
             }),
         },
         Visit {
@@ -255,8 +298,9 @@ fn serve_both<J: Naming + Send + Sync, R: Wait + Threads + Abort + Sync>(
             rule,
             server: second,
             client: Some(Client {
-                peer: clients.1,
-                written: &crossing.written
+                peer: other,
+                is_first: false,
+                crossing
             }),
         },
     ];
@@ -270,67 +314,51 @@ fn serve_both<J: Naming + Send + Sync, R: Wait + Threads + Abort + Sync>(
         panic!(rt; "a job is missing")
     };
     (
-        told(alloc, first, first_end),
-        told(alloc, second, second_end),
+        ended_job(alloc, first, first_end),
+        ended_job(alloc, second, second_end),
     )
 }
 
-/// Ends a router of two passes.
-pub(crate) fn close<J: Naming, R: Wait + Abort>(
-    rt: &R,
-    alloc: Global,
-    router: Router<J>,
-    first: Pass<J>,
-    second: Pass<J>,
-)
-    requires { J.parts ≡ J.seats }
-{
-    assert!(rt; first.number() < second.number());
-    let Ok(passes) = vec![in alloc; first, second] else {
-        panic!(rt; "no memory for the passes")
-    };
-    match router.close(rt, passes) {
-        Ok(_place) => {}
-        Err(_back) => panic!(rt; "not closed"),
-    }
-}
-
-/// Names a router of two passes, serves both clients over it, and ends it.
+/// Names a router of two passes, serves the clients of both scenes over it, and ends it.
 fn serve_named<J: Naming + Send + Sync, R: Wait + Threads + Abort + Sync>(
     rt: &R,
     alloc: Global,
     opened: Opened,
     rule: &Rule,
-    clients: (MemPeer, MemPeer),
+    change: Change,
+    scenes: (&Scene<'_>, &Scene<'_>),
     crossing: &Crossing,
-) -> Mem<(Told, Told)>
-    requires cell { Some (cell_written opened.writer) ≡ J.cell }
-    requires settings { settings_in (opening_written opened.writer) ≡ J.settings }
-    requires words { Some (words_of opened.loads) ≡ J.words }
-    requires name { opened.blank.name ≡ J.name }
-    requires parts { (opened.blank.parts ≡ J.parts) × (J.parts ≡ J.seats) }
-    requires seats { opened.seats ≡ J.seats }
+) -> Mem<(Outcome, Outcome)>
+    requires named { IsNamedBy (beginning_of opened) J.Naming.own J.Ledger.own }
+    requires change { IsSoundChange (change_of change) }
 {
     let (router, mut passes) = opened.named::<J, R>(rt, alloc)?;
-    let (Some(second), Some(first)) = (passes.pop(), passes.pop()) else {
+    let (Some(second), Some(mut first)) = (passes.pop(), passes.pop()) else {
         panic!(rt; "a pass is missing")
     };
-    let (first, second) = serve_both(rt, alloc, &router, rule, (first, second), clients, crossing);
+    assert!(rt; router.change(rt, alloc, &mut first, change).is_ok());
+    let context = Context {
+        rt,
+        alloc,
+        router: &router,
+        rule,
+    };
+    let (first, second) = serve_both(&context, (first, second), scenes, crossing);
     close(rt, alloc, router, first.0, second.0);
     Ok((first.1?, second.1?))
 }
 
-/// What comes of the first request and of a second client's, over a router without a table.
+/// What comes of the clients of two scenes, over the router of the first one.
 fn cross<R: Wait + Threads + Abort + Sync>(
     rt: &R,
     alloc: Global,
-    second: MemPeer,
+    scenes: (&Scene<'_>, &Scene<'_>),
     crossing: &Crossing,
-) -> Result<(Told, Told), Fail> {
+) -> Result<(Outcome, Outcome), Fail> {
     let rule = by_host(alloc)?;
-    let clients = (client(alloc, &Scene::of("", FIRST.0, &[]))?, second);
-    let opened = open(rt, alloc, settings(alloc, "")?, 2)?;
-    Ok(serve_named::<Brand, R>(rt, alloc, opened, &rule, clients, crossing)?)
+    let change = addresses(alloc, scenes.0)?;
+    let opened = begin(rt, alloc, scenes.0)?;
+    Ok(serve_named::<Brand, R>(rt, alloc, opened, &rule, change, scenes, crossing)?)
 }
 
 /// Each request is let go by what the other worker did. When the second one was done, all of its
@@ -338,15 +366,32 @@ fn cross<R: Wait + Threads + Abort + Sync>(
 #[test]
 fn a_request_is_held_until_another_is_answered(rt: HostRuntime) -> Result<(), Fail> {
     let alloc = rt.alloc();
-    let crossing = Crossing::new();
-    let second = client(alloc, &Scene::of("", SECOND.0, &[]))?;
-    let (first, second) = cross(&rt, alloc, second, &crossing)?;
+    let crossing = Crossing::new(Moment::Begin);
+    let scenes = (Scene::of("", FIRST.0, &[]), Scene::of("", SECOND.0, &[]));
+    let (first, second) = cross(&rt, alloc, (&scenes.0, &scenes.1), &crossing)?;
     assert_eq!(rt; crossing.released.load(Ordering::SeqCst), 2);
     let answer = spelt(alloc, SECOND.1)?.len() as u64;
     assert_eq!(rt; crossing.answered.load(Ordering::SeqCst), answer);
     let ended = Paused::Ended(Ended::PeerEnded);
-    assert_eq!(rt; (first.0, first.1.as_str()), (ended, FIRST.1));
-    assert_eq!(rt; (second.0, second.1.as_str()), (ended, SECOND.1));
+    assert_eq!(rt; (first.paused, first.written.as_str()), (ended, FIRST.1));
+    assert_eq!(rt; (second.paused, second.written.as_str()), (ended, SECOND.1));
+    Ok(())
+}
+
+/// While the first request's replica is being tried, its slot counts as a load. So the second one,
+/// which draws the same words, goes to the other replica.
+#[test]
+fn a_replica_that_is_tried_has_a_load(rt: HostRuntime) -> Result<(), Fail> {
+    let alloc = rt.alloc();
+    let crossing = Crossing::new(Moment::Reply);
+    let scene = Scene {
+        addresses: "127.0.0.1 9001~127.0.0.1 9002~",
+        ..Scene::of(BOOK, FIRST.0, &["HTTP/1.1 204 No Content||"])
+    };
+    let (first, second) = cross(&rt, alloc, (&scene, &scene), &crossing)?;
+    assert_eq!(rt; crossing.released.load(Ordering::SeqCst), 2);
+    let ports = (first.sent.starts_with("<"), second.sent.starts_with("<"));
+    assert!(rt; ports.0 != ports.1, "{} {}", first.sent, second.sent);
     Ok(())
 }
 
@@ -385,12 +430,15 @@ fn nesting(alloc: Global) -> Mem<String> {
 #[test]
 fn a_worker_has_the_stack_for_nested_unions(rt: HostRuntime) -> Result<(), Fail> {
     let alloc = rt.alloc();
-    let crossing = Crossing::new();
+    let crossing = Crossing::new(Moment::Begin);
     let request = nesting(alloc)?;
-    let second = client(alloc, &Scene::of("", request.as_str(), &[]))?;
-    let (_first, second) = cross(&rt, alloc, second, &crossing)?;
+    let scenes = (
+        Scene::of("", FIRST.0, &[]),
+        Scene::of("", request.as_str(), &[]),
+    );
+    let (_first, second) = cross(&rt, alloc, (&scenes.0, &scenes.1), &crossing)?;
     assert_eq!(rt;
-        (second.0, second.1.as_str()),
+        (second.paused, second.written.as_str()),
         (Paused::Ended(Ended::PeerEnded), NO_REPLY)
     );
     Ok(())

@@ -1,10 +1,11 @@
 //! Connections to replicas that are kept: over which each request goes, and behind which replies
 //! they are kept.
 use crate::played::play;
-use crate::row::{FAILED, GOOD, Reported, joined, told};
+use crate::row::{FAILED, FAILED_SINCE, Failures, GOOD, joined, told};
 use crate::scene::{FIXED, Failing, Scene};
 use http_wire::Ended::{self, Closed, PeerEnded, UpstreamCut};
 use std::alloc::Global;
+use std::process::Abort;
 use std::sync::Wait;
 use std::test::Fail;
 
@@ -60,7 +61,7 @@ struct Case {
     /// resumed; and before `>`, where it was ended, or `)`, where it was kept.
     sent: &'static [&'static str],
     ended: Ended,
-    reported: Reported,
+    reported: Failures,
 }
 
 /// Two requests that are answered well. The second goes over the connection of the first.
@@ -85,7 +86,7 @@ const CASES: [Case; 24] = [
         failing: &[1],
         written: &[DIAL, WRITTEN],
         sent: &["<", SENT, ")"],
-        reported: (2, 0),
+        reported: GOOD,
         ..TWO
     },
     Case {
@@ -94,7 +95,7 @@ const CASES: [Case; 24] = [
         failing: &[2],
         written: &[UPSTREAM, WRITTEN],
         sent: &["<><", SENT, ")"],
-        reported: (2, 0),
+        reported: GOOD,
         ..TWO
     },
     Case {
@@ -102,7 +103,7 @@ const CASES: [Case; 24] = [
         failing: &[3],
         written: &[UPSTREAM, WRITTEN],
         sent: &["<", SENT, "><", SENT, ")"],
-        reported: (2, 0),
+        reported: GOOD,
         ..TWO
     },
     Case {
@@ -249,7 +250,7 @@ const CASES: [Case; 24] = [
         waiting: &[6],
         written: &[WRITTEN, UPSTREAM],
         sent: &["<", SENT, ")(", SENT, ">"],
-        reported: (2, 1),
+        reported: FAILED_SINCE,
         ..TWO
     },
     Case {
@@ -257,7 +258,7 @@ const CASES: [Case; 24] = [
         replies: &[REPLY, "HTTP/1.1 200", REPLY],
         written: &[WRITTEN, UPSTREAM],
         sent: &["<", SENT, ")(", SENT, ">"],
-        reported: (2, 1),
+        reported: FAILED_SINCE,
         ..TWO
     },
     Case {
@@ -266,7 +267,7 @@ const CASES: [Case; 24] = [
         failing: &[5, 6],
         written: &[WRITTEN, DIAL],
         sent: &["<", SENT, ")(>"],
-        reported: (2, 1),
+        reported: FAILED_SINCE,
         ..TWO
     },
     Case {
@@ -274,14 +275,14 @@ const CASES: [Case; 24] = [
         replies: &[REPLY, "", "", REPLY],
         written: &[WRITTEN, UPSTREAM],
         sent: &["<", SENT, ")(", SENT, "><", SENT, ">"],
-        reported: (2, 1),
+        reported: FAILED_SINCE,
         ..TWO
     },
 ];
 
 impl Case {
     /// What comes of the session, and what is wanted.
-    fn played<R: Wait>(&self, rt: &R, alloc: Global) -> Result<(String, String), Fail> {
+    fn played<R: Wait + Abort>(&self, rt: &R, alloc: Global) -> Result<(String, String), Fail> {
         let gives = joined(alloc, self.gives)?;
         let scene = Scene {
             failing: Failing::Dials(self.failing),
@@ -292,7 +293,7 @@ impl Case {
         let played = play(rt, alloc, &scene)?;
         let (written, sent) = (played.written.as_str(), played.sent.as_str());
         Ok((
-            told(alloc, written, sent, played.ended, played.reported)?,
+            told(alloc, written, sent, played.ended, played.failures)?,
             self.wanted(alloc)?,
         ))
     }

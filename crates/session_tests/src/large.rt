@@ -3,6 +3,7 @@ use crate::played::play;
 use crate::scene::{FIXED, Mem, Scene};
 use http_wire::Ended::PeerEnded;
 use std::alloc::Global;
+use std::process::Abort;
 use std::sync::Wait;
 use std::test::Fail;
 
@@ -37,7 +38,7 @@ fn around_body(alloc: Global, before: &[&str], byte: char, behind: &str) -> Mem<
 }
 
 /// Whether a request that gets a reply is passed on as the one text, and the reply as the other.
-fn passes<R: Wait>(
+fn passes<R: Wait + Abort>(
     rt: &R,
     alloc: Global,
     gives: [&str; 2],

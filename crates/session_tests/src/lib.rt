@@ -1,16 +1,13 @@
 //! Whole sessions over peers, dialers and clocks in memory: worked exchanges with the bytes on both
 //! sides, hostile and large requests, each failing call, limits, requests that are tried again, and
-//! connections that are kept; one request by itself; what a dialer sees of the router; what a
-//! recorder is told of; two sessions beside one another; and a connection that another server goes
-//! on with.
+//! connections that are kept; what a recorder is told of; two sessions beside one another; and a
+//! connection that another server goes on with.
 #![tactic(auto)]
 
 #[cfg(test)]
 mod beside;
 #[cfg(test)]
 mod draining;
-#[cfg(test)]
-mod first_request;
 #[cfg(test)]
 mod hostile;
 #[cfg(test)]
@@ -35,7 +32,5 @@ mod row;
 mod scene;
 #[cfg(test)]
 mod series;
-#[cfg(test)]
-mod watched;
 #[cfg(test)]
 mod worked;

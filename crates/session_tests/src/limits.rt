@@ -1,7 +1,7 @@
-//! The last request that a connection may carry, and what a request leaves at the router.
+//! The last request that a connection may carry.
 use crate::played::play;
-use crate::scene::{BOOK, Scene};
-use http_wire::Ended::{PeerEnded, Spent};
+use crate::scene::Scene;
+use http_wire::Ended::Spent;
 use std::alloc::{AllocError, Global};
 use std::test::Fail;
 
@@ -45,24 +45,5 @@ fn a_connection_is_spent(rt: HostRuntime) -> Result<(), Fail> {
         assert_eq!(rt; played.ended, Some(Spent));
         assert!(rt; played.written == wanted, "the replies");
     }
-    Ok(())
-}
-
-/// What was worked out is kept, no slot is held, and the upstream is hung up as soon as the reply's
-/// length has come.
-#[test]
-fn a_request_leaves_nothing_behind(rt: HostRuntime) -> Result<(), Fail> {
-    let alloc = rt.alloc();
-    let reply = "HTTP/1.1 200 OK|Content-Length: 2||hi";
-    let replies = [reply, reply, reply];
-    let scene = Scene {
-        times: 3,
-        ..Scene::of(BOOK, REQUEST, &replies)
-    };
-    let played = play(&rt, alloc, &scene)?;
-    assert_eq!(rt;
-        (played.ended, played.receives, played.load),
-        (Some(PeerEnded), 3, Some(0))
-    );
     Ok(())
 }

@@ -1,34 +1,31 @@
 //! Sessions that are played, and what they came to.
-ghost use Rattle.std.specs.Prelude.{◌≡◌, ◌<◌, None, Some};
-ghost use Rattle.load_words.specs.Seats.{words_of};
+ghost use Rattle.std.specs.Prelude.{◌≡◌, ◌<◌, None, IfOk};
 ghost use Rattle.machine.specs.Code.{change_of};
 ghost use Rattle.machine.specs.State.{IsSoundChange};
+ghost use Rattle.router.specs.Opening.{IsNamedBy, beginning_of};
 ghost use Rattle.router.specs.Passes.{slot_in};
-ghost use Rattle.router.specs.Values.{settings_in};
-ghost use Rattle.snap_cell.specs.Writers.{cell_written, opening_written};
 
 use crate::recorded::Keeper;
 use crate::scene::{
-    Bytes, Mem, Scene, Serving, by_host, client, clock, one_address, settings, spelling, upstreams,
+    Bytes, Mem, Scene, addresses, by_host, client, clock, settings, spelling, upstreams,
 };
 use addr_book::Addr;
-use dtab_table::Dtab;
-use http_wire::{Ended, NextHead, Paused};
+use http_wire::{Ended, Paused};
 use identifier::Rule;
 use line_base::{DialEvent, Gate, MemClock, MemDialer, MemPeer};
-use machine::{Ask, Change, Reply};
-use name_tree::{Path, read_path};
+use machine::{Change, Reply};
 use proxy_session::{Connection, Context, Parts, Room, Server};
 use rand_core::SeedableRng;
 use rand_pcg::Pcg64;
-use router::{Names, Naming, Opened, Pass, Peek, Router, open};
+use router::{Naming, Opened, Pass, Router, open};
 use std::alloc::{AllocError, Global};
 use std::marker::Brand;
+use std::process::Abort;
 use std::sync::Wait;
 use std::test::Fail;
 
 /// A gate that nobody asks.
-pub(crate) struct Free;
+struct Free;
 
 impl Gate for Free {
     fn begin(&self, _worker: u32) {}
@@ -41,27 +38,22 @@ impl Gate for Free {
 pub(crate) struct Played {
     /// What the client was given, spelt.
     pub(crate) written: String,
-    /// What the dialer did: what was sent over a connection, spelt, stands behind `<` or `(`, where
-    /// it was opened or resumed, and before `>` or `)`, where it was ended or kept.
+    /// What the dialers did: what was sent over a connection, spelt, stands behind `<` or `(`, where
+    /// it was opened or resumed, and before `>` or `)`, where it was ended or kept. One to another
+    /// port than 9001 begins with `?` or `!`.
     pub(crate) sent: String,
-    /// How many receives were made.
-    pub(crate) receives: usize,
-    /// How many calls of the dialer failed.
+    /// How many calls of the dialers failed.
     pub(crate) failed: u64,
-    /// How the connection ended; `None` where it goes on behind the one request that was served.
+    /// How the connection ended; `None` where it waits.
     pub(crate) ended: Option<Ended>,
-    /// How many reports on the address of `web` were taken in, and how often it has failed since it
-    /// last did well. It had failed once.
-    pub(crate) reported: (u64, u32),
-    /// The load of the replica, where something is kept for it.
-    pub(crate) load: Option<u64>,
+    /// How often the replica at port 9001 has failed since it last did well. It had failed once.
+    pub(crate) failures: u32,
     /// What was told of its exchanges.
     pub(crate) told: String,
 }
 
-/// What the tries of a dialer sent.
-fn sent_of(alloc: Global, log: &[DialEvent]) -> Mem<Bytes> {
-    let mut sent = Vec::new(alloc);
+/// Puts what the tries of a dialer sent behind the rest.
+pub(crate) fn put_sent(log: &[DialEvent], sent: &mut Bytes) -> Mem<()> {
     for event in log {
         match event {
             DialEvent::Dialed(0x7f000001, 9001) => sent.push(b'<')?,
@@ -74,250 +66,167 @@ fn sent_of(alloc: Global, log: &[DialEvent]) -> Mem<Bytes> {
             DialEvent::Kept => sent.push(b')')?,
         }
     }
-    Ok(sent)
-}
-
-/// How many receives there were.
-fn receives_of(log: &[DialEvent]) -> usize {
-    let mut count = 0usize;
-    for event in log {
-        if let DialEvent::Got(_) = event {
-            count = count.saturating_add(1);
-        }
-    }
-    count
-}
-
-/// Reports a failure of the address of `web`, and says how often it then has failed since it last
-/// did well.
-fn fail<J: Naming, R: Wait>(
-    rt: &R,
-    alloc: Global,
-    router: &Router<J>,
-    pass: &mut Pass<J>,
-) -> Mem<u32> {
-    let addr = Addr {
-        ip: 0x7f000001,
-        port: 9001,
-    };
-    let change = Change::Report {
-        addr,
-        good: false,
-        moment: 1000,
-    };
-    match router.change(rt, alloc, pass, change)? {
-        Reply::Marked(mark) => Ok(mark.count),
-        _ => Ok(0),
-    }
-}
-
-/// The path of `web`.
-fn web(alloc: Global) -> Mem<Path> {
-    match read_path(alloc, b"/svc/web") {
-        Ok(path) => Ok(path),
-        Err(_) => Ok(Path::new(alloc)),
-    }
-}
-
-/// The load of the replica of `web`, where something is kept for it.
-pub(crate) fn load<J: Naming>(
-    alloc: Global,
-    router: &Router<J>,
-    pass: &mut Pass<J>,
-) -> Mem<Option<u64>> {
-    let ask = Ask {
-        path: web(alloc)?,
-        local: Dtab::empty(alloc),
-        moment: 1000,
-        words: [0, 0, 0],
-    };
-    let mut names = Names::room(alloc)?;
-    match router.peek(pass, &ask, &mut names) {
-        Peek::Hit(choice) => Ok(Some(choice.first.max(choice.second))),
-        _ => Ok(None),
-    }
-}
-
-/// What a session has beside its router and its pass.
-#[derive(Drop)]
-struct Outside {
-    room: Room,
-    peer: MemPeer,
-    dialer: MemDialer,
-    clock: MemClock,
-}
-
-impl Outside {
-    /// That of a scene.
-    fn of(alloc: Global, scene: &Scene<'_>) -> Mem<Outside> {
-        Ok(Outside {
-            room: Room::new(alloc)?,
-            peer: client(alloc, scene)?,
-            dialer: upstreams(alloc, scene)?,
-            clock: clock(alloc)?,
-        })
-    }
-}
-
-/// Serves the client's requests until its connection ends, which waits once at most. `None` where
-/// it waits once more.
-fn serve_all<J: Naming, R: Wait>(
-    context: &Context<'_, J, R>,
-    server: &mut Server<J, MemDialer, MemClock>,
-    connection: &mut Connection<MemPeer>,
-    keeper: &mut Keeper,
-) -> Option<Ended>
-    requires free { slot_in server.old.pass ≡ None }
-    requires few { connection.old.served < 10000 }
-{
-    match server.serve_stay(context, connection, &Free, 0, keeper) {
-        Paused::Ended(ended) => Some(ended),
-        Paused::Quiet => match server.serve_stay(context, connection, &Free, 0, keeper) {
-            Paused::Ended(ended) => Some(ended),
-            Paused::Quiet => None,
-        },
-    }
-}
-
-/// Reads the head of the client's first request and serves it. `None` where the connection goes on.
-fn serve_first<J: Naming, R: Wait>(
-    context: &Context<'_, J, R>,
-    server: &mut Server<J, MemDialer, MemClock>,
-    connection: &mut Connection<MemPeer>,
-) -> Option<Ended>
-    requires { slot_in server.old.pass ≡ None }
-{
-    let NextHead::Head(head) = server.next_head(context.alloc, connection) else {
-        return Some(Ended::Cut);
-    };
-    server.proxy_once(context, connection, &head, false).end
-}
-
-/// Gives `web` its address, which then fails once.
-fn prepare<J: Naming, R: Wait>(
-    rt: &R,
-    alloc: Global,
-    router: &Router<J>,
-    pass: &mut Pass<J>,
-    change: Change,
-) -> Mem<()>
-    requires { IsSoundChange (change_of change) }
-{
-    match router.change(rt, alloc, pass, change) {
-        Ok(_) => {}
-        Err(want) => return Err(want),
-    }
-    match fail(rt, alloc, router, pass) {
-        Ok(_) => Ok(()),
-        Err(want) => Err(want),
-    }
+    Ok(())
 }
 
 /// What the outside was told of a session that ended so.
 fn told(
     alloc: Global,
     peer: &MemPeer,
-    dialer: &MemDialer,
+    dialers: (&MemDialer, &MemDialer),
     keeper: Keeper,
     ended: Option<Ended>,
 ) -> Mem<Played> {
-    let sent = sent_of(alloc, dialer.log())?;
+    let mut sent = Vec::new(alloc);
+    put_sent(dialers.0.log(), &mut sent)?;
+    put_sent(dialers.1.log(), &mut sent)?;
     Ok(Played {
         written: spelling(alloc, peer.sink().held())?,
         sent: spelling(alloc, sent.as_slice())?,
-        receives: receives_of(dialer.log()),
-        failed: dialer.faults(),
+        failed: dialers.0.faults().saturating_add(dialers.1.faults()),
         ended,
-        reported: (0, 0),
-        load: None,
+        failures: 0,
         told: keeper.into_text(),
     })
 }
 
-/// Plays a scene over a router that was prepared, with a pass that holds no slot, and gives the
-/// pass back.
-fn play_on<J: Naming, R: Wait>(
-    context: &Context<'_, J, R>,
+/// The same, with how often the replica has failed then: once less than behind one more report.
+fn with_failures(played: Mem<Played>, count: Mem<u32>) -> Mem<Played> {
+    let mut played = played?;
+    played.failures = count?.saturating_sub(1);
+    Ok(played)
+}
+
+/// Reports a failure of the replica at port 9001, and says how often it then has failed since it
+/// last did well.
+fn fail<J: Naming, R: Wait>(context: &Context<'_, J, R>, pass: &mut Pass<J>) -> Mem<u32> {
+    let change = Change::Report {
+        addr: Addr {
+            ip: 0x7f000001,
+            port: 9001,
+        },
+        good: false,
+        moment: 1000,
+    };
+    match context
+        .router
+        .change(context.rt, context.alloc, pass, change)?
+    {
+        Reply::Marked(mark) => Ok(mark.count),
+        _ => Ok(0),
+    }
+}
+
+/// A server of a scene with this pass.
+pub(crate) fn server<J: Naming>(
+    alloc: Global,
     pass: Pass<J>,
     scene: &Scene<'_>,
-) -> (Pass<J>, Mem<Played>) {
-    let alloc = context.alloc;
-    let (Ok(outside), None) = (Outside::of(alloc, scene), pass.holds()) else {
-        return (pass, Err(AllocError));
-    };
-    let Outside {
-        room,
-        peer,
-        dialer,
-        clock,
-    } = outside;
+) -> Mem<Server<J, MemDialer, MemClock>>
+    ensures { IfOk result (λ s. s.pass ≡ pass) }
+{
+    let room = Room::new(alloc)?;
+    let dialer = upstreams(alloc, scene)?;
+    let clock = clock(alloc)?;
     let parts = Parts {
         pass,
         dialer,
         clock,
         words: Pcg64::seed_from_u64(7),
     };
-    let mut server = Server::of(room, parts);
-    let mut connection = scene.connection(peer);
-    let mut keeper = Keeper::new(alloc);
-    let ended = match scene.serving {
-        Serving::Session => serve_all(context, &mut server, &mut connection, &mut keeper),
-        Serving::FirstRequest => serve_first(context, &mut server, &mut connection),
-    };
+    Ok(Server::of(room, parts))
+}
+
+/// The pass and the dialer of a server.
+pub(crate) fn parts_of<J: Naming>(server: Server<J, MemDialer, MemClock>) -> (Pass<J>, MemDialer) {
     let Parts {
         pass,
         dialer,
         clock: _,
         words: _,
     } = server.into_parts();
-    let peer = connection.into_peer();
-    (pass, told(alloc, &peer, &dialer, keeper, ended))
+    (pass, dialer)
 }
 
-/// What a scene left at the router that was played over it.
-fn look<J: Naming, R: Wait>(
+/// Serves the client's requests until its connection ends. Where it waits, the second server goes on
+/// with it, once that has learnt what the first one had seen. `None` where it waits once more.
+fn serve_stays<J: Naming, R: Wait>(
     context: &Context<'_, J, R>,
-    pass: &mut Pass<J>,
-    played: Played,
-    reports: u64,
-) -> Mem<Played> {
-    let mut played = played;
-    let Context {
-        rt,
-        alloc,
-        router,
-        ..
-    } = context;
-    played.load = load(*alloc, router, pass)?;
-    played.reported = (reports, fail(*rt, *alloc, router, pass)?.saturating_sub(1));
-    Ok(played)
-}
-
-/// Plays a scene over a router, and looks at what it left there.
-fn play_over<J: Naming, R: Wait>(
-    context: &Context<'_, J, R>,
-    pass: Pass<J>,
-    change: Change,
-    scene: &Scene<'_>,
-) -> (Pass<J>, Mem<Played>)
-    requires { IsSoundChange (change_of change) }
+    first: &mut Server<J, MemDialer, MemClock>,
+    second: &mut Server<J, MemDialer, MemClock>,
+    connection: &mut Connection<MemPeer>,
+    keeper: &mut Keeper,
+) -> Option<Ended>
+    requires first { slot_in first.old.pass ≡ None }
+    requires second { slot_in second.old.pass ≡ None }
+    requires few { connection.old.served < 10000 }
 {
-    let mut pass = pass;
-    if prepare(context.rt, context.alloc, context.router, &mut pass, change).is_err() {
-        return (pass, Err(AllocError));
+    match first.serve_stay(context, connection, &Free, 0, keeper) {
+        Paused::Ended(ended) => Some(ended),
+        Paused::Quiet => {
+            second.learn(first.ticket());
+            match second.serve_stay(context, connection, &Free, 1, keeper) {
+                Paused::Ended(ended) => Some(ended),
+                Paused::Quiet => None,
+            }
+        }
     }
-    let before = pass.made();
-    let (mut pass, played) = play_on(context, pass, scene);
-    let reports = pass.made().saturating_sub(before);
-    let looked = match played {
-        Ok(played) => look(context, &mut pass, played, reports),
-        Err(want) => Err(want),
-    };
-    (pass, looked)
 }
 
-/// Names a router of one pass, plays a scene over it and ends it.
-fn play_named<J: Naming, R: Wait>(
+/// Serves the client of a scene with a server of each pass, and gives the passes back.
+fn serve<J: Naming, R: Wait + Abort>(
+    context: &Context<'_, J, R>,
+    passes: (Pass<J>, Pass<J>),
+    scene: &Scene<'_>,
+) -> ((Pass<J>, Pass<J>), Mem<Played>) {
+    let alloc = context.alloc;
+    let (None, None) = (passes.0.holds(), passes.1.holds()) else {
+        panic!(context.rt; "a pass holds a slot")
+    };
+    let (Ok(mut first), Ok(mut second), Ok(peer)) = (
+        server(alloc, passes.0, scene),
+        server(alloc, passes.1, scene),
+        client(alloc, scene),
+    ) else {
+        panic!(context.rt; "no memory for the servers")
+    };
+    let mut connection = scene.connection(peer);
+    let mut keeper = Keeper::new(alloc);
+    let ended = serve_stays(
+        context,
+        &mut first,
+        &mut second,
+        &mut connection,
+        &mut keeper,
+    );
+    let (first, second) = (parts_of(first), parts_of(second));
+    let peer = connection.into_peer();
+    let played = told(alloc, &peer, (&first.1, &second.1), keeper, ended);
+    ((first.0, second.0), played)
+}
+
+/// Ends a router of two passes.
+pub(crate) fn close<J: Naming, R: Wait + Abort>(
+    rt: &R,
+    alloc: Global,
+    router: Router<J>,
+    first: Pass<J>,
+    second: Pass<J>,
+)
+    requires { J.parts ≡ J.seats }
+{
+    assert!(rt; first.number() < second.number());
+    let Ok(passes) = vec![in alloc; first, second] else {
+        panic!(rt; "no memory for the passes")
+    };
+    match router.close(rt, passes) {
+        Ok(_place) => {}
+        Err(_back) => panic!(rt; "not closed"),
+    }
+}
+
+/// Names a router of two passes, plays a scene over it and ends it.
+fn play_named<J: Naming, R: Wait + Abort>(
     rt: &R,
     alloc: Global,
     opened: Opened,
@@ -325,37 +234,40 @@ fn play_named<J: Naming, R: Wait>(
     change: Change,
     scene: &Scene<'_>,
 ) -> Mem<Played>
-    requires cell { Some (cell_written opened.writer) ≡ J.cell }
-    requires settings { settings_in (opening_written opened.writer) ≡ J.settings }
-    requires words { Some (words_of opened.loads) ≡ J.words }
-    requires name { opened.blank.name ≡ J.name }
-    requires parts { opened.blank.parts ≡ J.parts }
-    requires seats { (opened.seats ≡ J.seats) × (J.seats ≡ 1) }
+    requires named { IsNamedBy (beginning_of opened) J.Naming.own J.Ledger.own }
     requires change { IsSoundChange (change_of change) }
 {
     let (router, mut passes) = opened.named::<J, R>(rt, alloc)?;
-    let Some(pass) = passes.pop() else {
-        unreachable!()
+    let (Some(second), Some(mut first)) = (passes.pop(), passes.pop()) else {
+        panic!(rt; "a pass is missing")
     };
+    assert!(rt; router.change(rt, alloc, &mut first, change).is_ok());
     let context = Context {
         rt,
         alloc,
         router: &router,
         rule,
     };
-    let (pass, played) = play_over(&context, pass, change, scene);
-    passes.push_reserved(pass);
-    match router.close(rt, passes) {
-        Ok(_) => played,
-        Err(_) => unreachable!(),
-    }
+    assert!(rt; fail(&context, &mut first).is_ok());
+    let ((mut first, second), played) = serve(&context, (first, second), scene);
+    let count = fail(&context, &mut first);
+    close(rt, alloc, router, first, second);
+    with_failures(played, count)
 }
 
-/// Plays a scene over a router of its own, in which the service `web` has the address
-/// 127.0.0.1:9001.
-pub(crate) fn play<R: Wait>(rt: &R, alloc: Global, scene: &Scene<'_>) -> Result<Played, Fail> {
+/// The router of a scene, before it has a name.
+pub(crate) fn begin<R: Wait>(rt: &R, alloc: Global, scene: &Scene<'_>) -> Result<Opened, Fail> {
+    Ok(open(rt, alloc, settings(alloc, scene)?, 2)?)
+}
+
+/// Plays a scene over a router of its own, in which the service `web` has its addresses.
+pub(crate) fn play<R: Wait + Abort>(
+    rt: &R,
+    alloc: Global,
+    scene: &Scene<'_>,
+) -> Result<Played, Fail> {
     let rule = by_host(alloc)?;
-    let change = one_address(alloc)?;
-    let opened = open(rt, alloc, settings(alloc, scene.table)?, 1)?;
+    let change = addresses(alloc, scene)?;
+    let opened = begin(rt, alloc, scene)?;
     Ok(play_named::<Brand, R>(rt, alloc, opened, &rule, change, scene)?)
 }

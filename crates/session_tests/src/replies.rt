@@ -261,7 +261,7 @@ const ROWS: [Row; 25] = [
         written: "HTTP/1.1 502 Bad Gateway|Content-Type: text/plain|l5d-err: upstream|Content-Length: 9||upstream~HTTP/1.1 200 OK|Content-Length: 2|Via: 1.1 linkerd||hi",
         sent: "<><GET / HTTP/1.1|Host: web|Via: 1.1 linkerd|l5d-dst-service: /svc/web|l5d-dst-client: /$/inet/127.0.0.1/9001|Connection: close||>",
         ended: PeerEnded,
-        reported: (2, 0),
+        reported: GOOD,
     },
     Row {
         about: "a body that is not sent, and a request behind it",

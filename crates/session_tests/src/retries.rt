@@ -1,10 +1,11 @@
 //! Requests that are tried again, and what their budget grants.
 use crate::played::play;
 use crate::row::joined;
-use crate::scene::{FIXED, Failing, Scene};
+use crate::scene::{BOOK, FIXED, Failing, Scene};
 use http_wire::Ended::{self, Closed, PeerEnded, UpstreamCut};
 use retry_budget::{Budget, Tries};
 use std::alloc::Global;
+use std::process::Abort;
 use std::sync::Wait;
 use std::test::Fail;
 
@@ -218,11 +219,11 @@ const CASES: [Case; 14] = [
     },
 ];
 
-/// How many connections were opened, by what the tries sent.
-fn opened(sent: &str) -> usize {
+/// How many connections were opened, by what the tries sent: each begins with this sign.
+fn opened(sent: &str, sign: u8) -> usize {
     let mut count = 0usize;
     for byte in sent.as_bytes() {
-        if *byte == b'<' {
+        if *byte == sign {
             count = count.saturating_add(1);
         }
     }
@@ -242,14 +243,14 @@ fn told(
 
 impl Case {
     /// What comes of the session, and what is wanted.
-    fn played<R: Wait>(&self, rt: &R, alloc: Global) -> Result<(String, String), Fail> {
+    fn played<R: Wait + Abort>(&self, rt: &R, alloc: Global) -> Result<(String, String), Fail> {
         let scene = Scene {
             failing: Failing::Dials(self.failing),
             tries: Some(self.tries),
             ..Scene::of(FIXED, self.gives, self.replies)
         };
         let played = play(rt, alloc, &scene)?;
-        let dials = (played.failed, opened(played.sent.as_str()));
+        let dials = (played.failed, opened(played.sent.as_str(), b'<'));
         let wanted = joined(alloc, self.written)?;
         Ok((
             told(alloc, played.written.as_str(), dials, played.ended)?,
@@ -284,7 +285,7 @@ const METHODS: [(&str, bool); 10] = [
 
 /// How many connections are opened for a request of this method, whose first replica gives no
 /// reply.
-fn tried<R: Wait>(rt: &R, alloc: Global, method: &str) -> Result<usize, Fail> {
+fn tried<R: Wait + Abort>(rt: &R, alloc: Global, method: &str) -> Result<usize, Fail> {
     let gives = format!(in alloc; "{method} / HTTP/1.1|Host: web||")?;
     let replies = ["", "HTTP/1.1 204 No Content||"];
     let scene = Scene {
@@ -292,7 +293,7 @@ fn tried<R: Wait>(rt: &R, alloc: Global, method: &str) -> Result<usize, Fail> {
         ..Scene::of(FIXED, gives.as_str(), &replies)
     };
     let played = play(rt, alloc, &scene)?;
-    Ok(opened(played.sent.as_str()))
+    Ok(opened(played.sent.as_str(), b'<'))
 }
 
 #[test]
@@ -319,24 +320,28 @@ fn a_retry_takes_a_hundred(rt: HostRuntime) {
     budget.request();
     assert!(rt; budget.spend());
     assert_eq!(rt; (budget.balance(), budget.most()), (98, 3));
+    assert!(rt; USUAL.is_allowed() && Tries::default().is_allowed());
 }
 
-/// A balance is full at a thousand retries, and no request adds to it then.
+/// A replica that was left out behind one failure is not tried again: of two, each request that
+/// follows goes to the other one.
 #[test]
-fn a_balance_is_full(rt: HostRuntime) {
-    let tries = Tries {
-        percent: 100,
-        reserve: 100,
-        most: 10,
+fn a_replica_that_failed_is_left_out(rt: HostRuntime) -> Result<(), Fail> {
+    let alloc = rt.alloc();
+    let scene = Scene {
+        addresses: "127.0.0.1 9001~127.0.0.1 9002~",
+        is_strict: true,
+        times: 8,
+        failing: Failing::Dials(&[0]),
+        tries: Some(Tries::default()),
+        ..Scene::of(BOOK, REQUEST, &[REPLY; 8])
     };
-    assert!(rt; tries.is_allowed() && Tries::default().is_allowed());
-    let mut budget = Budget::start(tries);
-    for _ in 0..901u32 {
-        budget.request();
-    }
-    assert_eq!(rt; budget.balance(), 100_000);
-    for _ in 0..1000u32 {
-        budget.spend();
-    }
-    assert!(rt; !budget.spend());
+    let played = play(&rt, alloc, &scene)?;
+    let sent = played.sent.as_str();
+    let (first, second) = (opened(sent, b'<'), opened(sent, b'?'));
+    assert_eq!(rt;
+        (played.failed, first.min(second), first.max(second)),
+        (1, 0, 8)
+    );
+    Ok(())
 }

@@ -3,21 +3,25 @@ use crate::played::play;
 use crate::scene::{Failing, Mem, Scene};
 use http_wire::Ended;
 use std::alloc::Global;
+use std::process::Abort;
 use std::sync::Wait;
 use std::test::Fail;
 
-/// Reports on the address of `web`, which had failed once: how many were taken in, and how often it
-/// has failed since it last did well.
-pub(crate) type Reported = (u64, u32);
+/// What was reported of the replica of `web`, which had failed once: how often it has failed since
+/// it last did well.
+pub(crate) type Failures = u32;
 
 /// No report was made.
-pub(crate) const NOTHING: Reported = (0, 1);
+pub(crate) const NOTHING: Failures = 1;
 
-/// It was reported to do well. Of more such reports the first alone changes something.
-pub(crate) const GOOD: Reported = (1, 0);
+/// It was reported to do well at last.
+pub(crate) const GOOD: Failures = 0;
 
-/// It was reported to fail.
-pub(crate) const FAILED: Reported = (1, 2);
+/// It was reported to fail, and never to do well.
+pub(crate) const FAILED: Failures = 2;
+
+/// It was reported to do well, and then to fail.
+pub(crate) const FAILED_SINCE: Failures = 1;
 
 /// What goes into a session, and what comes of it. In the texts `|` is CR LF and `~` is LF.
 #[derive(Clone, Copy)]
@@ -35,7 +39,7 @@ pub(crate) struct Row {
     /// What the tries send, each between `<` and `>`.
     pub(crate) sent: &'static str,
     pub(crate) ended: Ended,
-    pub(crate) reported: Reported,
+    pub(crate) reported: Failures,
 }
 
 /// These texts behind one another.
@@ -53,15 +57,18 @@ pub(crate) fn told(
     written: &str,
     sent: &str,
     ended: Option<Ended>,
-    reported: Reported,
+    reported: Failures,
 ) -> Mem<String> {
-    let (reports, failures) = reported;
-    format!(in alloc; "{written} {sent} {ended:?} {reports} {failures}")
+    format!(in alloc; "{written} {sent} {ended:?} {reported}")
 }
 
 impl Row {
     /// What comes of the session, and what is wanted.
-    pub(crate) fn played<R: Wait>(&self, rt: &R, alloc: Global) -> Result<(String, String), Fail> {
+    pub(crate) fn played<R: Wait + Abort>(
+        &self,
+        rt: &R,
+        alloc: Global,
+    ) -> Result<(String, String), Fail> {
         let scene = Scene {
             failing: self.failing,
             ..Scene::of(self.table, self.gives, self.replies)
@@ -69,7 +76,7 @@ impl Row {
         let played = play(rt, alloc, &scene)?;
         let (written, sent) = (played.written.as_str(), played.sent.as_str());
         Ok((
-            told(alloc, written, sent, played.ended, played.reported)?,
+            told(alloc, written, sent, played.ended, played.failures)?,
             told(
                 alloc,
                 self.written,

@@ -1,5 +1,5 @@
 //! What a session is played with.
-ghost use Rattle.std.specs.Prelude.{◌≡◌, ◌≤◌, IfOk};
+ghost use Rattle.std.specs.Prelude.{◌≡◌, IfOk};
 ghost use Rattle.machine.specs.Code.{change_of};
 ghost use Rattle.machine.specs.State.{IsSoundChange};
 
@@ -28,6 +28,9 @@ pub(crate) const FIXED: &str = "/svc/web => /$/inet/127.0.0.1/9001";
 /// The table of a router whose services are those of the book.
 pub(crate) const BOOK: &str = "/svc => /#/io.l5d.fs";
 
+/// How many calls of each kind move no more bytes than a scene says.
+const CALLS: usize = 1000;
+
 /// The calls that fail. Those of each kind are counted from 0; a dial, a send and a receive are of
 /// one kind.
 #[derive(Clone, Copy)]
@@ -39,26 +42,20 @@ pub(crate) enum Failing {
     Dials(&'static [u64]),
 }
 
-/// What is served of what the client gives.
-#[derive(Clone, Copy)]
-pub(crate) enum Serving {
-    /// All of it, as a session.
-    Session,
-    /// The first request alone, which is not the last that its connection may carry.
-    FirstRequest,
-}
-
 /// What a session is played with. In the texts `|` is CR LF and `~` is LF.
 #[derive(Clone, Copy)]
 pub(crate) struct Scene<'a> {
     /// The router's table.
     pub(crate) table: &'a str,
+    /// The addresses of the service `web`, a line each.
+    pub(crate) addresses: &'a str,
+    /// One failure leaves an address out for five seconds, and not only five in a row.
+    pub(crate) is_strict: bool,
     /// What the client gives, so often.
     pub(crate) gives: &'a str,
     pub(crate) times: usize,
     /// So many of these bytes come, and then the end.
     pub(crate) until: usize,
-    pub(crate) serving: Serving,
     /// The replies of the upstreams, in the order of the dials.
     pub(crate) replies: &'a [&'a str],
     /// The most bytes that a call moves.
@@ -81,10 +78,11 @@ impl<'a> Scene<'a> {
     pub(crate) fn of(table: &'a str, gives: &'a str, replies: &'a [&'a str]) -> Scene<'a> {
         Scene {
             table,
+            addresses: "127.0.0.1 9001~",
+            is_strict: false,
             gives,
             times: 1,
             until: usize::MAX,
-            serving: Serving::Session,
             replies,
             most: usize::MAX,
             failing: Failing::Nothing,
@@ -105,12 +103,12 @@ impl<'a> Scene<'a> {
         }
     }
 
-    /// The most bytes of each call.
-    fn sizes(&self, alloc: Global) -> Mem<Vec<usize>> {
+    /// The most bytes of each of the first `calls` calls.
+    fn sizes(&self, alloc: Global, calls: usize) -> Mem<Vec<usize>> {
         if self.most == usize::MAX {
             return Ok(Vec::new(alloc));
         }
-        Vec::from_elem(alloc, self.most, 1000)
+        Vec::from_elem(alloc, self.most, calls)
     }
 }
 
@@ -170,38 +168,24 @@ pub(crate) fn by_host(alloc: Global) -> Result<Rule, Fail> {
     })
 }
 
-/// A router's settings with this table. Five failures in a row leave a replica out for five
-/// seconds.
-pub(crate) fn settings(alloc: Global, table: &str) -> Result<Settings, Fail> {
-    strict_settings(alloc, table, 5)
-}
-
-/// The same with so many failures.
-pub(crate) fn strict_settings(alloc: Global, table: &str, failures: u32) -> Result<Settings, Fail>
-    requires { 1 ≤ failures }
-{
+/// The settings of a scene's router.
+pub(crate) fn settings(alloc: Global, scene: &Scene<'_>) -> Result<Settings, Fail> {
     Ok(Settings {
         space: Name::of(alloc, b"default")?,
-        base: read_dtab(alloc, table.as_bytes())?,
+        base: read_dtab(alloc, scene.table.as_bytes())?,
         limits: Limits {
-            failures,
+            failures: if scene.is_strict { 1 } else { 5 },
             backoff: 5000,
         },
     })
 }
 
-/// The change that gives the service `web` its one address.
-pub(crate) fn one_address(alloc: Global) -> Result<Change, Fail>
+/// The change that gives the service `web` its addresses.
+pub(crate) fn addresses(alloc: Global, scene: &Scene<'_>) -> Result<Change, Fail>
     ensures { IfOk result (λ change. IsSoundChange (change_of change)) }
 {
-    addresses(alloc, b"127.0.0.1 9001\n")
-}
-
-/// The change that gives the service `web` these addresses.
-pub(crate) fn addresses(alloc: Global, text: &[u8]) -> Result<Change, Fail>
-    ensures { IfOk result (λ change. IsSoundChange (change_of change)) }
-{
-    let list: AddrList = read_addrs(alloc, text)?;
+    let text = spelt(alloc, scene.addresses)?;
+    let list: AddrList = read_addrs(alloc, text.as_slice())?;
     Ok(Change::SetAddrs {
         service: Name::of(alloc, b"web")?,
         list,
@@ -234,10 +218,10 @@ pub(crate) fn client(alloc: Global, scene: &Scene<'_>) -> Mem<MemPeer> {
     };
     let source = MemSource::of(
         given(alloc, scene)?,
-        scene.sizes(alloc)?,
+        scene.sizes(alloc, CALLS)?,
         listed(alloc, read)?,
     );
-    let sink = MemSink::of(alloc, scene.sizes(alloc)?, listed(alloc, write)?);
+    let sink = MemSink::of(alloc, scene.sizes(alloc, CALLS)?, listed(alloc, write)?);
     let peer = match scene.closing {
         Some(question) => MemPeer::closing(source, sink, question),
         None => MemPeer::of(source, sink),
@@ -255,7 +239,7 @@ pub(crate) fn upstreams(alloc: Global, scene: &Scene<'_>) -> Mem<MemDialer> {
     let dialer = MemDialer::of(
         alloc,
         replies,
-        scene.sizes(alloc)?,
+        scene.sizes(alloc, CALLS)?,
         dials(alloc, scene.failing)?,
     );
     Ok(match scene.keeping {

@@ -4,6 +4,7 @@ use crate::scene::Failing::{self, Dial, Read, Write};
 use crate::scene::{Scene, spelt};
 use http_wire::Ended::{self, Cut, PeerEnded, ReadFault, UpstreamCut, WriteFault};
 use std::alloc::Global;
+use std::process::Abort;
 use std::sync::Wait;
 use std::test::Fail;
 
@@ -25,7 +26,7 @@ const WRITTEN: &str =
 
 /// What comes of the request, in calls of at most 40 bytes: how the session ended, what was written
 /// and what was sent.
-fn served<R: Wait>(
+fn served<R: Wait + Abort>(
     rt: &R,
     alloc: Global,
     failing: Failing,

@@ -103,7 +103,7 @@ const ROWS: [Row; 15] = [
         written: "HTTP/1.1 502 Bad Gateway|Content-Type: text/plain|l5d-err: dial|Content-Length: 5||dial~HTTP/1.1 200 OK|Content-Length: 0|Via: 1.1 linkerd||",
         sent: "<GET / HTTP/1.1|Host: web|Via: 1.1 linkerd|l5d-dst-service: /svc/web|l5d-dst-client: /#/io.l5d.fs/web|Connection: close||>",
         ended: PeerEnded,
-        reported: (2, 0),
+        reported: GOOD,
     },
     Row {
         about: "a dial that fails",

@@ -1,7 +1,7 @@
 use Rattle.std.proofs.Common.{subst, sym}
 use Rattle.bind_cache.specs.Stored.{kept_of}
 use Rattle.proxy_session.specs.Callers.{caller_of}
-use Rattle.proxy_session.specs.Found.{ReturnsSome}
+use Rattle.proxy_session.specs.AskAnswers.{ReturnsSome}
 use Rattle.proxy_session.proofs.Calling.{returns_it, saw_more}
 use Rattle.proxy_session.proofs.asking.give_back.Goals as goal
 

@@ -6,7 +6,7 @@ use Rattle.proxy_session.proofs.asking.pick.Goals as goal
 pub returns-in-Ok-Some-clause-said : goal.returns-in-Ok-Some-clause-said
 returns-in-Ok-Some-clause-said g c =
     picks_since g.J.Naming.settings (caller_of c.args.pass.now) (caller_of c.asking.pass)
-    (caller_of c.pick_once.new.pass) (ask_of c.args.ask.now) c.in-Ok-Some.picked
+    (caller_of c.pick_once.new.pass) (ask_of c.args.ask.now) c.in-Ok-Some.answer
     c.asking.invariant
     (rw c.in-Ok-Some.field-0-is at c.in-Ok-Some.ensures.said)
 

@@ -1,7 +1,7 @@
 use Rattle.std.proofs.Common.{subst, sym}
 use Rattle.machine.specs.Code.{ask_of}
 use Rattle.proxy_session.specs.Callers.{caller_of}
-use Rattle.proxy_session.specs.Found.{PicksOnce}
+use Rattle.proxy_session.specs.AskAnswers.{PicksOnce}
 use Rattle.proxy_session.proofs.Calling.{picks_once, stops_pick}
 use Rattle.proxy_session.proofs.asking.pick_once.Goals as goal
 

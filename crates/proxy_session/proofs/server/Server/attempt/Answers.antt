@@ -12,7 +12,7 @@ use Rattle.proxy_session.proofs.server.Server.attempt.Goals as goal
 pub send_found-requires-clause-word : goal.send_found-requires-clause-word
 send_found-requires-clause-word g c =
     let f = c.in-Ok.ensures.ok in
-    word_found f.0 c.find.new.names c.in-Ok.asked.found f.2
+    word_found f.0 c.find.new.names c.in-Ok.asked.pick f.2
     (finding_word g.J.Naming.settings (caller_of c.args.self.now.pass) (caller_of c.find.new.pass)
     (ask_of c.args.request.now.ask) f.0 f.1)
 
@@ -47,7 +47,7 @@ returns-in-Ok-clause-asks g c =
       closes = ap not c.keeps.ensures;
     }) (caller_of c.find.new.pass)
     c.args.connection.now.budget c.send_found.new.connection.budget refl refl
-    f.0 c.find.new.names c.in-Ok.asked.found c.send_found.result.how c.send_found.result.done f.1
+    f.0 c.find.new.names c.in-Ok.asked.pick c.send_found.result.how c.send_found.result.done f.1
     f.2 f.3 c.send_found.ensures.words c.send_found.ensures.sends
 
 pub returns-in-Err-clause-asks : goal.returns-in-Err-clause-asks

@@ -14,12 +14,12 @@ use Rattle.router.specs.Chosen.{IsPermitted}
 use Rattle.router.specs.Loads.{MayHaveRead}
 use Rattle.router.specs.Picked.{IsFresh}
 use Rattle.router_log.specs.Value.{value_of}
-use Rattle.proxy_session.specs.declared.asking.Found.{Found}
-use Rattle.proxy_session.specs.declared.asking.Found.TheVariants as found
-use Rattle.proxy_session.specs.declared.asking.Picked.{Picked}
-use Rattle.proxy_session.specs.declared.asking.Picked.TheVariants as picked
-use Rattle.proxy_session.specs.declared.asking.Seen.{Seen}
-use Rattle.proxy_session.specs.declared.asking.Seen.TheVariants as seen
+use Rattle.proxy_session.specs.declared.asking.ReplicaPick.{ReplicaPick}
+use Rattle.proxy_session.specs.declared.asking.ReplicaPick.TheVariants as pick
+use Rattle.proxy_session.specs.declared.asking.AdmittedAnswer.{AdmittedAnswer}
+use Rattle.proxy_session.specs.declared.asking.AdmittedAnswer.TheVariants as admitted
+use Rattle.proxy_session.specs.declared.asking.AdmittedPeek.{AdmittedPeek}
+use Rattle.proxy_session.specs.declared.asking.AdmittedPeek.TheVariants as peeked
 use Rattle.proxy_session.specs.declared.asking.Texts.{Texts}
 use Rattle.proxy_session.specs.declared.asking.Texts.TheVariants as texts
 use Rattle.proxy_session.specs.Callers.{Caller, Asks, Misses, Finds, Returns}
@@ -40,43 +40,43 @@ pub record IsReplica (r : Replica) (choice : Choice) (client residual : List ℕ
   pub client_is : client ≡ canon_path r.client
   pub residual_is : residual ≡ canon_path r.residual
 
-abbrev pub Says : PickValue → Names → Found → Type 0
-Says (replica r) names (found.Replica choice texts) =
+abbrev pub Says : PickValue → Names → ReplicaPick → Type 0
+Says (replica r) names (pick.Replica choice texts) =
     IsReplica r choice (client_in names texts) (residual_in names texts)
-Says (none why) names (found.None other) = other ≡ why
+Says (none why) names (pick.None other) = other ≡ why
 Says _ names _ = ⊥
 
 -- what one ask saw of what is kept
-abbrev pub Sees : SettingsValue → Caller → Caller → AskValue → Names → Seen → Type 0
-Sees settings old new ask names (seen.Hit choice) =
+abbrev pub Sees : SettingsValue → Caller → Caller → AskValue → Names → AdmittedPeek → Type 0
+Sees settings old new ask names (peeked.Hit choice) =
     (r : Replica) × Finds settings old new ask true (replica r)
     × IsReplica r choice (client_text names) (residual_text names)
-Sees settings old new ask names (seen.None why) = Finds settings old new ask true (none why)
-Sees settings old new ask names seen.Miss = Misses settings old new ask
+Sees settings old new ask names (peeked.None why) = Finds settings old new ask true (none why)
+Sees settings old new ask names peeked.Miss = Misses settings old new ask
 
 -- what an answer says, where the pass was let in
-abbrev pub picked_of : Answer → Option Picked
+abbrev pub picked_of : Answer → Option AdmittedAnswer
 picked_of (answer.Picked choice client residual fresh) =
-    Some (picked.Replica choice client residual fresh)
-picked_of (answer.None why place fresh) = Some (picked.None why fresh)
+    Some (admitted.Replica choice client residual fresh)
+picked_of (answer.None why place fresh) = Some (admitted.None why fresh)
 picked_of answer.NoEntry = None
 
-abbrev pub said_in : Picked → PickValue
-said_in (picked.Replica choice client residual fresh) = replica (record {
+abbrev pub said_in : AdmittedAnswer → PickValue
+said_in (admitted.Replica choice client residual fresh) = replica (record {
   addr = choice.addr;
   slot = choice.slot;
   client = client;
   residual = residual;
 })
-said_in (picked.None why fresh) = none why
+said_in (admitted.None why fresh) = none why
 
-abbrev pub fresh_in : Picked → Option Binding
-fresh_in (picked.Replica choice client residual fresh) = fresh
-fresh_in (picked.None why fresh) = fresh
+abbrev pub fresh_in : AdmittedAnswer → Option Binding
+fresh_in (admitted.Replica choice client residual fresh) = fresh
+fresh_in (admitted.None why fresh) = fresh
 
 -- what a second ask was answered
 pub record Picks
-    (settings : SettingsValue) (old new : Caller) (ask : AskValue) (p : Picked)
+    (settings : SettingsValue) (old new : Caller) (ask : AskValue) (p : AdmittedAnswer)
     : Type 0 where
   pub asks : Asks settings old new ask
   pub loads : ℕ × ℕ
@@ -85,7 +85,7 @@ pub record Picks
       (said_in p)
   pub fresh : IsFresh settings (value_of settings new.seen) ask (fresh_in p)
 
-abbrev pub PicksOnce : SettingsValue → Caller → Caller → AskValue → Option Picked → Type 0
+abbrev pub PicksOnce : SettingsValue → Caller → Caller → AskValue → Option AdmittedAnswer → Type 0
 PicksOnce settings old new ask None = new ≡ old
 PicksOnce settings old new ask (Some p) = Picks settings old new ask p
 
