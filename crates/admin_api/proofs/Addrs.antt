@@ -1,5 +1,6 @@
 -- The addresses of a body, by what its reader answers.
-use Rattle.std.proofs.Common.{◌≡◌, ℕ, ◌≤◌, ◌<◌, true, false, List, length, Some, None, Ok, Err, refl, sym, ap, arith}
+use Rattle.std.proofs.Common.{◌≡◌, ℕ, ◌≤◌, ◌<◌, true, false, List, length, Some, None, Ok, Err}
+use Rattle.std.proofs.Common.{refl, sym, ap, arith}
 use Rattle.std.specs.Prelude.{nat_le}
 use Rattle.std.proofs.lemmas.Bool.Decides.{nat_tests}
 use Rattle.addr_book.specs.declared.addr.Weighted.{Weighted}
@@ -13,7 +14,8 @@ small n h = grind (arith, nat_tests)
 large : (n : ℕ) → 1024 < n → nat_le n 1024 ≡ false
 large n h = grind (arith, nat_tests)
 
-kept : (file : File) (list : List Weighted) → IsFileAnswer file (Ok list) → few_addrs file ≡ Some list
+kept : (file : File) (list : List Weighted) → IsFileAnswer file (Ok list)
+    → few_addrs file ≡ Some list
 kept (addrs all) list h = rw (small (length all) h.0) (ap Some (sym h.1))
 kept (bad_at line) list h = absurd h
 
@@ -25,14 +27,17 @@ bad : (file : File) (n : ℕ) → IsFileAnswer file (Err (BadLine n)) → few_ad
 bad (addrs all) n h = absurd h
 bad (bad_at line) n h = refl
 
-pub addrs_known : (text : List ℕ) (list : List Weighted) → IsFileAnswer (file_value text) (Ok list) → addrs_of text ≡ Some list
+pub addrs_known : (text : List ℕ) (list : List Weighted) → IsFileAnswer (file_value text) (Ok list)
+    → addrs_of text ≡ Some list
 unfolding addrs_of
 addrs_known text list h = kept (file_value text) list h
 
-pub addrs_many : (text : List ℕ) (n : ℕ) → IsFileAnswer (file_value text) (Err (TooMany n)) → addrs_of text ≡ None
+pub addrs_many : (text : List ℕ) (n : ℕ) → IsFileAnswer (file_value text) (Err (TooMany n))
+    → addrs_of text ≡ None
 unfolding addrs_of
 addrs_many text n h = many (file_value text) n h
 
-pub addrs_bad : (text : List ℕ) (n : ℕ) → IsFileAnswer (file_value text) (Err (BadLine n)) → addrs_of text ≡ None
+pub addrs_bad : (text : List ℕ) (n : ℕ) → IsFileAnswer (file_value text) (Err (BadLine n))
+    → addrs_of text ≡ None
 unfolding addrs_of
 addrs_bad text n h = bad (file_value text) n h

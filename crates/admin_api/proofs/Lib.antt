@@ -1,9 +1,4 @@
-pub mod Addrs
-pub mod Carrying
-pub mod Crossing
-pub mod Paths
-pub mod Requesting
-pub mod Seeing
+mod Addrs
+mod Paths
+mod Scraped
 pub mod Sounds
-pub mod Staying
-pub mod Turning

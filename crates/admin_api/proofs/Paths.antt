@@ -2,10 +2,10 @@
 use Rattle.std.proofs.Common.{◌≡◌, ℕ, Bool, false, List, Option, ap, refl, sym, ◌∙◌}
 use Rattle.std.specs.Prelude.{bytes_eq, codes}
 use Rattle.http_wire.specs.declared.head.Head.{Head}
-use Rattle.ns_api.specs.declared.verb.Verb.{Verb}
-use Rattle.ns_api.specs.Request.{path_in, segment_behind}
-use Rattle.ns_api.specs.Verbs.{verb_of}
-use Rattle.admin_api.specs.Demand.{AskedValue, admin_demand, asked_of, other, segment_demand}
+use Rattle.api_wire.specs.declared.verb.Verb.{Verb}
+use Rattle.api_wire.specs.Request.{path_in, segment_behind}
+use Rattle.api_wire.specs.Verbs.{verb_of}
+use Rattle.admin_api.specs.Demand.{admin_demand, other, path_demand, segment_demand}
 
 pub last_path : (ready : Bool) (head : Head) (line body : List ℕ) (verb : Option Verb)
     (path : List ℕ) (segment : Option (List ℕ)) → verb ≡ verb_of head.method → path ≡ path_in line
@@ -13,8 +13,8 @@ pub last_path : (ready : Bool) (head : Head) (line body : List ℕ) (verb : Opti
     ≡ false → bytes_eq path (codes "/delegator.json") ≡ false
     → bytes_eq path (codes "/admin/shutdown") ≡ false → bytes_eq path (codes "/admin/ready") ≡ false
     → segment ≡ segment_behind (codes "/api/1/addrs/") path
-    → segment_demand verb segment body ≡ admin_demand ready head line body
-unfolding admin_demand
+    → segment_demand verb segment body ≡ path_demand ready head line body
+unfolding path_demand
 last_path ready head line body verb path segment v p t1 t2 t3 t4 t5 s =
     let e1 : bytes_eq (path_in line) (codes "/admin/ping") ≡ false =
     ap (λ (x : List ℕ). bytes_eq x (codes "/admin/ping")) (sym p) ∙ t1 in
@@ -32,8 +32,8 @@ last_path ready head line body verb path segment v p t1 t2 t3 t4 t5 s =
 
 pub other_path : (ready : Bool) (head : Head) (line body path : List ℕ) → path ≡ path_in line
     → bytes_eq path (codes "/admin/metrics/prometheus") ≡ false
-    → other (admin_demand ready head line body) ≡ asked_of ready head line body
-unfolding asked_of
+    → other (path_demand ready head line body) ≡ admin_demand ready head line body
+unfolding admin_demand
 other_path ready head line body path p test =
     let t : bytes_eq (path_in line) (codes "/admin/metrics/prometheus") ≡ false =
     ap (λ (x : List ℕ). bytes_eq x (codes "/admin/metrics/prometheus")) (sym p) ∙ test in

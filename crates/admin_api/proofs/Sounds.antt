@@ -7,17 +7,17 @@ use Rattle.addr_book.specs.declared.addr.Weighted.{Weighted}
 use Rattle.delegate_view.specs.Query.{view_asked}
 use Rattle.http_wire.specs.declared.head.Head.{Head}
 use Rattle.machine.specs.Values.{count_all}
-use Rattle.ns_api.specs.declared.verb.Methods.TheVariants.{Reads}
-use Rattle.ns_api.specs.declared.verb.Verb.{Verb}
-use Rattle.ns_api.specs.declared.verb.Verb.TheVariants.{Get, Head as HeadVerb, Post, Put, Delete}
-use Rattle.ns_api.specs.Demand.{DemandValue, IsSoundDemand, answer, ask, stop, not_allowed}
+use Rattle.api_wire.specs.declared.verb.Methods.TheVariants.{Reads}
+use Rattle.api_wire.specs.declared.verb.Verb.{Verb}
+use Rattle.api_wire.specs.declared.verb.Verb.TheVariants.{Get, Head as HeadVerb, Post, Put, Delete}
+use Rattle.api_wire.specs.Demand.{DemandValue, IsSoundDemand, answer, ask, stop}
 use Rattle.addr_book.specs.Name.{name_of}
-use Rattle.ns_api.specs.Request.{path_in, query_in, segment_behind}
-use Rattle.ns_api.specs.Verbs.{verb_of}
-use Rattle.admin_api.specs.Demand.{addrs_asked, addrs_of, admin_demand, bye, is_read, named_asked}
-use Rattle.admin_api.specs.Demand.{pong, posted, readiness, segment_demand, service_demand}
-use Rattle.admin_api.specs.Answering.{IsSoundAsked}
-use Rattle.admin_api.specs.Demand.{AskedValue, asked_of, metrics, other, set_demand}
+use Rattle.api_wire.specs.Request.{path_in, query_in, segment_behind}
+use Rattle.api_wire.specs.Response.{not_allowed}
+use Rattle.api_wire.specs.Verbs.{verb_of}
+use Rattle.admin_api.specs.Demand.{AdminValue, IsSoundAdmin, addrs_asked, addrs_of, admin_demand}
+use Rattle.admin_api.specs.Demand.{bye, is_read, metrics, named_asked, other, path_demand, pong}
+use Rattle.admin_api.specs.Demand.{posted, readiness, segment_demand, service_demand, set_demand}
 use Rattle.admin_api.specs.Demand.{shown, view_demand}
 
 one_of : (b : Bool) (d e : DemandValue) → IsSoundDemand d → IsSoundDemand e
@@ -71,10 +71,10 @@ segment_sound : (verb : Option Verb) (segment : Option (List ℕ)) (body : List 
 segment_sound verb None body = tt
 segment_sound verb (Some segment) body = service_sound verb segment body
 
-pub admin_sound : (ready : Bool) (head : Head) (line body : List ℕ)
-    → IsSoundDemand (admin_demand ready head line body)
-unfolding admin_demand
-admin_sound ready head line body =
+path_sound : (ready : Bool) (head : Head) (line body : List ℕ)
+    → IsSoundDemand (path_demand ready head line body)
+unfolding path_demand
+path_sound ready head line body =
     let verb = verb_of head.method in
     one_of (bytes_eq (path_in line) (codes "/admin/ping")) _ _ (shown_sound (answer pong) verb tt)
     (one_of (bytes_eq (path_in line) (codes "/admin/metrics.json")) _ _
@@ -87,15 +87,16 @@ admin_sound ready head line body =
     (shown_sound (answer (readiness ready)) verb tt)
     (segment_sound verb (segment_behind (codes "/api/1/addrs/") (path_in line)) body)))))
 
-one_asked : (b : Bool) (x y : AskedValue) → IsSoundAsked x → IsSoundAsked y
-    → IsSoundAsked (if b then x else y)
-one_asked true x y h k = h
-one_asked false x y h k = k
+one_demand : (b : Bool) (x y : AdminValue) → IsSoundAdmin x → IsSoundAdmin y
+    → IsSoundAdmin (if b then x else y)
+one_demand true x y h k = h
+one_demand false x y h k = k
 
-pub request_sound : (ready : Bool) (head : Head) (line body : List ℕ)
-    → IsSoundAsked (asked_of ready head line body)
-unfolding asked_of
-request_sound ready head line body =
-    one_asked (bytes_eq (path_in line) (codes "/admin/metrics/prometheus")) _ _
-    (one_asked (is_read (verb_of head.method)) metrics (other (answer (not_allowed Reads))) tt tt)
-    (admin_sound ready head line body)
+-- whatever is asked for, the tables that it brings in are sound
+pub admin_sound : (ready : Bool) (head : Head) (line body : List ℕ)
+    → IsSoundAdmin (admin_demand ready head line body)
+unfolding admin_demand
+admin_sound ready head line body =
+    one_demand (bytes_eq (path_in line) (codes "/admin/metrics/prometheus")) _ _
+    (one_demand (is_read (verb_of head.method)) metrics (other (answer (not_allowed Reads))) tt tt)
+    (path_sound ready head line body)

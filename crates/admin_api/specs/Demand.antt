@@ -6,21 +6,20 @@ use Rattle.dtab_table.specs.Rules.{Rule}
 use Rattle.addr_book.specs.declared.addr.Weighted.{Weighted}
 use Rattle.addr_book.specs.AddrFile.{File, addrs, bad_at, file_value}
 use Rattle.addr_book.specs.AddrList.{first_places}
+use Rattle.addr_book.specs.Name.{name_of}
 use Rattle.delegate_view.specs.Query.{view_asked}
 use Rattle.http_wire.specs.declared.head.Head.{Head}
 use Rattle.machine.specs.Values.{set_addrs, drop_service, get_addrs, count_all, view}
-use Rattle.ns_api.specs.declared.response.Status.TheVariants as status
-use Rattle.ns_api.specs.declared.verb.Methods.TheVariants.{Reads, Services, Posts}
-use Rattle.ns_api.specs.declared.verb.Verb.{Verb}
-use Rattle.ns_api.specs.declared.verb.Verb.TheVariants as verbs
-use Rattle.ns_api.specs.Demand.{DemandValue, answer, stop, alter, ask, no_path, not_allowed}
-use Rattle.ns_api.specs.Demand.{bad_name, demand_value}
-use Rattle.addr_book.specs.Name.{name_of}
-use Rattle.ns_api.specs.Request.{path_in, query_in, segment_behind}
-use Rattle.ns_api.specs.Response.{ResponseValue, plain}
-use Rattle.ns_api.specs.Verbs.{verb_of}
-use Rattle.admin_api.specs.declared.demand.Asked.{Asked}
-use Rattle.admin_api.specs.declared.demand.Asked.TheVariants as asked
+use Rattle.api_wire.specs.declared.verb.Methods.TheVariants.{Reads, Services, Posts}
+use Rattle.api_wire.specs.declared.verb.Verb.{Verb}
+use Rattle.api_wire.specs.declared.verb.Verb.TheVariants as verbs
+use Rattle.api_wire.specs.Demand.{DemandValue, IsSoundDemand, answer, stop, alter, ask}
+use Rattle.api_wire.specs.Demand.{demand_value}
+use Rattle.api_wire.specs.Request.{path_in, query_in, segment_behind}
+use Rattle.api_wire.specs.Response.{ResponseValue, bad_name, no_path, not_allowed, plain}
+use Rattle.api_wire.specs.Verbs.{verb_of}
+use Rattle.admin_api.specs.declared.demand.AdminDemand.{AdminDemand}
+use Rattle.admin_api.specs.declared.demand.AdminDemand.TheVariants as demand
 
 -- the addresses of a file, each once, at its first place; nothing where a line is bad or they are
 -- too many
@@ -33,22 +32,22 @@ addrs_of text = few_addrs (file_value text)
 
 -- the body is no list of addresses
 abbrev pub bad_addrs : ResponseValue
-bad_addrs = plain status.BadRequest None (codes "addrs")
+bad_addrs = plain 400 None (codes "addrs")
 
 -- the query asks for no view
 abbrev pub bad_view : ResponseValue
-bad_view = plain status.BadRequest None (codes "view")
+bad_view = plain 400 None (codes "view")
 
 abbrev pub pong : ResponseValue
-pong = plain status.Success None (codes "pong")
+pong = plain 200 None (codes "pong")
 
 abbrev pub bye : ResponseValue
-bye = plain status.Success None (codes "bye")
+bye = plain 200 None (codes "bye")
 
 -- whether more connections are to be sent here
 abbrev pub readiness : Bool → ResponseValue
-readiness true = plain status.Success None (codes "ready")
-readiness false = plain status.ServiceUnavailable None (codes "not-ready")
+readiness true = plain 200 None (codes "ready")
+readiness false = plain 503 None (codes "not-ready")
 
 -- a method that shows something
 abbrev pub is_read : Option Verb → Bool
@@ -103,8 +102,8 @@ segment_demand verb (Some segment) body = service_demand verb segment body
 -- What a request for another path than that of the metrics asks for, by whether the admin
 -- interface is ready, the request's head, the target that goes on, and its body. The tests come in
 -- the order path, method, name, body, and then the state
-unfoldable pub admin_demand : Bool → Head → List ℕ → List ℕ → DemandValue
-admin_demand ready head line body =
+unfoldable pub path_demand : Bool → Head → List ℕ → List ℕ → DemandValue
+path_demand ready head line body =
     if bytes_eq (path_in line) (codes "/admin/ping") then shown (answer pong) (verb_of head.method)
     else if bytes_eq (path_in line) (codes "/admin/metrics.json")
     then shown (ask count_all) (verb_of head.method)
@@ -118,24 +117,29 @@ admin_demand ready head line body =
     (segment_behind (codes "/api/1/addrs/") (path_in line)) body
 
 -- what a request of the admin interface asks for
-pub data AskedValue : Type 0 where
+pub data AdminValue : Type 0 where
   -- the text of all metrics
-  metrics : AskedValue
+  metrics : AdminValue
   -- what the router alone answers
-  other : DemandValue → AskedValue
+  other : DemandValue → AdminValue
 
--- what the code's say
-abbrev pub asked_value : Asked → AskedValue
-asked_value asked.Metrics = metrics
-asked_value (asked.Other demand) = other (demand_value demand)
+-- what the code's demands say
+abbrev pub admin_value : AdminDemand → AdminValue
+admin_value demand.Metrics = metrics
+admin_value (demand.Other d) = other (demand_value d)
+
+-- the tables that it brings in are sound
+abbrev pub IsSoundAdmin : AdminValue → Type 0
+IsSoundAdmin metrics = Unit {0}
+IsSoundAdmin (other d) = IsSoundDemand d
 
 -- what the metrics are asked for
-abbrev pub metrics_asked : Option Verb → AskedValue
-metrics_asked verb = if is_read verb then metrics else other (answer (not_allowed Reads))
+abbrev pub metrics_demand : Option Verb → AdminValue
+metrics_demand verb = if is_read verb then metrics else other (answer (not_allowed Reads))
 
 -- What a request of the admin interface asks for, by the same
-unfoldable pub asked_of : Bool → Head → List ℕ → List ℕ → AskedValue
-asked_of ready head line body =
+unfoldable pub admin_demand : Bool → Head → List ℕ → List ℕ → AdminValue
+admin_demand ready head line body =
     if bytes_eq (path_in line) (codes "/admin/metrics/prometheus")
-    then metrics_asked (verb_of head.method)
-    else other (admin_demand ready head line body)
+    then metrics_demand (verb_of head.method)
+    else other (path_demand ready head line body)

@@ -1,10 +1,2 @@
-pub mod Answering
-pub mod Codes
 pub mod Demand
-pub mod Laws
 pub mod Metrics
-pub mod Reading
-pub mod Requests
-pub mod Serving
-pub mod Stays
-pub mod Workers

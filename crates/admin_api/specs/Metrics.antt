@@ -5,9 +5,8 @@ use Rattle.machine.specs.Values.{ReplyValue, services}
 use Rattle.metrics_text.specs.declared.counts.Counts.{Counts}
 use Rattle.metrics_text.specs.declared.service.ServiceCounts.{ServiceCounts}
 use Rattle.metrics_text.specs.Metrics.{metrics_text}
-use Rattle.ns_api.specs.declared.response.Media.TheVariants as media
-use Rattle.ns_api.specs.declared.response.Status.TheVariants as status
-use Rattle.ns_api.specs.Response.{ResponseValue, filled}
+use Rattle.api_wire.specs.declared.response.Media.TheVariants as media
+use Rattle.api_wire.specs.Response.{ResponseValue, filled}
 use Rattle.scrape.specs.Counts.{counts_by}
 use Rattle.scrape.specs.declared.counts.State.{State}
 use Rattle.scrape.specs.declared.sums.Sums.{Sums}
@@ -29,16 +28,31 @@ pub record IsTextOf (counts : Counts) (list : List ServiceState) (text : List �
 abbrev pub sum_at : Sums → ℕ → ℕ
 sum_at sums place = slice_index_or sums.counts place 0
 
--- the four numbers of the state
-abbrev pub state_of : ℕ → ℕ → ℕ → ℕ → State
-state_of changes marks spaces served =
-    record { changes = changes; marks = marks; namespaces = spaces; services = served }
+-- the numbers of the state
+abbrev pub state_of : ℕ → ℕ → ℕ → ℕ → ℕ → ℕ → State
+state_of changes marks spaces written served kept = record {
+  changes = changes;
+  tables_written = written;
+  marks = marks;
+  namespaces = spaces;
+  services = served;
+  kept = kept;
+}
 
--- the text by a look at the services, which is replied by the first of these alone, and by sums
-abbrev pub IsMetricsBody : ReplyValue → Sums → List ℕ → Type 0
-IsMetricsBody (services changes marks spaces list) sums text =
-    IsTextOf (counts_by (sum_at sums) (state_of changes marks spaces (length list))) list text
-IsMetricsBody _ sums text = text ≡ []
+-- the text by a look at the services, which is replied by the first of these alone, by how many
+-- delegations were kept then, and by sums
+abbrev pub IsMetricsBody : ReplyValue → ℕ → Sums → List ℕ → Type 0
+IsMetricsBody (services changes marks spaces written list) kept sums text =
+    IsTextOf (counts_by (sum_at sums) (state_of changes marks spaces written (length list) kept))
+    list text
+IsMetricsBody _ kept sums text = text ≡ []
 
 abbrev pub metrics_response : List ℕ → ResponseValue
-metrics_response text = filled status.Success None media.Metrics text
+metrics_response text = filled 200 None media.Metrics text
+
+-- the response with that text
+pub record TellsMetrics (said : ReplyValue) (kept : ℕ) (sums : Sums) (response : ResponseValue)
+    : Type 0 where
+  pub text : List ℕ
+  pub body : IsMetricsBody said kept sums text
+  pub is : response ≡ metrics_response text

@@ -1,72 +1,71 @@
 //! What requests of the admin interface ask for.
-ghost use Rattle.std.specs.Prelude.{◌≡◌, IfOk, None};
+ghost use Rattle.std.specs.Prelude.{◌≡◌, IfOk};
 ghost use Rattle.std.specs.Option.{option_copied};
 ghost use Rattle.delegate_view.specs.Query.{view_asked};
 ghost use Rattle.machine.specs.Values.{count_all};
-ghost use Rattle.ns_api.specs.Demand.{answer, ask, demand_value, stop};
 ghost use Rattle.addr_book.specs.Name.{name_of};
-ghost use Rattle.ns_api.specs.Response.{plain};
-ghost use Rattle.admin_api.specs.Demand.{addrs_asked, addrs_of, admin_demand, asked_of};
-ghost use Rattle.admin_api.specs.Demand.{asked_value, bye, is_read, metrics_asked, named_asked};
+ghost use Rattle.api_wire.specs.Demand.{answer, ask, demand_value, stop};
+ghost use Rattle.admin_api.specs.Demand.{addrs_asked, addrs_of, admin_demand, admin_value};
+ghost use Rattle.admin_api.specs.Demand.{bye, is_read, metrics_demand, named_asked, path_demand};
 ghost use Rattle.admin_api.specs.Demand.{pong, posted, readiness, segment_demand, service_demand};
 ghost use Rattle.admin_api.specs.Demand.{set_demand, shown, view_demand};
 
 use crate::Mem;
 use addr_book::{AddrFault, Name, NameFault, read_addrs};
+use api_wire::{
+    Demand, Methods, Response, Verb, is_path, path_in, query_in, read_name, segment_behind, verb_of,
+};
 use delegate_view::{ViewFault, view_ask};
+use http::StatusCode;
 use http_wire::Head;
 use machine::{Change, Look};
-use ns_api::{
-    Demand, Methods, Response, Status, Verb, bad_name, is_path, no_path, not_allowed, path_in,
-    query_in, read_name, segment_behind, verb_of,
-};
 use std::alloc::{AllocError, Global};
 
-/// What a request of the admin interface asks for.
+/// What a request of the admin interface asks for. `admin_value` is how contracts see it.
 #[derive(Debug, Drop)]
-pub(crate) enum Asked {
+pub enum AdminDemand {
     /// The text of all metrics.
     Metrics,
     /// What the router alone answers.
     Other(Demand),
 }
 
-/// What a request of the admin interface asks for, by whether that is ready, the request's head,
-/// the target that goes on, and its body.
-#[tactic(auto, unfolding(crate::specs::Demand::asked_of))]
-pub(crate) fn asked_of(
+/// What a request of the admin interface asks for, by whether the program is `ready` for more
+/// connections, the request's head, the target that goes on, and its body.
+#[tactic(auto, unfolding(crate::specs::Demand::admin_demand))]
+pub fn admin_demand(
     alloc: Global,
     ready: bool,
     head: &Head,
     line: &[u8],
     body: &[u8],
-) -> Mem<Asked>
-    ensures { IfOk result (λ asked. asked_value asked
-        ≡ asked_of ready head.now line.now body.now) }
+) -> Mem<AdminDemand>
+    ensures { IfOk result (λ demand. admin_value demand
+        ≡ admin_demand ready head.now line.now body.now) }
 {
     if is_path(path_in(line), b"/admin/metrics/prometheus") {
-        return metrics_asked(alloc, verb_of(&head.method));
+        return metrics_demand(alloc, verb_of(&head.method));
     }
-    let demand = admin_demand(alloc, ready, head, line, body)?;
-    Ok(Asked::Other(demand))
+    let demand = path_demand(alloc, ready, head, line, body)?;
+    Ok(AdminDemand::Other(demand))
 }
 
 /// What the metrics are asked for.
-fn metrics_asked(alloc: Global, verb: Option<Verb>) -> Mem<Asked>
-    ensures { IfOk result (λ asked. asked_value asked ≡ metrics_asked verb) }
+fn metrics_demand(alloc: Global, verb: Option<Verb>) -> Mem<AdminDemand>
+    ensures { IfOk result (λ demand. admin_value demand ≡ metrics_demand verb) }
 {
     if is_read(verb) {
-        return Ok(Asked::Metrics);
+        return Ok(AdminDemand::Metrics);
     }
-    let demand = not_allowed(alloc, Methods::Reads)?;
-    Ok(Asked::Other(demand))
+    let demand = Demand::not_allowed(alloc, Methods::Reads)?;
+    Ok(AdminDemand::Other(demand))
 }
 
 /// What a request for another path than that of the metrics asks for.
-#[tactic(auto, unfolding(crate::specs::Demand::admin_demand))]
-fn admin_demand(alloc: Global, ready: bool, head: &Head, line: &[u8], body: &[u8]) -> Mem<Demand>
+#[tactic(auto, unfolding(crate::specs::Demand::path_demand))]
+fn path_demand(alloc: Global, ready: bool, head: &Head, line: &[u8], body: &[u8]) -> Mem<Demand>
     ensures { IfOk result (λ demand. demand_value demand
-        ≡ admin_demand ready head.now line.now body.now) }
+        ≡ path_demand ready head.now line.now body.now) }
 {
     let path = path_in(line);
     let verb = verb_of(&head.method);
@@ -102,21 +101,14 @@ fn is_read(verb: Option<Verb>) -> bool
     }
 }
 
-/// A response that says a word.
-fn say(alloc: Global, status: Status, word: &str) -> Mem<Demand>
-    ensures { IfOk result (λ demand. demand_value demand ≡ answer (plain status None word.now)) }
-{
-    Ok(Demand::Answer(Response::word(alloc, status, None, word)?))
-}
-
 /// What the path that shows that the program runs is asked for.
 fn ping_demand(alloc: Global, verb: Option<Verb>) -> Mem<Demand>
     ensures { IfOk result (λ demand. demand_value demand ≡ shown (answer pong) verb) }
 {
     if is_read(verb) {
-        say(alloc, Status::Success, "pong")
+        Demand::word(alloc, StatusCode::OK, "pong")
     } else {
-        not_allowed(alloc, Methods::Reads)
+        Demand::not_allowed(alloc, Methods::Reads)
     }
 }
 
@@ -126,12 +118,12 @@ fn ready_demand(alloc: Global, ready: bool, verb: Option<Verb>) -> Mem<Demand>
         ≡ shown (answer (readiness ready)) verb) }
 {
     if !is_read(verb) {
-        return not_allowed(alloc, Methods::Reads);
+        return Demand::not_allowed(alloc, Methods::Reads);
     }
     if ready {
-        say(alloc, Status::Success, "ready")
+        Demand::word(alloc, StatusCode::OK, "ready")
     } else {
-        say(alloc, Status::ServiceUnavailable, "not-ready")
+        Demand::word(alloc, StatusCode::SERVICE_UNAVAILABLE, "not-ready")
     }
 }
 
@@ -142,7 +134,7 @@ fn counts_demand(alloc: Global, verb: Option<Verb>) -> Mem<Demand>
     if is_read(verb) {
         Ok(Demand::Look(Look::Counts))
     } else {
-        not_allowed(alloc, Methods::Reads)
+        Demand::not_allowed(alloc, Methods::Reads)
     }
 }
 
@@ -154,7 +146,7 @@ fn delegator_demand(alloc: Global, verb: Option<Verb>, query: &[u8]) -> Mem<Dema
     if is_read(verb) {
         view_demand(alloc, query)
     } else {
-        not_allowed(alloc, Methods::Reads)
+        Demand::not_allowed(alloc, Methods::Reads)
     }
 }
 
@@ -164,7 +156,7 @@ fn view_demand(alloc: Global, query: &[u8]) -> Mem<Demand>
 {
     match view_ask(alloc, query) {
         Ok((path, local)) => Ok(Demand::Look(Look::View { path, local })),
-        Err(ViewFault::BadView) => say(alloc, Status::BadRequest, "view"),
+        Err(ViewFault::BadView) => Demand::word(alloc, StatusCode::BAD_REQUEST, "view"),
         Err(ViewFault::OutOfMemory) => Err(AllocError),
     }
 }
@@ -174,12 +166,12 @@ fn shutdown_demand(alloc: Global, verb: Option<Verb>) -> Mem<Demand>
     ensures { IfOk result (λ demand. demand_value demand ≡ posted (stop bye) verb) }
 {
     match verb {
-        Some(Verb::Post) => Ok(Demand::Stop(Response::word(alloc, Status::Success, None, "bye")?)),
-        Some(Verb::Get) => not_allowed(alloc, Methods::Posts),
-        Some(Verb::Head) => not_allowed(alloc, Methods::Posts),
-        Some(Verb::Put) => not_allowed(alloc, Methods::Posts),
-        Some(Verb::Delete) => not_allowed(alloc, Methods::Posts),
-        None => not_allowed(alloc, Methods::Posts),
+        Some(Verb::Post) => Ok(Demand::Stop(Response::word(alloc, StatusCode::OK, None, "bye")?)),
+        Some(Verb::Get) => Demand::not_allowed(alloc, Methods::Posts),
+        Some(Verb::Head) => Demand::not_allowed(alloc, Methods::Posts),
+        Some(Verb::Put) => Demand::not_allowed(alloc, Methods::Posts),
+        Some(Verb::Delete) => Demand::not_allowed(alloc, Methods::Posts),
+        None => Demand::not_allowed(alloc, Methods::Posts),
     }
 }
 
@@ -194,7 +186,7 @@ fn segment_demand(
         ≡ segment_demand verb (option_copied segment.entry) body.now) }
 {
     match segment {
-        None => no_path(alloc),
+        None => Demand::no_path(alloc),
         Some(segment) => service_demand(alloc, verb, segment, body),
     }
 }
@@ -209,8 +201,8 @@ fn service_demand(alloc: Global, verb: Option<Verb>, segment: &[u8], body: &[u8]
         Some(Verb::Head) => named_asked(alloc, Verb::Head, segment, body),
         Some(Verb::Put) => named_asked(alloc, Verb::Put, segment, body),
         Some(Verb::Delete) => named_asked(alloc, Verb::Delete, segment, body),
-        Some(Verb::Post) => not_allowed(alloc, Methods::Services),
-        None => not_allowed(alloc, Methods::Services),
+        Some(Verb::Post) => Demand::not_allowed(alloc, Methods::Services),
+        None => Demand::not_allowed(alloc, Methods::Services),
     }
 }
 
@@ -221,7 +213,7 @@ fn named_asked(alloc: Global, verb: Verb, segment: &[u8], body: &[u8]) -> Mem<De
 {
     match read_name(alloc, segment) {
         Ok(name) => addrs_asked(alloc, verb, name, body),
-        Err(NameFault::NotName) => bad_name(alloc),
+        Err(NameFault::NotName) => Demand::bad_name(alloc),
         Err(NameFault::OutOfMemory) => Err(AllocError),
     }
 }
@@ -235,7 +227,7 @@ fn addrs_asked(alloc: Global, verb: Verb, name: Name, body: &[u8]) -> Mem<Demand
         Verb::Head => Ok(Demand::Look(Look::Addrs { service: name })),
         Verb::Put => set_demand(alloc, name, body),
         Verb::Delete => Ok(Demand::Change(Change::DropService { service: name })),
-        Verb::Post => not_allowed(alloc, Methods::Services),
+        Verb::Post => Demand::not_allowed(alloc, Methods::Services),
     }
 }
 
@@ -248,8 +240,8 @@ fn set_demand(alloc: Global, name: Name, body: &[u8]) -> Mem<Demand>
             service: name,
             list,
         })),
-        Err(AddrFault::BadLine(_line)) => say(alloc, Status::BadRequest, "addrs"),
-        Err(AddrFault::TooMany(_count)) => say(alloc, Status::BadRequest, "addrs"),
+        Err(AddrFault::BadLine(_line)) => Demand::word(alloc, StatusCode::BAD_REQUEST, "addrs"),
+        Err(AddrFault::TooMany(_count)) => Demand::word(alloc, StatusCode::BAD_REQUEST, "addrs"),
         Err(AddrFault::OutOfMemory) => Err(AllocError),
     }
 }

@@ -1,78 +1,33 @@
-//! The admin interface: the addresses of services, the delegator, counts, and the end of the
-//! program, over HTTP; and the connections of all interfaces.
+//! The admin interface: what a request for the addresses of services, the delegator, counts and
+//! metrics, or the end of the program asks for.
 //!
-//! [`admin_answer`] answers a request, in the way of [`ns_answer`](ns_api::ns_answer).
-//!
-//! A worker serves a connection of an interface ([`Which`]) while it has something to say
-//! ([`IdleCaller::serve`]): it reads its requests, answers each by `ns_answer`, `admin_answer` or
-//! [`feed_answer`](follow_feed::feed_answer), and stops the program behind the reply to a shutdown.
-//! Where no byte of a next request comes for a while, it leaves the connection to wait: as a value,
-//! with a [`Ticket`](router::Ticket) of what its pass had seen. Any other worker of the interfaces
-//! goes on with it. So a caller that keeps its connection, as a scraper of metrics does, holds no
-//! worker. `docs/API.md` has each path with its answers.
+//! [`admin_demand`] reads a request. What it asks for is a [`Demand`](api_wire::Demand) on the
+//! router, or the text of all metrics ([`AdminDemand`]). [`metrics_response`] writes that text, by
+//! what a look at the services told and by what the workers count ([`Sums`](scrape::Sums)).
+//! `api_sessions` carries all out; `docs/API.md` has each path with its answers.
 //!
 //! # What is proved
 //! What a request asks for is a function of its head, the target that goes on, and its body, and of
-//! whether the program is ready for more connections: `asked_of` of `specs/Demand.antt`.
-//! [`admin_answer`] makes exactly the one change or look, or none, and answers the bytes of the
-//! response to the reply that the router's state gives at that call's point; the reply says that
-//! the program is to stop exactly where the request asked for that. Where there was no memory, what
-//! was asked for was done, or nothing was.
-//!
-//! The metrics are the text ([`metrics_text`]) of the state at one point of the history, which is
-//! not before what the caller had seen, with each service's live addresses at a moment of the
-//! scraper's clock, and of the sums of what the scraper found in the workers' words, each read once
-//! (`IsScraped` of `specs/Answering.antt`). For no other request the scraper is asked.
-//!
-//! A connection is served for a stay as `specs/Serving.antt` says, over any cutting of its bytes
-//! and every failing call: the requests that its bytes begin with have their replies, in order, up
-//! to the one that closes; then it ends by what the bytes show, or where a call failed; or it
-//! waits, and nothing of a further request was read. The stop was called exactly where all of a
-//! shutdown's reply was written.
-//!
-//! A read gave the end, and a read or a write failed, exactly where the connection ended by that.
-//! So no call that failed is tried again, and nothing is read ahead of a reply that is owed: a read
-//! there might give the end or fail, and the write of the reply might fail behind it. Where it
-//! ended since its bytes had ended, nothing of them is left.
-//!
-//! The type of an [`IdleCaller`] keeps that some stays led to it from a caller that came
-//! (`specs/Stays.antt`): each went on from the line and the number of requests that the one before
-//! it left, with a worker that had seen all that had been seen for it. Over such stays a connection
-//! reads its own writes, and has at most 10,000 requests ([`callers_forget_nothing`]).
+//! whether the program is ready for more connections: `admin_demand` of `specs/Demand.antt`. The
+//! text of the metrics has the numbers of the state, of each service, and of the sums
+//! (`specs/Metrics.antt`).
 //!
 //! # Example
 //! ```text
-//! let mut worker = ApiWorker { pass, stop, scraper };
-//! let context = Context { rt, alloc, router: &router };
-//! let caller = IdleCaller::came(peer, Which::Admin { ready: true }, &worker);
-//! match caller.serve(&context, &mut worker) {
-//!     Stayed::Waits(caller) => { /* it waits: another worker may go on with it */ }
-//!     Stayed::Ends(peer, ended) => { /* the connection is done */ }
+//! match admin_demand(alloc, true, &head, b"/admin/ready", b"")? {
+//!     AdminDemand::Metrics => { /* look at the services, and sum the workers' counts up */ }
+//!     AdminDemand::Other(demand) => { /* Demand::Answer, 200 with the word ready */ }
 //! }
 //! ```
 #![tactic(auto)]
 
 use std::alloc::AllocError;
 
-mod answering;
-mod context;
 mod demand;
-mod idle;
-mod laws;
 mod metrics;
-mod request;
-mod serving;
-mod stayed;
-mod worker;
-mod writing;
 
-pub use answering::admin_answer;
-pub use context::Context;
-pub use idle::IdleCaller;
-pub use laws::callers_forget_nothing;
-pub use serving::Which;
-pub use stayed::Stayed;
-pub use worker::ApiWorker;
+pub use demand::{AdminDemand, admin_demand};
+pub use metrics::metrics_response;
 
 /// A value, unless there was no memory for it.
 pub type Mem<T> = Result<T, AllocError>;

@@ -1,85 +1,50 @@
 //! All metrics, as Prometheus scrapes them.
-ghost use Rattle.std.specs.Prelude.{◌≡◌, IfOk, OnErr, map};
+ghost use Rattle.std.specs.Prelude.{◌≡◌, IfOk, map};
 ghost use Rattle.machine.specs.Code.{reply_value};
-ghost use Rattle.machine.specs.Values.{services_at};
-ghost use Rattle.router.specs.Passes.{number_in};
-ghost use Rattle.ns_api.specs.Answering.{IsSaid, MayHaveLooked};
-ghost use Rattle.admin_api.specs.Answering.{IsScraped, MayHaveScraped, TellsMetrics, sources_of};
-ghost use Rattle.admin_api.specs.Metrics.{IsMetricsBody, IsTextOf, shown_as, told_as};
+ghost use Rattle.api_wire.specs.Response.{response_value};
+ghost use Rattle.admin_api.specs.Metrics.{IsMetricsBody, IsTextOf, TellsMetrics, shown_as};
+ghost use Rattle.admin_api.specs.Metrics.{told_as};
 
-use crate::context::Context;
 use crate::{Bytes, Mem};
-use machine::{Look, Reply, ServiceState};
+use api_wire::{Media, Response};
+use http::StatusCode;
+use machine::{Reply, ServiceState};
 use metrics_text::{Counts, ServiceCounts, write_metrics};
-use ns_api::{ApiReply, Delivery, Media, Response, Status, look_at, write};
-use router::{Naming, Pass};
-use scrape::{Scrape, State, Sums};
+use scrape::{State, Sums};
 use std::alloc::Global;
-use std::sync::Wait;
 
-/// Tells all metrics: those of the state and of its services at one point of the history, as they
-/// are at the scraper's moment, and what the workers count, which is read behind the look.
-pub(crate) fn tell_metrics<J: Naming, R: Wait, X: Scrape>(
-    context: &Context<'_, J, R>,
-    pass: &mut Pass<J>,
-    scraper: &mut X,
-    delivery: Delivery,
-) -> Mem<ApiReply>
-    ensures number { number_in pass.new ≡ number_in pass.old }
-    ensures scraped { IfOk result (IsScraped delivery (sources_of pass.old (X.told scraper.old))
-        (sources_of pass.new (X.told scraper.new))) }
-    ensures want { OnErr result (MayHaveScraped (sources_of pass.old (X.told scraper.old))
-        (sources_of pass.new (X.told scraper.new))) }
+/// The response with the text of all metrics: those of the state and of its services, as a look at
+/// the services told them, with how many delegations were `kept` then, and what the workers count.
+///
+/// What the look told is let go of once it is told: it may be large, and the bytes of the response
+/// are yet to be made.
+pub fn metrics_response(alloc: Global, said: Reply, kept: usize, sums: &Sums) -> Mem<Response>
+    ensures { IfOk result (λ response. TellsMetrics (reply_value said) kept sums.now
+        (response_value response)) }
 {
-    let moment = scraper.moment();
-    match look_at_services(context, pass, moment) {
-        Ok(said) => {
-            let sums = scraper.sums();
-            write_scraped(context.alloc, &said, &sums, delivery)
-        }
-        Err(want) => Err(want),
-    }
-}
-
-/// Looks at the services as they are at a moment.
-fn look_at_services<J: Naming, R: Wait>(
-    context: &Context<'_, J, R>,
-    pass: &mut Pass<J>,
-    moment: u64,
-) -> Mem<Reply>
-    ensures number { number_in pass.new ≡ number_in pass.old }
-    ensures said { IfOk result (IsSaid (services_at moment) pass.old pass.new) }
-    ensures want { OnErr result (MayHaveLooked (services_at moment) pass.old pass.new) }
-{
-    let look = Look::Services { moment };
-    look_at(context.rt, context.alloc, context.router, pass, &look)
-}
-
-/// The reply with the text of the metrics, by what the state replied and by these sums.
-fn write_scraped(alloc: Global, said: &Reply, sums: &Sums, delivery: Delivery) -> Mem<ApiReply>
-    ensures { IfOk result (TellsMetrics said.now sums.now delivery) }
-{
-    let body = metrics_body(alloc, said, sums)?;
-    let response = Response::of(Status::Success, None, Media::Metrics, body);
-    write(alloc, &response, delivery)
+    let body = metrics_body(alloc, &said, kept, sums)?;
+    Ok(Response::of(StatusCode::OK, None, Media::Metrics, body))
 }
 
 /// The text of the metrics. A look at the services has the first reply alone.
-fn metrics_body(alloc: Global, said: &Reply, sums: &Sums) -> Mem<Bytes>
-    ensures { IfOk result (λ text. IsMetricsBody (reply_value said.now) sums.now text.items) }
+fn metrics_body(alloc: Global, said: &Reply, kept: usize, sums: &Sums) -> Mem<Bytes>
+    ensures { IfOk result (λ text. IsMetricsBody (reply_value said.now) kept sums.now text.items) }
 {
     match said {
         Reply::Services {
             changes,
             marks,
             namespaces,
+            tables_written,
             services,
         } => {
             let state = State {
                 changes: *changes,
+                tables_written: *tables_written,
                 marks: u64::from(*marks),
                 namespaces: u64::from(*namespaces),
                 services: services.len() as u64,
+                kept: kept as u64,
             };
             metrics_text(alloc, &sums.counts(&state), services.as_slice())
         }

@@ -1,6 +1,6 @@
 //! Requests of the admin interface on one router, one after the other, each with its whole reply.
 use crate::rows::{ADMIN, Row, replies};
-use admin_api::Which::{self, Namerd};
+use api_sessions::Which::{self, Namerd};
 use std::test::Fail;
 
 const ROWS: [Row; 31] = [

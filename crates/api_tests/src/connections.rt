@@ -1,12 +1,10 @@
 //! Connections to the interfaces of one router, served one after the other, each by two workers in
 //! turns.
-ghost use Rattle.std.specs.Prelude.{◌≡◌, Some};
-ghost use Rattle.load_words.specs.Seats.{words_of};
-ghost use Rattle.snap_cell.specs.Writers.{cell_written, opening_written};
-ghost use Rattle.router.specs.Values.{settings_in};
+ghost use Rattle.std.specs.Prelude.{◌≡◌};
+ghost use Rattle.router.specs.Opening.{IsNamedBy, beginning_of};
 
 use addr_book::{Addr, Name};
-use admin_api::{ApiWorker, Context, IdleCaller, Stayed, Which};
+use api_sessions::{ApiWorker, Context, IdleCaller, Stayed, Which};
 use choose_core::Limits;
 use dtab_table::Dtab;
 use http_wire::Ended;
@@ -248,12 +246,8 @@ fn staged<J: Naming, R: Wait + Abort>(
     clocks: (MemClock, MemClock),
     connections: &[Connection],
 ) -> Mem<Vec<Served>>
-    requires cell { Some (cell_written opened.writer) ≡ J.cell }
-    requires settings { settings_in (opening_written opened.writer) ≡ J.settings }
-    requires words { Some (words_of opened.loads) ≡ J.words }
-    requires name { opened.blank.name ≡ J.name }
-    requires parts { (opened.blank.parts ≡ J.parts) × (J.parts ≡ J.seats) }
-    requires seats { (opened.seats ≡ J.seats) × (opened.seats ≡ 2) }
+    requires named { IsNamedBy (beginning_of opened) J.Naming.own J.Ledger.own }
+    requires seats { J.seats ≡ 2 }
 {
     let (router, mut passes) = opened.named::<J, R>(rt, alloc)?;
     let (Some(second), Some(first)) = (passes.pop(), passes.pop()) else {

@@ -1,7 +1,7 @@
 //! Connections with several requests: each has its reply, in order, and how the connection ends.
 use crate::connections::{Connection, Mem, Served, run};
 use crate::rows::{ADMIN, said};
-use admin_api::Which::{self, Namerd};
+use api_sessions::Which::{self, Namerd};
 use http_wire::Ended;
 use std::alloc::Global;
 use std::process::Abort;

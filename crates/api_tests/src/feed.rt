@@ -1,7 +1,7 @@
 //! Requests of the feed's interface on one router, beside those that change its tables, each with
 //! its whole reply.
 use crate::rows::{Row, replies};
-use admin_api::Which::{self, Namerd};
+use api_sessions::Which::{self, Namerd};
 use std::test::Fail;
 
 /// The feed of the seventh run.

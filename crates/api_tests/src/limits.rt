@@ -1,7 +1,7 @@
 //! Bodies at their limits, and the last request of a connection.
 use crate::connections::{Bytes, Connection, Mem, run};
 use crate::rows::{ADMIN, request, said};
-use admin_api::Which::{self, Namerd};
+use api_sessions::Which::{self, Namerd};
 use http_wire::Ended;
 use std::alloc::Global;
 use std::process::Abort;

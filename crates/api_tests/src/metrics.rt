@@ -2,7 +2,7 @@
 //! until the moment 6,000.
 use crate::connections::{Connection, Mem, run};
 use crate::rows::{ADMIN, request, said};
-use admin_api::Which::{self, Namerd};
+use api_sessions::Which::{self, Namerd};
 use std::alloc::Global;
 use std::process::Abort;
 use std::sync::Wait;
@@ -21,7 +21,7 @@ type Row = (
 
 /// The fields of the reply with all metrics, and the first of them.
 const FIRST: &str =
-    "200 OK\r\nContent-Type: text/plain; version=0.0.4; charset=utf-8\r\nContent-Length: 4687\r\n\r\n# HELP linker_changes_total Changes of tables, services and marks that were accepted.\n# TYPE linker_changes_total counter\nlinker_changes_total 6\n# HELP linker_marks Addresses with failures that count against them.\n# TYPE linker_marks gauge\nlinker_marks 1\n# HELP linker_namespaces Namespaces.\n# TYPE linker_namespaces gauge\nlinker_namespaces 0\n# HELP linker_services Services.\n# TYPE linker_services gauge\nlinker_services 1\n# HELP linker_requests_total ";
+    "200 OK\r\nContent-Type: text/plain; version=0.0.4; charset=utf-8\r\nContent-Length: 4949\r\n\r\n# HELP linker_changes_total Changes of tables, services and marks that were accepted.\n# TYPE linker_changes_total counter\nlinker_changes_total 6\n# HELP linker_tables_written_total Tables that were created or put.\n# TYPE linker_tables_written_total counter\nlinker_tables_written_total 0\n# HELP linker_marks Addresses with failures that count against them.\n# TYPE linker_marks gauge\nlinker_marks 1\n# HELP linker_namespaces Namespaces.\n# TYPE linker_namespaces gauge\nlinker_namespaces 0\n# HELP linker_services Services.\n# TYPE linker_services gauge\nlinker_services 1\n# HELP linker_requests_total ";
 
 const ROWS: [Row; 6] = [
     (
@@ -70,8 +70,8 @@ const ROWS: [Row; 6] = [
         ADMIN,
         "HEAD /admin/metrics/prometheus",
         "",
-        "200 OK\r\nContent-Type: text/plain; version=0.0.4; charset=utf-8\r\nContent-Length: 4687\r\n\r\n",
-        "Content-Length: 4687\r\n\r\n",
+        "200 OK\r\nContent-Type: text/plain; version=0.0.4; charset=utf-8\r\nContent-Length: 4949\r\n\r\n",
+        "Content-Length: 4949\r\n\r\n",
     ),
 ];
 

@@ -1,7 +1,7 @@
 //! Connections that wait, and move from one worker to another.
 use crate::connections::{Connection, Served, run};
 use crate::rows::{ADMIN, said};
-use admin_api::Which::{self, Namerd};
+use api_sessions::Which::{self, Namerd};
 use http_wire::Ended::{self, Drained, PeerEnded};
 use std::alloc::Global;
 use std::process::Abort;

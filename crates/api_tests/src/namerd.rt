@@ -1,6 +1,6 @@
 //! Requests of namerd's interface on one router, one after the other, each with its whole reply.
 use crate::rows::{Row, replies};
-use admin_api::Which::Namerd;
+use api_sessions::Which::Namerd;
 use std::test::Fail;
 
 const ROWS: [Row; 40] = [

@@ -1,6 +1,6 @@
 //! Requests, each on a connection of its own, and their replies.
 use crate::connections::{Bytes, Connection, Mem, run};
-use admin_api::Which;
+use api_sessions::Which;
 use std::alloc::Global;
 use std::process::Abort;
 use std::sync::Wait;

@@ -2,13 +2,13 @@
 //! make so many changes, so that these replies are told directly.
 use crate::connections::Mem;
 use crate::rows::said;
+use api_wire::response_to;
 use machine::Reply;
-use ns_api::response_to;
 use std::alloc::Global;
 use std::test::Fail;
 
 /// How the interfaces tell a reply, behind `HTTP/1.1 `, where the connection closes or not.
-fn told(alloc: Global, reply: &Reply, closing: bool) -> Mem<String> {
+fn told(alloc: Global, reply: Reply, closing: bool) -> Mem<String> {
     let response = response_to(alloc, reply, false)?;
     said(alloc, response.bytes(alloc, closing, true)?.as_slice())
 }
@@ -32,7 +32,7 @@ fn a_spent_router_says_so(rt: HostRuntime) -> Result<(), Fail> {
             "507 Insufficient Storage\r\nContent-Type: text/plain\r\nContent-Length: 14\r\nConnection: close\r\n\r\nhistory-spent\n",
         ),
     ] {
-        let told = told(rt.alloc(), &reply, closing)?;
+        let told = told(rt.alloc(), reply, closing)?;
         assert_eq!(rt; told.as_str(), want);
     }
     Ok(())

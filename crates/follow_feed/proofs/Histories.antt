@@ -1,5 +1,6 @@
 -- The changes of a router's history.
-use Rattle.std.proofs.Common.{◌≡◌, ℕ, suc, length, take, List, [], ◌∷◌, ◌++◌, Bool, true, false, refl, ap, sym, ◌∙◌}
+use Rattle.std.proofs.Common.{◌≡◌, ℕ, suc, length, take, List, [], ◌∷◌, ◌++◌, Bool, true, false}
+use Rattle.std.proofs.Common.{refl, ap, sym, ◌∙◌}
 use Rattle.std.specs.Prelude.{fold, if◌then◌else◌}
 use Rattle.std.specs.FinMap.{get}
 use Rattle.machine.specs.State.{after, is_accepted, opening}
@@ -61,7 +62,8 @@ state_moved settings value caller serial change = by (is_accepted value.state ch
         → (if b then record {
           state = after settings value.state change;
           cache =
-              untouched_by settings value.state (after settings value.state change) change value.cache;
+              untouched_by settings value.state (after settings value.state change) change
+              value.cache;
         } else value).state
         ≡ after settings value.state change
     by true e = refl

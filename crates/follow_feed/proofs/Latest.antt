@@ -1,11 +1,14 @@
 -- The greatest of some feeds.
-use Rattle.std.proofs.Common.{◌≡◌, ℕ, List, [], ◌∷◌, ◌++◌, Option, Some, None, Bool, true, false, refl, ap, sym, ◌∙◌, subst, inl, inr, arith, append_assoc}
+use Rattle.std.proofs.Common.{◌≡◌, ℕ, List, [], ◌∷◌, ◌++◌, Option, Some, None, Bool, true, false}
+use Rattle.std.proofs.Common.{refl, ap, sym, ◌∙◌, subst, inl, inr, arith, append_assoc}
 use Rattle.std.specs.Prelude.{◌==◌, ◌&&◌, ◌||◌, ◌⊎◌, nat_lt, if◌then◌else◌, Contains, All, fold}
 use Rattle.std.proofs.lemmas.Bool.Decides.{nat_tests}
 use Rattle.std.proofs.lemmas.List.{append-nil}
-use Rattle.std.proofs.lemmas.List.Elements.{All-head, All-tail, Contains-append_left, Contains-push, Contains-push_cases}
+use Rattle.std.proofs.lemmas.List.Elements.{All-head, All-tail, Contains-append_left, Contains-push}
+use Rattle.std.proofs.lemmas.List.Elements.{Contains-push_cases}
 use Rattle.follow_feed.specs.Feeds.{FeedValue, Run, space_at}
-use Rattle.follow_feed.specs.Following.{Agrees, Followed, HasOwnNumbers, IsGreatest, IsLeaders, Sent, is_later, is_news, taken}
+use Rattle.follow_feed.specs.Following.{Agrees, Followed, HasOwnNumbers, IsGreatest, IsLeaders}
+use Rattle.follow_feed.specs.Following.{Sent, is_later, is_news, taken}
 
 -- of two pairs of run and place
 after_pair : ℕ → ℕ → ℕ → ℕ → Bool

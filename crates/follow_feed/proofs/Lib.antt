@@ -1,5 +1,4 @@
 pub mod Bodies
-pub mod Feeding
 pub mod Growing
 pub mod Histories
 pub mod Latest

@@ -1,5 +1,7 @@
 -- What polls come to, one after another.
-use Rattle.std.proofs.Common.{◌≡◌, ℕ, ◌+◌, ◌≤◌, length, List, [], ◌∷◌, ◌++◌, Option, Some, Result, Ok, Err, Bool, true, false, refl, sym, ap, ◌∙◌, subst, arith, append_assoc, length-append}
+use Rattle.std.proofs.Common.{◌≡◌, ℕ, ◌+◌, ◌≤◌, length, List, [], ◌∷◌, ◌++◌, Option, Some, Result}
+use Rattle.std.proofs.Common.{Ok, Err, Bool, true, false, refl, sym, ap, ◌∙◌, subst, arith}
+use Rattle.std.proofs.Common.{append_assoc, length-append}
 use Rattle.std.specs.Prelude.{if◌then◌else◌}
 use Rattle.std.specs.Io.KnownBytes.{Appends}
 use Rattle.std.proofs.KnownBytes.{Appends-trans}
@@ -10,12 +12,14 @@ use Rattle.line_base.specs.Dials.{Upstream}
 use Rattle.follow_feed.specs.declared.follower.Taken.{Taken}
 use Rattle.follow_feed.specs.declared.follower.Taken.TheVariants.{Newer, Older}
 use Rattle.follow_feed.specs.declared.following.FollowEnd.{FollowEnd}
-use Rattle.follow_feed.specs.declared.following.FollowEnd.TheVariants.{Done, WriteFault, OutOfMemory}
+use Rattle.follow_feed.specs.declared.following.FollowEnd.TheVariants.{Done, WriteFault}
+use Rattle.follow_feed.specs.declared.following.FollowEnd.TheVariants.{OutOfMemory}
 use Rattle.follow_feed.specs.declared.polling.PollEnd.{PollEnd}
 use Rattle.follow_feed.specs.Feeds.{FeedValue}
 use Rattle.follow_feed.specs.Following.{is_news, taken, taken_as}
 use Rattle.follow_feed.specs.Lines.{feed_line, total_line}
-use Rattle.follow_feed.specs.Progress.{IsTurn, IsWritten, Polled, Progress, Takes, Tells, after_poll, begun, one_more, progress_of, told_of, with_feed}
+use Rattle.follow_feed.specs.Progress.{IsTurn, IsWritten, Polled, Progress, Takes, Tells}
+use Rattle.follow_feed.specs.Progress.{after_poll, begun, one_more, progress_of, told_of, with_feed}
 
 -- what some polls came to, by its parts
 abbrev pub parts : Option FeedValue → ℕ → ℕ → List ℕ → Progress

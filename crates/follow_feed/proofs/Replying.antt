@@ -1,5 +1,7 @@
 -- What the bytes of a reply say.
-use Rattle.std.proofs.Common.{◌≡◌, ℕ, ◌+◌, ◌≤◌, length, take, drop, List, [], ◌∷◌, ◌++◌, Option, Some, None, Result, Ok, Err, refl, sym, ap, ◌∙◌, subst, inl, inr, arith, append-nil, append_assoc, length-append, length-take}
+use Rattle.std.proofs.Common.{◌≡◌, ℕ, ◌+◌, ◌≤◌, length, take, drop, List, [], ◌∷◌, ◌++◌, Option}
+use Rattle.std.proofs.Common.{Some, None, Result, Ok, Err, refl, sym, ap, ◌∙◌, subst, inl, inr}
+use Rattle.std.proofs.Common.{arith, append-nil, append_assoc, length-append, length-take}
 use Rattle.std.specs.List.{concat}
 use Rattle.std.proofs.lemmas.List.{drop-append-le}
 use Rattle.std.proofs.lemmas.List.Folds.{concat-append}
@@ -15,7 +17,8 @@ use Rattle.http_wire.specs.ReplyReading.{AnswersReply, SaysEnd, joined}
 use Rattle.http_wire.proofs.Excluding.{reply_heads_are_unique, reply_readings_exclude}
 use Rattle.follow_feed.specs.declared.polling.PollEnd.{PollEnd}
 use Rattle.follow_feed.specs.Feeds.{FeedValue}
-use Rattle.follow_feed.specs.Polling.{BeginsWithFeed, HasNoFeed, IsBody, IsFeedHead, IsShort, Says, SaysBehind, SaysBody, SaysNothing, end_of_head}
+use Rattle.follow_feed.specs.Polling.{BeginsWithFeed, HasNoFeed, IsBody, IsFeedHead, IsShort, Says}
+use Rattle.follow_feed.specs.Polling.{SaysBehind, SaysBody, SaysNothing, end_of_head}
 use Rattle.follow_feed.specs.Reading.{feed_in}
 use Rattle.follow_feed.proofs.Growing.{joined_is}
 

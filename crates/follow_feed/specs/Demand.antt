@@ -1,15 +1,14 @@
--- What a request of the feed's interface asks for: a response that stands at once, or the feed of a
--- namespace.
+-- What a request for a feed asks for: a response that stands at once, or the feed of a namespace.
 use Rattle.std.specs.Prelude.{ℕ, List, codes, Option, Some, None}
 use Rattle.http_wire.specs.declared.head.Head.{Head}
-use Rattle.ns_api.specs.declared.verb.Methods.TheVariants.{Reads}
-use Rattle.ns_api.specs.declared.verb.Verb.{Verb}
-use Rattle.ns_api.specs.declared.verb.Verb.TheVariants as verbs
-use Rattle.ns_api.specs.Demand.{bad_name, no_path, not_allowed}
+use Rattle.api_wire.specs.declared.verb.Methods.TheVariants.{Reads}
+use Rattle.api_wire.specs.declared.verb.Verb.{Verb}
+use Rattle.api_wire.specs.declared.verb.Verb.TheVariants as verbs
 use Rattle.addr_book.specs.Name.{name_of}
-use Rattle.ns_api.specs.Request.{path_in, segment_behind}
-use Rattle.ns_api.specs.Response.{ResponseValue, response_value}
-use Rattle.ns_api.specs.Verbs.{verb_of}
+use Rattle.api_wire.specs.Request.{path_in, segment_behind}
+use Rattle.api_wire.specs.Response.{ResponseValue, bad_name, no_path, not_allowed}
+use Rattle.api_wire.specs.Response.{response_value}
+use Rattle.api_wire.specs.Verbs.{verb_of}
 use Rattle.follow_feed.specs.declared.demand.FeedDemand.{FeedDemand}
 use Rattle.follow_feed.specs.declared.demand.FeedDemand.TheVariants as demand
 

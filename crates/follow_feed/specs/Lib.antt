@@ -3,7 +3,6 @@ pub mod Following
 pub mod Laws
 pub mod Texts
 pub mod Demand
-pub mod Answering
 pub mod Reading
 pub mod Polling
 pub mod Lines

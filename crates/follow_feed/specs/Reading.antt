@@ -9,7 +9,7 @@ use Rattle.dtab_table.specs.Dtab.{rules_of}
 use Rattle.dtab_table.specs.declared.dtab.Dtab.{Dtab}
 use Rattle.dtab_table.specs.Rules.{Rule}
 use Rattle.ns_store.specs.Contents.{Space}
-use Rattle.ns_api.specs.JsonTable.{count_members, json_of, text_at}
+use Rattle.api_wire.specs.Json.{json_of, members_in, text_at}
 use Rattle.follow_feed.specs.declared.feed.Feed.{Feed}
 use Rattle.follow_feed.specs.declared.polling.PollEnd.{PollEnd}
 use Rattle.follow_feed.specs.declared.polling.PollEnd.TheVariants.{Lost, Strange, OutOfMemory}
@@ -22,10 +22,6 @@ number_at key d = option_and_then as_u64 (option_and_then as_number (get key d))
 -- the rules of the table whose text stands under `dtab`
 abbrev pub rules_at : Data → Option (List Rule)
 rules_at d = option_and_then table_of (text_at (codes "dtab") d)
-
--- how many members an object has
-abbrev pub members_in : Data → ℕ
-members_in d = unwrap_or (option_map count_members (as_object d)) 0
 
 -- a feed with this table, where both numbers are there
 abbrev pub with_numbers : Option ℕ → Option ℕ → Option Space → Option FeedValue

@@ -5,10 +5,11 @@ use Rattle.std.specs.Fmt.{decimal}
 use Rattle.text_parts.specs.Json.{json_string}
 use Rattle.name_tree.specs.Faults.{most_bytes}
 use Rattle.dtab_table.specs.TableCanon.{canon_table}
+use Rattle.machine.specs.Values as replies
+use Rattle.machine.specs.Values.{ReplyValue}
 use Rattle.ns_store.specs.Contents.{Space}
-use Rattle.ns_api.specs.Response.{ResponseValue, filled, plain}
-use Rattle.ns_api.specs.declared.response.Media.TheVariants as media
-use Rattle.ns_api.specs.declared.response.Status.TheVariants as status
+use Rattle.api_wire.specs.Response.{ResponseValue, filled, plain}
+use Rattle.api_wire.specs.declared.response.Media.TheVariants as media
 use Rattle.follow_feed.specs.Feeds.{FeedValue}
 
 -- the place and the run
@@ -28,14 +29,19 @@ bare_text run place = codes "{" ++ numbers_text place run ++ codes "}"
 -- a table whose text is longer than a reader takes is not told
 abbrev pub table_response : ℕ → ℕ → ℕ → List ℕ → ResponseValue
 table_response run place version table =
-    if nat_lt most_bytes (length table) then plain status.InsufficientStorage None (codes "long")
-    else filled status.Success None media.Json (full_text run place version table)
+    if nat_lt most_bytes (length table) then plain 507 None (codes "long")
+    else filled 200 None media.Json (full_text run place version table)
 
 abbrev pub space_response : ℕ → ℕ → Option Space → ResponseValue
-space_response run place None = filled status.Success None media.Json (bare_text run place)
+space_response run place None = filled 200 None media.Json (bare_text run place)
 space_response run place (Some space) =
     table_response run place space.version (canon_table space.rules)
 
 -- the response that tells a feed
 abbrev pub feed_response : FeedValue → ResponseValue
 feed_response f = space_response f.run f.place f.table
+
+-- the namespace that a reply shows, if it shows one
+abbrev pub space_in : ReplyValue → Option Space
+space_in (replies.table n rules) = Some (record { version = n; rules = rules })
+space_in _ = None

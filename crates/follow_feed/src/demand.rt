@@ -1,30 +1,28 @@
 //! What requests of the feed's interface ask for.
 ghost use Rattle.std.specs.Prelude.{◌≡◌, IfOk};
 ghost use Rattle.std.specs.Option.{option_copied};
-ghost use Rattle.ns_api.specs.Demand.{no_path, not_allowed, bad_name};
+ghost use Rattle.addr_book.specs.Name.{name_of};
+ghost use Rattle.api_wire.specs.Response.{bad_name, not_allowed};
 ghost use Rattle.follow_feed.specs.Demand.{answer, feed_demand, feed_demand_value, name_demand};
 ghost use Rattle.follow_feed.specs.Demand.{segment_demand, space_demand};
-ghost use Rattle.addr_book.specs.Name.{name_of};
 
 use crate::Mem;
 use addr_book::{Name, NameFault};
+use api_wire::{Methods, Response, Verb, path_in, read_name, segment_behind, verb_of};
 use http_wire::Head;
-use ns_api::{
-    Content, Media, Methods, Response, Status, Verb, path_in, read_name, segment_behind, verb_of,
-};
 use std::alloc::{AllocError, Global};
 
-/// What a request asks for. `feed_demand_value` is how contracts see it.
+/// What a request for a feed asks for. `feed_demand_value` is how contracts see it.
 #[derive(Debug, Drop)]
-pub(crate) enum FeedDemand {
+pub enum FeedDemand {
     /// This response, whatever the state is.
     Answer(Response),
     /// The feed of this namespace.
     Show(Name),
 }
 
-/// What a request asks for, by its head and the target that goes on.
-pub(crate) fn feed_demand(alloc: Global, head: &Head, line: &[u8]) -> Mem<FeedDemand>
+/// What a request for a feed asks for, by its head and the target that goes on.
+pub fn feed_demand(alloc: Global, head: &Head, line: &[u8]) -> Mem<FeedDemand>
     ensures { IfOk result (λ demand. feed_demand_value demand ≡ feed_demand head.now line.now) }
 {
     segment_demand(
@@ -40,7 +38,7 @@ fn segment_demand(alloc: Global, verb: Option<Verb>, segment: Option<&[u8]>) -> 
         ≡ segment_demand verb (option_copied segment.entry)) }
 {
     match segment {
-        None => Ok(FeedDemand::Answer(Response::word(alloc, Status::NotFound, None, "path")?)),
+        None => Ok(FeedDemand::Answer(Response::no_path(alloc)?)),
         Some(segment) => space_demand(alloc, verb, segment),
     }
 }
@@ -74,7 +72,7 @@ fn name_demand(alloc: Global, segment: &[u8]) -> Mem<FeedDemand>
 fn bad_name(alloc: Global) -> Mem<FeedDemand>
     ensures { IfOk result (λ demand. feed_demand_value demand ≡ answer bad_name) }
 {
-    Ok(FeedDemand::Answer(Response::word(alloc, Status::BadRequest, None, "name")?))
+    Ok(FeedDemand::Answer(Response::bad_name(alloc)?))
 }
 
 /// A feed is only shown.
@@ -82,14 +80,5 @@ fn not_allowed(alloc: Global) -> Mem<FeedDemand>
     ensures { IfOk result (λ demand. feed_demand_value demand
         ≡ answer (not_allowed Methods.Reads)) }
 {
-    let body = Vec::from_slice(alloc, b"method\n")?;
-    Ok(FeedDemand::Answer(Response {
-        status: Status::MethodNotAllowed,
-        version: None,
-        allow: Some(Methods::Reads),
-        content: Some(Content {
-            media: Media::Plain,
-            body,
-        }),
-    }))
+    Ok(FeedDemand::Answer(Response::not_allowed(alloc, Methods::Reads)?))
 }

@@ -3,26 +3,27 @@
 //!
 //! A leader tells what a namespace is at one place of its history: a [`Feed`], which has the
 //! number of the leader's run, the number of changes that the run has accepted, and the table with
-//! its version, if the namespace is there. [`feed_answer`] answers a request for it,
-//! `GET /feed/NS`. [`poll`] makes one such request, over a connection of its own. A [`Follower`]
-//! holds the latest of the feeds that it takes, and [`follow_all`] polls again and again, and
-//! writes a line for each feed that is later than what was held.
+//! its version, if the namespace is there. A request for it is `GET /feed/NS`: [`feed_demand`]
+//! reads it, and [`told_feed`] is its response, once `api_sessions` has looked at the router's
+//! state. [`poll`] makes one such request, over a connection of its own. A [`Follower`] holds the
+//! latest of the feeds that it takes, and [`follow_all`] polls again and again, and writes a line
+//! for each feed that is later than what was held.
 //!
 //! A version alone does not order two feeds: a namespace may be deleted between them, and versions
 //! begin anew with each run. The pair of run and place does, as long as each run of a leader has a
 //! greater number than those before it.
 //!
 //! # What is proved
-//! A router answers with the feed that the namespace has in its own history, at the place of the
-//! one look that was made (`specs/Answering.antt`, `Feeds.antt`), and what is said of a place
-//! stands for good ([`feeds_stay`]). After any feeds, in any order and with any repeats, a follower
-//! holds the one with the greatest run and place; where one leader said them, and no two of its
-//! runs have one number, its table is the one that the leader had at the run and place that are
-//! named ([`Follower::take`], [`greatest_feed_is_held`]). A poll gives a feed exactly as the bytes
-//! that came begin with a good reply that says it; it is lost only where a call of the dialer
-//! failed, and strange only where these bytes begin with no good reply, whatever follows, or ended
-//! before they did (`specs/Polling.antt`). The lines that are written are those of the feeds that
-//! the polls gave, in order (`specs/Progress.antt`).
+//! What a request asks for is a function of its head and the target that goes on
+//! (`specs/Demand.antt`), and the response that tells a feed is one (`specs/Texts.antt`). What is
+//! said of a place of a router's history stands for good ([`feeds_stay`]). After any feeds, in any
+//! order and with any repeats, a follower holds the one with the greatest run and place; where one
+//! leader said them, and no two of its runs have one number, its table is the one that the leader
+//! had at the run and place that are named ([`Follower::take`], [`greatest_feed_is_held`]). A poll
+//! gives a feed exactly as the bytes that came begin with a good reply that says it; it is lost
+//! only where a call of the dialer failed, and strange only where these bytes begin with no good
+//! reply, whatever follows, or ended before they did (`specs/Polling.antt`). The lines that are
+//! written are those of the feeds that the polls gave, in order (`specs/Progress.antt`).
 //!
 //! That a poll arrives is not promised, nor that what is held is the newest that the leader has.
 //!
@@ -39,7 +40,6 @@
 
 use std::alloc::AllocError;
 
-mod answering;
 mod demand;
 mod feed;
 mod follower;
@@ -52,12 +52,13 @@ mod reading;
 mod texts;
 mod writing;
 
-pub use answering::feed_answer;
+pub use demand::{FeedDemand, feed_demand};
 pub use feed::{Feed, Versioned};
 pub use follower::{Follower, Taken};
 pub use following::{FollowEnd, follow_all};
 pub use laws::{feeds_stay, greatest_feed_is_held};
 pub use polling::{PollEnd, poll};
+pub use texts::told_feed;
 
 /// A value, unless there was no memory for it.
 pub type Mem<T> = Result<T, AllocError>;

@@ -1,13 +1,13 @@
 //! Reading the feed that a JSON text stands for.
-ghost use Rattle.std.specs.Prelude.{◌≡◌, option_map};
+ghost use Rattle.std.specs.Prelude.{◌≡◌};
 ghost use Rattle.serde_json.specs.View.{view};
 ghost use Rattle.dtab_table.specs.Computed.{table_of};
-ghost use Rattle.ns_api.specs.JsonTable.{text_at};
 ghost use Rattle.follow_feed.specs.Reading.{Reads, ReadsTable, bare_feed, feed_in, feed_of_data};
-ghost use Rattle.follow_feed.specs.Reading.{full_feed, members_in, number_at, rules_at};
+ghost use Rattle.follow_feed.specs.Reading.{full_feed, number_at, rules_at};
 
 use crate::feed::{Feed, Versioned};
 use crate::polling::PollEnd;
+use api_wire::{json_value, members_in, text_at};
 use dtab_table::{Dtab, DtabFault, read_dtab};
 use serde_json::Value;
 use std::alloc::Global;
@@ -16,15 +16,10 @@ use std::alloc::Global;
 pub(crate) fn read_feed(alloc: Global, text: &[u8]) -> Result<Feed, PollEnd>
     ensures { Reads (feed_in text.now) result }
 {
-    match Value::from_slice(alloc, text) {
-        Ok(tree) => feed_of(alloc, &tree),
-        Err(error) => {
-            if error.is_memory() {
-                Err(PollEnd::OutOfMemory)
-            } else {
-                Err(PollEnd::Strange)
-            }
-        }
+    match json_value(alloc, text) {
+        Ok(Some(tree)) => feed_of(alloc, &tree),
+        Ok(None) => Err(PollEnd::Strange),
+        Err(_want) => Err(PollEnd::OutOfMemory),
     }
 }
 
@@ -42,32 +37,12 @@ fn feed_of(alloc: Global, tree: &Value) -> Result<Feed, PollEnd>
     }
 }
 
-/// How many members an object has. A value that is none has no member.
-fn members_in(tree: &Value) -> usize
-    ensures { result ≡ members_in (view tree.now) }
-{
-    match tree.as_object() {
-        Some(members) => members.len(),
-        None => 0,
-    }
-}
-
 /// The number under a key.
 fn number_at(tree: &Value, key: &str) -> Option<u64>
     ensures { result ≡ number_at key.now (view tree.now) }
 {
     match tree.get(key) {
         Some(value) => value.as_u64(),
-        None => None,
-    }
-}
-
-/// The text under a key.
-fn text_at<'v>(tree: &'v Value, key: &str) -> Option<&'v str>
-    ensures { option_map (λ text. text.now) result ≡ text_at key.now (view tree.now) }
-{
-    match tree.get(key) {
-        Some(value) => value.as_str(),
         None => None,
     }
 }

@@ -1,20 +1,54 @@
-//! Feeds as JSON.
-ghost use Rattle.std.specs.Prelude.{◌≡◌, ◌++◌, IfOk, OnOk, Some};
-ghost use Rattle.ns_api.specs.Response.{response_value};
+//! Feeds as JSON, and what a look at a namespace tells as one.
+ghost use Rattle.std.specs.Prelude.{◌≡◌, ◌++◌, IfOk, OnOk, Some, option_map};
+ghost use Rattle.machine.specs.Code.{reply_value};
+ghost use Rattle.api_wire.specs.Response.{response_value};
 ghost use Rattle.follow_feed.specs.Feeds.{feed_value, space_of};
 ghost use Rattle.follow_feed.specs.Texts.{bare_text, feed_response, full_text, numbers_text};
-ghost use Rattle.follow_feed.specs.Texts.{space_response, table_response};
+ghost use Rattle.follow_feed.specs.Texts.{space_in, space_response, table_response};
 
 use crate::feed::{Feed, Versioned};
 use crate::{Bytes, Mem};
+use api_wire::{Media, Response};
 use dtab_table::write_dtab;
+use http::StatusCode;
+use machine::Reply;
 use name_tree::MOST_BYTES;
-use ns_api::{Media, Response, Status};
 use std::alloc::Global;
 use text_parts::{append_json_string, append_number};
 
+/// The response that tells the feed of a namespace, which a look at it in this run showed at this
+/// place. What the look told is let go of once it is told.
+pub fn told_feed(alloc: Global, run: u64, place: u64, said: Reply) -> Mem<Response>
+    ensures { IfOk result (λ response. response_value response ≡ feed_response (record {
+      run = run;
+      place = place;
+      table = space_in (reply_value said);
+    })) }
+{
+    let feed = Feed {
+        run,
+        place,
+        table: shown(said),
+    };
+    feed_response(alloc, &feed)
+}
+
+/// The namespace that a reply shows, if it shows one.
+fn shown(said: Reply) -> Option<Versioned>
+    ensures { option_map space_of result ≡ space_in (reply_value said) }
+{
+    match said {
+        Reply::Table { version, dtab } => Some(Versioned { version, dtab }),
+        Reply::Version(_) | Reply::Exists(_) | Reply::TooManyNames | Reply::VersionsSpent => None,
+        Reply::Missing | Reply::Stale(_) | Reply::Deleted | Reply::Set(_) => None,
+        Reply::BookFull(_) | Reply::TooManyServices | Reply::Dropped | Reply::Marked(_) => None,
+        Reply::NotKept | Reply::HistorySpent | Reply::Names(_) | Reply::Addrs(_) => None,
+        Reply::Counts { .. } | Reply::Services { .. } | Reply::Viewed { .. } => None,
+    }
+}
+
 /// The response that tells a feed.
-pub(crate) fn feed_response(alloc: Global, feed: &Feed) -> Mem<Response>
+fn feed_response(alloc: Global, feed: &Feed) -> Mem<Response>
     ensures { IfOk result (λ response. response_value response
         ≡ feed_response (feed_value feed.now)) }
 {
@@ -22,7 +56,7 @@ pub(crate) fn feed_response(alloc: Global, feed: &Feed) -> Mem<Response>
         Some(table) => space_response(alloc, feed.run, feed.place, table),
         None => {
             let text = bare_text(alloc, feed.run, feed.place)?;
-            Ok(Response::of(Status::Success, None, Media::Json, text))
+            Ok(Response::of(StatusCode::OK, None, Media::Json, text))
         }
     }
 }
@@ -42,10 +76,10 @@ fn table_response(alloc: Global, run: u64, place: u64, version: u64, table: &[u8
         ≡ table_response run place version table.now) }
 {
     if table.len() > MOST_BYTES {
-        return Response::word(alloc, Status::InsufficientStorage, None, "long");
+        return Response::word(alloc, StatusCode::INSUFFICIENT_STORAGE, None, "long");
     }
     let text = full_text(alloc, run, place, version, table)?;
-    Ok(Response::of(Status::Success, None, Media::Json, text))
+    Ok(Response::of(StatusCode::OK, None, Media::Json, text))
 }
 
 /// The object of a namespace with a table of this text.

@@ -1,9 +1,6 @@
-pub mod Prefixes
-pub mod Rows
-pub mod Segments
-pub mod Trees
-pub mod Values
-pub mod Forms
+mod Prefixes
+mod Rows
+mod Trees
+mod Values
 pub mod Sounds
-pub mod Carrying
-pub mod Paths
+mod Paths

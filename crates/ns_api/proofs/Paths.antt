@@ -1,24 +1,22 @@
 -- Demands by their paths.
-use Rattle.std.proofs.Common.{◌≡◌, ℕ, false, List, Option, Result, ap, sym, ◌∙◌, subst}
-use Rattle.std.specs.Prelude.{bytes_eq, codes, IfOk}
-use Rattle.std.specs.declared.alloc.AllocError.{AllocError}
+use Rattle.std.proofs.Common.{◌≡◌, ℕ, false, List, Option, ap, sym, ◌∙◌}
+use Rattle.std.specs.Prelude.{bytes_eq, codes}
 use Rattle.http_wire.specs.declared.head.Head.{Head}
-use Rattle.ns_api.specs.declared.demand.Demand.{Demand}
-use Rattle.ns_api.specs.declared.verb.Verb.{Verb}
-use Rattle.ns_api.specs.Demand.{DemandValue, demand_value, ns_demand, segment_demand}
-use Rattle.ns_api.specs.Request.{path_in, segment_behind}
-use Rattle.ns_api.specs.Verbs.{verb_of}
-
--- a demand of the code that says the same
-pub asks_same : (a b : DemandValue) (result : Result Demand AllocError) → a ≡ b → IfOk result (λ demand. demand_value demand ≡ a) → IfOk result (λ demand. demand_value demand ≡ b)
-asks_same a b result same h = let P : DemandValue → Type 0 = λ d. IfOk result (λ demand. demand_value demand ≡ d) in subst P same h
+use Rattle.api_wire.specs.declared.verb.Verb.{Verb}
+use Rattle.ns_api.specs.Demand.{ns_demand, segment_demand}
+use Rattle.api_wire.specs.Request.{path_in, segment_behind}
+use Rattle.api_wire.specs.Verbs.{verb_of}
 
 -- a path that is not that of the list of names
-pub other_path : (head : Head) (line body : List ℕ) (verb : Option Verb) (path : List ℕ) (segment : Option (List ℕ)) → verb ≡ verb_of head.method → path ≡ path_in line
-    → bytes_eq path (codes "/api/1/dtabs") ≡ false → segment ≡ segment_behind (codes "/api/1/dtabs/") path
+pub other_path : (head : Head) (line body : List ℕ) (verb : Option Verb) (path : List ℕ)
+    (segment : Option (List ℕ)) → verb ≡ verb_of head.method → path ≡ path_in line
+    → bytes_eq path (codes "/api/1/dtabs") ≡ false
+    → segment ≡ segment_behind (codes "/api/1/dtabs/") path
     → segment_demand verb segment head.fields body ≡ ns_demand head line body
 unfolding ns_demand
 other_path head line body verb path segment v p other s =
-    let test : bytes_eq (path_in line) (codes "/api/1/dtabs") ≡ false = ap (λ (x : List ℕ). bytes_eq x (codes "/api/1/dtabs")) (sym p) ∙ other in
-    let found : segment ≡ segment_behind (codes "/api/1/dtabs/") (path_in line) = s ∙ ap (segment_behind (codes "/api/1/dtabs/")) p in
+    let test : bytes_eq (path_in line) (codes "/api/1/dtabs")
+    ≡ false = ap (λ (x : List ℕ). bytes_eq x (codes "/api/1/dtabs")) (sym p) ∙ other in
+    let found : segment ≡ segment_behind (codes "/api/1/dtabs/") (path_in line) = s
+    ∙ ap (segment_behind (codes "/api/1/dtabs/")) p in
     rw test (λ k. segment_demand (v k) (found k) head.fields body)

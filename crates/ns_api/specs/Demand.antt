@@ -1,63 +1,22 @@
--- What a request asks for: a response that stands at once, a change, or a look.
+-- What a request of namerd's interface asks for.
 use Rattle.std.specs.Prelude.{ℕ, if◌then◌else◌, List, codes, bytes_eq, Option, Some, None}
+use Rattle.addr_book.specs.Name.{name_of}
 use Rattle.dtab_table.specs.Rules.{Rule}
 use Rattle.http_wire.specs.declared.head.Field.{Field}
 use Rattle.http_wire.specs.declared.head.Head.{Head}
-use Rattle.machine.specs.Code.{change_of, look_value}
-use Rattle.machine.specs.State.{IsSoundChange}
-use Rattle.machine.specs.Values.{ChangeValue, create, put, delete, LookValue, get_table, list_names}
-use Rattle.ns_api.specs.declared.demand.Demand.{Demand}
-use Rattle.ns_api.specs.declared.demand.Demand.TheVariants as demand
-use Rattle.ns_api.specs.declared.response.Status.TheVariants as status
-use Rattle.ns_api.specs.declared.response.Media.TheVariants as media
-use Rattle.ns_api.specs.declared.verb.Methods.{Methods}
-use Rattle.ns_api.specs.declared.verb.Methods.TheVariants.{Reads, Tables}
-use Rattle.ns_api.specs.declared.verb.Verb.{Verb}
-use Rattle.ns_api.specs.declared.verb.Verb.TheVariants as verbs
+use Rattle.machine.specs.Values.{ChangeValue, create, put, delete, get_table, list_names}
+use Rattle.api_wire.specs.declared.verb.Methods.TheVariants.{Reads, Tables}
+use Rattle.api_wire.specs.declared.verb.Verb.{Verb}
+use Rattle.api_wire.specs.declared.verb.Verb.TheVariants as verbs
+use Rattle.api_wire.specs.Demand.{DemandValue, answer, alter, ask}
+use Rattle.api_wire.specs.Request.{path_in, segment_behind, version_asked}
+use Rattle.api_wire.specs.Response.{ResponseValue, bad_name, no_path, not_allowed, plain}
+use Rattle.api_wire.specs.Verbs.{verb_of}
 use Rattle.ns_api.specs.JsonTable.{body_rules}
-use Rattle.addr_book.specs.Name.{name_of}
-use Rattle.ns_api.specs.Request.{path_in, segment_behind, version_asked}
-use Rattle.ns_api.specs.Response.{ResponseValue, plain, response_value}
-use Rattle.ns_api.specs.Verbs.{verb_of}
-
-pub data DemandValue : Type 0 where
-  -- this response, whatever the state is
-  answer : ResponseValue → DemandValue
-  -- this response, and then the program is to stop
-  stop : ResponseValue → DemandValue
-  -- a change of the state
-  alter : ChangeValue → DemandValue
-  -- a question that alters nothing
-  ask : LookValue → DemandValue
-
--- what the code's demands say
-abbrev pub demand_value : Demand → DemandValue
-demand_value (demand.Answer response) = answer (response_value response)
-demand_value (demand.Stop response) = stop (response_value response)
-demand_value (demand.Change change) = alter (change_of change)
-demand_value (demand.Look look) = ask (look_value look)
-
--- the tables that it brings in are sound
-abbrev pub IsSoundDemand : DemandValue → Type 0
-IsSoundDemand (alter change) = IsSoundChange change
-IsSoundDemand _ = Unit {0}
-
--- the path is none of the interface
-abbrev pub no_path : ResponseValue
-no_path = plain status.NotFound None (codes "path")
-
--- the path does not answer the method: it answers these
-abbrev pub not_allowed : Methods → ResponseValue
-not_allowed methods =
-    record (plain status.MethodNotAllowed None (codes "method")) { allow = Some methods }
-
--- a name in the path is none
-abbrev pub bad_name : ResponseValue
-bad_name = plain status.BadRequest None (codes "name")
 
 -- the body is no table
 abbrev pub bad_table : ResponseValue
-bad_table = plain status.BadRequest None (codes "dtab")
+bad_table = plain 400 None (codes "dtab")
 
 -- what a list of names is asked for
 abbrev pub names_demand : Option Verb → DemandValue

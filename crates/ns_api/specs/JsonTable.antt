@@ -1,11 +1,9 @@
 -- Tables that are written as JSON: an array of objects, each with the texts of a tree and a prefix.
 use Rattle.std.specs.Prelude.{ℕ, ◌+◌, ◌==◌, ◌&&◌, Bool, nat_le, if◌then◌else◌, List, [], ◌∷◌}
-use Rattle.std.specs.Prelude.{length, sum_by, codes, Option, Some, None, option_map}
-use Rattle.std.specs.Option.{option_and_then, unwrap_or}
-use Rattle.std.specs.Str.{is_utf8}
-use Rattle.serde_json.specs.Data.{Data, Items, no_items, item, Members, no_members, member}
-use Rattle.serde_json.specs.Read.{read}
-use Rattle.serde_json.specs.Find.{get, as_array, as_object, as_str}
+use Rattle.std.specs.Prelude.{length, sum_by, codes, Option, Some, None}
+use Rattle.std.specs.Option.{option_and_then}
+use Rattle.serde_json.specs.Data.{Data, Items, no_items, item}
+use Rattle.serde_json.specs.Find.{as_array}
 use Rattle.name_tree.specs.Value.{TreeValue}
 use Rattle.name_tree.specs.Computed.{tree_of}
 use Rattle.name_tree.specs.Faults.{most_bytes}
@@ -16,27 +14,16 @@ use Rattle.dtab_table.specs.Computed.{table_of}
 use Rattle.dtab_table.specs.Pattern.{Pattern}
 use Rattle.dtab_table.specs.PrefixReading.{before, next_prefix, end_prefix}
 use Rattle.dtab_table.specs.Rules.{Rule}
-use Rattle.ns_api.specs.Request.{is_json}
-
--- the value of a JSON text (RFC 8259), which is UTF-8
-unfoldable pub json_of : List ℕ → Option Data
-json_of text = if is_utf8 text then read text else None
+use Rattle.api_wire.specs.Json.{json_of, members_in, text_at}
+use Rattle.api_wire.specs.Request.{is_json}
 
 -- the prefix that a text stands for
 unfoldable pub prefix_of : List ℕ → Option (List Pattern)
 prefix_of text = value_from next_prefix end_prefix before text
 
--- the text under a key of an object
-abbrev pub text_at : List ℕ → Data → Option (List ℕ)
-text_at key d = option_and_then as_str (get key d)
-
-abbrev pub count_members : Members → ℕ
-count_members no_members = 0
-count_members (member k d ms) = 1 + count_members ms
-
 -- an object with two members
 abbrev pub is_pair : Data → Bool
-is_pair d = unwrap_or (option_map count_members (as_object d)) 0 == 2
+is_pair d = members_in d == 2
 
 -- the rule of a tree and a prefix, where both are there
 abbrev pub rule_from : Option TreeValue → Option (List Pattern) → Option Rule

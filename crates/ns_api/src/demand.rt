@@ -1,74 +1,32 @@
-//! What requests ask for.
+//! What requests of namerd's interface ask for.
 ghost use Rattle.std.specs.Prelude.{◌≡◌, IfOk};
 ghost use Rattle.std.specs.Option.{option_copied};
-ghost use Rattle.ns_api.specs.Demand.{answer, bad_name, bad_table, demand_value, names_demand};
-ghost use Rattle.ns_api.specs.Demand.{no_path, not_allowed, ns_demand, segment_demand, table_asked};
-ghost use Rattle.ns_api.specs.Demand.{table_demand};
+ghost use Rattle.api_wire.specs.Demand.{answer, demand_value};
+ghost use Rattle.ns_api.specs.Demand.{bad_table, names_demand, ns_demand, segment_demand};
+ghost use Rattle.ns_api.specs.Demand.{table_asked, table_demand};
 
 use crate::Mem;
 use crate::json_table::{TableFault, read_body_table};
-use crate::request::{is_path, path_in, read_name, segment_behind, version_asked};
-use crate::response::{Content, Media, Response, Status};
-use crate::verb::{Methods, Verb, verb_of};
 use addr_book::{Name, NameFault};
+use api_wire::{
+    Demand, Methods, Verb, is_path, path_in, read_name, segment_behind, verb_of, version_asked,
+};
+use http::StatusCode;
 use http_wire::{FieldList, Head};
 use machine::{Change, Look};
 use std::alloc::{AllocError, Global};
-
-/// What a request asks for. `demand_value` is how contracts see it.
-#[derive(Debug, Drop)]
-pub enum Demand {
-    /// This response, whatever the state is.
-    Answer(Response),
-    /// This response, and then the program is to stop.
-    Stop(Response),
-    /// A change of the state.
-    Change(Change),
-    /// A question that alters nothing.
-    Look(Look),
-}
-
-/// The path is none of the interface.
-pub fn no_path(alloc: Global) -> Mem<Demand>
-    ensures { IfOk result (λ demand. demand_value demand ≡ answer no_path) }
-{
-    Ok(Demand::Answer(Response::word(alloc, Status::NotFound, None, "path")?))
-}
-
-/// The path does not answer the method: it answers these.
-pub fn not_allowed(alloc: Global, methods: Methods) -> Mem<Demand>
-    ensures { IfOk result (λ demand. demand_value demand ≡ answer (not_allowed methods)) }
-{
-    let body = Vec::from_slice(alloc, b"method\n")?;
-    Ok(Demand::Answer(Response {
-        status: Status::MethodNotAllowed,
-        version: None,
-        allow: Some(methods),
-        content: Some(Content {
-            media: Media::Plain,
-            body,
-        }),
-    }))
-}
-
-/// A name in the path is none.
-pub fn bad_name(alloc: Global) -> Mem<Demand>
-    ensures { IfOk result (λ demand. demand_value demand ≡ answer bad_name) }
-{
-    Ok(Demand::Answer(Response::word(alloc, Status::BadRequest, None, "name")?))
-}
 
 /// The body is no table.
 fn bad_table(alloc: Global) -> Mem<Demand>
     ensures { IfOk result (λ demand. demand_value demand ≡ answer bad_table) }
 {
-    Ok(Demand::Answer(Response::word(alloc, Status::BadRequest, None, "dtab")?))
+    Demand::word(alloc, StatusCode::BAD_REQUEST, "dtab")
 }
 
 /// What a request of namerd's interface asks for, by its head, the target that goes on, and its
 /// body.
 #[tactic(auto, unfolding(crate::specs::Demand::ns_demand))]
-pub(crate) fn ns_demand(alloc: Global, head: &Head, line: &[u8], body: &[u8]) -> Mem<Demand>
+pub fn ns_demand(alloc: Global, head: &Head, line: &[u8], body: &[u8]) -> Mem<Demand>
     ensures { IfOk result (λ demand. demand_value demand ≡ ns_demand head.now line.now body.now) }
 {
     let path = path_in(line);
@@ -92,10 +50,10 @@ fn names_demand(alloc: Global, verb: Option<Verb>) -> Mem<Demand>
     match verb {
         Some(Verb::Get) => Ok(Demand::Look(Look::List)),
         Some(Verb::Head) => Ok(Demand::Look(Look::List)),
-        Some(Verb::Post) => not_allowed(alloc, Methods::Reads),
-        Some(Verb::Put) => not_allowed(alloc, Methods::Reads),
-        Some(Verb::Delete) => not_allowed(alloc, Methods::Reads),
-        None => not_allowed(alloc, Methods::Reads),
+        Some(Verb::Post) => Demand::not_allowed(alloc, Methods::Reads),
+        Some(Verb::Put) => Demand::not_allowed(alloc, Methods::Reads),
+        Some(Verb::Delete) => Demand::not_allowed(alloc, Methods::Reads),
+        None => Demand::not_allowed(alloc, Methods::Reads),
     }
 }
 
@@ -112,7 +70,7 @@ fn segment_demand(
         ≡ segment_demand verb (option_copied segment.entry) fields.now body.now) }
 {
     match segment {
-        None => no_path(alloc),
+        None => Demand::no_path(alloc),
         Some(segment) => table_demand(alloc, verb, segment, fields, body),
     }
 }
@@ -129,11 +87,11 @@ fn table_demand(
         (λ demand. demand_value demand ≡ table_demand verb segment.now fields.now body.now) }
 {
     let Some(verb) = verb else {
-        return not_allowed(alloc, Methods::Tables);
+        return Demand::not_allowed(alloc, Methods::Tables);
     };
     match read_name(alloc, segment) {
         Ok(name) => table_asked(alloc, verb, name, fields, body),
-        Err(NameFault::NotName) => bad_name(alloc),
+        Err(NameFault::NotName) => Demand::bad_name(alloc),
         Err(NameFault::OutOfMemory) => Err(AllocError),
     }
 }

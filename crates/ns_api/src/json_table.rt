@@ -3,18 +3,19 @@ ghost use Rattle.std.specs.Prelude.{◌≡◌, ◌≤◌, ◌-◌, ◌<◌, nat_
 ghost use Rattle.std.specs.Prelude.{MatchResult, IfOk, None, Some, option_map};
 ghost use Rattle.std.specs.Option.{option_and_then};
 ghost use Rattle.serde_json.specs.Find.{as_array, get};
-ghost use Rattle.serde_json.specs.View.{items_view, members_view, view};
+ghost use Rattle.serde_json.specs.View.{items_view, view};
 ghost use Rattle.name_tree.specs.Computed.{tree_of};
 ghost use Rattle.name_tree.specs.Tree.{value_of};
 ghost use Rattle.dtab_table.specs.Computed.{table_of};
 ghost use Rattle.dtab_table.specs.Dtab.{rules_of};
 ghost use Rattle.dtab_table.specs.Rules.{rule_of};
-ghost use Rattle.ns_api.specs.JsonTable.{are_few, body_rules, few_rules, is_pair, json_of};
-ghost use Rattle.ns_api.specs.JsonTable.{json_rules, list_of, prefix_of, row_rule, row_rules};
-ghost use Rattle.ns_api.specs.JsonTable.{row_size, rule_in, text_at, text_size};
+ghost use Rattle.api_wire.specs.Json.{json_of, text_at};
+ghost use Rattle.ns_api.specs.JsonTable.{are_few, body_rules, few_rules, is_pair, json_rules};
+ghost use Rattle.ns_api.specs.JsonTable.{list_of, prefix_of, row_rule, row_rules, row_size};
+ghost use Rattle.ns_api.specs.JsonTable.{rule_in, text_size};
 
 use crate::Mem;
-use crate::request::is_json;
+use api_wire::{is_json, json_value, members_in, text_at};
 use dtab_table::{
     Dtab, DtabFault, Entry, EntryList, MOST_ENTRIES, Prefix, PrefixFault, read_dtab, read_prefix,
 };
@@ -26,7 +27,7 @@ use thiserror::Error;
 
 /// Why a body was not read as a table.
 #[derive(Clone, Copy, Debug, PartialEq, Eq, Error)]
-pub enum TableFault {
+pub(crate) enum TableFault {
     /// It is none.
     #[error("the body is no table")]
     NoTable,
@@ -62,7 +63,11 @@ impl<T: Drop> From<AllocFailed<T>> for TableFault {
 /// These are the texts of a tree and of a prefix, and have at most 65,536 bytes together, their
 /// escapes in JSON undone.
 #[tactic(auto, unfolding(crate::specs::JsonTable::body_rules))]
-pub fn read_body_table(alloc: Global, fields: &FieldList, body: &[u8]) -> Result<Dtab, TableFault>
+pub(crate) fn read_body_table(
+    alloc: Global,
+    fields: &FieldList,
+    body: &[u8],
+) -> Result<Dtab, TableFault>
     ensures { MatchResult result (λ dtab. body_rules fields.now body.now ≡ Some (rules_of dtab))
         (λ fault. fault ≡ TableFault.NoTable → body_rules fields.now body.now ≡ None) }
 {
@@ -83,24 +88,9 @@ fn read_json(alloc: Global, text: &[u8]) -> Result<Dtab, TableFault>
         (λ fault. fault ≡ TableFault.NoTable
         → option_and_then json_rules (json_of text.now) ≡ None) }
 {
-    let tree = parse(alloc, text)?;
-    table_of_tree(alloc, &tree)
-}
-
-/// The value of a JSON text.
-fn parse(alloc: Global, text: &[u8]) -> Result<Value, TableFault>
-    ensures { MatchResult result (λ tree. json_of text.now ≡ Some (view tree))
-        (λ fault. fault ≡ TableFault.NoTable → json_of text.now ≡ None) }
-{
-    match Value::from_slice(alloc, text) {
-        Ok(tree) => Ok(tree),
-        Err(error) => {
-            if error.is_memory() {
-                Err(TableFault::OutOfMemory)
-            } else {
-                Err(TableFault::NoTable)
-            }
-        }
+    match json_value(alloc, text)? {
+        Some(tree) => table_of_tree(alloc, &tree),
+        None => Err(TableFault::NoTable),
     }
 }
 
@@ -142,37 +132,27 @@ fn table_of_entries(alloc: Global, entries: Vec<Entry>) -> Mem<Dtab>
 fn are_short(rows: &[Value]) -> bool
     ensures { result ≡ nat_le (sum_by row_size (map view rows.now)) 65536 }
 {
-    let mut left = MOST_BYTES;
+    let mut room = MOST_BYTES;
     for row in rows {
-        let Some(behind_tree) = without_text(left, row, "dst") else {
+        let Some(behind_tree) = without_text(room, row, "dst") else {
             return false;
         };
         let Some(behind_both) = without_text(behind_tree, row, "prefix") else {
             return false;
         };
-        left = behind_both;
+        room = behind_both;
     }
     true
 }
 
-/// What is left of so many bytes without those of the text under a key.
-fn without_text(left: usize, row: &Value, key: &str) -> Option<usize>
+/// The room for so many bytes without those of the text under a key.
+fn without_text(room: usize, row: &Value, key: &str) -> Option<usize>
     ensures { let size = text_size (text_at key.now (view row.now))
-        in result ≡ (if nat_le size left then Some (left - size) else None) }
+        in result ≡ (if nat_le size room then Some (room - size) else None) }
 {
     match text_at(row, key) {
-        Some(text) => left.checked_sub(text.len()),
-        None => Some(left),
-    }
-}
-
-/// The text under a key.
-fn text_at<'v>(row: &'v Value, key: &str) -> Option<&'v str>
-    ensures { option_map (λ text. text.now) result ≡ text_at key.now (view row.now) }
-{
-    match row.get(key) {
-        Some(value) => value.as_str(),
-        None => None,
+        Some(text) => room.checked_sub(text.len()),
+        None => Some(room),
     }
 }
 
@@ -208,10 +188,7 @@ fn read_row(alloc: Global, row: &Value) -> Result<Entry, TableFault>
 fn is_pair(row: &Value) -> bool
     ensures { result ≡ is_pair (view row.now) }
 {
-    match row.as_object() {
-        Some(members) => members.len() == 2,
-        None => false,
-    }
+    members_in(row) == 2
 }
 
 /// The entry of the texts of a tree and a prefix.

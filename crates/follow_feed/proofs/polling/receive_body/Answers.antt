@@ -14,7 +14,8 @@ returns-in-Ok-clause-says g c =
           c.args.rest.now _ b.1
           c.new-body.result.bytes.items c.as_slice.result.now b.0 c.read_feed.result
           c.in-Some.ensures.some
-          c.new-before.ensures.items _ _ c.in-Ok.is b.6 c.new-body.ensures (c.as_slice.ensures.value ∙ b.4)
+          c.new-before.ensures.items _ _ c.in-Ok.is b.6 c.new-body.ensures
+          (c.as_slice.ensures.value ∙ b.4)
           c.read_feed.ensures,
     )
 
@@ -25,6 +26,7 @@ returns-clause-says g c =
       grows_by_pieces _ _ b.0 b.3,
       subst (λ (e : PollEnd). SaysBehind c.args.head.now c.args.rest.now b.0 (Err e))
           (sym c.of_body.ensures)
-          (cut_body_by c.args.head.now c.in-Some.length c.new-before.result.items c.args.rest.now _ b.1
+          (cut_body_by c.args.head.now c.in-Some.length c.new-before.result.items c.args.rest.now _
+          b.1
           b.0 c.in-Err.end c.in-Some.ensures.some _ _ c.in-Err.is b.6 b.5),
     )

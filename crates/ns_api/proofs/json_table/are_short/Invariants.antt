@@ -5,4 +5,6 @@ use Rattle.ns_api.specs.JsonTable.{row_size}
 use Rattle.ns_api.proofs.json_table.are_short.Given as goal
 
 abbrev pub invariant-loop-row : goal.invariant-loop-row
-invariant-loop-row l = nat_le (sum_by row_size (map view (drop l.row-index l.rows))) l.left ≡ nat_le (sum_by row_size (map view l.rows)) 65536
+invariant-loop-row l =
+    nat_le (sum_by row_size (map view (drop l.row-index l.rows))) l.room
+    ≡ nat_le (sum_by row_size (map view l.rows)) 65536

@@ -7,4 +7,7 @@ pub returns-in-Ok : goal.returns-in-Ok
 returns-in-Ok c = prefix_known c.args.text.now c.in-Ok.prefix c.in-Ok.ensures.exact
 
 pub returns-in-Err-NotPrefix : goal.returns-in-Err-NotPrefix
-returns-in-Err-NotPrefix c = λ _. prefix_unknown c.args.text.now (subst (PrefixFaultFits c.args.text.now) c.in-Err-NotPrefix.field-0-is c.in-Err-NotPrefix.ensures.exact)
+returns-in-Err-NotPrefix c =
+    λ _. prefix_unknown c.args.text.now
+    (subst (PrefixFaultFits c.args.text.now) c.in-Err-NotPrefix.field-0-is
+    c.in-Err-NotPrefix.ensures.exact)

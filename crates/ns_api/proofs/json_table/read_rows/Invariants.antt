@@ -7,6 +7,7 @@ use Rattle.ns_api.proofs.json_table.read_rows.Given as goal
 
 abbrev pub invariant-loop-row : goal.invariant-loop-row
 invariant-loop-row l = record {
-  rules : row_rules (map view l.rows) ≡ behind (map rule_of l.entries.items) (row_rules (map view (drop l.row-index l.rows)));
+  rules : row_rules (map view l.rows)
+      ≡ behind (map rule_of l.entries.items) (row_rules (map view (drop l.row-index l.rows)));
   count : length l.entries.items ≡ l.row-index;
 }

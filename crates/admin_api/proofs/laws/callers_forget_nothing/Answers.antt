@@ -1,6 +1,0 @@
-use Rattle.admin_api.proofs.Staying.{few_requests, nothing_is_forgotten}
-use Rattle.admin_api.proofs.laws.callers_forget_nothing.Goals as goal
-
-pub returns : goal.returns
-returns g c =
-    record { nothing = nothing_is_forgotten g.J.Naming; few = few_requests g.J.Naming }

@@ -1,0 +1,9 @@
+pub mod Answering
+pub mod Asked
+pub mod Codes
+pub mod Laws
+pub mod Reading
+pub mod Requests
+pub mod Serving
+pub mod Stays
+pub mod Workers

@@ -1,0 +1,3 @@
+mod Segments
+pub mod JsonValues
+pub mod Demands

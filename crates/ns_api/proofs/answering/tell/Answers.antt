@@ -1,6 +1,0 @@
-use Rattle.std.specs.Prelude.{false}
-use Rattle.ns_api.proofs.Carrying.{written_as}
-use Rattle.ns_api.proofs.answering.tell.Goals as goal
-
-pub returns : goal.returns
-returns c = written_as _ _ c.args.delivery false c.write.result c.in_ok-response.ensures c.write.ensures
