@@ -5,8 +5,9 @@
 //! streams, hands the arguments on, and ends with the code that it is given. What is told to people
 //! goes to standard error: how to call the program where the words fit no command, by which
 //! configuration it serves, why it ended, that a configuration does what few want, that lines of
-//! an access log are lost, and what else the text of a table shows. Beside a router that serves, a thread watches for a signal that asks for an end
-//! and that whoever started the program has blocked (`env --block-signal=TERM,INT`).
+//! an access log are lost, and what else the text of a table shows. Beside a router that serves, a
+//! thread watches for a signal that asks for an end and that whoever started the program has
+//! blocked (`env --block-signal=TERM,INT`).
 //!
 //! # What is proved
 //! That the code to exit with is the status of the words is a clause of
@@ -25,7 +26,7 @@
 #![tactic(auto)]
 
 use announcing::{Asked, asked_of, reason};
-use linker_commands::{Status, run_arguments, tell};
+use linker_commands::{ExitStatus, Outside, run_arguments, tell};
 use log_file::FileJournals;
 use losing::WarningJournals;
 use net_edge::{FileSystem, ReaderSource, SocketNet, SystemClock, WriterSink};
@@ -79,13 +80,10 @@ fn main(rt: HostRuntime) -> ExitCode {
         StopCell::new(rt.alloc()),
         Finish::awaited(rt.alloc()),
     ) else {
-        return ExitCode::from(tell(&mut out, b"error memory\n", Status::Memory).code());
+        return ExitCode::from(tell(&mut out, b"error memory\n", ExitStatus::Memory).code());
     };
     let asked = asked_of(rt.alloc(), env::args(&rt));
     let expected = asked.as_ref().map(Asked::expected);
-    let mut folder = WarningFolder::of(&rt, FileSystem::of(&rt), expected);
-    let mut clock = SystemClock::of(&rt);
-    let mut input = ReaderSource::of(rt.reader());
     if let Some(Asked::Serve(path)) = &asked {
         let _ = eprintln!(rt; "linker: serving by {path}");
     }
@@ -105,19 +103,16 @@ fn main(rt: HostRuntime) -> ExitCode {
         },
         None => None,
     };
-    let mut net = StoppableNet::of(&rt, sockets, stops);
     let losing = AtomicU64::new(0);
-    let mut journals = WarningJournals::of(&rt, FileJournals::of(&rt), &losing);
-    let exit = run_arguments(
-        &rt,
-        env::args(&rt),
-        &mut folder,
-        &mut net,
-        &mut clock,
-        &mut input,
-        &mut out,
-        &mut journals,
-    );
+    let mut outside = Outside {
+        folder: WarningFolder::of(&rt, FileSystem::of(&rt), expected),
+        net: StoppableNet::of(&rt, sockets, stops),
+        clock: SystemClock::of(&rt),
+        input: ReaderSource::of(rt.reader()),
+        out,
+        journals: WarningJournals::of(&rt, FileJournals::of(&rt), &losing),
+    };
+    let exit = run_arguments(&rt, env::args(&rt), &mut outside);
     finish.come();
     if let Some(thread) = watching {
         let _ = thread.join(&rt);
@@ -125,7 +120,8 @@ fn main(rt: HostRuntime) -> ExitCode {
     if exit.tells_usage {
         let _ = eprint!(rt; "{USAGE}");
     }
-    if serves && let Ok(reason) = reason(rt.alloc(), exit.status, net.net().refused()) {
+    let refused = outside.net.net().refused();
+    if serves && let Ok(reason) = reason(rt.alloc(), exit.status, refused) {
         let _ = eprintln!(rt; "linker: ended: {reason}");
     }
     exit.code

@@ -22,7 +22,7 @@ use Rattle.linker_commands.specs.Run.{Course, words_refused, read_failed, too_lo
 use Rattle.linker_commands.specs.Linked.{Linked}
 use Rattle.linker_commands.specs.Run.{line_told, no_memory, served, followed, Follows}
 use Rattle.linker_commands.specs.Run.{Reads, ReadsScript}
-use Rattle.linker_commands.specs.Run.{Checks, Serves, Makes, Takes, Shows, ReadsLong, Ended}
+use Rattle.linker_commands.specs.Run.{Checks, Serves, Makes, Takes, Shows, ReadsLong, EndsCourse}
 use Rattle.linker_commands.specs.Run.{AllBack, EndsWhole, Ran, Yields}
 use Rattle.linker_commands.specs.Run.{status_of, status_if, statuses}
 use Rattle.linker_commands.specs.Served.{Finish, shut_down, broken, short, finish_code, IsConfig}
@@ -34,7 +34,7 @@ use Rattle.linker_commands.specs.Words.{command_of}
 module _ {P : Type 0} (line_of : P → Line) (address_of : P → Option SocketAddress)
     (moments : Option (List ℕ)) where
   -- a run that did not yield has the status of its course
-  ended_code : (course : Course) (old new : Output) (status : ℕ) → Ended course old new status
+  ended_code : (course : Course) (old new : Output) (status : ℕ) → EndsCourse course old new status
       → (status ≡ status_of course) ⊎ Yields status old new
   ended_code course old new status (inl whole) = inl whole.0
   ended_code course old new status (inr (inl wanting)) = inr (inl wanting.0)
@@ -750,7 +750,7 @@ module _ {P : Type 0} (line_of : P → Line) (address_of : P → Option SocketAd
     pub write_cause : old_out.faults < new_out.faults → status ≡ 5
     write_cause rose = ended ran.2
       where
-        ended : Ended ran.0 old_out new_out status → status ≡ 5
+        ended : EndsCourse ran.0 old_out new_out status → status ≡ 5
         ended (inl whole) = absurd (omega (arith, whole.2, rose))
         ended (inr (inl wanting)) = absurd (omega (arith, wanting.1, rose))
         ended (inr (inr failed)) = failed.0

@@ -11,10 +11,10 @@ use Rattle.line_base.specs.Streams.{Output}
 use Rattle.follow_feed.specs.declared.polling.PollEnd.{PollEnd}
 use Rattle.follow_feed.specs.Feeds.{FeedValue}
 use Rattle.follow_feed.specs.Progress.{Polled, progress_of, told_of}
-use Rattle.linker_commands.specs.declared.run.Status.{Status}
-use Rattle.linker_commands.specs.declared.run.Status.TheVariants as status
+use Rattle.linker_commands.specs.declared.run.ExitStatus.{ExitStatus}
+use Rattle.linker_commands.specs.declared.run.ExitStatus.TheVariants as status
 use Rattle.linker_commands.specs.Follow.{CountsPolls, IsFollowed}
-use Rattle.linker_commands.specs.Run.{Course, Ended, Follows, followed}
+use Rattle.linker_commands.specs.Run.{Course, EndsCourse, Follows, followed}
 use Rattle.linker_commands.specs.Served.{memory_line}
 use Rattle.linker_commands.specs.Told.{Tells, code_of}
 use Rattle.linker_commands.proofs.Runs.{tells_memory}
@@ -39,7 +39,7 @@ module _ {P : Type 0} (told : Option (Returns P)) (leader : Addr) (space : List 
     pub all_told : (old after : Output) (wrote : List ℕ) → Appends old.held after.held wrote
         → (length polled ≡ polls) × (wrote ≡ told_of polls (progress_of polled))
         → after.faults ≡ old.faults
-        → (course : Course) × Follows told leader space polls course × Ended course old after 0
+        → (course : Course) × Follows told leader space polls course × EndsCourse course old after 0
     all_told old after wrote given count kept = (
       followed true (told_of polls (progress_of polled)),
       is_followed true count.0,
@@ -60,7 +60,7 @@ module _ {P : Type 0} (told : Option (Returns P)) (leader : Addr) (space : List 
     pub cut_told : (old after : Output) (wrote : List ℕ) → Appends old.held after.held wrote
         → (length polled ≤ polls) × IsBegun wrote
         → after.faults ≡ raised old.faults
-        → (course : Course) × Follows told leader space polls course × Ended course old after 5
+        → (course : Course) × Follows told leader space polls course × EndsCourse course old after 5
     cut_told old after wrote given count rose = (
       followed false (told_of polls (progress_of polled)),
       is_followed false count.0,
@@ -74,12 +74,12 @@ module _ {P : Type 0} (told : Option (Returns P)) (leader : Addr) (space : List 
     )
 
     -- memory was wanting
-    pub short_told : (old mid after : Output) (result : Status) (wrote : List ℕ)
+    pub short_told : (old mid after : Output) (result : ExitStatus) (wrote : List ℕ)
         → Appends old.held mid.held wrote
         → (length polled ≤ polls) × IsBegun wrote
         → mid.faults ≡ old.faults → Tells memory_line status.Memory mid after result
         → (course : Course) × Follows told leader space polls course
-        × Ended course old after (code_of result)
+        × EndsCourse course old after (code_of result)
     short_told old mid after result wrote given count kept said = (
       followed false (told_of polls (progress_of polled)),
       is_followed false count.0,

@@ -5,8 +5,8 @@ use Rattle.std.specs.Prelude.{Option, Result, Ok, Err}
 use Rattle.std.proofs.lemmas.List.{append-nil}
 use Rattle.std.specs.Io.KnownBytes.{Appends}
 use Rattle.std.proofs.KnownBytes.{Appends-trans, Appends-nil, Consumes-nil}
-use Rattle.linker_commands.specs.declared.run.Status.{Status}
-use Rattle.linker_commands.specs.declared.run.Status.TheVariants as status
+use Rattle.linker_commands.specs.declared.run.ExitStatus.{ExitStatus}
+use Rattle.linker_commands.specs.declared.run.ExitStatus.TheVariants as status
 use Rattle.line_base.specs.Counts.{Rose}
 use Rattle.line_base.specs.Lines.{Line}
 use Rattle.line_base.specs.declared.socket_address.SocketAddress.{SocketAddress}
@@ -15,7 +15,7 @@ use Rattle.line_base.specs.Streams.{Input, Output}
 use Rattle.linker_commands.specs.Run.{AppendsFront, Course, words_refused, read_failed, too_long}
 use Rattle.linker_commands.specs.Run.{script_read, line_told, no_memory, served, followed, Begins}
 use Rattle.linker_commands.specs.Linked.{Linked}
-use Rattle.linker_commands.specs.Run.{Takes, Ended, Ran, output_of, status_of}
+use Rattle.linker_commands.specs.Run.{Takes, EndsCourse, Ran, output_of, status_of}
 use Rattle.linker_commands.specs.Served.{memory_line}
 use Rattle.linker_commands.specs.Words.{Asked, replay, check, serve, lint, storm, weave, follow}
 use Rattle.linker_commands.specs.Words.{command_of}
@@ -23,19 +23,19 @@ use Rattle.linker_commands.specs.Told.{code_of, Tells}
 use Rattle.linker_commands.proofs.Plays.{front_of, rose_later}
 
 -- a course that one last line tells of
-pub tells_end : (course : Course) (line : List ℕ) (end result : Status) (old new : Output)
+pub tells_end : (course : Course) (line : List ℕ) (end result : ExitStatus) (old new : Output)
     → line ≡ output_of course → code_of end ≡ status_of course
-    → Tells line end old new result → Ended course old new (code_of result)
+    → Tells line end old new result → EndsCourse course old new (code_of result)
 tells_end course line end result old new is code (inl done) =
     inl (ap code_of done.0 ∙ code, subst (Appends old.held new.held) is done.1, done.2)
 tells_end course line end result old new is code (inr failed) =
     inr (inr (ap code_of failed.0, failed.1, line, inl is, failed.2))
 
 -- a front of what the course writes was written, and then memory was wanting
-pub tells_memory : (course : Course) (result : Status) (old mid new : Output) (front rest : List ℕ)
+pub tells_memory : (course : Course) (result : ExitStatus) (old mid new : Output) (front rest : List ℕ)
     → output_of course ≡ front ++ rest → Appends old.held mid.held front → mid.faults ≡ old.faults
     → Begins course front → Tells memory_line status.Memory mid new result
-    → Ended course old new (code_of result)
+    → EndsCourse course old new (code_of result)
 tells_memory course result old mid new front rest is given kept begins (inl done) =
     inr (inl (
       ap code_of done.0,
@@ -67,8 +67,8 @@ begins_nothing (served lines finish) = refl
 begins_nothing (followed all lines) = tt
 
 -- memory was wanting before anything was written
-pub tells_memory_first : (course : Course) (result : Status) (old new : Output)
-    → Tells memory_line status.Memory old new result → Ended course old new (code_of result)
+pub tells_memory_first : (course : Course) (result : ExitStatus) (old new : Output)
+    → Tells memory_line status.Memory old new result → EndsCourse course old new (code_of result)
 tells_memory_first course result old new told =
     tells_memory course result old old new [] (output_of course) refl (Appends-nil old.held) refl
     (begins_nothing course) told
@@ -98,7 +98,7 @@ nothing_read line_of address_of moments (Ok (follow leader space polls)) input f
 -- memory was wanting for the words themselves
 pub no_words : {P : Type 0} (line_of : P → Line) (address_of : P → Option SocketAddress)
     (moments : Option (List ℕ)) (words : List (List ℕ))
-    (input : Input) (files : Filed) (net : Linked P) (old new : Output) (result : Status)
+    (input : Input) (files : Filed) (net : Linked P) (old new : Output) (result : ExitStatus)
     → Tells memory_line status.Memory old new result
     → Ran line_of address_of moments words input input files files net net old new (code_of result)
 no_words line_of address_of moments words input files net old new result told =
@@ -106,10 +106,10 @@ no_words line_of address_of moments words input files net old new result told =
     (first.0, first.1, tells_memory_first first.0 result old new told)
 
 -- a last line behind what was written
-pub tells_behind : (course : Course) (first line : List ℕ) (end result : Status)
+pub tells_behind : (course : Course) (first line : List ℕ) (end result : ExitStatus)
     (old mid new : Output) → output_of course ≡ first ++ line → code_of end ≡ status_of course
     → Appends old.held mid.held first → mid.faults ≡ old.faults → Tells line end mid new result
-    → Ended course old new (code_of result)
+    → EndsCourse course old new (code_of result)
 tells_behind course first line end result old mid new is code before kept (inl done) =
     inl (
       ap code_of done.0 ∙ code,
@@ -130,7 +130,7 @@ tells_behind course first line end result old mid new is code before kept (inr f
 -- a write failed before the last line
 pub fails_before : (course : Course) (first line : List ℕ) (old new : Output)
     → output_of course ≡ first ++ line → Rose old.faults new.faults
-    → AppendsFront old.held new.held first → Ended course old new 5
+    → AppendsFront old.held new.held first → EndsCourse course old new 5
 fails_before course first line old new is rose front =
     inr (inr (
       refl,

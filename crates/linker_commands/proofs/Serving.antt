@@ -34,13 +34,13 @@ use Rattle.linker_commands.specs.declared.check.ConfigEnd.{ConfigEnd}
 use Rattle.linker_commands.specs.declared.check.ConfigEnd.TheVariants.{Wrong}
 use Rattle.linker_commands.specs.Found.{IfWrong}
 use Rattle.linker_commands.specs.Recorded.{HasRecorded}
-use Rattle.linker_commands.specs.declared.run.Status.{Status}
-use Rattle.linker_commands.specs.declared.run.Status.TheVariants as status
+use Rattle.linker_commands.specs.declared.run.ExitStatus.{ExitStatus}
+use Rattle.linker_commands.specs.declared.run.ExitStatus.TheVariants as status
 use Rattle.line_base.specs.Files.{Filed}
 use Rattle.line_base.specs.Streams.{Output}
 use Rattle.linker_commands.specs.Run.{AppendsFront, Course, line_told, no_memory, served}
 use Rattle.linker_commands.specs.Linked.{Linked}
-use Rattle.linker_commands.specs.Run.{EndsServing, Ended, Serves}
+use Rattle.linker_commands.specs.Run.{EndsServing, EndsCourse, Serves}
 use Rattle.linker_commands.specs.Served.{Finish, broken, short, finish_code, AreLoaded, IsConfig}
 use Rattle.linker_commands.specs.Served.{IsFeeding, IsLast, IsMadeBy, IsSiteOf, LoadsRoot}
 use Rattle.linker_commands.specs.Served.{RefusesBook, RefusesService, feed_jobs_in, feed_port}
@@ -61,7 +61,7 @@ module _ (J : Type 0) {P : Type 0} (line_of : P → Line) (address_of : P → Op
     (files : Option (List File)) (c : Config) where
   -- the book has no room for a service
   pub no_room : (settings : SettingsValue) (loaded : List LoadedItem) (site : Site)
-      (path : Option (List ℕ)) (net net_after : Linked P) (old new : Output) (result : Status)
+      (path : Option (List ℕ)) (net net_after : Linked P) (old new : Output) (result : ExitStatus)
       → IsMadeBy moments files c site settings loaded path
       → BookRefuses settings loaded × (net_after.state ≡ net.state) → net_after.faults ≡ net.faults
       → net_after.logs ≡ net.logs → Tells (codes "error book\n") status.Wrong old new result
@@ -82,14 +82,14 @@ module _ (J : Type 0) {P : Type 0} (line_of : P → Line) (address_of : P → Op
       ))
 
   -- memory was wanting before anything was written
-  pub no_memory_yet : (net net_after : Linked P) (old new : Output) (result : Status)
+  pub no_memory_yet : (net net_after : Linked P) (old new : Output) (result : ExitStatus)
       → net_after.faults ≡ net.faults → Tells memory_line status.Memory old new result
       → EndsServing J line_of address_of moments files c net net_after old new (code_of result)
   no_memory_yet net net_after old new result kept told =
       inr (inr (kept, tells_memory_first no_memory result old new told))
 
   -- an address can't be listened on
-  pub not_listening : (net net_after : Linked P) (old new : Output) (result : Status)
+  pub not_listening : (net net_after : Linked P) (old new : Output) (result : ExitStatus)
       → AreLoaded files c → Rose net.faults net_after.faults
       → Tells (codes "error net\n") status.Net old new result
       → EndsServing J line_of address_of moments files c net net_after old new (code_of result)
@@ -125,9 +125,9 @@ module _ (J : Type 0) {P : Type 0} (line_of : P → Line) (address_of : P → Op
 
   -- it served, and what came last was told
   pub told_on : (net mid net_after : Linked P) (line : List ℕ) (old between new : Output)
-      (result : Status) → line ≡ serving_line c → mid.faults ≡ net.faults
+      (result : ExitStatus) → line ≡ serving_line c → mid.faults ≡ net.faults
       → Appends old.held between.held line → between.faults ≡ old.faults
-      → ((last : List ℕ) × (finish : Finish) × (end : Status)
+      → ((last : List ℕ) × (finish : Finish) × (end : ExitStatus)
       × IsLast J line_of address_of moments files c net net_after last finish
       × TellsNet mid.faults net_after.faults finish
       × (code_of end ≡ finish_code finish) × Tells last end between new result)
@@ -248,6 +248,21 @@ kept_unless before now (BadFile name line) other cause = cause.count
 kept_unless before now FolderFault other cause = absurd (other refl)
 kept_unless before now OutOfMemory other cause = cause.count
 
+-- and so it stands where a file of it is refused
+pub kept_at_long : {T : Type 0} (before now : ℕ) (fault : LoadFault) (name : List ℕ)
+    → fault ≡ LongFile name → HasLoadCause {T = T} before now (Err fault) → now ≡ before
+kept_at_long before now (LongFile other) name is cause = cause.count
+kept_at_long before now (BadFile other line) name is cause = cause.count
+kept_at_long before now FolderFault name is cause = cc is
+kept_at_long before now OutOfMemory name is cause = cause.count
+
+pub kept_at_bad : {T : Type 0} (before now : ℕ) (fault : LoadFault) (name : List ℕ) (line : ℕ)
+    → fault ≡ BadFile name line → HasLoadCause {T = T} before now (Err fault) → now ≡ before
+kept_at_bad before now (LongFile other) name line is cause = cause.count
+kept_at_bad before now (BadFile other at) name line is cause = cause.count
+kept_at_bad before now FolderFault name line is cause = cc is
+kept_at_bad before now OutOfMemory name line is cause = cause.count
+
 pub rose_with : {T : Type 0} (before now : ℕ) (fault : LoadFault) → fault ≡ FolderFault
     → HasLoadCause {T = T} before now (Err fault) → Rose before now
 rose_with before now (LongFile name) is cause = cc is
@@ -265,7 +280,7 @@ pub course_of_end : {P : Type 0} (line_of : P → Line) (address_of : P → Opti
     → EndsServing Brand line_of address_of moments files.files c net net_after old new code
     → (course : Course) × Serves line_of address_of moments path files files_after net net_after
     course
-    × Ended course old new code
+    × EndsCourse course old new code
 course_of_end line_of address_of moments path c files files_after net net_after old new code right
     kept
     (inl end) =
@@ -296,18 +311,18 @@ pub serves_from : {P : Type 0} (line_of : P → Line) (address_of : P → Option
     (code : ℕ)
     → mid.files ≡ files.files → mid.faults ≡ files.faults → IsConfig files.files path c
     → ((named : List ℕ) → IsConfig mid.files named c → (course : Course)
-    × Serves line_of address_of moments named mid files_after net net_after course × Ended course
+    × Serves line_of address_of moments named mid files_after net net_after course × EndsCourse course
     old new code)
     → (course : Course) × Serves line_of address_of moments path files files_after net net_after
     course
-    × Ended course old new code
+    × EndsCourse course old new code
 serves_from line_of address_of moments path c files mid files_after net net_after old new code same
     kept right
     on =
     let holds : Option (List File) → Type 0 = λ f. IsConfig f path c in
     let serves : Filed → Type 0 = λ f. (course : Course)
     × Serves line_of address_of moments path f files_after net net_after course
-    × Ended course old new code in
+    × EndsCourse course old new code in
     subst serves (filed_same mid files same kept) (on path (subst holds (sym same) right))
 
 -- the line of a configuration that is refused

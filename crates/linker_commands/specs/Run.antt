@@ -220,8 +220,8 @@ IsCutShort course bytes =
 
 -- a run of this course ends so: it wrote all and has the course's status, or memory was wanting, or
 -- a write failed. The output's count of faults rose exactly where a write failed
-abbrev pub Ended : Course → Output → Output → ℕ → Type 0
-Ended course old new status =
+abbrev pub EndsCourse : Course → Output → Output → ℕ → Type 0
+EndsCourse course old new status =
     ((status ≡ status_of course) × Appends old.held new.held (output_of course)
     × (new.faults ≡ old.faults))
     ⊎ (((status ≡ 7) × (new.faults ≡ old.faults) × (bytes : List ℕ) × IsCutShort course bytes
@@ -239,10 +239,11 @@ module _ (J : Type 0) {P : Type 0} (line_of : P → Line) (address_of : P → Op
   EndsServing files config net net_after old new status =
       ((lines : List ℕ) × (finish : Finish)
       × TellsServing J line_of address_of moments files config net net_after lines finish
-      × TellsNet net.faults net_after.faults finish × Ended (served lines finish) old new status)
+      × TellsNet net.faults net_after.faults finish
+      × EndsCourse (served lines finish) old new status)
       ⊎ ((RefusesBook files config × (net_after ≡ net)
-      × Ended (line_told false (codes "error book\n")) old new status)
-      ⊎ ((net_after.faults ≡ net.faults) × Ended no_memory old new status))
+      × EndsCourse (line_told false (codes "error book\n")) old new status)
+      ⊎ ((net_after.faults ≡ net.faults) × EndsCourse no_memory old new status))
 
 module _ {P : Type 0} (line_of : P → Line) (address_of : P → Option SocketAddress)
     (moments : Option (List ℕ)) where
@@ -254,7 +255,7 @@ module _ {P : Type 0} (line_of : P → Line) (address_of : P → Option SocketAd
       × Takes line_of address_of moments (command_of words) old_in new_in old_files new_files net
       net_after
       course
-      × Ended course old_out new_out status
+      × EndsCourse course old_out new_out status
 
 -- So many listeners came back clean, and over all of them as many peers were finished as had been
 -- accepted. The numbers of stops that were handed out and of those that came back rose alike

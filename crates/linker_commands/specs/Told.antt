@@ -10,8 +10,8 @@ use Rattle.linker_commands.specs.declared.player.PlayEnd.{PlayEnd}
 use Rattle.linker_commands.specs.declared.player.PlayEnd.TheVariants.{Done, BadLine, WriteFault}
 use Rattle.linker_commands.specs.declared.player.PlayEnd.TheVariants.{OutOfMemory}
 use Rattle.linker_commands.specs.Replay.{Played, before, line_played, replay_of}
-use Rattle.linker_commands.specs.declared.run.Status.{Status}
-use Rattle.linker_commands.specs.declared.run.Status.TheVariants as status
+use Rattle.linker_commands.specs.declared.run.ExitStatus.{ExitStatus}
+use Rattle.linker_commands.specs.declared.run.ExitStatus.TheVariants as status
 use Rattle.line_base.specs.Streams.{Output}
 use Rattle.linker_commands.specs.Run.{AppendsFront, Begins, script_read}
 
@@ -44,7 +44,7 @@ Flushes bytes others old new =
     (written : List ℕ) × (bytes ≡ written ++ others) × Appends old new written
 
 -- the number of a status
-abbrev pub code_of : Status → ℕ
+abbrev pub code_of : ExitStatus → ℕ
 code_of status.Done = 0
 code_of status.Words = 2
 code_of status.Wrong = 3
@@ -55,7 +55,7 @@ code_of status.Memory = 7
 code_of status.Long = 8
 
 -- a last line was written and this is the status, or the write failed
-abbrev pub Tells : List ℕ → Status → Output → Output → Status → Type 0
+abbrev pub Tells : List ℕ → ExitStatus → Output → Output → ExitStatus → Type 0
 Tells line end old new result =
     ((result ≡ end) × Appends old.held new.held line × (new.faults ≡ old.faults))
     ⊎ ((result ≡ status.Write) × Rose old.faults new.faults

@@ -12,8 +12,8 @@
 //! before it; the crate `follow_feed` does that.
 //!
 //! [`run_arguments`] calls it with the arguments of a process and gives the code to exit with. The
-//! program is a `main` that makes the folder, the net, the clock and the streams of the machine: so
-//! all that it decides is decided here, where tests hand in an outside in memory.
+//! program is a `main` that makes an [`Outside`] of the machine's files, sockets, clock and
+//! streams: so all that it decides is decided here, where tests hand in an outside in memory.
 //!
 //! # What is proved
 //! At status 0 the output has grown by the replay of what was read, as `specs/Replay.antt` defines
@@ -31,7 +31,7 @@
 //! # Example
 //! ```text
 //! let words = ["replay"];
-//! let status = linker(rt, &words, &mut folder, &mut net, &mut clock, &mut input, &mut out);
+//! let status = linker(rt, &words, &mut outside);
 //! // For `dtab /svc => /$/inet/127.0.0.1/8080` and `pick /svc/a` on the input, 0, and written are
 //! // `ok` and `127.0.0.1:8080 /$/inet/127.0.0.1/8080 /a`.
 //! ```
@@ -44,6 +44,7 @@ mod ends;
 mod follow;
 mod generated;
 mod lint;
+mod outside;
 mod player;
 mod program;
 mod recording;
@@ -53,8 +54,9 @@ mod serve;
 mod start;
 mod words;
 
+pub use outside::Outside;
 pub use program::linker;
-pub use run::{Status, tell};
+pub use run::{ExitStatus, tell};
 pub use start::{Exit, run_arguments, words_behind_name};
 pub use words::{Command, Following, Generated, read_words};
 

@@ -64,7 +64,7 @@ fn answer<L: Ledger>(
     match read_line(alloc, line) {
         Ok(line) => {
             let said = carry_out(alloc, settings, state, line, steps)?;
-            append_answer(alloc, &said, replies)?;
+            append_answer(alloc, said, replies)?;
             Ok(Turn::Next)
         }
         Err(LineFault::BadLine) => {
@@ -102,13 +102,9 @@ fn flush<K: Sink>(sink: &mut K, replies: &mut Bytes) -> Result<(), Failed>
     if replies.len() < FLUSH {
         return Ok(());
     }
-    match write_all(sink, replies.as_slice()) {
-        Ok(()) => {
-            replies.clear();
-            Ok(())
-        }
-        Err(failed) => Err(failed),
-    }
+    write_all(sink, replies.as_slice())?;
+    replies.clear();
+    Ok(())
 }
 
 /// Carries out the lines of a script in order on a new state, and writes their replies, up to the

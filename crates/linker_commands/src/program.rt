@@ -10,6 +10,7 @@ ghost use Rattle.linker_commands.specs.Run.{Ran, statuses, EndsWhole, Shows, Rea
 ghost use Rattle.linker_commands.specs.Run.{Yields, ReplaysAll, ChecksAll, LintsAll, MakesAll};
 ghost use Rattle.linker_commands.specs.Words.{command_of, storm, weave};
 
+use crate::outside::Outside;
 use crate::run::run;
 use line_base::{Clock, Folder, Listener, Net, Sink, Source};
 use line_log::Journals;
@@ -65,16 +66,7 @@ pub fn linker<
     S: Source,
     K: Sink,
     O: Journals,
->(
-    rt: &R,
-    words: &[String],
-    folder: &mut F,
-    net: &mut N,
-    clock: &mut C,
-    input: &mut S,
-    out: &mut K,
-    journals: &mut O,
-) -> u8
+>(rt: &R, words: &[String], outside: &mut Outside<F, N, C, S, K, O>) -> u8
 where
     <N::L as Listener>::P: Send,
     // What was read, what was written, and the status go together: at 0 the output has grown by the
@@ -84,75 +76,81 @@ where
     // configuration and the services of its folder: each stay of a client's connection went on with
     // what was seen for it before, all connections were finished, and all listeners and stops came
     // back.
-    ensures ran { Ran N.L.P.line N.L.P.address (C.of_fork clock.old) (map string_bytes words.now)
-        (S.input input.old) (S.input input.new) (F.filed folder.old) (F.filed folder.new)
-        (linked (N.state net.old) (N.faults net.old) (O.closed journals.old))
-        (linked (N.state net.new) (N.faults net.new) (O.closed journals.new)) (K.output out.old)
-        (K.output out.new) result }
+    ensures ran { Ran N.L.P.line N.L.P.address (C.of_fork outside.old.clock)
+        (map string_bytes words.now)
+        (S.input outside.old.input) (S.input outside.new.input) (F.filed outside.old.folder)
+        (F.filed outside.new.folder)
+        (linked (N.state outside.old.net) (N.faults outside.old.net)
+        (O.closed outside.old.journals))
+        (linked (N.state outside.new.net) (N.faults outside.new.net)
+        (O.closed outside.new.journals)) (K.output outside.old.out)
+        (K.output outside.new.out) result }
 
     // 2 exactly where the words fit no command.
     ensures words { result ≡ 2 → IsErr (command_of (map string_bytes words.now)) }
     ensures refused { IsErr (command_of (map string_bytes words.now)) → (result ≡ 2)
-        ⊎ Yields result (K.output out.old) (K.output out.new) }
+        ⊎ Yields result (K.output outside.old.out) (K.output outside.new.out) }
 
     // 0 and 3 only where the input was read to its end and each line of it is good, or one is bad;
     // where the configuration is right, or is not, or its services are refused; and where the file
     // has a table, or has none. A generated run is never wrong.
-    ensures done { result ≡ 0 → Shows (command_of (map string_bytes words.now)) (S.input input.old)
-        (S.input input.new) (F.filed folder.old) true }
-    ensures wrong { result ≡ 3 → Shows (command_of (map string_bytes words.now)) (S.input input.old)
-        (S.input input.new) (F.filed folder.old) false }
+    ensures done { result ≡ 0
+        → Shows (command_of (map string_bytes words.now)) (S.input outside.old.input)
+        (S.input outside.new.input) (F.filed outside.old.folder) true }
+    ensures wrong { result ≡ 3
+        → Shows (command_of (map string_bytes words.now)) (S.input outside.old.input)
+        (S.input outside.new.input) (F.filed outside.old.folder) false }
 
     // 0 of `serve` only where every listener came back clean, as many connections were finished as
     // were accepted, and as many stops came back as were handed out.
     ensures all_back { result ≡ 0 → EndsWhole (command_of (map string_bytes words.now))
-        (F.filed folder.old) (linked (N.state net.old) (N.faults net.old) (O.closed journals.old))
-        (linked (N.state net.new) (N.faults net.new) (O.closed journals.new)) }
+        (F.filed outside.old.folder)
+        (linked (N.state outside.old.net) (N.faults outside.old.net)
+        (O.closed outside.old.journals))
+        (linked (N.state outside.new.net) (N.faults outside.new.net)
+        (O.closed outside.new.journals)) }
 
     // 5 exactly where the output's count of faults rose, 4 exactly where the input's or the
     // folder's did, and 6 exactly where the net's did, but for want of memory.
-    ensures read { result ≡ 4 → Rose (S.input input.old).faults (S.input input.new).faults
-        ⊎ Rose (F.filed folder.old).faults (F.filed folder.new).faults }
-    ensures write { result ≡ 5 → Rose (K.output out.old).faults (K.output out.new).faults }
-    ensures net { result ≡ 6 → Rose (N.faults net.old) (N.faults net.new) }
-    ensures read_fault { (S.input input.old).faults < (S.input input.new).faults → (result ≡ 4)
-        ⊎ Yields result (K.output out.old) (K.output out.new) }
-    ensures folder_fault { (F.filed folder.old).faults < (F.filed folder.new).faults → (result ≡ 4)
-        ⊎ Yields result (K.output out.old) (K.output out.new) }
-    ensures write_fault { (K.output out.old).faults < (K.output out.new).faults → result ≡ 5 }
-    ensures net_fault { N.faults net.old < N.faults net.new → (result ≡ 6)
-        ⊎ Yields result (K.output out.old) (K.output out.new) }
+    ensures read { result ≡ 4
+        → Rose (S.input outside.old.input).faults (S.input outside.new.input).faults
+        ⊎ Rose (F.filed outside.old.folder).faults (F.filed outside.new.folder).faults }
+    ensures write { result ≡ 5
+        → Rose (K.output outside.old.out).faults (K.output outside.new.out).faults }
+    ensures net { result ≡ 6 → Rose (N.faults outside.old.net) (N.faults outside.new.net) }
+    ensures read_fault { (S.input outside.old.input).faults < (S.input outside.new.input).faults
+        → (result ≡ 4)
+        ⊎ Yields result (K.output outside.old.out) (K.output outside.new.out) }
+    ensures folder_fault { (F.filed outside.old.folder).faults < (F.filed outside.new.folder).faults
+        → (result ≡ 4)
+        ⊎ Yields result (K.output outside.old.out) (K.output outside.new.out) }
+    ensures write_fault { (K.output outside.old.out).faults < (K.output outside.new.out).faults
+        → result ≡ 5 }
+    ensures net_fault { N.faults outside.old.net < N.faults outside.new.net → (result ≡ 6)
+        ⊎ Yields result (K.output outside.old.out) (K.output outside.new.out) }
 
     // 8 exactly where more was read than a script may have.
-    ensures long { result ≡ 8 → ReadsLong (S.input input.old) (S.input input.new) }
-    ensures longer { IsSome (S.input input.old).left → ReadsLong (S.input input.old)
-        (S.input input.new) → (result ≡ 8) ⊎ Yields result (K.output out.old) (K.output out.new) }
+    ensures long { result ≡ 8 → ReadsLong (S.input outside.old.input) (S.input outside.new.input) }
+    ensures longer { IsSome (S.input outside.old.input).left → ReadsLong (S.input outside.old.input)
+        (S.input outside.new.input) → (result ≡ 8)
+        ⊎ Yields result (K.output outside.old.out) (K.output outside.new.out) }
 
     // Where nothing fails, an input that tells its bytes is carried out in full, and a
     // configuration, a table and a generated run are told of.
-    ensures replays { ReplaysAll (map string_bytes words.now) (S.input input.old)
-        (S.input input.new) (K.output out.old) (K.output out.new) result }
-    ensures checks { ChecksAll (map string_bytes words.now) (F.filed folder.old)
-        (F.filed folder.new) (K.output out.old) (K.output out.new) result }
-    ensures lints { LintsAll (map string_bytes words.now) (F.filed folder.old) (F.filed folder.new)
-        (K.output out.old) (K.output out.new) result }
-    ensures storms { MakesAll storm storm_line (map string_bytes words.now) (K.output out.old)
-        (K.output out.new) result }
-    ensures weaves { MakesAll weave weave_line (map string_bytes words.now) (K.output out.old)
-        (K.output out.new) result }
+    ensures replays { ReplaysAll (map string_bytes words.now) (S.input outside.old.input)
+        (S.input outside.new.input) (K.output outside.old.out) (K.output outside.new.out) result }
+    ensures checks { ChecksAll (map string_bytes words.now) (F.filed outside.old.folder)
+        (F.filed outside.new.folder) (K.output outside.old.out) (K.output outside.new.out) result }
+    ensures lints { LintsAll (map string_bytes words.now) (F.filed outside.old.folder)
+        (F.filed outside.new.folder)
+        (K.output outside.old.out) (K.output outside.new.out) result }
+    ensures storms { MakesAll storm storm_line (map string_bytes words.now)
+        (K.output outside.old.out)
+        (K.output outside.new.out) result }
+    ensures weaves { MakesAll weave weave_line (map string_bytes words.now)
+        (K.output outside.old.out)
+        (K.output outside.new.out) result }
     ensures status { Contains statuses result }
 {
-    run::<R, F, N, C, S, K, O, Brand>(
-        rt,
-        rt.alloc(),
-        words,
-        folder,
-        net,
-        clock,
-        input,
-        out,
-        journals,
-        Blank::new(1),
-    )
-    .code()
+    run::<R, F, N, C, S, K, O, Brand>(rt, rt.alloc(), words, outside, Blank::new(1)).code()
 }

@@ -27,6 +27,15 @@ use std::sync::Wait;
 use std::thread::Threads;
 use worker_record::WorkerRecord;
 
+/// Where a router serves, and its access log.
+#[derive(Drop)]
+pub(crate) struct LoggedSite {
+    /// Where it serves.
+    pub(crate) site: Site,
+    /// The path of its access log, if there is to be one.
+    pub(crate) log: Option<Text>,
+}
+
 /// What the instruments of a router's workers are made from.
 #[derive(Drop)]
 struct Recording<'a, C> {
@@ -165,28 +174,29 @@ pub(crate) fn run_recorded<
     rt: &R,
     alloc: Global,
     serving: Serving<J, N::L>,
-    site: &Site,
+    logged: &LoggedSite,
     net: &mut N,
     clock: &C,
-    log: &Option<Text>,
     journals: &mut O,
 ) -> Result<Served, RunFault>
 where
     <N::L as Listener>::P: Send,
     requires ready { IsReady serving }
-    requires listens { Listens N.L.state (N.state net.old).told site.now (bound_of serving) }
-    requires seats { length (passes_of serving) ≡ jobs_of site.now + 1 }
+    requires listens { Listens N.L.state (N.state net.old).told logged.now.site
+        (bound_of serving) }
+    requires seats { length (passes_of serving) ≡ jobs_of logged.now.site + 1 }
     requires parts { J.parts ≡ J.seats }
-    requires handled { IsHandledBy J.rule J.tries site.now.policy }
-    requires workers { (1 ≤ site.now.workers) × (site.now.workers ≤ 256) }
+    requires handled { IsHandledBy J.rule J.tries logged.now.site.policy }
+    requires workers { (1 ≤ logged.now.site.workers) × (logged.now.site.workers ≤ 256) }
     ensures broken { result ≡ Err RunFault.Net → Rose (N.faults net.old) (N.faults net.new) }
     ensures kept { (result ≡ Err RunFault.Net → ⊥) → N.faults net.new ≡ N.faults net.old }
     ensures served { IfOk result
         (λ served. (loaded : List LoadedItem) → HaveSeen loaded (passes_of serving)
-        → HasRecorded N.L.P.line N.L.P.address site.now (C.of_fork clock.now) log.now loaded
-        (passes_of serving) (N.state net.old) (N.state net.new) (O.closed journals.old)
-        (O.closed journals.new) served) }
+        → HasRecorded N.L.P.line N.L.P.address logged.now.site (C.of_fork clock.now)
+        logged.now.log loaded (passes_of serving) (N.state net.old) (N.state net.new)
+        (O.closed journals.old) (O.closed journals.new) served) }
 {
+    let site = &logged.site;
     let (counts, writers, reader) = match count_words::start(alloc, site.workers) {
         Ok(made) => made,
         Err(_) => {
@@ -198,7 +208,7 @@ where
         alloc,
         clock,
         counts: &counts,
-        log,
+        log: &logged.log,
     };
     let instruments = match make_instruments(&recording, site, writers, reader, journals) {
         Ok(instruments) => instruments,

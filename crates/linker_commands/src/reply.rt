@@ -9,15 +9,19 @@ use std::alloc::Global;
 
 /// Puts the reply line of an answer behind some bytes, if there is an answer. At `Err` they are as
 /// they were.
-pub fn append_answer(alloc: Global, said: &Option<Said>, out: &mut Bytes) -> Mem<()>
+///
+/// An answer may be many times as long as its script. So it is taken, and let go of before its text
+/// is copied.
+pub fn append_answer(alloc: Global, said: Option<Said>, out: &mut Bytes) -> Mem<()>
     ensures ok { OnOk result (out.new.items ≡ out.old.items ++ answer_line
-        (option_map said_of said.now)) }
+        (option_map said_of said)) }
     ensures err { OnErr result (out.new.items ≡ out.old.items) }
 {
     let Some(said) = said else {
         return Ok(());
     };
-    let mut line = reply_text(alloc, said)?;
+    let mut line = reply_text(alloc, &said)?;
+    drop(said);
     line.push(b'\n')?;
     out.extend_from_slice(line.as_slice())
 }

@@ -6,7 +6,7 @@ ghost use Rattle.linker_commands.specs.Check.{TellsPath};
 ghost use Rattle.linker_commands.specs.Linked.{linked};
 ghost use Rattle.linker_commands.specs.Lint.{TellsTablePath};
 ghost use Rattle.linker_commands.specs.Run.{Ran, Course, words_refused, script_read, output_of};
-ghost use Rattle.linker_commands.specs.Run.{status_if, Reads, Checks, Makes, Ended};
+ghost use Rattle.linker_commands.specs.Run.{status_if, Reads, Checks, Makes, EndsCourse};
 ghost use Rattle.linker_commands.specs.Told.{code_of, Tells};
 
 use crate::check::{CheckEnd, check};
@@ -14,6 +14,7 @@ use crate::ends::{ReadEnd, read_all, write_all};
 use crate::follow::follow;
 use crate::generated::{storm_line, weave_line};
 use crate::lint::lint;
+use crate::outside::Outside;
 use crate::player::{PlayEnd, play};
 use crate::serve::serve;
 use crate::words::{Command, read_words};
@@ -29,9 +30,9 @@ use step_count::Steps;
 /// The most bytes of a script.
 pub const MOST_SCRIPT: usize = 67_108_864;
 
-/// How a run ends.
+/// How a run ends, which the process tells whoever started it.
 #[derive(Clone, Copy, Debug, PartialEq, Eq)]
-pub enum Status {
+pub enum ExitStatus {
     /// All was done.
     Done = 0,
     /// The words fit no command.
@@ -50,15 +51,15 @@ pub enum Status {
     Long = 8,
 }
 
-impl Status {
+impl ExitStatus {
     /// All was done with what is right, and else it is wrong.
-    fn of_right(is_right: bool) -> Status
+    fn of_right(is_right: bool) -> ExitStatus
         ensures { code_of result ≡ status_if is_right }
     {
         if is_right {
-            Status::Done
+            ExitStatus::Done
         } else {
-            Status::Wrong
+            ExitStatus::Wrong
         }
     }
 
@@ -71,12 +72,12 @@ impl Status {
 }
 
 /// Writes a last line, and ends so, unless the write fails.
-pub fn tell<K: Sink>(out: &mut K, line: &[u8], status: Status) -> Status
+pub fn tell<K: Sink>(out: &mut K, line: &[u8], status: ExitStatus) -> ExitStatus
     ensures { Tells line.now status (K.output out.old) (K.output out.new) result }
 {
     match write_all(out, line) {
         Ok(()) => status,
-        Err(_) => Status::Write,
+        Err(_) => ExitStatus::Write,
     }
 }
 
@@ -88,12 +89,13 @@ fn words_line(alloc: Global, place: usize) -> Mem<String>
 }
 
 /// Tells of the first word that fits no command.
-fn refuse_words<K: Sink>(alloc: Global, out: &mut K, place: usize) -> Status
-    ensures { Ended (words_refused place) (K.output out.old) (K.output out.new) (code_of result) }
+fn refuse_words<K: Sink>(alloc: Global, out: &mut K, place: usize) -> ExitStatus
+    ensures { EndsCourse (words_refused place) (K.output out.old) (K.output out.new)
+        (code_of result) }
 {
     match words_line(alloc, place) {
-        Ok(line) => tell(out, line.as_bytes(), Status::Words),
-        Err(_) => tell(out, b"error memory\n", Status::Memory),
+        Ok(line) => tell(out, line.as_bytes(), ExitStatus::Words),
+        Err(_) => tell(out, b"error memory\n", ExitStatus::Memory),
     }
 }
 
@@ -103,16 +105,16 @@ fn carry_out<K: Sink, L: Ledger>(
     script: &[u8],
     out: &mut K,
     steps: &mut Steps<L>,
-) -> Status
+) -> ExitStatus
     requires { length script.now ≤ 67108864 }
-    ensures { Ended (script_read script.now) (K.output out.old) (K.output out.new)
+    ensures { EndsCourse (script_read script.now) (K.output out.old) (K.output out.new)
         (code_of result) }
 {
     match play(alloc, script, out, steps) {
-        PlayEnd::Done => Status::Done,
-        PlayEnd::BadLine => Status::Wrong,
-        PlayEnd::WriteFault => Status::Write,
-        PlayEnd::OutOfMemory => tell(out, b"error memory\n", Status::Memory),
+        PlayEnd::Done => ExitStatus::Done,
+        PlayEnd::BadLine => ExitStatus::Wrong,
+        PlayEnd::WriteFault => ExitStatus::Write,
+        PlayEnd::OutOfMemory => tell(out, b"error memory\n", ExitStatus::Memory),
     }
 }
 
@@ -122,15 +124,15 @@ fn replay<S: Source, K: Sink, L: Ledger>(
     input: &mut S,
     out: &mut K,
     steps: &mut Steps<L>,
-) -> Status
+) -> ExitStatus
     ensures { (course : Course) × Reads (S.input input.old) (S.input input.new) course
-        × Ended course (K.output out.old) (K.output out.new) (code_of result) }
+        × EndsCourse course (K.output out.old) (K.output out.new) (code_of result) }
 {
     match read_all(alloc, input, MOST_SCRIPT) {
         Ok(script) => carry_out(alloc, script.as_slice(), out, steps),
-        Err(ReadEnd::Fault) => tell(out, b"error read\n", Status::Read),
-        Err(ReadEnd::Long) => tell(out, b"error long\n", Status::Long),
-        Err(ReadEnd::OutOfMemory) => tell(out, b"error memory\n", Status::Memory),
+        Err(ReadEnd::Fault) => tell(out, b"error read\n", ExitStatus::Read),
+        Err(ReadEnd::Long) => tell(out, b"error long\n", ExitStatus::Long),
+        Err(ReadEnd::OutOfMemory) => tell(out, b"error memory\n", ExitStatus::Memory),
     }
 }
 
@@ -140,9 +142,9 @@ fn check_config<F: Folder, K: Sink>(
     folder: &mut F,
     path: &str,
     out: &mut K,
-) -> Status
+) -> ExitStatus
     ensures checked { (course : Course) × Checks (TellsPath (F.filed folder.old).files path.now)
-        (F.filed folder.old) (F.filed folder.new) course × Ended course (K.output out.old)
+        (F.filed folder.old) (F.filed folder.new) course × EndsCourse course (K.output out.old)
         (K.output out.new) (code_of result) }
     ensures files { (F.filed folder.new).files ≡ (F.filed folder.old).files }
 {
@@ -150,17 +152,22 @@ fn check_config<F: Folder, K: Sink>(
         Ok(verdict) => tell(
             out,
             verdict.line.as_slice(),
-            Status::of_right(verdict.is_right),
+            ExitStatus::of_right(verdict.is_right),
         ),
-        Err(CheckEnd::Fault) => tell(out, b"error read\n", Status::Read),
-        Err(CheckEnd::OutOfMemory) => tell(out, b"error memory\n", Status::Memory),
+        Err(CheckEnd::Fault) => tell(out, b"error read\n", ExitStatus::Read),
+        Err(CheckEnd::OutOfMemory) => tell(out, b"error memory\n", ExitStatus::Memory),
     }
 }
 
 /// Tells which entries of the table at a path are never asked.
-fn lint_table<F: Folder, K: Sink>(alloc: Global, folder: &mut F, path: &str, out: &mut K) -> Status
+fn lint_table<F: Folder, K: Sink>(
+    alloc: Global,
+    folder: &mut F,
+    path: &str,
+    out: &mut K,
+) -> ExitStatus
     ensures linted { (course : Course) × Checks (TellsTablePath (F.filed folder.old).files path.now)
-        (F.filed folder.old) (F.filed folder.new) course × Ended course (K.output out.old)
+        (F.filed folder.old) (F.filed folder.new) course × EndsCourse course (K.output out.old)
         (K.output out.new) (code_of result) }
     ensures files { (F.filed folder.new).files ≡ (F.filed folder.old).files }
 {
@@ -168,21 +175,22 @@ fn lint_table<F: Folder, K: Sink>(alloc: Global, folder: &mut F, path: &str, out
         Ok(verdict) => tell(
             out,
             verdict.line.as_slice(),
-            Status::of_right(verdict.is_right),
+            ExitStatus::of_right(verdict.is_right),
         ),
-        Err(CheckEnd::Fault) => tell(out, b"error read\n", Status::Read),
-        Err(CheckEnd::OutOfMemory) => tell(out, b"error memory\n", Status::Memory),
+        Err(CheckEnd::Fault) => tell(out, b"error read\n", ExitStatus::Read),
+        Err(CheckEnd::OutOfMemory) => tell(out, b"error memory\n", ExitStatus::Memory),
     }
 }
 
 /// Tells the line that was made from the words alone, unless there was no memory for it.
-fn tell_made<K: Sink>(out: &mut K, made: Mem<Bytes>) -> Status
+fn tell_made<K: Sink>(out: &mut K, made: Mem<Bytes>) -> ExitStatus
     ensures { (line : List ℕ) → IfOk made (λ made. made.items ≡ line) → (course : Course)
-        × Makes line course × Ended course (K.output out.old) (K.output out.new) (code_of result) }
+        × Makes line course × EndsCourse course (K.output out.old) (K.output out.new)
+        (code_of result) }
 {
     match made {
-        Ok(line) => tell(out, line.as_slice(), Status::Done),
-        Err(_) => tell(out, b"error memory\n", Status::Memory),
+        Ok(line) => tell(out, line.as_slice(), ExitStatus::Done),
+        Err(_) => tell(out, b"error memory\n", ExitStatus::Memory),
     }
 }
 
@@ -200,35 +208,40 @@ pub fn run<
     rt: &R,
     alloc: Global,
     words: &[String],
-    folder: &mut F,
-    net: &mut N,
-    clock: &mut C,
-    input: &mut S,
-    out: &mut K,
-    journals: &mut O,
+    outside: &mut Outside<F, N, C, S, K, O>,
     blank: Blank,
-) -> Status
+) -> ExitStatus
 where
     <N::L as Listener>::P: Send,
     requires name { blank.name ≡ L.name }
     requires parts { blank.parts ≡ L.parts }
     requires some { 0 < blank.parts }
-    ensures { Ran N.L.P.line N.L.P.address (C.of_fork clock.old) (map string_bytes words.now)
-        (S.input input.old)
-        (S.input input.new) (F.filed folder.old) (F.filed folder.new)
-        (linked (N.state net.old) (N.faults net.old) (O.closed journals.old))
-        (linked (N.state net.new) (N.faults net.new) (O.closed journals.new)) (K.output out.old)
-        (K.output out.new) (code_of result) }
+    ensures { Ran N.L.P.line N.L.P.address (C.of_fork outside.old.clock)
+        (map string_bytes words.now) (S.input outside.old.input) (S.input outside.new.input)
+        (F.filed outside.old.folder) (F.filed outside.new.folder)
+        (linked (N.state outside.old.net) (N.faults outside.old.net)
+        (O.closed outside.old.journals))
+        (linked (N.state outside.new.net) (N.faults outside.new.net)
+        (O.closed outside.new.journals)) (K.output outside.old.out) (K.output outside.new.out)
+        (code_of result) }
 {
     let mut steps = Steps::<L>::start(blank);
     match read_words(words) {
-        Ok(Command::Replay) => replay(alloc, input, out, &mut steps),
-        Ok(Command::Check(path)) => check_config(alloc, folder, path, out),
-        Ok(Command::Lint(path)) => lint_table(alloc, folder, path, out),
-        Ok(Command::Serve(path)) => serve(rt, alloc, folder, path, net, clock, out, journals),
-        Ok(Command::Storm(run)) => tell_made(out, storm_line(alloc, run)),
-        Ok(Command::Weave(run)) => tell_made(out, weave_line(alloc, run, &mut steps)),
-        Ok(Command::Follow(following)) => follow(alloc, net, following, out),
-        Err(place) => refuse_words(alloc, out, place),
+        Ok(Command::Replay) => replay(alloc, &mut outside.input, &mut outside.out, &mut steps),
+        Ok(Command::Check(path)) => {
+            check_config(alloc, &mut outside.folder, path, &mut outside.out)
+        }
+        Ok(Command::Lint(path)) => {
+            lint_table(alloc, &mut outside.folder, path, &mut outside.out)
+        }
+        Ok(Command::Serve(path)) => serve(rt, alloc, path, outside),
+        Ok(Command::Storm(run)) => tell_made(&mut outside.out, storm_line(alloc, run)),
+        Ok(Command::Weave(run)) => {
+            tell_made(&mut outside.out, weave_line(alloc, run, &mut steps))
+        }
+        Ok(Command::Follow(following)) => {
+            follow(alloc, &mut outside.net, following, &mut outside.out)
+        }
+        Err(place) => refuse_words(alloc, &mut outside.out, place),
     }
 }

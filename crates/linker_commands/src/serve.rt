@@ -1,11 +1,11 @@
 //! `serve`: a router with its interfaces, from its configuration until it is stopped.
-ghost use Rattle.std.specs.Prelude.{◌≡◌, ◌+◌, ◌≤◌, ◌++◌, ℕ, List, Option, Some, IfOk, OnOk, false};
+ghost use Rattle.std.specs.Prelude.{◌≡◌, ◌+◌, ◌≤◌, ◌++◌, ℕ, List, Option, IfOk, OnOk, false};
 ghost use Rattle.std.specs.Prelude.{length, string_bytes};
 ghost use Rattle.line_base.specs.Files.{File};
 ghost use Rattle.line_base.specs.Files.{Filed};
 ghost use Rattle.line_base.specs.Streams.{Output};
 ghost use Rattle.linker_commands.specs.Linked.{Linked, linked};
-ghost use Rattle.linker_commands.specs.Run.{Course, Ended, EndsServing, Serves, line_told};
+ghost use Rattle.linker_commands.specs.Run.{Course, EndsCourse, EndsServing, Serves, line_told};
 ghost use Rattle.linker_commands.specs.Served.{Finish, IsConfig, IsLast, IsMadeBy, LoadsRoot};
 ghost use Rattle.linker_commands.specs.Served.{TellsEnd, TellsNet, file_line, finish_code, last_of};
 ghost use Rattle.linker_commands.specs.Served.{IsFeeding, IsRun, feed_port, feed_words};
@@ -13,23 +13,22 @@ ghost use Rattle.linker_commands.specs.Served.{main_words, site_line};
 ghost use Rattle.linker_commands.specs.Told.{Tells, code_of};
 ghost use Rattle.linker_config.specs.declared.loaded.LoadedItem.{LoadedItem};
 ghost use Rattle.linker_config.specs.Loading.{HasLoadCause};
-ghost use Rattle.load_words.specs.Seats.{words_of};
-ghost use Rattle.router.specs.Values.{settings_in};
+ghost use Rattle.router.specs.Opening.{IsNamedBy, beginning_of};
 ghost use Rattle.serving.specs.Policies.{IsHandledBy};
 ghost use Rattle.serving.specs.Posts.{jobs_of};
 ghost use Rattle.serving.specs.Services.{HaveSeen};
 ghost use Rattle.serving.specs.Returning.{listened};
 ghost use Rattle.serving.specs.Running.{IsReady, Listens, bound_of, passes_of};
-ghost use Rattle.snap_cell.specs.Writers.{cell_written, opening_written};
 
 use crate::check::{ConfigEnd, configured};
 use crate::ends::write_all;
-use crate::recording::run_recorded;
-use crate::run::{Status, tell};
+use crate::outside::Outside;
+use crate::recording::{LoggedSite, run_recorded};
+use crate::run::{ExitStatus, tell};
 use crate::{Bytes, Mem};
 use addr_book::Name;
 use client_stays::Handling;
-use line_base::{Clock, Folder, Listener, Net, Sink};
+use line_base::{Clock, Folder, Listener, Net, Sink, Source};
 use line_log::Journals;
 use linker_config::{Config, FeedAt, LoadFault, Loaded, Text, append_port, load_folder};
 use router::{Opened, open};
@@ -136,29 +135,30 @@ fn last_line(alloc: Global, served: Served) -> Mem<String>
 }
 
 /// Tells of a file that is refused.
-fn tell_file<K: Sink>(alloc: Global, out: &mut K, name: &Name) -> Status
-    ensures { Ended (line_told false (file_line name.now)) (K.output out.old) (K.output out.new)
+fn tell_file<K: Sink>(alloc: Global, out: &mut K, name: &Name) -> ExitStatus
+    ensures { EndsCourse (line_told false (file_line name.now)) (K.output out.old)
+        (K.output out.new)
         (code_of result) }
 {
     match refused_line(alloc, name) {
-        Ok(line) => tell(out, line.as_slice(), Status::Wrong),
-        Err(_) => tell(out, b"error memory\n", Status::Memory),
+        Ok(line) => tell(out, line.as_slice(), ExitStatus::Wrong),
+        Err(_) => tell(out, b"error memory\n", ExitStatus::Memory),
     }
 }
 
 /// Tells how it was to serve.
-fn tell_served<K: Sink>(alloc: Global, out: &mut K, served: Served) -> Status
-    ensures { (last : List ℕ) × (finish : Finish) × (end : Status) × TellsEnd served last finish
+fn tell_served<K: Sink>(alloc: Global, out: &mut K, served: Served) -> ExitStatus
+    ensures { (last : List ℕ) × (finish : Finish) × (end : ExitStatus) × TellsEnd served last finish
         × (code_of end ≡ finish_code finish) × Tells last end (K.output out.old) (K.output out.new)
         result }
 {
     let Ok(line) = last_line(alloc, served) else {
-        return tell(out, b"error memory\n", Status::Memory);
+        return tell(out, b"error memory\n", ExitStatus::Memory);
     };
     if served.lacked_memory {
-        tell(out, line.as_bytes(), Status::Memory)
+        tell(out, line.as_bytes(), ExitStatus::Memory)
     } else {
-        tell(out, line.as_bytes(), Status::Done)
+        tell(out, line.as_bytes(), ExitStatus::Done)
     }
 }
 
@@ -166,45 +166,59 @@ fn tell_served<K: Sink>(alloc: Global, out: &mut K, served: Served) -> Status
 fn serve_on<
     J: Handling + Send + Sync,
     R: Threads + Wait + Sync,
+    F: Folder,
     N: Net + Send,
     C: Clock + Drop + Send,
+    S: Source,
     K: Sink,
     O: Journals,
 >(
     rt: &R,
     alloc: Global,
     serving: Serving<J, N::L>,
-    site: &Site,
-    net: &mut N,
-    clock: &C,
-    out: &mut K,
-    log: &Option<Text>,
-    journals: &mut O,
-) -> Status
+    logged: &LoggedSite,
+    outside: &mut Outside<F, N, C, S, K, O>,
+) -> ExitStatus
 where
     <N::L as Listener>::P: Send,
     requires ready { IsReady serving }
-    requires listens { Listens N.L.state (N.state net.old).told site.now (bound_of serving) }
-    requires seats { length (passes_of serving) ≡ jobs_of site.now + 1 }
+    requires listens { Listens N.L.state (N.state outside.old.net).told logged.now.site
+        (bound_of serving) }
+    requires seats { length (passes_of serving) ≡ jobs_of logged.now.site + 1 }
     requires parts { J.parts ≡ J.seats }
-    requires handled { IsHandledBy J.rule J.tries site.now.policy }
-    requires workers { (1 ≤ site.now.workers) × (site.now.workers ≤ 256) }
-    ensures { (files : Option (List File)) → (c : Config) → (before : Linked N.L.P)
+    requires handled { IsHandledBy J.rule J.tries logged.now.site.policy }
+    requires workers { (1 ≤ logged.now.site.workers) × (logged.now.site.workers ≤ 256) }
+    ensures served { (files : Option (List File)) → (c : Config) → (before : Linked N.L.P)
         → (loaded : List LoadedItem)
-        → IsMadeBy (C.of_fork clock.now) files c site.now J.settings loaded log.now
+        → IsMadeBy (C.of_fork outside.old.clock) files c logged.now.site J.settings loaded
+        logged.now.log
         → HaveSeen loaded (passes_of serving)
-        → N.state net.old ≡ listened (jobs_of site.now) before.state
-        → O.closed journals.old ≡ before.logs
-        → (last : List ℕ) × (finish : Finish) × (end : Status)
-        × IsLast J N.L.P.line N.L.P.address (C.of_fork clock.now) files c before
-        (linked (N.state net.new) (N.faults net.new) (O.closed journals.new)) last finish
-        × TellsNet (N.faults net.old) (N.faults net.new) finish × (code_of end ≡ finish_code finish)
-        × Tells last end (K.output out.old) (K.output out.new) result }
+        → N.state outside.old.net ≡ listened (jobs_of logged.now.site) before.state
+        → O.closed outside.old.journals ≡ before.logs
+        → (last : List ℕ) × (finish : Finish) × (end : ExitStatus)
+        × IsLast J N.L.P.line N.L.P.address (C.of_fork outside.old.clock) files c before
+        (linked (N.state outside.new.net) (N.faults outside.new.net)
+        (O.closed outside.new.journals)) last finish
+        × TellsNet (N.faults outside.old.net) (N.faults outside.new.net) finish
+        × (code_of end ≡ finish_code finish)
+        × Tells last end (K.output outside.old.out) (K.output outside.new.out) result }
+    ensures kept { (outside.new.folder ≡ outside.old.folder)
+        × (outside.new.input ≡ outside.old.input) }
 {
-    match run_recorded(rt, alloc, serving, site, net, clock, log, journals) {
-        Ok(served) => tell_served(alloc, out, served),
-        Err(RunFault::Net) => tell(out, b"error net\n", Status::Net),
-        Err(RunFault::OutOfMemory) => tell(out, b"error memory\n", Status::Memory),
+    match run_recorded(
+        rt,
+        alloc,
+        serving,
+        logged,
+        &mut outside.net,
+        &outside.clock,
+        &mut outside.journals,
+    ) {
+        Ok(served) => tell_served(alloc, &mut outside.out, served),
+        Err(RunFault::Net) => tell(&mut outside.out, b"error net\n", ExitStatus::Net),
+        Err(RunFault::OutOfMemory) => {
+            tell(&mut outside.out, b"error memory\n", ExitStatus::Memory)
+        }
     }
 }
 
@@ -212,8 +226,10 @@ where
 fn serve_opened<
     J: Handling + Send + Sync,
     R: Threads + Wait + Sync,
+    F: Folder,
     N: Net + Send,
     C: Clock + Drop + Send,
+    S: Source,
     K: Sink,
     O: Journals,
 >(
@@ -221,45 +237,51 @@ fn serve_opened<
     alloc: Global,
     opened: Opened,
     loaded: Loaded,
-    site: &Site,
-    net: &mut N,
-    clock: &C,
-    out: &mut K,
-    log: &Option<Text>,
-    journals: &mut O,
-) -> Status
+    logged: &LoggedSite,
+    outside: &mut Outside<F, N, C, S, K, O>,
+) -> ExitStatus
 where
     <N::L as Listener>::P: Send,
-    requires cell { Some (cell_written opened.writer) ≡ J.cell }
-    requires settings { settings_in (opening_written opened.writer) ≡ J.settings }
-    requires words { Some (words_of opened.loads) ≡ J.words }
-    requires name { opened.blank.name ≡ J.name }
-    requires parts { (opened.blank.parts ≡ J.parts) × (J.parts ≡ J.seats) }
-    requires seats { (opened.seats ≡ J.seats) × (opened.seats ≡ jobs_of site.now + 1) }
-    requires handled { IsHandledBy J.rule J.tries site.now.policy }
-    requires workers { (1 ≤ site.now.workers) × (site.now.workers ≤ 256) }
-    ensures { (files : Option (List File)) → (c : Config)
-        → IsMadeBy (C.of_fork clock.now) files c site.now J.settings loaded log.now
-        → EndsServing J N.L.P.line N.L.P.address (C.of_fork clock.now) files c
-        (linked (N.state net.old) (N.faults net.old) (O.closed journals.old))
-        (linked (N.state net.new) (N.faults net.new) (O.closed journals.new)) (K.output out.old)
-        (K.output out.new) (code_of result) }
+    requires named { IsNamedBy (beginning_of opened) J.Naming.own J.Ledger.own }
+    requires seats { J.seats ≡ jobs_of logged.now.site + 1 }
+    requires handled { IsHandledBy J.rule J.tries logged.now.site.policy }
+    requires workers { (1 ≤ logged.now.site.workers) × (logged.now.site.workers ≤ 256) }
+    ensures served { (files : Option (List File)) → (c : Config)
+        → IsMadeBy (C.of_fork outside.old.clock) files c logged.now.site J.settings loaded
+        logged.now.log
+        → EndsServing J N.L.P.line N.L.P.address (C.of_fork outside.old.clock) files c
+        (linked (N.state outside.old.net) (N.faults outside.old.net)
+        (O.closed outside.old.journals))
+        (linked (N.state outside.new.net) (N.faults outside.new.net)
+        (O.closed outside.new.journals)) (K.output outside.old.out) (K.output outside.new.out)
+        (code_of result) }
+    ensures kept { (outside.new.folder ≡ outside.old.folder)
+        × (outside.new.input ≡ outside.old.input) }
 {
-    let serving = match start::<J, R, N>(rt, alloc, opened, loaded, site, net) {
+    let serving = match start::<J, R, N>(
+        rt,
+        alloc,
+        opened,
+        loaded,
+        &logged.site,
+        &mut outside.net,
+    ) {
         Ok(serving) => serving,
-        Err(StartFault::Book) => return tell(out, b"error book\n", Status::Wrong),
-        Err(StartFault::Net) => return tell(out, b"error net\n", Status::Net),
-        Err(StartFault::OutOfMemory) => return tell(out, b"error memory\n", Status::Memory),
+        Err(StartFault::Book) => return tell(&mut outside.out, b"error book\n", ExitStatus::Wrong),
+        Err(StartFault::Net) => return tell(&mut outside.out, b"error net\n", ExitStatus::Net),
+        Err(StartFault::OutOfMemory) => {
+            return tell(&mut outside.out, b"error memory\n", ExitStatus::Memory);
+        }
     };
-    let Ok(line) = site_text(alloc, site) else {
+    let Ok(line) = site_text(alloc, &logged.site) else {
         serving.close(rt);
-        return tell(out, b"error memory\n", Status::Memory);
+        return tell(&mut outside.out, b"error memory\n", ExitStatus::Memory);
     };
-    match write_all(out, line.as_slice()) {
-        Ok(()) => serve_on(rt, alloc, serving, site, net, clock, out, log, journals),
+    match write_all(&mut outside.out, line.as_slice()) {
+        Ok(()) => serve_on(rt, alloc, serving, logged, outside),
         Err(_) => {
             serving.close(rt);
-            Status::Write
+            ExitStatus::Write
         }
     }
 }
@@ -270,28 +292,25 @@ fn serve_by<
     F: Folder,
     N: Net + Send,
     C: Clock + Drop + Send,
+    S: Source,
     K: Sink,
     O: Journals,
->(
-    rt: &R,
-    alloc: Global,
-    folder: &mut F,
-    config: Config,
-    net: &mut N,
-    clock: &C,
-    out: &mut K,
-    journals: &mut O,
-) -> Status
+>(rt: &R, alloc: Global, config: Config, outside: &mut Outside<F, N, C, S, K, O>) -> ExitStatus
 where
     <N::L as Listener>::P: Send,
     requires workers { (1 ≤ config.workers) × (config.workers ≤ 256) }
-    ensures served { (path : List ℕ) → IsConfig (F.filed folder.old).files path config
-        → (course : Course) × Serves N.L.P.line N.L.P.address (C.of_fork clock.now) path
-        (F.filed folder.old)
-        (F.filed folder.new) (linked (N.state net.old) (N.faults net.old) (O.closed journals.old))
-        (linked (N.state net.new) (N.faults net.new) (O.closed journals.new)) course
-        × Ended course (K.output out.old) (K.output out.new) (code_of result) }
-    ensures files { (F.filed folder.new).files ≡ (F.filed folder.old).files }
+    ensures served { (path : List ℕ) → IsConfig (F.filed outside.old.folder).files path config
+        → (course : Course)
+        × Serves N.L.P.line N.L.P.address (C.of_fork outside.old.clock) path
+        (F.filed outside.old.folder) (F.filed outside.new.folder)
+        (linked (N.state outside.old.net) (N.faults outside.old.net)
+        (O.closed outside.old.journals))
+        (linked (N.state outside.new.net) (N.faults outside.new.net)
+        (O.closed outside.new.journals)) course
+        × EndsCourse course (K.output outside.old.out) (K.output outside.new.out)
+        (code_of result) }
+    ensures files { (F.filed outside.new.folder).files ≡ (F.filed outside.old.folder).files }
+    ensures input { outside.new.input ≡ outside.old.input }
 {
     let Config {
         admin,
@@ -308,12 +327,22 @@ where
         seed,
         feed,
     } = config;
-    let loaded = match load(alloc, folder, &root) {
+    let loaded = match load(alloc, &mut outside.folder, &root) {
         Ok(loaded) => loaded,
-        Err(LoadFault::LongFile { name }) => return tell_file(alloc, out, &name),
-        Err(LoadFault::BadFile { name, line: _ }) => return tell_file(alloc, out, &name),
-        Err(LoadFault::FolderFault) => return tell(out, b"error read\n", Status::Read),
-        Err(LoadFault::OutOfMemory) => return tell(out, b"error memory\n", Status::Memory),
+        Err(LoadFault::LongFile { name }) => return tell_file(alloc, &mut outside.out, &name),
+        Err(LoadFault::BadFile { name, line: _ }) => return tell_file(
+            alloc,
+            &mut outside.out,
+            &name,
+        ),
+        Err(LoadFault::FolderFault) => return tell(
+            &mut outside.out,
+            b"error read\n",
+            ExitStatus::Read,
+        ),
+        Err(LoadFault::OutOfMemory) => {
+            return tell(&mut outside.out, b"error memory\n", ExitStatus::Memory);
+        }
     };
     let site = Site {
         server,
@@ -326,23 +355,16 @@ where
         },
         workers,
         seed,
-        feed: feeding(feed, clock),
+        feed: feeding(feed, &outside.clock),
     };
     let Ok(opened) = open(rt, alloc, settings, site.seats()) else {
-        return tell(out, b"error memory\n", Status::Memory);
+        return tell(&mut outside.out, b"error memory\n", ExitStatus::Memory);
     };
-    serve_opened::<Brand, R, N, C, K, O>(
-        rt,
-        alloc,
-        opened,
-        loaded,
-        &site,
-        net,
-        clock,
-        out,
-        &access_log,
-        journals,
-    )
+    let logged = LoggedSite {
+        site,
+        log: access_log,
+    };
+    serve_opened::<Brand, R, F, N, C, S, K, O>(rt, alloc, opened, loaded, &logged, outside)
 }
 
 /// Serves by the configuration at a path, until it is stopped.
@@ -351,32 +373,32 @@ pub fn serve<
     F: Folder,
     N: Net + Send,
     C: Clock + Drop + Send,
+    S: Source,
     K: Sink,
     O: Journals,
->(
-    rt: &R,
-    alloc: Global,
-    folder: &mut F,
-    path: &str,
-    net: &mut N,
-    clock: &C,
-    out: &mut K,
-    journals: &mut O,
-) -> Status
+>(rt: &R, alloc: Global, path: &str, outside: &mut Outside<F, N, C, S, K, O>) -> ExitStatus
 where
     <N::L as Listener>::P: Send,
     ensures served { (course : Course)
-        × Serves N.L.P.line N.L.P.address (C.of_fork clock.now) path.now
-        (F.filed folder.old) (F.filed folder.new)
-        (linked (N.state net.old) (N.faults net.old) (O.closed journals.old))
-        (linked (N.state net.new) (N.faults net.new) (O.closed journals.new)) course
-        × Ended course (K.output out.old) (K.output out.new) (code_of result) }
-    ensures files { (F.filed folder.new).files ≡ (F.filed folder.old).files }
+        × Serves N.L.P.line N.L.P.address (C.of_fork outside.old.clock) path.now
+        (F.filed outside.old.folder) (F.filed outside.new.folder)
+        (linked (N.state outside.old.net) (N.faults outside.old.net)
+        (O.closed outside.old.journals))
+        (linked (N.state outside.new.net) (N.faults outside.new.net)
+        (O.closed outside.new.journals)) course
+        × EndsCourse course (K.output outside.old.out) (K.output outside.new.out)
+        (code_of result) }
+    ensures files { (F.filed outside.new.folder).files ≡ (F.filed outside.old.folder).files }
+    ensures input { outside.new.input ≡ outside.old.input }
 {
-    match configured(alloc, folder, path) {
-        Ok(config) => serve_by(rt, alloc, folder, config, net, clock, out, journals),
-        Err(ConfigEnd::Wrong(line)) => tell(out, line.as_slice(), Status::Wrong),
-        Err(ConfigEnd::Fault) => tell(out, b"error read\n", Status::Read),
-        Err(ConfigEnd::OutOfMemory) => tell(out, b"error memory\n", Status::Memory),
+    match configured(alloc, &mut outside.folder, path) {
+        Ok(config) => serve_by(rt, alloc, config, outside),
+        Err(ConfigEnd::Wrong(line)) => tell(&mut outside.out, line.as_slice(), ExitStatus::Wrong),
+        Err(ConfigEnd::Fault) => tell(&mut outside.out, b"error read\n", ExitStatus::Read),
+        Err(ConfigEnd::OutOfMemory) => tell(
+            &mut outside.out,
+            b"error memory\n",
+            ExitStatus::Memory,
+        ),
     }
 }

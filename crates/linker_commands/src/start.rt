@@ -7,8 +7,9 @@ ghost use Rattle.line_base.specs.Streams.{Input, Output};
 ghost use Rattle.linker_commands.specs.Linked.{Linked, linked};
 ghost use Rattle.linker_commands.specs.Run.{Ran, words_of};
 
+use crate::outside::Outside;
 use crate::program::linker;
-use crate::run::{Status, tell};
+use crate::run::{ExitStatus, tell};
 use line_base::{Clock, Folder, Listener, Net, Sink, Source};
 use line_log::Journals;
 use std::alloc::{AllocError, AllocGlobal, Global};
@@ -53,53 +54,28 @@ fn status_for<
     S: Source,
     K: Sink,
     O: Journals,
->(
-    rt: &R,
-    arguments: io::Result<Args>,
-    folder: &mut F,
-    net: &mut N,
-    clock: &mut C,
-    input: &mut S,
-    out: &mut K,
-    journals: &mut O,
-) -> u8
+>(rt: &R, arguments: io::Result<Args>, outside: &mut Outside<F, N, C, S, K, O>) -> u8
 where
     <N::L as Listener>::P: Send,
-    ensures { Ran N.L.P.line N.L.P.address (C.of_fork clock.old) (words_of arguments)
-        (S.input input.old)
-        (S.input input.new) (F.filed folder.old) (F.filed folder.new)
-        (linked (N.state net.old) (N.faults net.old) (O.closed journals.old))
-        (linked (N.state net.new) (N.faults net.new) (O.closed journals.new)) (K.output out.old)
-        (K.output out.new) result }
+    ensures { Ran N.L.P.line N.L.P.address (C.of_fork outside.old.clock) (words_of arguments)
+        (S.input outside.old.input)
+        (S.input outside.new.input) (F.filed outside.old.folder) (F.filed outside.new.folder)
+        (linked (N.state outside.old.net) (N.faults outside.old.net)
+        (O.closed outside.old.journals))
+        (linked (N.state outside.new.net) (N.faults outside.new.net)
+        (O.closed outside.new.journals)) (K.output outside.old.out)
+        (K.output outside.new.out) result }
 {
     let alloc = rt.alloc();
     match arguments {
         Ok(arguments) => match words_behind_name(alloc, arguments) {
-            Ok(words) => linker(
-                rt,
-                words.as_slice(),
-                folder,
-                net,
-                clock,
-                input,
-                out,
-                journals,
-            ),
-            Err(_) => tell(out, b"error memory\n", Status::Memory).code(),
+            Ok(words) => linker(rt, words.as_slice(), outside),
+            Err(_) => tell(&mut outside.out, b"error memory\n", ExitStatus::Memory).code(),
         },
         Err(error) if error.kind() == ErrorKind::OutOfMemory => {
-            tell(out, b"error memory\n", Status::Memory).code()
+            tell(&mut outside.out, b"error memory\n", ExitStatus::Memory).code()
         }
-        Err(_) => linker(
-            rt,
-            &[String::new(alloc)],
-            folder,
-            net,
-            clock,
-            input,
-            out,
-            journals,
-        ),
+        Err(_) => linker(rt, &[String::new(alloc)], outside),
     }
 }
 
@@ -113,28 +89,21 @@ pub fn run_arguments<
     S: Source,
     K: Sink,
     O: Journals,
->(
-    rt: &R,
-    arguments: io::Result<Args>,
-    folder: &mut F,
-    net: &mut N,
-    clock: &mut C,
-    input: &mut S,
-    out: &mut K,
-    journals: &mut O,
-) -> Exit
+>(rt: &R, arguments: io::Result<Args>, outside: &mut Outside<F, N, C, S, K, O>) -> Exit
 where
     <N::L as Listener>::P: Send,
-    ensures ran { Ran N.L.P.line N.L.P.address (C.of_fork clock.old) (words_of arguments)
-        (S.input input.old)
-        (S.input input.new) (F.filed folder.old) (F.filed folder.new)
-        (linked (N.state net.old) (N.faults net.old) (O.closed journals.old))
-        (linked (N.state net.new) (N.faults net.new) (O.closed journals.new)) (K.output out.old)
-        (K.output out.new) (exit_status result.code) }
+    ensures ran { Ran N.L.P.line N.L.P.address (C.of_fork outside.old.clock) (words_of arguments)
+        (S.input outside.old.input)
+        (S.input outside.new.input) (F.filed outside.old.folder) (F.filed outside.new.folder)
+        (linked (N.state outside.old.net) (N.faults outside.old.net)
+        (O.closed outside.old.journals))
+        (linked (N.state outside.new.net) (N.faults outside.new.net)
+        (O.closed outside.new.journals)) (K.output outside.old.out)
+        (K.output outside.new.out) (exit_status result.code) }
     ensures status { exit_status result.code ≡ result.status }
     ensures usage { IsTrue result.tells_usage ↔ (exit_status result.code ≡ 2) }
 {
-    let status = status_for(rt, arguments, folder, net, clock, input, out, journals);
+    let status = status_for(rt, arguments, outside);
     Exit {
         code: ExitCode::from(status),
         status,

@@ -92,10 +92,7 @@ fn read_check(others: &[String]) -> Result<Command<'_>, usize>
         (λ command. path_words check (map string_bytes others.now) ≡ Ok (asked_by command))
         (λ place. path_words check (map string_bytes others.now) ≡ Err place) }
 {
-    match read_path_word(others) {
-        Ok(path) => Ok(Command::Check(path)),
-        Err(place) => Err(place),
-    }
+    Ok(Command::Check(read_path_word(others)?))
 }
 
 /// The path behind a command, which is the last word.
@@ -118,10 +115,7 @@ fn read_serve(others: &[String]) -> Result<Command<'_>, usize>
         (λ command. path_words serve (map string_bytes others.now) ≡ Ok (asked_by command))
         (λ place. path_words serve (map string_bytes others.now) ≡ Err place) }
 {
-    match read_path_word(others) {
-        Ok(path) => Ok(Command::Serve(path)),
-        Err(place) => Err(place),
-    }
+    Ok(Command::Serve(read_path_word(others)?))
 }
 
 /// `lint` with the words behind it.
@@ -130,10 +124,7 @@ fn read_lint(others: &[String]) -> Result<Command<'_>, usize>
         (λ command. path_words lint (map string_bytes others.now) ≡ Ok (asked_by command))
         (λ place. path_words lint (map string_bytes others.now) ≡ Err place) }
 {
-    match read_path_word(others) {
-        Ok(path) => Ok(Command::Lint(path)),
-        Err(place) => Err(place),
-    }
+    Ok(Command::Lint(read_path_word(others)?))
 }
 
 /// `storm` with the words behind it.
@@ -143,10 +134,7 @@ fn read_storm(others: &[String]) -> Result<Command<'_>, usize>
         ≡ Ok (asked_by command))
         (λ place. of_run storm (turns_words (map string_bytes others.now)) ≡ Err place) }
 {
-    match read_generated(others) {
-        Ok(run) => Ok(Command::Storm(run)),
-        Err(place) => Err(place),
-    }
+    Ok(Command::Storm(read_generated(others)?))
 }
 
 /// `weave` with the words behind it.
@@ -156,10 +144,7 @@ fn read_weave(others: &[String]) -> Result<Command<'_>, usize>
         ≡ Ok (asked_by command))
         (λ place. of_run weave (turns_words (map string_bytes others.now)) ≡ Err place) }
 {
-    match read_generated(others) {
-        Ok(run) => Ok(Command::Weave(run)),
-        Err(place) => Err(place),
-    }
+    Ok(Command::Weave(read_generated(others)?))
 }
 
 /// The turns and the seed of a generated run, which are the words behind its command.

@@ -4,7 +4,7 @@ ghost use Rattle.line_base.specs.Counts.{HasCause};
 ghost use Rattle.line_base.specs.Memory.{upstream_of};
 ghost use Rattle.line_base.specs.Nets.{after_end, log_of};
 
-use crate::outside::{Answered, folder_of, given, served_over, visits};
+use crate::outside::{Answered, Left, folder_of, given, served_over, visits};
 use crate::paired::Paired;
 use crate::running::{sink, source};
 use line_base::{
@@ -133,8 +133,12 @@ fn flagged_over<R: AllocGlobal + Threads + Wait + Sync, P: Peer + Drop + Send>(
     flag: &AtomicBool,
     net: MemNet<P>,
 ) -> Result<(String, u8, MemNet<P>), AllocError> {
-    let mut net = FlagNet { flag, net };
-    let (written, status) = served_over(rt, folder, &mut net)?;
+    let Left {
+        written,
+        status,
+        net,
+        journals: _,
+    } = served_over(rt, folder, FlagNet { flag, net })?;
     let FlagNet { flag: _, net } = net;
     Ok((written, status, net))
 }
@@ -169,10 +173,11 @@ fn a_listener_that_breaks(rt: HostRuntime) -> Result<(), Fail> {
     let lines = "serving 127.0.0.1:4140 127.0.0.1:4180 127.0.0.1:9990\nerror net\n";
     for port in [4140, 4180, 9990] {
         let (written, status, given) = broken_at(&rt, port)?;
-        assert_eq!(rt;
-            (written.as_str(), status, given.as_str()),
-            (lines, 6, ANSWER)
+        assert!(rt;
+            written.as_str() == lines && status == 6,
+            "the lines at {port}"
         );
+        assert!(rt; given.as_str() == ANSWER, "the answer at {port}");
     }
     Ok(())
 }

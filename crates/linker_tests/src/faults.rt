@@ -1,49 +1,73 @@
 //! Reads and writes that fail, one after another.
-use crate::running::{SAMPLE, SAMPLE_OUT, run, sink, source};
+use crate::running::{SAMPLE, SAMPLE_OUT, append, run, sink, source};
 use line_base::{MemSink, MemSource};
+use std::alloc::AllocGlobal;
+use std::sync::Wait;
 use std::test::Fail;
+use std::thread::Threads;
+
+/// What is written where a read gives one byte, and the read of this number fails; and the status.
+fn reading<R: AllocGlobal + Threads + Wait + Sync>(
+    rt: &R,
+    failing: u64,
+) -> Result<(String, u8), Fail> {
+    let alloc = rt.alloc();
+    let source = MemSource::of(
+        Vec::from_slice(alloc, SAMPLE.as_bytes())?,
+        Vec::from_elem(alloc, 1usize, SAMPLE.len())?,
+        vec![in alloc; failing]?,
+    );
+    let (sink, status) = run(rt, &["replay"], source, sink(alloc))?;
+    let mut text = String::new(alloc);
+    append(&mut text, sink.held())?;
+    Ok((text, status))
+}
 
 /// One byte a read, and each read failing in turn: nothing is carried out then.
 #[test]
 fn reads_in_pieces_and_failing(rt: HostRuntime) -> Result<(), Fail> {
-    let alloc = rt.alloc();
-    let bytes = SAMPLE.len();
+    let bytes = SAMPLE.len() as u64;
     for failing in 0..bytes + 2 {
-        let source = MemSource::of(
-            Vec::from_slice(alloc, SAMPLE.as_bytes())?,
-            Vec::from_elem(alloc, 1usize, bytes)?,
-            vec![in alloc; failing as u64]?,
-        );
-        let (sink, status) = run(&rt, &["replay"], source, sink(alloc))?;
+        let (text, status) = reading(&rt, failing)?;
         if failing <= bytes {
-            assert_eq!(rt; (sink.held(), status), (b"error read\n".as_slice(), 4));
+            assert!(rt;
+                text.as_str() == "error read\n" && status == 4,
+                "at {failing}"
+            );
         } else {
-            assert_eq!(rt; (sink.held(), status), (SAMPLE_OUT.as_bytes(), 0));
+            assert!(rt; text.as_str() == SAMPLE_OUT && status == 0, "at {failing}");
         }
     }
     Ok(())
 }
 
-/// One byte a write, and each write failing in turn: a front of the replies is written.
+/// What is written where a write takes one byte, and the write of this number fails; and the
+/// status.
+fn writing<R: AllocGlobal + Threads + Wait + Sync>(
+    rt: &R,
+    failing: u64,
+) -> Result<(String, u8), Fail> {
+    let alloc = rt.alloc();
+    let sizes = Vec::from_elem(alloc, 1usize, SAMPLE_OUT.len())?;
+    let out = MemSink::of(alloc, sizes, vec![in alloc; failing]?);
+    let (sink, status) = run(rt, &["replay"], source(alloc, SAMPLE)?, out)?;
+    let mut text = String::new(alloc);
+    append(&mut text, sink.held())?;
+    Ok((text, status))
+}
+
+/// One byte a write, and each write failing in turn: a prefix of the replies is written.
 #[test]
 fn writes_in_pieces_and_failing(rt: HostRuntime) -> Result<(), Fail> {
-    let alloc = rt.alloc();
-    let bytes = SAMPLE_OUT.len();
-    for failing in 0..bytes + 1 {
-        let sink = MemSink::of(
-            alloc,
-            Vec::from_elem(alloc, 1usize, bytes)?,
-            vec![in alloc; failing as u64]?,
+    let bytes = SAMPLE_OUT.len() as u64;
+    for failing in 0..bytes {
+        let (text, status) = writing(&rt, failing)?;
+        assert!(rt;
+            SAMPLE_OUT.starts_with(text.as_str()) && text.len() as u64 == failing && status == 5,
+            "at {failing}"
         );
-        let (sink, status) = run(&rt, &["replay"], source(alloc, SAMPLE)?, sink)?;
-        if failing < bytes {
-            assert_eq!(rt;
-                (sink.held(), status),
-                (&SAMPLE_OUT.as_bytes()[..failing], 5)
-            );
-        } else {
-            assert_eq!(rt; (sink.held(), status), (SAMPLE_OUT.as_bytes(), 0));
-        }
     }
+    let (text, status) = writing(&rt, bytes)?;
+    assert!(rt; text.as_str() == SAMPLE_OUT && status == 0, "at the end");
     Ok(())
 }

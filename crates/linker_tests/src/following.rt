@@ -1,5 +1,5 @@
 //! Leaders that are followed.
-use crate::running::{append, run, run_over, sink, source};
+use crate::running::{answered, append, run_over, source};
 use line_base::{MemDials, MemFolder, MemNet, MemSink};
 use std::alloc::AllocGlobal;
 use std::sync::Wait;
@@ -8,7 +8,8 @@ use std::thread::Threads;
 
 /// A reply that tells a table.
 const REPLY: &str =
-    "HTTP/1.1 200 OK\r\nContent-Length: 59\r\n\r\n{\"dtab\":\"/svc=>/#/io.l5d.fs\",\"place\":1,\"run\":7,\"version\":1}";
+    "HTTP/1.1 200 OK\r\nContent-Length: 59\r\n\r\n{\"dtab\":\"/svc=>/#/io.l5d.fs\",\"place\":1,\
+        \"run\":7,\"version\":1}";
 
 /// A reply that tells that the namespace is gone.
 const GONE: &str = "HTTP/1.1 200 OK\r\nContent-Length: 19\r\n\r\n{\"place\":2,\"run\":7}";
@@ -79,7 +80,7 @@ fn leaders_that_are_followed(rt: HostRuntime) -> Result<(), Fail> {
     ];
     for (replies, failing, writes, want, status) in rows {
         let (text, ended) = followed(&rt, replies, failing, writes)?;
-        assert_eq!(rt; (text.as_str(), ended), (want, status));
+        assert!(rt; text.as_str() == want && ended == status, "of {want:?}");
     }
     Ok(())
 }
@@ -87,7 +88,6 @@ fn leaders_that_are_followed(rt: HostRuntime) -> Result<(), Fail> {
 /// Words that fit `follow`, and words that don't.
 #[test]
 fn words_of_following(rt: HostRuntime) -> Result<(), Fail> {
-    let alloc = rt.alloc();
     let rows: [(&[&str], &str, u8); 12] = [
         (&["follow"], "error words 2\n", 2),
         (&["follow", "127.0.0.1"], "error words 2\n", 2),
@@ -131,11 +131,8 @@ fn words_of_following(rt: HostRuntime) -> Result<(), Fail> {
         ),
     ];
     for (words, written, status) in rows {
-        let (sink, ended) = run(&rt, words, source(alloc, "")?, sink(alloc))?;
-        assert!(rt;
-            sink.held() == written.as_bytes() && ended == status,
-            "of {words:?}"
-        );
+        let (text, ended) = answered(&rt, words, &[])?;
+        assert!(rt; text.as_str() == written && ended == status, "of {words:?}");
     }
     Ok(())
 }

@@ -67,39 +67,67 @@ fn table_behind(alloc: Global, blanks: usize, bytes: usize) -> Result<String, Al
     Ok(script)
 }
 
+/// A script that comes to a limit.
+#[derive(Clone, Copy, Debug, PartialEq, Eq)]
+enum Shape {
+    /// Names that lead from one to the next.
+    Chain,
+    /// Names that lead to the next one twice, one try after the other.
+    Doubling,
+    /// Names that lead to the next one twice, in a union.
+    Unions,
+    /// A label of so many bytes.
+    LongLabel,
+    /// A table of so many entries.
+    Entries,
+    /// A table of so many bytes.
+    Table,
+    /// The same behind many blanks.
+    TableBehindBlanks,
+}
+
+/// A script of such a shape and size.
+fn script_of(alloc: Global, shape: Shape, size: u32) -> Result<String, AllocError> {
+    match shape {
+        Shape::Chain => chain(alloc, size),
+        Shape::Doubling => doubling(alloc, size),
+        Shape::Unions => unions(alloc, size),
+        Shape::LongLabel => long_label(alloc, size as usize),
+        Shape::Entries => entries(alloc, size),
+        Shape::Table => table_behind(alloc, 1, size as usize),
+        Shape::TableBehindBlanks => table_behind(alloc, 70_000, size as usize),
+    }
+}
+
 #[test]
 fn limits(rt: HostRuntime) -> Result<(), Fail> {
-    let alloc = rt.alloc();
+    let found = "ok\n127.0.0.1:80 /$/inet/127.0.0.1/80 /\n";
     let rows = [
-        (
-            chain(alloc, 98)?,
-            "ok\n127.0.0.1:80 /$/inet/127.0.0.1/80 /\n",
-            0,
-        ),
-        (chain(alloc, 99)?, "ok\ntoo-deep\n", 0),
-        (doubling(alloc, 12)?, "ok\nnegative\n", 0),
-        (doubling(alloc, 13)?, "ok\ntoo-wide\n", 0),
-        (
-            unions(alloc, 11)?,
-            "ok\n127.0.0.1:80 /$/inet/127.0.0.1/80 /\n",
-            0,
-        ),
-        (unions(alloc, 12)?, "ok\ntoo-wide\n", 0),
-        (long_label(alloc, 2047)?, "negative\n", 0),
-        (long_label(alloc, 2048)?, "too-deep\n", 0),
-        (long_label(alloc, 65_535)?, "too-deep\n", 0),
-        (long_label(alloc, 65_536)?, "error line 1\n", 3),
-        (entries(alloc, 1024)?, "ok\n", 0),
-        (entries(alloc, 1025)?, "error line 1\n", 3),
+        (Shape::Chain, 98, found, 0),
+        (Shape::Chain, 99, "ok\ntoo-deep\n", 0),
+        (Shape::Doubling, 12, "ok\nnegative\n", 0),
+        (Shape::Doubling, 13, "ok\ntoo-wide\n", 0),
+        (Shape::Unions, 11, found, 0),
+        (Shape::Unions, 12, "ok\ntoo-wide\n", 0),
+        (Shape::LongLabel, 2047, "negative\n", 0),
+        (Shape::LongLabel, 2048, "too-deep\n", 0),
+        (Shape::LongLabel, 65_535, "too-deep\n", 0),
+        (Shape::LongLabel, 65_536, "error line 1\n", 3),
+        (Shape::Entries, 1024, "ok\n", 0),
+        (Shape::Entries, 1025, "error line 1\n", 3),
         // A table begins behind the gap, and the limit is on its text alone.
-        (table_behind(alloc, 1, 65_536)?, "ok\n", 0),
-        (table_behind(alloc, 1, 65_537)?, "error line 1\n", 3),
-        (table_behind(alloc, 70_000, 65_536)?, "ok\n", 0),
-        (table_behind(alloc, 70_000, 65_537)?, "error line 1\n", 3),
+        (Shape::Table, 65_536, "ok\n", 0),
+        (Shape::Table, 65_537, "error line 1\n", 3),
+        (Shape::TableBehindBlanks, 65_536, "ok\n", 0),
+        (Shape::TableBehindBlanks, 65_537, "error line 1\n", 3),
     ];
-    for (script, written, status) in rows.iter() {
+    for (shape, size, written, status) in rows {
+        let script = script_of(rt.alloc(), shape, size)?;
         let (text, ended) = replayed(&rt, script.as_str())?;
-        assert!(rt; text.as_str() == *written && ended == *status);
+        assert!(rt;
+            text.as_str() == written && ended == status,
+            "of {shape:?} {size}"
+        );
     }
     Ok(())
 }

@@ -1,7 +1,7 @@
 //! Tables of which it is told which entries are never asked.
 use crate::outside::file;
-use crate::running::{run_with, sink, source};
-use line_base::{MemFolder, MemSink};
+use crate::running::{append, run_with, sink, source};
+use line_base::MemFolder;
 use std::alloc::{AllocError, AllocGlobal, Global};
 use std::sync::Wait;
 use std::test::Fail;
@@ -24,14 +24,17 @@ fn one_table(
     Ok(MemFolder::of(alloc, files, Vec::from_slice(alloc, failing)?))
 }
 
-/// What `lint` writes of the file at a path, and its status.
+/// What `lint` writes of the file at a path, and its status, where there is such a folder.
 fn linted<R: AllocGlobal + Threads + Wait + Sync>(
     rt: &R,
     path: &str,
     folder: MemFolder,
-) -> Result<(MemSink, u8), AllocError> {
+) -> Result<(String, u8), Fail> {
     let alloc = rt.alloc();
-    run_with(rt, &["lint", path], folder, source(alloc, "")?, sink(alloc))
+    let (sink, status) = run_with(rt, &["lint", path], folder, source(alloc, "")?, sink(alloc))?;
+    let mut text = String::new(alloc);
+    append(&mut text, sink.held())?;
+    Ok((text, status))
 }
 
 /// Tables, each with a part behind it so many times: what is told of them, and why a text is none.
@@ -44,7 +47,8 @@ fn tables(rt: HostRuntime) -> Result<(), Fail> {
             "/svc => /a; /svc/web => /b; /svc => /$/inet/127.0.0.1/80",
             "",
             0,
-            "hidden 1 by 3 /svc\nhidden 2 by 3 /svc/web\nentries 3 hidden 2\ntable /svc=>/$/inet/127.0.0.1/80\n",
+            "hidden 1 by 3 /svc\nhidden 2 by 3 /svc/web\nentries 3 hidden 2\n\
+                table /svc=>/$/inet/127.0.0.1/80\n",
             0,
         ),
         // A label does not cover `*`.
@@ -78,9 +82,9 @@ fn tables(rt: HostRuntime) -> Result<(), Fail> {
     ];
     for (text, part, parts, written, status) in rows {
         let folder = one_table(alloc, text, part, parts, &[])?;
-        let (sink, ended) = linted(&rt, "tables/t.dtab", folder)?;
+        let (told, ended) = linted(&rt, "tables/t.dtab", folder)?;
         assert!(rt;
-            sink.held() == written.as_bytes() && ended == status,
+            told.as_str() == written && ended == status,
             "of {text:?} and {parts} times {part:?}"
         );
     }
@@ -90,16 +94,14 @@ fn tables(rt: HostRuntime) -> Result<(), Fail> {
 /// A table that is not there, and a folder that fails.
 #[test]
 fn tables_that_are_not_read(rt: HostRuntime) -> Result<(), Fail> {
-    let alloc = rt.alloc();
-    let other = linted(&rt, "tables/u.dtab", one_table(alloc, "", "", 0, &[])?)?;
-    let failed = linted(&rt, "tables/t.dtab", one_table(alloc, "", "", 0, &[0])?)?;
-    assert_eq!(rt;
-        (other.0.held(), other.1),
-        (b"error table absent\n".as_slice(), 3)
-    );
-    assert_eq!(rt;
-        (failed.0.held(), failed.1),
-        (b"error read\n".as_slice(), 4)
-    );
+    let rows: [(&str, &[u64], &str, u8); 2] = [
+        ("tables/u.dtab", &[], "error table absent\n", 3),
+        ("tables/t.dtab", &[0], "error read\n", 4),
+    ];
+    for (path, failing, written, status) in rows {
+        let folder = one_table(rt.alloc(), "", "", 0, failing)?;
+        let (told, ended) = linted(&rt, path, folder)?;
+        assert!(rt; told.as_str() == written && ended == status, "of {path}");
+    }
     Ok(())
 }

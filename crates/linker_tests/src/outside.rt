@@ -6,7 +6,7 @@ use line_base::{
     MemPeer, MemVisits, Net, Peer,
 };
 use line_log::MemJournals;
-use linker_commands::linker;
+use linker_commands::{Outside, linker};
 use std::alloc::{AllocError, AllocGlobal, Global};
 use std::sync::Wait;
 use std::thread::Threads;
@@ -179,27 +179,35 @@ pub(crate) struct Outcome {
     pub(crate) dialed: String,
 }
 
-/// Serves over a net by the configuration `conf/c.json`: what is written, and the status.
-pub(crate) fn served_over<R: AllocGlobal + Threads + Wait + Sync, N: Net + Send>(
+/// What a router that was to serve has written, its status, and what it left of its outside.
+#[derive(Drop)]
+pub(crate) struct Left<N> {
+    pub(crate) written: String,
+    pub(crate) status: u8,
+    pub(crate) net: N,
+    pub(crate) journals: MemJournals,
+}
+
+/// Serves over a net by the configuration `conf/c.json`.
+pub(crate) fn served_over<R: AllocGlobal + Threads + Wait + Sync, N: Net + Drop + Send>(
     rt: &R,
     folder: MemFolder,
-    net: &mut N,
-) -> Result<(String, u8), AllocError>
+    net: N,
+) -> Result<Left<N>, AllocError>
 where
     <N::L as Listener>::P: Send,
 {
     let alloc = rt.alloc();
-    let mut journals = MemJournals::of(alloc, Vec::new(alloc));
-    logged_over(rt, folder, net, &mut journals)
+    logged_over(rt, folder, net, MemJournals::of(alloc, Vec::new(alloc)))
 }
 
 /// The same, with an access log over these journals, if it has one.
-pub(crate) fn logged_over<R: AllocGlobal + Threads + Wait + Sync, N: Net + Send>(
+pub(crate) fn logged_over<R: AllocGlobal + Threads + Wait + Sync, N: Net + Drop + Send>(
     rt: &R,
     folder: MemFolder,
-    net: &mut N,
-    journals: &mut MemJournals,
-) -> Result<(String, u8), AllocError>
+    net: N,
+    journals: MemJournals,
+) -> Result<Left<N>, AllocError>
 where
     <N::L as Listener>::P: Send,
 {
@@ -208,23 +216,31 @@ where
         String::from_str(alloc, "serve")?,
         String::from_str(alloc, "conf/c.json")?,
     ]?;
-    let mut folder = folder;
-    let mut clock = MemClock::of(alloc, Vec::new(alloc))?;
-    let mut source = source(alloc, "")?;
-    let mut sink = sink(alloc);
-    let status = linker(
-        rt,
-        words.as_slice(),
-        &mut folder,
+    let mut outside = Outside {
+        folder,
         net,
-        &mut clock,
-        &mut source,
-        &mut sink,
+        clock: MemClock::of(alloc, Vec::new(alloc))?,
+        input: source(alloc, "")?,
+        out: sink(alloc),
         journals,
-    );
+    };
+    let status = linker(rt, words.as_slice(), &mut outside);
+    let Outside {
+        folder: _,
+        net,
+        clock: _,
+        input: _,
+        out,
+        journals,
+    } = outside;
     let mut written = String::new(alloc);
-    append(&mut written, sink.held())?;
-    Ok((written, status))
+    append(&mut written, out.held())?;
+    Ok(Left {
+        written,
+        status,
+        net,
+        journals,
+    })
 }
 
 /// Serves by the configuration `conf/c.json`.
@@ -234,12 +250,11 @@ pub(crate) fn served<R: AllocGlobal + Threads + Wait + Sync, P: Peer + Drop + Se
     net: MemNet<P>,
 ) -> Result<Outcome, AllocError> {
     let alloc = rt.alloc();
-    let mut net = net;
-    let (written, status) = served_over(rt, folder, &mut net)?;
+    let left = served_over(rt, folder, net)?;
     Ok(Outcome {
-        written,
-        status,
-        given: given(alloc, &net)?,
-        dialed: dialed(alloc, &net)?,
+        given: given(alloc, &left.net)?,
+        dialed: dialed(alloc, &left.net)?,
+        written: left.written,
+        status: left.status,
     })
 }

@@ -103,13 +103,11 @@ impl Peer for Paired<'_> {
             self.read_faults = self.read_faults.saturating_add(1);
             return Err(Failed);
         }
-        match self.client.read(into) {
-            Ok(count) => Ok(count),
-            Err(failed) => {
-                self.read_faults = self.read_faults.saturating_add(1);
-                Err(failed)
-            }
+        let read = self.client.read(into);
+        if read.is_err() {
+            self.read_faults = self.read_faults.saturating_add(1);
         }
+        read
     }
 
     fn read_next(&mut self, into: &mut [u8]) -> Result<Next, Failed> {
@@ -118,10 +116,9 @@ impl Peer for Paired<'_> {
             self.quiets = self.quiets.saturating_add(1);
             return Ok(Next::Quiet);
         }
-        match self.read(into) {
-            Ok(0) => Ok(Next::End),
-            Ok(count) => Ok(Next::Bytes(count)),
-            Err(failed) => Err(failed),
+        match self.read(into)? {
+            0 => Ok(Next::End),
+            count => Ok(Next::Bytes(count)),
         }
     }
 

@@ -1,5 +1,5 @@
 //! Routers that serve, and routers that don't.
-use crate::outside::{file, folder_of, net_of, served, visits};
+use crate::outside::{Outcome, file, folder_of, net_of, served, visits};
 use crate::paired::Paired;
 use crate::running::{sink, source};
 use line_base::{MemDials, MemFolder, MemNet, MemPeer};
@@ -19,45 +19,56 @@ const WITHOUT_TABLE: &str = "{\"routers\":[{\"protocol\":\"http\"}],\"workers\":
 
 const FOR_WEB: &str = "GET / HTTP/1.1\r\nHost: web\r\n\r\n";
 
+/// What becomes of a router with the service `web`, and one client of each of these.
+fn routed<R: AllocGlobal + Threads + Wait + Sync>(
+    rt: &R,
+    config: &str,
+    requests: &str,
+    namerd: &str,
+    admin: &str,
+) -> Result<Outcome, Fail> {
+    let alloc = rt.alloc();
+    let folder = folder_of(alloc, config, "127.0.0.1 9001\n", 1, &[])?;
+    Ok(served(rt, folder, net_of(alloc, requests, "", namerd, admin)?)?)
+}
+
+/// Two requests to a service.
+const TWICE: &str = "GET / HTTP/1.1\r\nHost: web\r\nUser-Agent: curl/8.5.0\r\nAccept: */*\r\n\r\n\
+    GET / HTTP/1.1\r\nHost: web\r\nUser-Agent: curl/8.5.0\r\nAccept: */*\r\n\r\n";
+
+/// What they are answered, and then an edit and a shutdown.
+const ANSWERS: &str = "HTTP/1.1 200 OK\r\nContent-Length: 2\r\nVia: 1.1 linkerd\r\n\r\n\
+    hiHTTP/1.1 200 OK\r\nContent-Length: 2\r\nVia: 1.1 linkerd\r\n\r\n\
+    hiHTTP/1.1 204 No Content\r\nETag: \"1\"\r\n\r\n\
+    HTTP/1.1 200 OK\r\nContent-Type: text/plain\r\nContent-Length: 4\r\n\
+    Connection: close\r\n\r\n\
+    bye\n";
+
+/// What goes on to the replica.
+const DIALS: &str = "dial 7f000001 9001\nGET / HTTP/1.1\r\nHost: web\r\nUser-Agent: curl/8.5.0\r\n\
+    Accept: */*\r\nVia: 1.1 linkerd\r\nl5d-dst-service: /svc/web\r\n\
+    l5d-dst-client: /#/io.l5d.fs/web\r\nConnection: close\r\n\r\n\
+    hang\ndial 7f000001 9001\nGET / HTTP/1.1\r\nHost: web\r\nUser-Agent: curl/8.5.0\r\n\
+    Accept: */*\r\nVia: 1.1 linkerd\r\nl5d-dst-service: /svc/web\r\n\
+    l5d-dst-client: /#/io.l5d.fs/web\r\nConnection: close\r\n\r\n\
+    hang\n";
+
 /// A request that is routed twice, an edit and a shutdown. Where nothing more comes, a listener
 /// counts as closed.
 #[test]
 fn a_router_that_serves(rt: HostRuntime) -> Result<(), Fail> {
-    let alloc = rt.alloc();
-    let requests = "GET / HTTP/1.1\r\nHost: web\r\nUser-Agent: curl/8.5.0\r\nAccept: */*\r\n\r\n\
-            GET / HTTP/1.1\r\nHost: web\r\nUser-Agent: curl/8.5.0\r\nAccept: */*\r\n\r\n";
     let edit = "POST /api/1/dtabs/default HTTP/1.1\r\nHost: n\r\nContent-Type: application/dtab\r\n\
-            Content-Length: 12\r\n\r\n\
-            /other => /x";
+        Content-Length: 12\r\n\r\n\
+        /other => /x";
     let shutdown = "POST /admin/shutdown HTTP/1.1\r\nHost: a\r\n\r\n";
-    let folder = folder_of(alloc, WITH_SERVICES, "127.0.0.1 9001\n", 1, &[])?;
-    let served = served(&rt, folder, net_of(alloc, requests, "", edit, shutdown)?)?;
-    assert_eq!(rt;
-        (served.written.as_str(), served.status),
-        (
-            "serving 127.0.0.1:4140 127.0.0.1:4180 127.0.0.1:9990\nclosed 2\n",
-            0
-        )
+    let lines = "serving 127.0.0.1:4140 127.0.0.1:4180 127.0.0.1:9990\nclosed 2\n";
+    let served = routed(&rt, WITH_SERVICES, TWICE, edit, shutdown)?;
+    assert!(rt;
+        served.written.as_str() == lines && served.status == 0,
+        "the lines"
     );
-    assert_eq!(rt;
-        served.given.as_str(),
-        "HTTP/1.1 200 OK\r\nContent-Length: 2\r\nVia: 1.1 linkerd\r\n\r\n\
-            hiHTTP/1.1 200 OK\r\nContent-Length: 2\r\nVia: 1.1 linkerd\r\n\r\n\
-            hiHTTP/1.1 204 No Content\r\nETag: \"1\"\r\n\r\n\
-            HTTP/1.1 200 OK\r\nContent-Type: text/plain\r\nContent-Length: 4\r\n\
-            Connection: close\r\n\r\n\
-            bye\n"
-    );
-    assert_eq!(rt;
-        served.dialed.as_str(),
-        "dial 7f000001 9001\nGET / HTTP/1.1\r\nHost: web\r\nUser-Agent: curl/8.5.0\r\n\
-            Accept: */*\r\nVia: 1.1 linkerd\r\nl5d-dst-service: /svc/web\r\n\
-            l5d-dst-client: /#/io.l5d.fs/web\r\nConnection: close\r\n\r\n\
-            hang\ndial 7f000001 9001\nGET / HTTP/1.1\r\nHost: web\r\nUser-Agent: curl/8.5.0\r\n\
-            Accept: */*\r\nVia: 1.1 linkerd\r\nl5d-dst-service: /svc/web\r\n\
-            l5d-dst-client: /#/io.l5d.fs/web\r\nConnection: close\r\n\r\n\
-            hang\n"
-    );
+    assert!(rt; served.given.as_str() == ANSWERS, "the answers");
+    assert!(rt; served.dialed.as_str() == DIALS, "the dials");
     Ok(())
 }
 
@@ -78,13 +89,8 @@ const WITHOUT_CONTEXT: &str = "dial 7f000001 9001\n\
 /// Where the context of requests is cleared, none of it is read, and none goes on.
 #[test]
 fn a_context_that_is_cleared(rt: HostRuntime) -> Result<(), Fail> {
-    let alloc = rt.alloc();
-    let folder = folder_of(alloc, CLEARING, "127.0.0.1 9001\n", 1, &[])?;
-    let served = served(&rt, folder, net_of(alloc, WITH_CONTEXT, "", "", "")?)?;
-    assert_eq!(rt;
-        (served.dialed.as_str(), served.status),
-        (WITHOUT_CONTEXT, 0)
-    );
+    let served = routed(&rt, CLEARING, WITH_CONTEXT, "", "")?;
+    assert!(rt; served.dialed.as_str() == WITHOUT_CONTEXT && served.status == 0);
     Ok(())
 }
 
@@ -104,30 +110,33 @@ fn net_of_pair<'a>(
     Ok(MemNet::of(alloc, addresses, Vec::new(alloc), Vec::new(alloc)))
 }
 
+/// What becomes of a router with such clients.
+fn paired<R: AllocGlobal + Threads + Wait + Sync>(rt: &R) -> Result<Outcome, Fail> {
+    let alloc = rt.alloc();
+    let (first, second) = (AtomicBool::new(false), AtomicBool::new(false));
+    let folder = folder_of(alloc, WITHOUT_TABLE, "", 0, &[])?;
+    Ok(served(rt, folder, net_of_pair(alloc, &first, &second)?)?)
+}
+
 /// Two requests that no table routes, each to a listener of its own. Each is asked only once the
 /// other's connection is read too, so both are served at once.
 #[test]
 fn two_clients_at_once(rt: HostRuntime) -> Result<(), Fail> {
-    let alloc = rt.alloc();
-    let (first, second) = (AtomicBool::new(false), AtomicBool::new(false));
-    let folder = folder_of(alloc, WITHOUT_TABLE, "", 0, &[])?;
-    let served = served(&rt, folder, net_of_pair(alloc, &first, &second)?)?;
-    assert_eq!(rt;
-        (served.written.as_str(), served.status),
-        (
-            "serving 127.0.0.1:4140 127.0.0.1:4180 127.0.0.1:9990\nclosed 0\n",
-            0
-        )
+    let lines = "serving 127.0.0.1:4140 127.0.0.1:4180 127.0.0.1:9990\nclosed 0\n";
+    let answers = "HTTP/1.1 502 Bad Gateway\r\nContent-Type: text/plain\r\nl5d-err: negative\r\n\
+        Content-Length: 9\r\n\r\n\
+        negative\nHTTP/1.1 502 Bad Gateway\r\nContent-Type: text/plain\r\n\
+        l5d-err: negative\r\nContent-Length: 9\r\n\r\n\
+        negative\n";
+    let served = paired(&rt)?;
+    assert!(rt;
+        served.written.as_str() == lines && served.status == 0,
+        "the lines"
     );
-    assert_eq!(rt;
-        served.given.as_str(),
-        "HTTP/1.1 502 Bad Gateway\r\nContent-Type: text/plain\r\nl5d-err: negative\r\n\
-            Content-Length: 9\r\n\r\n\
-            negative\nHTTP/1.1 502 Bad Gateway\r\nContent-Type: text/plain\r\n\
-            l5d-err: negative\r\nContent-Length: 9\r\n\r\n\
-            negative\n"
+    assert!(rt;
+        served.given.as_str() == answers && served.dialed.is_empty(),
+        "the answers"
     );
-    assert_eq!(rt; served.dialed.as_str(), "");
     Ok(())
 }
 
@@ -195,7 +204,10 @@ fn routers_that_do_not_serve(rt: HostRuntime) -> Result<(), Fail> {
     ];
     for (reads, listens, waits, line, lines, written, status) in rows {
         let (text, ended) = served_amiss(&rt, reads, listens, waits, line, lines)?;
-        assert_eq!(rt; (text.as_str(), ended), (written, status));
+        assert!(rt;
+            text.as_str() == written && ended == status,
+            "of {written:?}"
+        );
     }
     Ok(())
 }
@@ -230,32 +242,42 @@ fn fed<R: AllocGlobal + Threads + Wait + Sync>(
 /// A feed with a run that is said, and with one that is the first moment of the clock.
 #[test]
 fn feeds_of_routers(rt: HostRuntime) -> Result<(), Fail> {
-    let rows = [(WITH_FEED, "7"), (WITH_SOME_RUN, "0")];
-    for (config, run) in rows {
-        let (written, given, status) = fed(&rt, config)?;
-        let want = format!(in rt.alloc();
+    let lines = "serving 127.0.0.1:4140 127.0.0.1:4180 127.0.0.1:9990 127.0.0.1:4181\nclosed 0\n";
+    let rows = [
+        (
+            WITH_FEED,
             "HTTP/1.1 200 OK\r\nContent-Type: application/json\r\nContent-Length: 19\r\n\r\n\
-                {{\"place\":0,\"run\":{run}}}HTTP/1.1 404 Not Found\r\n\
-                Content-Type: text/plain\r\nContent-Length: 5\r\n\r\n"
-        )?;
-        assert_eq!(rt;
-            (written.as_str(), given.as_str(), status),
-            (
-                "serving 127.0.0.1:4140 127.0.0.1:4180 127.0.0.1:9990 127.0.0.1:4181\nclosed 0\n",
-                want.as_str(),
-                0
-            )
-        );
+                {\"place\":0,\"run\":7}HTTP/1.1 404 Not Found\r\n\
+                Content-Type: text/plain\r\nContent-Length: 5\r\n\r\n",
+        ),
+        (
+            WITH_SOME_RUN,
+            "HTTP/1.1 200 OK\r\nContent-Type: application/json\r\nContent-Length: 19\r\n\r\n\
+                {\"place\":0,\"run\":0}HTTP/1.1 404 Not Found\r\n\
+                Content-Type: text/plain\r\nContent-Length: 5\r\n\r\n",
+        ),
+    ];
+    for (config, answers) in rows {
+        let (written, given, status) = fed(&rt, config)?;
+        assert!(rt; written.as_str() == lines && status == 0, "the lines");
+        assert!(rt; given.as_str() == answers, "the answers");
     }
     Ok(())
 }
 
-/// What the clients of a router are given, and what its dialer did, where its first dial fails.
-fn tried<R: AllocGlobal + Threads + Wait + Sync>(
-    rt: &R,
-    config: &str,
-) -> Result<(String, String), Fail> {
+/// What the client of a router is given whose first dial fails, where this is said of retries.
+fn tried<R: AllocGlobal + Threads + Wait + Sync>(rt: &R, retries: &str) -> Result<String, Fail> {
     let alloc = rt.alloc();
+    let config = format!(in alloc;
+        "{{\"routers\":[{{\"protocol\":\"http\",\
+            \"dtab\":\"/svc => /$/inet/127.0.0.1/9001\"{retries}}}],\"workers\":1}}"
+    )?;
+    let folder = folder_of(alloc, config.as_str(), "", 0, &[])?;
+    Ok(served(rt, folder, net_of_failing(alloc)?)?.given)
+}
+
+/// A net in which one client comes, and the first dial fails.
+fn net_of_failing(alloc: Global) -> Result<MemNet<MemPeer>, AllocError> {
     let client = MemPeer::of(source(alloc, FOR_WEB)?, sink(alloc));
     let address = visits(alloc, 4140, vec![in alloc; client]?, Vec::new(alloc))?;
     let reply = b"HTTP/1.1 200 OK\r\nContent-Length: 2\r\n\r\nhi";
@@ -264,24 +286,20 @@ fn tried<R: AllocGlobal + Threads + Wait + Sync>(
         sizes: Vec::new(alloc),
         failing: vec![in alloc; 0]?,
     };
-    let net = MemNet::of(
+    Ok(MemNet::of(
         alloc,
         vec![in alloc; address]?,
         vec![in alloc; dials]?,
         Vec::new(alloc),
-    );
-    let served = served(rt, folder_of(alloc, config, "", 0, &[])?, net)?;
-    Ok((served.given, served.dialed))
+    ))
 }
 
 /// A request whose first dial fails is tried again where the configuration says so.
 #[test]
 fn requests_that_are_tried_again(rt: HostRuntime) -> Result<(), Fail> {
-    let alloc = rt.alloc();
-    let head = "{\"routers\":[{\"protocol\":\"http\",\"dtab\":\"/svc => /$/inet/127.0.0.1/9001\"";
     let failed = "HTTP/1.1 502 Bad Gateway\r\nContent-Type: text/plain\r\nl5d-err: dial\r\n\
-            Content-Length: 5\r\n\r\n\
-            dial\n";
+        Content-Length: 5\r\n\r\n\
+        dial\n";
     let replied = "HTTP/1.1 200 OK\r\nContent-Length: 2\r\nVia: 1.1 linkerd\r\n\r\nhi";
     let rows = [
         ("", failed),
@@ -290,10 +308,9 @@ fn requests_that_are_tried_again(rt: HostRuntime) -> Result<(), Fail> {
         (",\"retries\":{\"percent\":99,\"reserve\":0}", failed),
         (",\"retries\":{\"percent\":100,\"reserve\":0}", replied),
     ];
-    for (retries, want) in rows {
-        let config = format!(in alloc; "{head}{retries}}}],\"workers\":1}}")?;
-        let (given, _dialed) = tried(&rt, config.as_str())?;
-        assert_eq!(rt; given.as_str(), want, "with {retries}");
+    for (retries, answer) in rows {
+        let given = tried(&rt, retries)?;
+        assert!(rt; given.as_str() == answer, "with {retries}");
     }
     Ok(())
 }
@@ -313,14 +330,17 @@ fn folder_of_many(alloc: Global) -> Result<MemFolder, AllocError> {
     Ok(MemFolder::of(alloc, files, Vec::new(alloc)))
 }
 
+/// What is written by such a router, and the status.
+fn overfull<R: AllocGlobal + Threads + Wait + Sync>(rt: &R) -> Result<(String, u8), Fail> {
+    let alloc = rt.alloc();
+    let served = served(rt, folder_of_many(alloc)?, net_of(alloc, "", "", "", "")?)?;
+    Ok((served.written, served.status))
+}
+
 /// There is room for 8,192 addresses.
 #[test]
 fn services_without_room(rt: HostRuntime) -> Result<(), Fail> {
-    let alloc = rt.alloc();
-    let served = served(&rt, folder_of_many(alloc)?, net_of(alloc, "", "", "", "")?)?;
-    assert_eq!(rt;
-        (served.written.as_str(), served.status),
-        ("error book\n", 3)
-    );
+    let (written, status) = overfull(&rt)?;
+    assert!(rt; written.as_str() == "error book\n" && status == 3);
     Ok(())
 }

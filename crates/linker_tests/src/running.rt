@@ -1,7 +1,7 @@
 //! Runs of the program over an outside in memory.
 use line_base::{MemClock, MemFolder, MemNet, MemPeer, MemSink, MemSource};
 use line_log::MemJournals;
-use linker_commands::linker;
+use linker_commands::{Outside, linker};
 use std::alloc::{AllocError, AllocGlobal, Global};
 use std::sync::Wait;
 use std::test::Fail;
@@ -47,26 +47,28 @@ pub(crate) fn run_over<R: AllocGlobal + Threads + Wait + Sync>(
     sink: MemSink,
 ) -> Result<(MemSink, u8), AllocError> {
     let alloc = rt.alloc();
-    let mut net = net;
     let mut owned = Vec::new(alloc);
     for word in words {
         owned.push(String::from_str(alloc, word)?)?;
     }
-    let mut folder = folder;
-    let mut source = source;
-    let mut sink = sink;
-    let mut clock = MemClock::of(alloc, Vec::new(alloc))?;
-    let status = linker(
-        rt,
-        owned.as_slice(),
-        &mut folder,
-        &mut net,
-        &mut clock,
-        &mut source,
-        &mut sink,
-        &mut MemJournals::of(alloc, Vec::new(alloc)),
-    );
-    Ok((sink, status))
+    let mut outside = Outside {
+        folder,
+        net,
+        clock: MemClock::of(alloc, Vec::new(alloc))?,
+        input: source,
+        out: sink,
+        journals: MemJournals::of(alloc, Vec::new(alloc)),
+    };
+    let status = linker(rt, owned.as_slice(), &mut outside);
+    let Outside {
+        folder: _,
+        net: _,
+        clock: _,
+        input: _,
+        out,
+        journals: _,
+    } = outside;
+    Ok((out, status))
 }
 
 /// A script on standard input, of which no read fails.
@@ -89,6 +91,21 @@ pub(crate) fn append(text: &mut String, bytes: &[u8]) -> Result<(), AllocError> 
         text.push(char::from(*byte))?;
     }
     Ok(())
+}
+
+/// What is written where there is no file and [`SAMPLE`] is the input, and the status. The writes
+/// whose numbers are in `failing` fail.
+pub(crate) fn answered<R: AllocGlobal + Threads + Wait + Sync>(
+    rt: &R,
+    words: &[&str],
+    failing: &[u64],
+) -> Result<(String, u8), Fail> {
+    let alloc = rt.alloc();
+    let sink = MemSink::of(alloc, Vec::new(alloc), Vec::from_slice(alloc, failing)?);
+    let (sink, status) = run(rt, words, source(alloc, SAMPLE)?, sink)?;
+    let mut text = String::new(alloc);
+    append(&mut text, sink.held())?;
+    Ok((text, status))
 }
 
 /// What `replay` writes for a script, and its status.

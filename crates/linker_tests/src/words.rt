@@ -1,11 +1,9 @@
 //! The words of the command line, and generated runs.
-use crate::running::{SAMPLE, run, sink, source};
-use line_base::MemSink;
+use crate::running::answered;
 use std::test::Fail;
 
 #[test]
 fn words(rt: HostRuntime) -> Result<(), Fail> {
-    let alloc = rt.alloc();
     let rows: [(&[&str], &str, u8); 17] = [
         (&[], "error words 1\n", 2),
         (&["storms"], "error words 1\n", 2),
@@ -27,18 +25,14 @@ fn words(rt: HostRuntime) -> Result<(), Fail> {
         (&["check", "./-"], "error config absent\n", 3),
     ];
     for (words, written, status) in rows {
-        let (sink, ended) = run(&rt, words, source(alloc, SAMPLE)?, sink(alloc))?;
-        assert!(rt;
-            sink.held() == written.as_bytes() && ended == status,
-            "of {words:?}"
-        );
+        let (text, ended) = answered(&rt, words, &[])?;
+        assert!(rt; text.as_str() == written && ended == status, "of {words:?}");
     }
     Ok(())
 }
 
 #[test]
 fn words_of_generated_runs(rt: HostRuntime) -> Result<(), Fail> {
-    let alloc = rt.alloc();
     let empty = "changes 1 refused 0 picked 0 none 0 ports 0\n";
     let rows: [(&[&str], &str, u8); 21] = [
         (&["storm"], "error words 2\n", 2),
@@ -76,11 +70,8 @@ fn words_of_generated_runs(rt: HostRuntime) -> Result<(), Fail> {
         ),
     ];
     for (words, written, status) in rows {
-        let (sink, ended) = run(&rt, words, source(alloc, SAMPLE)?, sink(alloc))?;
-        assert!(rt;
-            sink.held() == written.as_bytes() && ended == status,
-            "of {words:?}"
-        );
+        let (text, ended) = answered(&rt, words, &[])?;
+        assert!(rt; text.as_str() == written && ended == status, "of {words:?}");
     }
     Ok(())
 }
@@ -88,21 +79,17 @@ fn words_of_generated_runs(rt: HostRuntime) -> Result<(), Fail> {
 /// Runs of a thousand turns; where the write fails, that is told.
 #[test]
 fn generated_runs(rt: HostRuntime) -> Result<(), Fail> {
-    let alloc = rt.alloc();
-    let rows = [
-        (
-            "storm",
-            "changes 334 refused 168 picked 242 none 257 ports 809971\n",
-        ),
-        ("weave", "history 254 looks 127 kept 3\n"),
+    let storm = "changes 334 refused 168 picked 242 none 257 ports 809971\n";
+    let weave = "history 254 looks 127 kept 3\n";
+    let rows: [(&str, &[u64], &str, u8); 4] = [
+        ("storm", &[], storm, 0),
+        ("storm", &[0], "", 5),
+        ("weave", &[], weave, 0),
+        ("weave", &[0], "", 5),
     ];
-    for (command, written) in rows {
-        let words = [command, "1000", "1"];
-        let whole = run(&rt, &words, source(alloc, "")?, sink(alloc))?;
-        let failing = MemSink::of(alloc, Vec::new(alloc), vec![in alloc; 0u64]?);
-        let failed = run(&rt, &words, source(alloc, "")?, failing)?;
-        assert_eq!(rt; (whole.0.held(), whole.1), (written.as_bytes(), 0));
-        assert_eq!(rt; (failed.0.held(), failed.1), (b"".as_slice(), 5));
+    for (command, failing, written, status) in rows {
+        let (text, ended) = answered(&rt, &[command, "1000", "1"], failing)?;
+        assert!(rt; text.as_str() == written && ended == status, "of {command}");
     }
     Ok(())
 }

@@ -5,11 +5,11 @@ use Rattle.http_wire.specs.declared.paused.Paused.TheVariants as paused
 use Rattle.line_base.specs.Lines.{Line}
 use Rattle.router.specs.declared.naming.Naming.{Ghosts}
 use Rattle.router.specs.Passes.{seen_in}
-use Rattle.admin_api.specs.declared.serving.Which.{Which}
-use Rattle.admin_api.specs.declared.stayed.Stayed.{Stayed}
-use Rattle.admin_api.specs.declared.stayed.Stayed.TheVariants as stayed
-use Rattle.admin_api.specs.Stays.{Idle as Caller, came}
-use Rattle.admin_api.specs.Workers.{HasStayed, WorkerValue}
+use Rattle.api_sessions.specs.declared.which.Which.{Which}
+use Rattle.api_sessions.specs.declared.stayed.Stayed.{Stayed}
+use Rattle.api_sessions.specs.declared.stayed.Stayed.TheVariants as stayed
+use Rattle.api_sessions.specs.Stays.{Idle as Caller, came}
+use Rattle.api_sessions.specs.Workers.{HasStayed, WorkerValue}
 use Rattle.workers.specs.Turns.{End, from_peer, given_back, left, turn}
 use Rattle.serving.specs.Interfaces.{AnswersTurn, Desk, IsAnswered}
 use Rattle.serving.specs.Sessions.{lacked_behind}

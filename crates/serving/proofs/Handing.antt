@@ -9,7 +9,7 @@ use Rattle.line_base.specs.Accepts.{Listening}
 use Rattle.line_base.specs.Dials.{Upstream}
 use Rattle.line_base.specs.Nets.{Returns}
 use Rattle.router.specs.declared.naming.Naming.{Ghosts}
-use Rattle.admin_api.specs.declared.serving.Which.TheVariants.{Namerd, Admin}
+use Rattle.api_sessions.specs.declared.which.Which.TheVariants.{Namerd, Admin}
 use Rattle.waiting.specs.declared.hand.Hand.{Hand}
 use Rattle.waiting.specs.Hands.{left_by, IsNew as IsNewHand}
 use Rattle.serving.specs.declared.parts.Apart.{Apart}

@@ -7,7 +7,7 @@ use Rattle.line_base.specs.Accepts.{Listening}
 use Rattle.line_base.specs.Nets.{AreNew, IsNew, Networking, Returns, after_stopper, with_room}
 use Rattle.linker_config.specs.declared.config.Port.{Port}
 use Rattle.line_base.specs.declared.listener.Endpoint.{Endpoint}
-use Rattle.admin_api.specs.declared.serving.Which.TheVariants.{Namerd, Admin}
+use Rattle.api_sessions.specs.declared.which.Which.TheVariants.{Namerd, Admin}
 use Rattle.serving.specs.Posts.{Post, client_post, endpoint_at, feed_jobs, interface_post, jobs_of}
 use Rattle.serving.specs.Posts.{main_posts, posts_at}
 use Rattle.serving.specs.Returning.{listened, with_stops}

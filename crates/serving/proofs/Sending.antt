@@ -14,9 +14,9 @@ use Rattle.waiting.specs.contracts.hand.Hand as Hand
 use Rattle.waiting.specs.contracts.lot.Lot as Lot
 use Rattle.client_stays.specs.contracts.client.IdleClient as IdleClient
 use Rattle.client_stays.specs.declared.handling.Handling as handling
-use Rattle.admin_api.proofs.Crossing.{idle_caller_send, worker_send}
-use Rattle.admin_api.specs.contracts.idle.IdleCaller as IdleCaller
-use Rattle.admin_api.specs.contracts.serving.Which as Which
+use Rattle.api_sessions.proofs.Crossing.{idle_caller_send, worker_send}
+use Rattle.api_sessions.specs.contracts.idle.IdleCaller as IdleCaller
+use Rattle.api_sessions.specs.contracts.which.Which as Which
 use Rattle.serving.proofs.policy.Policy.TheSendSync as policy
 use Rattle.serving.specs.contracts.policy.Policy as Policy
 use Rattle.router.specs.contracts.router.Router as Router

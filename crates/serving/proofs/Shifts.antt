@@ -18,7 +18,7 @@ use Rattle.workers.specs.declared.accepting.Accepting.TheVariants as accepting
 use Rattle.workers.specs.Runs.{ComesBack}
 use Rattle.workers.specs.Ends.{Ends}
 use Rattle.workers.specs.Turns.{Lends, ServesTurns}
-use Rattle.admin_api.specs.Stays.{Idle as Caller}
+use Rattle.api_sessions.specs.Stays.{Idle as Caller}
 use Rattle.client_stays.specs.Chains.{Idle}
 use Rattle.client_stays.specs.declared.handling.Handling.{Ghosts as Handled}
 use Rattle.exchange_record.specs.declared.recorder.Recorder.{Ghosts as Recording}
@@ -31,8 +31,8 @@ use Rattle.router.specs.Closing.{numbers_of}
 use Rattle.proxy_session.specs.Callers.{caller_of}
 use Rattle.line_base.specs.Dials.{Upstream}
 use Rattle.line_base.specs.Lines.{Line}
-use Rattle.admin_api.specs.declared.serving.Which.{Which}
-use Rattle.admin_api.specs.declared.serving.Which.TheVariants.{Namerd, Admin}
+use Rattle.api_sessions.specs.declared.which.Which.{Which}
+use Rattle.api_sessions.specs.declared.which.Which.TheVariants.{Namerd, Admin}
 use Rattle.identifier.specs.declared.rule.Rule.{Rule}
 use Rattle.retry_budget.specs.declared.tries.Tries.{Tries}
 use Rattle.waiting.specs.declared.hand.Hand.{Hand}

@@ -6,10 +6,10 @@ use Rattle.router.specs.declared.naming.Naming.{Ghosts}
 use Rattle.router.specs.declared.pass.Pass.{Pass}
 use Rattle.router.specs.Passes.{seen_in}
 use Rattle.line_base.specs.Lines.{Line}
-use Rattle.admin_api.specs.declared.serving.Which.{Which}
-use Rattle.admin_api.specs.declared.worker.ApiWorker.{ApiWorker}
-use Rattle.admin_api.specs.Stays.{CameTo, Idle as Caller, came}
-use Rattle.admin_api.specs.Workers.{StaysWith, WorkerValue, worker_value}
+use Rattle.api_sessions.specs.declared.which.Which.{Which}
+use Rattle.api_sessions.specs.declared.worker.ApiWorker.{ApiWorker}
+use Rattle.api_sessions.specs.Stays.{CameTo, Idle as Caller, came}
+use Rattle.api_sessions.specs.Workers.{StaysWith, WorkerValue, worker_value}
 use Rattle.scrape.specs.Scrapes.{Scraping}
 use Rattle.workers.specs.Turns.{Begin, End, Turn, from_peer, from_stay, given_back, left}
 use Rattle.serving.specs.Sessions.{lacked_in}

@@ -23,8 +23,8 @@ use Rattle.router.specs.declared.pass.Pass.{Pass}
 use Rattle.router.specs.Passes.{number_in}
 use Rattle.line_base.specs.Dials.{Upstream}
 use Rattle.line_base.specs.Lines.{Line}
-use Rattle.admin_api.specs.declared.serving.Which.{Which}
-use Rattle.admin_api.specs.Stays.{Idle as Caller}
+use Rattle.api_sessions.specs.declared.which.Which.{Which}
+use Rattle.api_sessions.specs.Stays.{Idle as Caller}
 use Rattle.scrape.specs.Scrapes.{Scraping}
 use Rattle.client_stays.specs.Chains.{Idle}
 use Rattle.serving.specs.declared.job.ApiJob.{ApiJob}

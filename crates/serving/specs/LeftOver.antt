@@ -6,7 +6,7 @@ use Rattle.machine.specs.Values.{SettingsValue}
 use Rattle.retry_budget.specs.declared.tries.Tries.{Tries}
 use Rattle.router.specs.declared.naming.Naming.{Ghosts}
 use Rattle.line_base.specs.Lines.{Line}
-use Rattle.admin_api.specs.Stays.{CameTo as CallerCameTo, Idle as Caller}
+use Rattle.api_sessions.specs.Stays.{CameTo as CallerCameTo, Idle as Caller}
 use Rattle.client_stays.specs.Chains.{CameTo, Idle}
 
 module _ {P : Type 0} (line_of : P → Line) where

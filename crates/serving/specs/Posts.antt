@@ -3,8 +3,8 @@ use Rattle.std.specs.Prelude.{ℕ, zero, suc, ◌+◌, ◌%◌, ◌^◌, true, L
 use Rattle.std.specs.Prelude.{Some}
 use Rattle.line_base.specs.declared.listener.Endpoint.{Endpoint}
 use Rattle.linker_config.specs.declared.config.Port.{Port}
-use Rattle.admin_api.specs.declared.serving.Which.{Which}
-use Rattle.admin_api.specs.declared.serving.Which.TheVariants.{Namerd, Admin, Feed}
+use Rattle.api_sessions.specs.declared.which.Which.{Which}
+use Rattle.api_sessions.specs.declared.which.Which.TheVariants.{Namerd, Admin, Feed}
 use Rattle.serving.specs.declared.site.Feeding.{Feeding}
 use Rattle.serving.specs.declared.site.Site.{Site}
 

@@ -32,10 +32,8 @@ fn listen<N: Net>(net: &mut N, port: Port, copies: u32, kept: u32) -> Result<Vec
     ensures few { copies < 2 ^ 32 }
     ensures cause { HasNetCause (N.faults net.old) (N.faults net.new) result }
 {
-    match net.listen(port.ip, port.port, copies, kept) {
-        Ok(listeners) => Ok(listeners.into_items()),
-        Err(fault) => Err(fault),
-    }
+    let listeners = net.listen(port.ip, port.port, copies, kept)?;
+    Ok(listeners.into_items())
 }
 
 /// The listeners of the feed, where it is served.
@@ -65,22 +63,10 @@ pub(crate) fn bind<N: Net>(alloc: Global, net: &mut N, site: &Site) -> Result<Bo
     ensures cause { HasNetCause (N.faults net.old) (N.faults net.new) result }
 {
     let pool = pool_by(site.policy.pool);
-    let server = match listen(net, site.server, site.workers, pool.max_size) {
-        Ok(listeners) => listeners,
-        Err(fault) => return Err(fault),
-    };
-    let namerd = match listen(net, site.namerd, API_JOBS, 0) {
-        Ok(listeners) => listeners,
-        Err(fault) => return Err(fault),
-    };
-    let admin = match listen(net, site.admin, API_JOBS, 0) {
-        Ok(listeners) => listeners,
-        Err(fault) => return Err(fault),
-    };
-    let feed = match listen_for_feed(alloc, net, site.feed) {
-        Ok(listeners) => listeners,
-        Err(fault) => return Err(fault),
-    };
+    let server = listen(net, site.server, site.workers, pool.max_size)?;
+    let namerd = listen(net, site.namerd, API_JOBS, 0)?;
+    let admin = listen(net, site.admin, API_JOBS, 0)?;
+    let feed = listen_for_feed(alloc, net, site.feed)?;
     Ok(Bound {
         server,
         namerd,

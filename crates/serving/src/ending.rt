@@ -9,7 +9,7 @@ ghost use Rattle.serving.specs.Parts.{ended_by};
 ghost use Rattle.serving.specs.Returning.{all_ended, all_finished, is_broken, with_left_over};
 
 use crate::parts::Part;
-use admin_api::IdleCaller;
+use api_sessions::IdleCaller;
 use client_stays::{Handling, IdleClient};
 use line_base::{Listener, Net, Peer};
 use router::Naming;

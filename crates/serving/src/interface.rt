@@ -3,7 +3,7 @@ ghost use Rattle.std.specs.Prelude.{◌≡◌};
 ghost use Rattle.router.specs.Passes.{number_in};
 
 use crate::proxy::lacked_behind;
-use admin_api::{ApiWorker, Context, IdleCaller, Stayed, Which};
+use api_sessions::{ApiWorker, Context, IdleCaller, Stayed, Which};
 use line_base::{Gate, Peer, Stop};
 use router::{Naming, Router};
 use scrape::Scrape;
@@ -24,7 +24,7 @@ pub struct ApiServer<'a, J: Naming, S, X> {
 }
 
 impl<J: Naming, S: Stop, X: Scrape> ApiServer<'_, J, S, X> {
-    ghost use Rattle.admin_api.specs.Stays.{CameTo};
+    ghost use Rattle.api_sessions.specs.Stays.{CameTo};
     ghost use Rattle.serving.specs.Interfaces.{IsAnswered, desk_of};
     ghost use Rattle.workers.specs.Turns.{end_of};
 

@@ -23,7 +23,7 @@ use crate::lots::{Hands, Lots};
 use crate::pool::pool_by;
 use crate::proxy::ProxyServer;
 use crate::site::Site;
-use admin_api::{ApiWorker, Which};
+use api_sessions::{ApiWorker, Which};
 use client_stays::Handling;
 use line_base::{Clock, Listener, Net, Peer};
 use proxy_session::{Mem, Parts, Room, Server};

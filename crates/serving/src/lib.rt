@@ -33,7 +33,7 @@
 //! once, and that it was left or has ended; and it comes back, in its place, as the last turn left
 //! it. Of a connection that waited it is known that stays led to it from one that came, each in
 //! turn with a pass that had seen all that the stays before it had seen (`client_stays`,
-//! `admin_api`). A stop was called as often as the turns say. The connections that still waited
+//! `api_sessions`). A stop was called as often as the turns say. The connections that still waited
 //! were ended at the first listener, so over all listeners as many were finished as had been
 //! accepted. All listeners came back clean, in their order, and as many stops as were handed out.
 //! The passes ended with one history, of as many changes as [`Served`] tells, each loaded service

@@ -3,7 +3,7 @@ ghost use Rattle.std.specs.Prelude.{◌≡◌, All, length, IfOk};
 ghost use Rattle.serving.specs.Ledgers.{AreBlanksFor};
 ghost use Rattle.waiting.specs.Hands.{IsNew};
 
-use admin_api::IdleCaller;
+use api_sessions::IdleCaller;
 use client_stays::{Handling, IdleClient};
 use line_base::Peer;
 use proxy_session::Mem;

@@ -1,13 +1,12 @@
 //! From a router that was opened to its end.
-ghost use Rattle.std.specs.Prelude.{◌≡◌, ℕ, ◌+◌, ◌≤◌, ◌<◌, ◌++◌, List, Some, Err, true, false};
+ghost use Rattle.std.specs.Prelude.{◌≡◌, ℕ, ◌+◌, ◌≤◌, ◌<◌, ◌++◌, List, Err, true, false};
 ghost use Rattle.std.specs.Prelude.{[], length};
 ghost use Rattle.std.specs.Prelude.{IfOk, vec_len, vec_capacity};
 ghost use Rattle.line_base.specs.Counts.{Rose};
 ghost use Rattle.linker_config.specs.declared.loaded.LoadedItem.{LoadedItem};
-ghost use Rattle.load_words.specs.Seats.{words_of};
 ghost use Rattle.one_history.specs.Order.{Distinct};
 ghost use Rattle.router.specs.Closing.{IsClosed, numbers_of};
-ghost use Rattle.router.specs.Values.{settings_in};
+ghost use Rattle.router.specs.Opening.{IsNamedBy, beginning_of};
 ghost use Rattle.serving.specs.Ending.{HasServed};
 ghost use Rattle.serving.specs.Faults.{TellsFaults};
 ghost use Rattle.serving.specs.Jobs.{Runs, passes_of_jobs};
@@ -23,7 +22,6 @@ ghost use Rattle.serving.specs.Posts.{interface_jobs, jobs_of};
 ghost use Rattle.serving.specs.Returning.{listened, with_stops};
 ghost use Rattle.serving.specs.Running.{HasRun, IsReady, Listens, bound_of, passes_of};
 ghost use Rattle.std.specs.Vec.Iter.{into_iter_items};
-ghost use Rattle.snap_cell.specs.Writers.{cell_written, opening_written};
 
 use crate::bound::{Bound, bind};
 use crate::ending::{StillWaiting, end_all};
@@ -108,12 +106,8 @@ pub fn start<J: Naming, R: Wait, N: Net>(
     site: &Site,
     net: &mut N,
 ) -> Result<Serving<J, N::L>, StartFault>
-    requires cell { Some (cell_written opened.writer) ≡ J.cell }
-    requires settings { settings_in (opening_written opened.writer) ≡ J.settings }
-    requires words { Some (words_of opened.loads) ≡ J.words }
-    requires name { opened.blank.name ≡ J.name }
-    requires parts { (opened.blank.parts ≡ J.parts) × (J.parts ≡ J.seats) }
-    requires seats { (opened.seats ≡ J.seats) × (opened.seats ≡ jobs_of site.now + 1) }
+    requires named { IsNamedBy (beginning_of opened) J.Naming.own J.Ledger.own }
+    requires seats { J.seats ≡ jobs_of site.now + 1 }
     ensures ready { IfOk result (λ s. IsReady s) }
     ensures listens { IfOk result
         (λ s. Listens N.L.state (N.state net.new).told site.now (bound_of s)) }
@@ -303,31 +297,18 @@ fn make_stock<
     ensures jobs { IfOk result (λ s. (s.2.items ≡ []) × (count ≤ vec_capacity s.2)) }
     ensures kept { (N.state net.new ≡ N.state net.old) × (N.faults net.new ≡ N.faults net.old) }
 {
-    let apart = match Apart::with_room(plan.alloc, count) {
-        Ok(apart) => apart,
-        Err(out_of_memory) => return Err(out_of_memory),
-    };
-    let jobs = match Vec::with_capacity(plan.alloc, count) {
-        Ok(jobs) => jobs,
-        Err(out_of_memory) => return Err(out_of_memory),
-    };
-    let rooms = match make_rooms(plan.alloc, plan.site.workers as usize) {
-        Ok(rooms) => rooms,
-        Err(out_of_memory) => return Err(out_of_memory),
-    };
+    let apart = Apart::with_room(plan.alloc, count)?;
+    let jobs = Vec::with_capacity(plan.alloc, count)?;
+    let rooms = make_rooms(plan.alloc, plan.site.workers as usize)?;
     let room = net.waiting_room(MOST_CLIENTS).max(LEAST_CLIENTS);
     let callers = plan.site.interface_jobs();
-    match Lots::open(plan.alloc, room, blanks, plan.site.workers, callers) {
-        Ok((lots, hands)) => {
-            let supplies = Supplies {
-                rooms,
-                instruments,
-                hands,
-            };
-            Ok((Stock { lots, supplies }, apart, jobs))
-        }
-        Err(out_of_memory) => Err(out_of_memory),
-    }
+    let (lots, hands) = Lots::open(plan.alloc, room, blanks, plan.site.workers, callers)?;
+    let supplies = Supplies {
+        rooms,
+        instruments,
+        hands,
+    };
+    Ok((Stock { lots, supplies }, apart, jobs))
 }
 
 /// What the jobs of a router are made from: its listeners, what else each job gets, and its passes.

@@ -7,7 +7,7 @@ use crate::job::{ApiJob, ProxyJob, ServingJob};
 use crate::jobs::{Jobs, NetJob};
 use crate::parts::{NetApart, Part};
 use crate::proxy::ProxyServer;
-use admin_api::ApiWorker;
+use api_sessions::ApiWorker;
 use client_stays::Handling;
 use line_base::Net;
 use proxy_session::Parts;

@@ -1,7 +1,7 @@
 use Rattle.std.proofs.Common.{refl, ◌∙◌}
 use Rattle.line_base.specs.Streams.{Output}
 use Rattle.linker_commands.specs.Run.{words_refused}
-use Rattle.linker_commands.specs.declared.run.Status.TheVariants as status
+use Rattle.linker_commands.specs.declared.run.ExitStatus.TheVariants as status
 use Rattle.linker_commands.proofs.Runs.{tells_end, tells_memory_first}
 use Rattle.linker_commands.proofs.run.refuse_words.Goals as goal
 

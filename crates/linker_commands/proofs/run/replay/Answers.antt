@@ -1,7 +1,7 @@
 use Rattle.std.proofs.Common.{refl, ap, Err}
 use Rattle.line_base.specs.Streams.{Output}
 use Rattle.linker_commands.specs.Run.{read_failed, too_long, no_memory}
-use Rattle.linker_commands.specs.declared.run.Status.TheVariants as status
+use Rattle.linker_commands.specs.declared.run.ExitStatus.TheVariants as status
 use Rattle.linker_commands.proofs.Runs.{tells_end, tells_memory_first}
 use Rattle.linker_commands.proofs.run.replay.Goals as goal
 

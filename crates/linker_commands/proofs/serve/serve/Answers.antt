@@ -8,40 +8,40 @@ use Rattle.line_base.specs.Streams.{Output}
 use Rattle.linker_commands.specs.Linked.{Linked, linked}
 use Rattle.linker_commands.specs.Run.{line_told, read_failed, no_memory}
 use Rattle.linker_commands.specs.Told.{code_of}
-use Rattle.linker_commands.specs.declared.run.Status.TheVariants as status
+use Rattle.linker_commands.specs.declared.run.ExitStatus.TheVariants as status
 use Rattle.linker_commands.proofs.Runs.{tells_end, tells_memory_first}
 use Rattle.linker_commands.proofs.Serving.{serves_from, wrong_told}
 use Rattle.linker_commands.proofs.serve.serve.Goals as goal
 
 pub returns-in-Ok-clause-served : goal.returns-in-Ok-clause-served
 returns-in-Ok-clause-served g c =
-    let old_files : Filed = g.F.Folder.filed c.args.folder.now in
+    let old_files : Filed = g.F.Folder.filed c.args.outside.now.folder in
     let mid_files : Filed = g.F.Folder.filed c.configured.new.folder in
-    let new_files : Filed = g.F.Folder.filed c.serve_by.new.folder in
+    let new_files : Filed = g.F.Folder.filed c.serve_by.new.outside.folder in
     let old_net : Linked g.row.N-L-P.Denot =
-    linked (g.N.Net.state c.args.net.now) (g.N.Net.faults c.args.net.now)
-    (g.O.Journals.closed c.args.journals.now) in
+    linked (g.N.Net.state c.args.outside.now.net) (g.N.Net.faults c.args.outside.now.net)
+    (g.O.Journals.closed c.args.outside.now.journals) in
     let new_net : Linked g.row.N-L-P.Denot =
-    linked (g.N.Net.state c.serve_by.new.net) (g.N.Net.faults c.serve_by.new.net)
-    (g.O.Journals.closed c.serve_by.new.journals) in
+    linked (g.N.Net.state c.serve_by.new.outside.net) (g.N.Net.faults c.serve_by.new.outside.net)
+    (g.O.Journals.closed c.serve_by.new.outside.journals) in
     let line_of = λ (p : g.row.N-L-P.Denot). let l : Line = g.N.L.P.Peer.line p in l in
     let address_of =
     λ (p : g.row.N-L-P.Denot). let a : Option SocketAddress = g.N.L.P.Peer.address p in a in
-    let old : Output = g.K.Sink.output c.args.out.now in
-    let new : Output = g.K.Sink.output c.serve_by.new.out in
+    let old : Output = g.K.Sink.output c.args.outside.now.out in
+    let new : Output = g.K.Sink.output c.serve_by.new.outside.out in
     let e = c.in-Ok.ensures in
-    serves_from line_of address_of (g.C.Clock.of_fork c.args.clock.now) c.args.path.now
+    serves_from line_of address_of (g.C.Clock.of_fork c.args.outside.now.clock) c.args.path.now
     c.in-Ok.config
     old_files mid_files new_files old_net new_net old new (code_of c.serve_by.result) e.files
     (e.kept (λ is. cc is)) e.config c.serve_by.ensures.served
 
 pub returns-in-Err-Wrong-clause-served : goal.returns-in-Err-Wrong-clause-served
 returns-in-Err-Wrong-clause-served g c =
-    let old : Output = g.K.Sink.output c.args.out.now in
+    let old : Output = g.K.Sink.output c.args.outside.now.out in
     let new : Output = g.K.Sink.output c.tell.new.out in
     let a = c.in-Err-Wrong in
     let is : List ℕ → Type 0 =
-    λ line. TellsPath (g.F.Folder.filed c.args.folder.now).files c.args.path.now false line in
+    λ line. TellsPath (g.F.Folder.filed c.args.outside.now.folder).files c.args.path.now false line in
     let course = line_told false a.line.items in (
       course,
       (
@@ -56,7 +56,7 @@ returns-in-Err-Wrong-clause-served g c =
 
 pub returns-in-Err-Fault-clause-served : goal.returns-in-Err-Fault-clause-served
 returns-in-Err-Fault-clause-served g c =
-    let old : Output = g.K.Sink.output c.args.out.now in
+    let old : Output = g.K.Sink.output c.args.outside.now.out in
     let new : Output = g.K.Sink.output c.tell-in-Err-Fault.new.out in
     let a = c.in-Err-Fault in (
       read_failed,
@@ -67,7 +67,7 @@ returns-in-Err-Fault-clause-served g c =
 
 pub returns-in-Err-OutOfMemory-clause-served : goal.returns-in-Err-OutOfMemory-clause-served
 returns-in-Err-OutOfMemory-clause-served g c =
-    let old : Output = g.K.Sink.output c.args.out.now in
+    let old : Output = g.K.Sink.output c.args.outside.now.out in
     let new : Output = g.K.Sink.output c.tell-in-Err-OutOfMemory.new.out in
     let a = c.in-Err-OutOfMemory in (
       no_memory,

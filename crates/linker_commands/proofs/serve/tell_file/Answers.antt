@@ -2,7 +2,7 @@ use Rattle.std.proofs.Common.{false, refl, ◌∙◌}
 use Rattle.line_base.specs.Streams.{Output}
 use Rattle.linker_commands.specs.Run.{line_told}
 use Rattle.linker_commands.specs.Served.{file_line}
-use Rattle.linker_commands.specs.declared.run.Status.TheVariants as status
+use Rattle.linker_commands.specs.declared.run.ExitStatus.TheVariants as status
 use Rattle.linker_commands.proofs.Runs.{tells_end, tells_memory_first}
 use Rattle.linker_commands.proofs.serve.tell_file.Goals as goal
 

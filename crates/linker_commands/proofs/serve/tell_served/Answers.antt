@@ -3,7 +3,7 @@ use Rattle.std.specs.Prelude.{Bool}
 use Rattle.line_base.specs.Streams.{Output}
 use Rattle.linker_commands.specs.Served.{short, closed_line, last_of, memory_line}
 use Rattle.linker_commands.specs.Told.{Tells}
-use Rattle.linker_commands.specs.declared.run.Status.TheVariants as status
+use Rattle.linker_commands.specs.declared.run.ExitStatus.TheVariants as status
 use Rattle.linker_commands.proofs.serve.tell_served.Goals as goal
 
 pub returns-then-served : goal.returns-then-served

@@ -3,16 +3,16 @@ use Rattle.serving.proofs.bound.bind.Goals as goal
 
 pub returns-clause-listens : goal.returns-clause-listens
 returns-clause-listens g c =
-    let first = c.in-Ok.ensures in
-    let second = c.in-Ok-listen.ensures in
-    let third = c.in-Ok-listen-2.ensures in
-    let fourth = c.in-Ok-listen_for_feed.ensures in
+    let first = c.in_ok-server.ensures in
+    let second = c.in_ok-namerd.ensures in
+    let third = c.in_ok-admin.ensures in
+    let fourth = c.in_ok-feed.ensures in
     listens g.N.L.Listener.state _ _ _ _ _ c.args.site.now
     (record {
-      server = c.in-Ok.listeners;
-      namerd = c.in-Ok-listen.listeners;
-      admin = c.in-Ok-listen-2.listeners;
-      feed = c.in-Ok-listen_for_feed.listeners;
+      server = c.in_ok-server.server;
+      namerd = c.in_ok-namerd.namerd;
+      admin = c.in_ok-admin.admin;
+      feed = c.in_ok-feed.feed;
     })
     (record {
       one = first.state;
@@ -28,5 +28,5 @@ returns-clause-listens g c =
 
 pub returns-clause-state : goal.returns-clause-state
 returns-clause-state g c =
-    all_listened _ _ _ _ _ c.args.site.now c.in-Ok.ensures.state c.in-Ok-listen.ensures.state
-    c.in-Ok-listen-2.ensures.state c.in-Ok-listen_for_feed.ensures.state
+    all_listened _ _ _ _ _ c.args.site.now c.in_ok-server.ensures.state c.in_ok-namerd.ensures.state
+    c.in_ok-admin.ensures.state c.in_ok-feed.ensures.state

@@ -1,5 +1,7 @@
 use Rattle.serving.proofs.Posting.{new_from}
 use Rattle.serving.proofs.bound.listen.Goals as goal
 
-pub returns-in-Ok-clause-new : goal.returns-in-Ok-clause-new
-returns-in-Ok-clause-new g c = rw c.into_items.ensures (new_from g.N.L.Listener.state _ c.args.port _ c.in-Ok.ensures.new)
+pub returns-clause-new : goal.returns-clause-new
+returns-clause-new g c =
+    rw c.into_items.ensures
+    (new_from g.N.L.Listener.state _ c.args.port _ c.in_ok-listeners.ensures.new)

@@ -1,7 +1,7 @@
 use Rattle.std.proofs.Common.{◌≡◌, ◌++◌, ℕ, length, sym, subst}
 use Rattle.std.specs.Prelude.{Option}
 use Rattle.std.specs.List.{AllZip}
-use Rattle.admin_api.specs.declared.serving.Which.TheVariants.{Feed}
+use Rattle.api_sessions.specs.declared.which.Which.TheVariants.{Feed}
 use Rattle.line_base.specs.Dials.{Upstream}
 use Rattle.serving.specs.declared.site.Feeding.{Feeding}
 use Rattle.serving.specs.Jobs.{IsPosted}

@@ -48,7 +48,7 @@ returns-in-Err-Book-clause-refused g c = λ is.
     let book : c.in-Err-Book.field-0 ≡ fault.Book = rw c.in-Err-Book.is at c.in-Err-Book.field-0-is in
     let told : c.set_services-set.result ≡ Err fault.Book = subst is_fault book c.in-Err-Book.is in
     let refuses =
-    refused_at_end _ c.in-Ok.passes.items c.set_services-set.new.met.items _ c.in-Ok.ensures.passes (omega (arith, same, c.in-Ok.ensures.count, c.requires.seats.0, c.requires.seats.1))
+    refused_at_end _ c.in-Ok.passes.items c.set_services-set.new.met.items _ c.in-Ok.ensures.passes (omega (arith, same, c.in-Ok.ensures.count, c.requires.seats))
     (c.set_services-set.ensures.refused told) c.close-in-Err-Book.ensures in
     (subst (λ (items : List LoadedItem). BookRefuses g.J.Naming.settings items) c.into_items.ensures refuses, refl)
 
@@ -64,7 +64,7 @@ returns-in-Ok-bind-clause-ready g c =
 pub returns-in-Ok-bind-clause-seats : goal.returns-in-Ok-bind-clause-seats
 returns-in-Ok-bind-clause-seats g c =
     let same = same_length c.set_services-set.new.met.items c.in-Ok.passes.items c.set_services-set.ensures.numbers in
-    omega (arith, same, c.in-Ok.ensures.count, c.requires.seats.0, c.requires.seats.1)
+    omega (arith, same, c.in-Ok.ensures.count, c.requires.seats)
 
 pub returns-in-Ok-bind-clause-seen : goal.returns-in-Ok-bind-clause-seen
 returns-in-Ok-bind-clause-seen g c = subst (λ (items : List LoadedItem). HaveSeen items c.set_services-set.new.met.items) c.into_items.ensures c.in-Ok-set.ensures.seen

@@ -1,6 +1,6 @@
 use Rattle.std.proofs.Common.{refl}
 use Rattle.line_base.specs.Lines.{Line}
-use Rattle.admin_api.specs.Workers.{worker_value}
+use Rattle.api_sessions.specs.Workers.{worker_value}
 use Rattle.scrape.specs.Scrapes.{Scraping}
 use Rattle.serving.proofs.Answering.{ended_answered, waits_answered}
 use Rattle.serving.proofs.interface.ApiServer.serve.Goals as goal

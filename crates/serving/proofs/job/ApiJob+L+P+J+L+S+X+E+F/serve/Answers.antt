@@ -1,6 +1,6 @@
 use Rattle.std.proofs.Common.{refl}
 use Rattle.router.specs.Passes.{number_in}
-use Rattle.admin_api.specs.declared.serving.Which.{Which}
+use Rattle.api_sessions.specs.declared.which.Which.{Which}
 use Rattle.line_base.specs.Lines.{Line}
 use Rattle.scrape.specs.Scrapes.{Scraping}
 use Rattle.serving.specs.Interfaces.{AnswersTurn, Desk, desk_of}
