@@ -15,6 +15,8 @@ HERE = os.path.dirname(os.path.abspath(__file__))
 
 ROUNDS = 3
 MOST_BYTES = 65_536
+# So many bytes of the replies are looked at: the last reply begins in them.
+LONGEST_SHOWN = 4_096
 STACK_BYTES = 4 << 20
 
 # As many branches as a union may have whose leaves are all looked up: with the lookup of the union itself there are 10,000.
@@ -117,7 +119,8 @@ def run(program, script_text):
         _, status, use = os.wait4(child.pid, 0)
         child.returncode = os.waitstatus_to_exitcode(status)
         out.seek(0)
-        lines = out.read().decode().splitlines() or [""]
+        # (a child begins with this script's own memory, which is to stay small)
+        lines = out.read(LONGEST_SHOWN).decode().splitlines() or [""]
         told = lines[-1] if child.returncode >= 0 else signal.Signals(-child.returncode).name
         return use.ru_utime + use.ru_stime, use.ru_maxrss / 1024, told
 

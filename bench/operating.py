@@ -4,7 +4,8 @@
 usage: bench/operating.py [PROGRAM]
 
 - A request with `l5d-dtab` and `l5d-ctx-*`: where `clearContext` is true none of these fields is
-  read, and none reaches the replica; where it is not, its own table is followed, and goes on.
+  read, and the replica gets what it gets of the request without them; where it is not, the tables
+  of both fields are followed, and go on.
 - A router that other machines reach, and whose configuration has no `clearContext`: standard error
   says so, and says nothing where the key is there, or the address is loopback.
 - `/admin/ready`: 200 while the router serves, and 503 for a request that is answered once the
@@ -22,10 +23,10 @@ from edge import Replica, check, connect, faults, proxy, read_all, read_head
 
 BLOCKED = ("env", "--block-signal=TERM,INT")
 REPLY = b"HTTP/1.1 200 OK\r\nContent-Length: 2\r\n\r\nhi"
-WITH_CONTEXT = (
-    b"GET / HTTP/1.1\r\nHost: web\r\nL5D-Dtab: /svc/web => /svc/other\r\n"
-    b"l5d-ctx-trace: 1\r\nConnection: close\r\n\r\n"
-)
+ASKED = b"GET / HTTP/1.1\r\nHost: web\r\nAccept: */*\r\nConnection: close\r\n"
+CONTEXT = b"L5D-Dtab: /svc/web => /svc/other\r\nl5d-ctx-trace: 1\r\n"
+# its table leads to the name that the one above leads on
+CONTEXT_TABLE = b"L5d-Ctx-Dtab: /svc/more => /svc/web\r\n"
 WARNING = "clearContext is not there"
 
 
@@ -37,18 +38,42 @@ def keeping(heads, word):
     return Replica(serve)
 
 
-def context(clears):
-    """A request whose own table leads elsewhere goes where it leads, or not."""
+def asked(program, text):
+    with connect(program) as client:
+        client.sendall(text + b"\r\n")
+        return read_all(client)
+
+
+def is_followed(heads, replies):
+    """The tables of the second and the third request lead elsewhere, and go on."""
+    texts = [head + b"\r\n" for _, head in heads]
+    return [word for word, _ in heads] == ["web", "other", "other"] \
+        and all(reply.endswith(b"hi") for reply in replies) and b"l5d-ctx-" not in texts[0] \
+        and b"\nl5d-ctx-dtab: /svc/web=>/svc/other\r" in texts[1] \
+        and b"\nl5d-ctx-dtab: /svc/more=>/svc/web;/svc/web=>/svc/other\r" in texts[2] \
+        and all(b"\nl5d-ctx-trace: 1\r" in text for text in texts[1:])
+
+
+def is_cleared(heads, replies):
+    """The second request goes on as the first does, which has no table, and the third's name has no
+    replica."""
+    return [word for word, _ in heads] == ["web", "web"] and heads[0] == heads[1] \
+        and b"l5d-ctx-" not in heads[0][1] and replies[1].endswith(b"hi") \
+        and replies[2].startswith(b"HTTP/1.1 502") and b"l5d-err: negative" in replies[2]
+
+
+def context(server):
+    """Requests without a table, with a table of their own, and with a second one that another
+    router passed on."""
     heads = []
     replicas = {"web": keeping(heads, "web"), "other": keeping(heads, "other")}
-    with proxy(replicas, 2, server=clears) as program, connect(program) as client:
-        client.sendall(WITH_CONTEXT)
-        reply = read_all(client)
-    is_cleared = clears.get("clearContext", False)
-    word, head = heads[0] if heads else ("", b"")
-    check(f"the context where the server says {clears}",
-          reply.endswith(b"hi") and word == ("web" if is_cleared else "other")
-          and b"l5d-dtab" not in head and (b"l5d-ctx-" in head) != is_cleared, f"{word} {head!r}")
+    asks = (ASKED, ASKED + CONTEXT, ASKED.replace(b"web", b"more") + CONTEXT_TABLE + CONTEXT)
+    with proxy(replicas, 2, server=server) as program:
+        replies = [asked(program, text) for text in asks]
+    is_right = is_cleared if server.get("clearContext") else is_followed
+    check(f"the context where the server says {server}",
+          is_right(heads, replies) and all(b"l5d-dtab" not in head for _, head in heads),
+          "" if is_right(heads, replies) else f"{heads} {replies}")
 
 
 def warned(server, is_warned):
