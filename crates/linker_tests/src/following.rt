@@ -80,7 +80,7 @@ fn leaders_that_are_followed(rt: HostRuntime) -> Result<(), Fail> {
     ];
     for (replies, failing, writes, want, status) in rows {
         let (text, ended) = followed(&rt, replies, failing, writes)?;
-        assert!(rt; text.as_str() == want && ended == status, "of {want:?}");
+        assert!(rt; text.as_str() == want && ended == status);
     }
     Ok(())
 }

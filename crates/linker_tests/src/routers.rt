@@ -204,10 +204,7 @@ fn routers_that_do_not_serve(rt: HostRuntime) -> Result<(), Fail> {
     ];
     for (reads, listens, waits, line, lines, written, status) in rows {
         let (text, ended) = served_amiss(&rt, reads, listens, waits, line, lines)?;
-        assert!(rt;
-            text.as_str() == written && ended == status,
-            "of {written:?}"
-        );
+        assert!(rt; text.as_str() == written && ended == status);
     }
     Ok(())
 }

@@ -1,11 +1,9 @@
 //! Whole sessions over peers, dialers and clocks in memory: worked exchanges with the bytes on both
 //! sides, hostile and large requests, each failing call, limits, requests that are tried again, and
-//! connections that are kept; what a recorder is told of; two sessions beside one another; and a
-//! connection that another server goes on with.
+//! connections that are kept; what a recorder is told of; and a connection that another server goes
+//! on with.
 #![tactic(auto)]
 
-#[cfg(test)]
-mod beside;
 #[cfg(test)]
 mod draining;
 #[cfg(test)]
