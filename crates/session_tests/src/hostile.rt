@@ -1,209 +1,177 @@
 //! Requests that try a router's framing.
-use crate::row::{GOOD, NOTHING, Row};
-use crate::scene::FIXED;
-use crate::scene::Failing::Nothing;
-use http_wire::Ended::{Closed, Cut, PeerEnded};
+use crate::row::{PASSED, REFUSED, Row, play_rows};
+use crate::texts::{EMPTY, TWO};
+use http_wire::Ended::Cut;
 use std::test::Fail;
 
-const ROWS: [Row; 17] = [
+/// The refusal of a length.
+const LENGTH: &str = "HTTP/1.1 400 Bad Request|Content-Type: text/plain|l5d-err: length|\
+    Content-Length: 7|Connection: close||length~";
+
+/// The refusal of a coding.
+const CODING: &str = "HTTP/1.1 501 Not Implemented|Content-Type: text/plain|l5d-err: coding|\
+    Content-Length: 7|Connection: close||coding~";
+
+/// The refusal of a head.
+const BAD_HEAD: &str = "HTTP/1.1 400 Bad Request|Content-Type: text/plain|l5d-err: bad-head|\
+    Content-Length: 9|Connection: close||bad-head~";
+
+/// The refusal of a body.
+const BODY: &str = "HTTP/1.1 400 Bad Request|Content-Type: text/plain|l5d-err: body|\
+    Content-Length: 5|Connection: close||body~";
+
+/// What goes on of a request with a body of three bytes.
+const SENT_THREE: &str = "<POST / HTTP/1.1|Host: web|Content-Length: 3|Via: 1.1 linkerd|\
+    l5d-dst-service: /svc/web|l5d-dst-client: /$/inet/127.0.0.1/9001|Connection: close||abc>";
+
+/// Lengths of a body.
+const LENGTHS: [Row; 6] = [
     Row {
         about: "two lengths alike",
-        table: FIXED,
         gives: "POST / HTTP/1.1|Host: web|Content-Length: 3|Content-Length: 3||abc",
-        replies: &["HTTP/1.1 200 OK|Content-Length: 0||"],
-        failing: Nothing,
-        written: "HTTP/1.1 200 OK|Content-Length: 0|Via: 1.1 linkerd||",
-        sent: "<POST / HTTP/1.1|Host: web|Content-Length: 3|Via: 1.1 linkerd|l5d-dst-service: /svc/web|l5d-dst-client: /$/inet/127.0.0.1/9001|Connection: close||abc>",
-        ended: PeerEnded,
-        reported: GOOD,
+        sent: SENT_THREE,
+        ..PASSED
     },
     Row {
         about: "a list of lengths alike",
-        table: FIXED,
         gives: "POST / HTTP/1.1|Host: web|Content-Length: 3, 3||abc",
-        replies: &["HTTP/1.1 200 OK|Content-Length: 0||"],
-        failing: Nothing,
-        written: "HTTP/1.1 200 OK|Content-Length: 0|Via: 1.1 linkerd||",
-        sent: "<POST / HTTP/1.1|Host: web|Content-Length: 3|Via: 1.1 linkerd|l5d-dst-service: /svc/web|l5d-dst-client: /$/inet/127.0.0.1/9001|Connection: close||abc>",
-        ended: PeerEnded,
-        reported: GOOD,
+        sent: SENT_THREE,
+        ..PASSED
     },
     Row {
         about: "two lengths that differ",
-        table: FIXED,
         gives: "POST / HTTP/1.1|Host: web|Content-Length: 3|Content-Length: 4||",
-        replies: &[],
-        failing: Nothing,
-        written: "HTTP/1.1 400 Bad Request|Content-Type: text/plain|l5d-err: length|Content-Length: 7|Connection: close||length~",
-        sent: "",
-        ended: Closed,
-        reported: NOTHING,
+        written: LENGTH,
+        ..REFUSED
     },
     Row {
         about: "a length with a sign",
-        table: FIXED,
         gives: "POST / HTTP/1.1|Host: web|Content-Length: +3||",
-        replies: &[],
-        failing: Nothing,
-        written: "HTTP/1.1 400 Bad Request|Content-Type: text/plain|l5d-err: length|Content-Length: 7|Connection: close||length~",
-        sent: "",
-        ended: Closed,
-        reported: NOTHING,
+        written: LENGTH,
+        ..REFUSED
     },
     Row {
         about: "a length that is too great",
-        table: FIXED,
         gives: "POST / HTTP/1.1|Host: web|Content-Length: 9223372036854775808||",
-        replies: &[],
-        failing: Nothing,
-        written: "HTTP/1.1 400 Bad Request|Content-Type: text/plain|l5d-err: length|Content-Length: 7|Connection: close||length~",
-        sent: "",
-        ended: Closed,
-        reported: NOTHING,
+        written: LENGTH,
+        ..REFUSED
     },
     Row {
         about: "the greatest length, and no body",
-        table: FIXED,
         gives: "POST / HTTP/1.1|Host: web|Content-Length: 9223372036854775807||",
-        replies: &["HTTP/1.1 200 OK|Content-Length: 0||"],
-        failing: Nothing,
-        written: "",
-        sent: "<POST / HTTP/1.1|Host: web|Content-Length: 9223372036854775807|Via: 1.1 linkerd|l5d-dst-service: /svc/web|l5d-dst-client: /$/inet/127.0.0.1/9001|Connection: close||>",
+        replies: &[EMPTY],
+        sent: "<POST / HTTP/1.1|Host: web|Content-Length: 9223372036854775807|Via: 1.1 linkerd|\
+            l5d-dst-service: /svc/web|l5d-dst-client: /$/inet/127.0.0.1/9001|Connection: close||>",
         ended: Cut,
-        reported: NOTHING,
+        ..REFUSED
     },
+];
+
+/// Codings of a body.
+const CODINGS: [Row; 4] = [
     Row {
         about: "another coding before chunks",
-        table: FIXED,
         gives: "POST / HTTP/1.1|Host: web|Transfer-Encoding: gzip, chunked||",
-        replies: &[],
-        failing: Nothing,
-        written: "HTTP/1.1 501 Not Implemented|Content-Type: text/plain|l5d-err: coding|Content-Length: 7|Connection: close||coding~",
-        sent: "",
-        ended: Closed,
-        reported: NOTHING,
+        written: CODING,
+        ..REFUSED
     },
     Row {
         about: "chunks twice",
-        table: FIXED,
         gives: "POST / HTTP/1.1|Host: web|Transfer-Encoding: chunked|Transfer-Encoding: chunked||",
-        replies: &[],
-        failing: Nothing,
-        written: "HTTP/1.1 501 Not Implemented|Content-Type: text/plain|l5d-err: coding|Content-Length: 7|Connection: close||coding~",
-        sent: "",
-        ended: Closed,
-        reported: NOTHING,
+        written: CODING,
+        ..REFUSED
     },
     Row {
         about: "chunks in HTTP/1.0",
-        table: FIXED,
         gives: "POST / HTTP/1.0|Host: web|Transfer-Encoding: chunked||",
-        replies: &[],
-        failing: Nothing,
-        written: "HTTP/1.1 400 Bad Request|Content-Type: text/plain|l5d-err: length|Content-Length: 7|Connection: close||length~",
-        sent: "",
-        ended: Closed,
-        reported: NOTHING,
+        written: LENGTH,
+        ..REFUSED
     },
     Row {
         about: "chunks in another case, with an extension",
-        table: FIXED,
         gives: "POST / HTTP/1.1|Host: web|Transfer-Encoding: Chunked||5;a=b|hello|0||",
-        replies: &["HTTP/1.1 200 OK|Content-Length: 0||"],
-        failing: Nothing,
-        written: "HTTP/1.1 200 OK|Content-Length: 0|Via: 1.1 linkerd||",
-        sent: "<POST / HTTP/1.1|Host: web|Transfer-Encoding: chunked|Via: 1.1 linkerd|l5d-dst-service: /svc/web|l5d-dst-client: /$/inet/127.0.0.1/9001|Connection: close||5|hello|0||>",
-        ended: PeerEnded,
-        reported: GOOD,
+        sent: "<POST / HTTP/1.1|Host: web|Transfer-Encoding: chunked|Via: 1.1 linkerd|\
+            l5d-dst-service: /svc/web|l5d-dst-client: /$/inet/127.0.0.1/9001|Connection: close||5|\
+            hello|0||>",
+        ..PASSED
     },
+];
+
+/// Bytes of heads and of chunks.
+const BYTES: [Row; 7] = [
     Row {
         about: "a blank before the colon",
-        table: FIXED,
         gives: "POST / HTTP/1.1|Host: web|Transfer-Encoding : chunked||",
-        replies: &[],
-        failing: Nothing,
-        written: "HTTP/1.1 400 Bad Request|Content-Type: text/plain|l5d-err: bad-head|Content-Length: 9|Connection: close||bad-head~",
-        sent: "",
-        ended: Closed,
-        reported: NOTHING,
+        written: BAD_HEAD,
+        ..REFUSED
     },
     Row {
         about: "a chunk line without a size",
-        table: FIXED,
         gives: "POST / HTTP/1.1|Host: web|Transfer-Encoding: chunked||G|",
-        replies: &["HTTP/1.1 200 OK|Content-Length: 0||"],
-        failing: Nothing,
-        written: "HTTP/1.1 400 Bad Request|Content-Type: text/plain|l5d-err: body|Content-Length: 5|Connection: close||body~",
-        sent: "<POST / HTTP/1.1|Host: web|Transfer-Encoding: chunked|Via: 1.1 linkerd|l5d-dst-service: /svc/web|l5d-dst-client: /$/inet/127.0.0.1/9001|Connection: close||>",
-        ended: Closed,
-        reported: NOTHING,
+        replies: &[EMPTY],
+        written: BODY,
+        sent: "<POST / HTTP/1.1|Host: web|Transfer-Encoding: chunked|Via: 1.1 linkerd|\
+            l5d-dst-service: /svc/web|l5d-dst-client: /$/inet/127.0.0.1/9001|Connection: close||>",
+        ..REFUSED
     },
     Row {
         about: "a chunk that goes on behind its size",
-        table: FIXED,
         gives: "POST / HTTP/1.1|Host: web|Transfer-Encoding: chunked||5|helloX",
-        replies: &["HTTP/1.1 200 OK|Content-Length: 0||"],
-        failing: Nothing,
-        written: "HTTP/1.1 400 Bad Request|Content-Type: text/plain|l5d-err: body|Content-Length: 5|Connection: close||body~",
-        sent: "<POST / HTTP/1.1|Host: web|Transfer-Encoding: chunked|Via: 1.1 linkerd|l5d-dst-service: /svc/web|l5d-dst-client: /$/inet/127.0.0.1/9001|Connection: close||5|hello>",
-        ended: Closed,
-        reported: NOTHING,
+        replies: &[EMPTY],
+        written: BODY,
+        sent: "<POST / HTTP/1.1|Host: web|Transfer-Encoding: chunked|Via: 1.1 linkerd|\
+            l5d-dst-service: /svc/web|l5d-dst-client: /$/inet/127.0.0.1/9001|Connection: close||5|\
+            hello>",
+        ..REFUSED
     },
     Row {
         about: "a byte 0 in a value",
-        table: FIXED,
         gives: "POST / HTTP/1.1|Host: web|X: a\0b||",
-        replies: &[],
-        failing: Nothing,
-        written: "HTTP/1.1 400 Bad Request|Content-Type: text/plain|l5d-err: bad-head|Content-Length: 9|Connection: close||bad-head~",
-        sent: "",
-        ended: Closed,
-        reported: NOTHING,
+        written: BAD_HEAD,
+        ..REFUSED
     },
     Row {
         about: "HTTP/1.0 without a host",
-        table: FIXED,
         gives: "GET / HTTP/1.0||GET / HTTP/1.1|Host: web||",
-        replies: &[],
-        failing: Nothing,
-        written: "HTTP/1.1 400 Bad Request|Content-Type: text/plain|l5d-err: unidentified|Content-Length: 13|Connection: close||unidentified~",
-        sent: "",
-        ended: Closed,
-        reported: NOTHING,
+        written: "HTTP/1.1 400 Bad Request|Content-Type: text/plain|l5d-err: unidentified|\
+            Content-Length: 13|Connection: close||unidentified~",
+        ..REFUSED
     },
     Row {
         about: "two requests in one read",
-        table: FIXED,
-        gives: "GET / HTTP/1.1|Host: web||GET / HTTP/1.1|Host: web||",
+        gives: TWO,
         replies: &[
             "HTTP/1.1 200 OK|Content-Length: 1||a",
             "HTTP/1.1 404 Not Found|Content-Length: 1||b",
         ],
-        failing: Nothing,
-        written: "HTTP/1.1 200 OK|Content-Length: 1|Via: 1.1 linkerd||aHTTP/1.1 404 Not Found|Content-Length: 1|Via: 1.1 linkerd||b",
-        sent: "<GET / HTTP/1.1|Host: web|Via: 1.1 linkerd|l5d-dst-service: /svc/web|l5d-dst-client: /$/inet/127.0.0.1/9001|Connection: close||><GET / HTTP/1.1|Host: web|Via: 1.1 linkerd|l5d-dst-service: /svc/web|l5d-dst-client: /$/inet/127.0.0.1/9001|Connection: close||>",
-        ended: PeerEnded,
-        reported: GOOD,
+        written: "HTTP/1.1 200 OK|Content-Length: 1|Via: 1.1 linkerd||aHTTP/1.1 404 Not Found|\
+            Content-Length: 1|Via: 1.1 linkerd||b",
+        sent: "<GET / HTTP/1.1|Host: web|Via: 1.1 linkerd|l5d-dst-service: /svc/web|\
+            l5d-dst-client: /$/inet/127.0.0.1/9001|Connection: close||><GET / HTTP/1.1|Host: web|\
+            Via: 1.1 linkerd|l5d-dst-service: /svc/web|l5d-dst-client: /$/inet/127.0.0.1/9001|\
+            Connection: close||>",
+        ..PASSED
     },
     Row {
         about: "a tunnel",
-        table: FIXED,
         gives: "CONNECT web:80 HTTP/1.1|Host: web||",
-        replies: &[],
-        failing: Nothing,
-        written: "HTTP/1.1 501 Not Implemented|Content-Type: text/plain|l5d-err: connect|Content-Length: 8|Connection: close||connect~",
-        sent: "",
-        ended: Closed,
-        reported: NOTHING,
+        written: "HTTP/1.1 501 Not Implemented|Content-Type: text/plain|l5d-err: connect|\
+            Content-Length: 8|Connection: close||connect~",
+        ..REFUSED
     },
 ];
 
 #[test]
-fn hostile_requests_are_framed_or_refused(rt: HostRuntime) -> Result<(), Fail> {
-    let alloc = rt.alloc();
-    for row in &ROWS {
-        let (comes, wanted) = row.played(&rt, alloc)?;
-        assert_eq!(rt; comes, wanted, "{}", row.about);
-    }
-    Ok(())
+fn lengths_are_framed_or_refused(rt: HostRuntime) -> Result<(), Fail> {
+    play_rows(&rt, rt.alloc(), &LENGTHS)
+}
+
+#[test]
+fn codings_are_framed_or_refused(rt: HostRuntime) -> Result<(), Fail> {
+    play_rows(&rt, rt.alloc(), &CODINGS)
+}
+
+#[test]
+fn bytes_are_framed_or_refused(rt: HostRuntime) -> Result<(), Fail> {
+    play_rows(&rt, rt.alloc(), &BYTES)
 }

@@ -3,42 +3,28 @@
 use crate::played::play;
 use crate::row::{FAILED, FAILED_SINCE, Failures, GOOD, joined, told};
 use crate::scene::{FIXED, Failing, Scene};
+use crate::texts::{DIAL, GET, REPLY, UPSTREAM, WRITTEN};
 use http_wire::Ended::{self, Closed, PeerEnded, UpstreamCut};
 use std::alloc::Global;
 use std::process::Abort;
 use std::sync::Wait;
 use std::test::Fail;
 
-/// A request.
-const GET: &str = "GET / HTTP/1.1|Host: web||";
-
-/// As it goes on.
-const SENT: &str =
-    "GET / HTTP/1.1|Host: web|Via: 1.1 linkerd|l5d-dst-service: /svc/web|l5d-dst-client: /$/inet/127.0.0.1/9001||";
+/// A request as it goes on.
+const SENT: &str = "GET / HTTP/1.1|Host: web|Via: 1.1 linkerd|l5d-dst-service: /svc/web|\
+    l5d-dst-client: /$/inet/127.0.0.1/9001||";
 
 /// One that may not be sent twice, and as it goes on.
 const POST: &str = "POST / HTTP/1.1|Host: web|Content-Length: 2||hi";
 
-const SENT_POST: &str =
-    "POST / HTTP/1.1|Host: web|Content-Length: 2|Via: 1.1 linkerd|l5d-dst-service: /svc/web|l5d-dst-client: /$/inet/127.0.0.1/9001||hi";
+const SENT_POST: &str = "POST / HTTP/1.1|Host: web|Content-Length: 2|Via: 1.1 linkerd|\
+    l5d-dst-service: /svc/web|l5d-dst-client: /$/inet/127.0.0.1/9001||hi";
 
 /// One whose reply has no body, and as it goes on.
 const HEAD: &str = "HEAD / HTTP/1.1|Host: web||";
 
-const SENT_HEAD: &str =
-    "HEAD / HTTP/1.1|Host: web|Via: 1.1 linkerd|l5d-dst-service: /svc/web|l5d-dst-client: /$/inet/127.0.0.1/9001||";
-
-/// A reply of 40 bytes, and what goes back for it.
-const REPLY: &str = "HTTP/1.1 200 OK|Content-Length: 2||hi";
-
-const WRITTEN: &str = "HTTP/1.1 200 OK|Content-Length: 2|Via: 1.1 linkerd||hi";
-
-/// The refusals where a replica could not be dialled, and where it gave no reply.
-const DIAL: &str =
-    "HTTP/1.1 502 Bad Gateway|Content-Type: text/plain|l5d-err: dial|Content-Length: 5||dial~";
-
-const UPSTREAM: &str =
-    "HTTP/1.1 502 Bad Gateway|Content-Type: text/plain|l5d-err: upstream|Content-Length: 9||upstream~";
+const SENT_HEAD: &str = "HEAD / HTTP/1.1|Host: web|Via: 1.1 linkerd|l5d-dst-service: /svc/web|\
+    l5d-dst-client: /$/inet/127.0.0.1/9001||";
 
 /// What goes into a session whose dialer keeps connections, and what comes of it.
 ///
@@ -78,7 +64,8 @@ const TWO: Case = Case {
     reported: GOOD,
 };
 
-const CASES: [Case; 24] = [
+/// Over which connections two requests go.
+const GOES_ON: [Case; 5] = [
     TWO,
     Case {
         about: "a dial that fails",
@@ -114,6 +101,10 @@ const CASES: [Case; 24] = [
         sent: &["<", SENT, ")<", SENT_POST, ")(", SENT, ")"],
         ..TWO
     },
+];
+
+/// Replies behind which a connection is kept, and others.
+const FRAMINGS: [Case; 9] = [
     Case {
         about: "a reply that closes",
         replies: &[
@@ -194,6 +185,10 @@ const CASES: [Case; 24] = [
         reported: FAILED,
         ..TWO
     },
+];
+
+/// Kept connections that break before a byte of a reply.
+const BROKEN: [Case; 6] = [
     Case {
         about: "a kept connection that has ended",
         failing: &[4],
@@ -244,6 +239,10 @@ const CASES: [Case; 24] = [
         sent: &["<", SENT, ")(", SENT, "><", SENT, ")"],
         ..TWO
     },
+];
+
+/// Tries over kept connections that fail.
+const UNANSWERED: [Case; 4] = [
     Case {
         about: "a replica that is late over a kept connection is not asked twice",
         failing: &[6],
@@ -307,12 +306,31 @@ impl Case {
     }
 }
 
-#[test]
-fn connections_are_kept(rt: HostRuntime) -> Result<(), Fail> {
-    let alloc = rt.alloc();
-    for case in CASES.iter() {
-        let (comes, wanted) = case.played(&rt, alloc)?;
+/// Plays each case, of which has to come what is wanted.
+fn play_cases<R: Wait + Abort>(rt: &R, alloc: Global, cases: &[Case]) -> Result<(), Fail> {
+    for case in cases {
+        let (comes, wanted) = case.played(rt, alloc)?;
         assert_eq!(rt; comes, wanted, "{}", case.about);
     }
     Ok(())
+}
+
+#[test]
+fn a_second_request_goes_on(rt: HostRuntime) -> Result<(), Fail> {
+    play_cases(&rt, rt.alloc(), &GOES_ON)
+}
+
+#[test]
+fn connections_are_kept_behind_replies(rt: HostRuntime) -> Result<(), Fail> {
+    play_cases(&rt, rt.alloc(), &FRAMINGS)
+}
+
+#[test]
+fn a_kept_connection_breaks(rt: HostRuntime) -> Result<(), Fail> {
+    play_cases(&rt, rt.alloc(), &BROKEN)
+}
+
+#[test]
+fn a_kept_connection_fails(rt: HostRuntime) -> Result<(), Fail> {
+    play_cases(&rt, rt.alloc(), &UNANSWERED)
 }

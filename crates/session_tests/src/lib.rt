@@ -1,9 +1,12 @@
 //! Whole sessions over peers, dialers and clocks in memory: worked exchanges with the bytes on both
 //! sides, hostile and large requests, each failing call, limits, requests that are tried again, and
-//! connections that are kept; what a recorder is told of; and a connection that another server goes
-//! on with.
+//! connections that are kept; what a recorder is told of; two clients that are served at once; a
+//! connection that another server goes on with; and the worst table that is known, on the stack of
+//! a worker's thread.
 #![tactic(auto)]
 
+#[cfg(test)]
+mod beside;
 #[cfg(test)]
 mod draining;
 #[cfg(test)]
@@ -14,6 +17,8 @@ mod keeping;
 mod large;
 #[cfg(test)]
 mod limits;
+#[cfg(test)]
+mod meanwhile;
 #[cfg(test)]
 mod moving;
 #[cfg(test)]
@@ -30,5 +35,9 @@ mod row;
 mod scene;
 #[cfg(test)]
 mod series;
+#[cfg(test)]
+mod stack;
+#[cfg(test)]
+mod texts;
 #[cfg(test)]
 mod worked;

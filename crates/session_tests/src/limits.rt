@@ -1,28 +1,18 @@
 //! The last request that a connection may carry.
 use crate::played::play;
 use crate::scene::Scene;
+use crate::texts::{GET, LAST_NEGATIVE, NEGATIVE};
 use http_wire::Ended::Spent;
 use std::alloc::{AllocError, Global};
 use std::test::Fail;
-
-/// A request.
-const REQUEST: &str = "GET / HTTP/1.1|Host: web||";
-
-/// The refusal where there is no replica.
-const REFUSAL: &str =
-    "HTTP/1.1 502 Bad Gateway|Content-Type: text/plain|l5d-err: negative|Content-Length: 9||negative~";
-
-/// The same, of the last request.
-const LAST: &str =
-    "HTTP/1.1 502 Bad Gateway|Content-Type: text/plain|l5d-err: negative|Content-Length: 9|Connection: close||negative~";
 
 /// 9,999 refusals, and the last one.
 fn refusals(alloc: Global) -> Result<String, AllocError> {
     let mut text = String::new(alloc);
     for _ in 0..9999u32 {
-        text.push_str(REFUSAL)?;
+        text.push_str(NEGATIVE)?;
     }
-    text.push_str(LAST)?;
+    text.push_str(LAST_NEGATIVE)?;
     Ok(text)
 }
 
@@ -39,7 +29,7 @@ fn a_connection_is_spent(rt: HostRuntime) -> Result<(), Fail> {
             times: 10001,
             most,
             quiet,
-            ..Scene::of("", REQUEST, &[""])
+            ..Scene::of("", GET, &[""])
         };
         let played = play(&rt, alloc, &scene)?;
         assert_eq!(rt; played.ended, Some(Spent));

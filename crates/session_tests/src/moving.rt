@@ -2,21 +2,10 @@
 use crate::played::play;
 use crate::row::joined;
 use crate::scene::{BOOK, Failing, Scene};
+use crate::texts::{DIAL, GET, REPLY, WRITTEN};
 use http_wire::Ended;
 use retry_budget::Tries;
 use std::test::Fail;
-
-/// A request, of 29 bytes.
-const REQUEST: &str = "GET / HTTP/1.1|Host: web||";
-
-/// A reply, and what goes back for it.
-const REPLY: &str = "HTTP/1.1 200 OK|Content-Length: 2||hi";
-
-const WRITTEN: &str = "HTTP/1.1 200 OK|Content-Length: 2|Via: 1.1 linkerd||hi";
-
-/// The refusal where the replica could not be dialled.
-const DIAL: &str =
-    "HTTP/1.1 502 Bad Gateway|Content-Type: text/plain|l5d-err: dial|Content-Length: 5||dial~";
 
 /// One retry, of all requests of a connection.
 const ONE: Tries = Tries {
@@ -45,7 +34,7 @@ fn another_server_goes_on_with_a_connection(rt: HostRuntime) -> Result<(), Fail>
             quiet: &[2],
             failing,
             tries,
-            ..Scene::of(BOOK, REQUEST, &[REPLY])
+            ..Scene::of(BOOK, GET, &[REPLY])
         };
         let played = play(&rt, alloc, &scene)?;
         let wanted = joined(alloc, &[WRITTEN, second])?;

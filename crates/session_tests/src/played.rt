@@ -1,7 +1,5 @@
 //! Sessions that are played, and what they came to.
-ghost use Rattle.std.specs.Prelude.{◌≡◌, ◌<◌, None, IfOk};
-ghost use Rattle.machine.specs.Code.{change_of};
-ghost use Rattle.machine.specs.State.{IsSoundChange};
+ghost use Rattle.std.specs.Prelude.{◌≡◌, ◌<◌, None};
 ghost use Rattle.router.specs.Opening.{IsNamedBy, beginning_of};
 ghost use Rattle.router.specs.Passes.{slot_in};
 
@@ -18,14 +16,14 @@ use proxy_session::{Connection, Context, Parts, Room, Server};
 use rand_core::SeedableRng;
 use rand_pcg::Pcg64;
 use router::{Naming, Opened, Pass, Router, open};
-use std::alloc::{AllocError, Global};
+use std::alloc::Global;
 use std::marker::Brand;
 use std::process::Abort;
 use std::sync::Wait;
 use std::test::Fail;
 
 /// A gate that nobody asks.
-struct Free;
+pub(crate) struct Free;
 
 impl Gate for Free {
     fn begin(&self, _worker: u32) {}
@@ -38,9 +36,9 @@ impl Gate for Free {
 pub(crate) struct Played {
     /// What the client was given, spelt.
     pub(crate) written: String,
-    /// What the dialers did: what was sent over a connection, spelt, stands behind `<` or `(`, where
-    /// it was opened or resumed, and before `>` or `)`, where it was ended or kept. One to another
-    /// port than 9001 begins with `?` or `!`.
+    /// What the dialers did: what was sent over a connection, spelt, stands behind `<` or `(`,
+    /// where it was opened or resumed, and before `>` or `)`, where it was ended or kept. One to
+    /// another port than 9001 begins with `?` or `!`.
     pub(crate) sent: String,
     /// How many calls of the dialers failed.
     pub(crate) failed: u64,
@@ -117,28 +115,32 @@ fn fail<J: Naming, R: Wait>(context: &Context<'_, J, R>, pass: &mut Pass<J>) -> 
     }
 }
 
-/// A server of a scene with this pass.
-pub(crate) fn server<J: Naming>(
+/// A server with this pass and this dialer.
+pub(crate) fn server<J: Naming, R: Abort, D>(
+    rt: &R,
     alloc: Global,
     pass: Pass<J>,
-    scene: &Scene<'_>,
-) -> Mem<Server<J, MemDialer, MemClock>>
-    ensures { IfOk result (λ s. s.pass ≡ pass) }
+    dialer: D,
+) -> Server<J, D, MemClock>
+    ensures { result.pass ≡ pass }
 {
-    let room = Room::new(alloc)?;
-    let dialer = upstreams(alloc, scene)?;
-    let clock = clock(alloc)?;
+    let Ok(room) = Room::new(alloc) else {
+        panic!(rt; "no memory for a server")
+    };
+    let Ok(clock) = clock(alloc) else {
+        panic!(rt; "no memory for a clock")
+    };
     let parts = Parts {
         pass,
         dialer,
         clock,
         words: Pcg64::seed_from_u64(7),
     };
-    Ok(Server::of(room, parts))
+    Server::of(room, parts)
 }
 
 /// The pass and the dialer of a server.
-pub(crate) fn parts_of<J: Naming>(server: Server<J, MemDialer, MemClock>) -> (Pass<J>, MemDialer) {
+pub(crate) fn parts_of<J: Naming, D>(server: Server<J, D, MemClock>) -> (Pass<J>, D) {
     let Parts {
         pass,
         dialer,
@@ -148,8 +150,16 @@ pub(crate) fn parts_of<J: Naming>(server: Server<J, MemDialer, MemClock>) -> (Pa
     (pass, dialer)
 }
 
-/// Serves the client's requests until its connection ends. Where it waits, the second server goes on
-/// with it, once that has learnt what the first one had seen. `None` where it waits once more.
+/// The dialer of a scene.
+pub(crate) fn dialer<R: Abort>(rt: &R, alloc: Global, scene: &Scene<'_>) -> MemDialer {
+    match upstreams(alloc, scene) {
+        Ok(dialer) => dialer,
+        Err(_want) => panic!(rt; "no memory for a dialer"),
+    }
+}
+
+/// Serves the client's requests until its connection ends. Where it waits, the second server goes
+/// on with it, once that has learnt what the first one had seen. `None` where it waits once more.
 fn serve_stays<J: Naming, R: Wait>(
     context: &Context<'_, J, R>,
     first: &mut Server<J, MemDialer, MemClock>,
@@ -176,22 +186,24 @@ fn serve_stays<J: Naming, R: Wait>(
 /// Serves the client of a scene with a server of each pass, and gives the passes back.
 fn serve<J: Naming, R: Wait + Abort>(
     context: &Context<'_, J, R>,
-    passes: (Pass<J>, Pass<J>),
+    first: Pass<J>,
+    second: Pass<J>,
     scene: &Scene<'_>,
-) -> ((Pass<J>, Pass<J>), Mem<Played>) {
-    let alloc = context.alloc;
-    let (None, None) = (passes.0.holds(), passes.1.holds()) else {
-        panic!(context.rt; "a pass holds a slot")
+) -> (Pass<J>, Pass<J>, Mem<Played>) {
+    let Context { rt, alloc, .. } = *context;
+    let None = first.holds() else {
+        panic!(rt; "the first pass holds a slot")
     };
-    let (Ok(mut first), Ok(mut second), Ok(peer)) = (
-        server(alloc, passes.0, scene),
-        server(alloc, passes.1, scene),
-        client(alloc, scene),
-    ) else {
-        panic!(context.rt; "no memory for the servers")
+    let None = second.holds() else {
+        panic!(rt; "the second pass holds a slot")
+    };
+    let Ok(peer) = client(alloc, scene) else {
+        panic!(rt; "no memory for a client")
     };
     let mut connection = scene.connection(peer);
     let mut keeper = Keeper::new(alloc);
+    let mut first = server(rt, alloc, first, dialer(rt, alloc, scene));
+    let mut second = server(rt, alloc, second, dialer(rt, alloc, scene));
     let ended = serve_stays(
         context,
         &mut first,
@@ -199,10 +211,11 @@ fn serve<J: Naming, R: Wait + Abort>(
         &mut connection,
         &mut keeper,
     );
-    let (first, second) = (parts_of(first), parts_of(second));
+    let (first, dialer) = parts_of(first);
+    let (second, other) = parts_of(second);
     let peer = connection.into_peer();
-    let played = told(alloc, &peer, (&first.1, &second.1), keeper, ended);
-    ((first.0, second.0), played)
+    let played = told(alloc, &peer, (&dialer, &other), keeper, ended);
+    (first, second, played)
 }
 
 /// Ends a router of two passes.
@@ -225,23 +238,51 @@ pub(crate) fn close<J: Naming, R: Wait + Abort>(
     }
 }
 
+/// Gives the service `web` the addresses of a scene.
+fn set_addresses<J: Naming, R: Wait + Abort>(
+    rt: &R,
+    alloc: Global,
+    router: &Router<J>,
+    pass: &mut Pass<J>,
+    scene: &Scene<'_>,
+) {
+    match addresses(alloc, scene) {
+        Ok(change) => assert!(rt; router.change(rt, alloc, pass, change).is_ok()),
+        Err(_why) => panic!(rt; "no addresses"),
+    }
+}
+
+/// Names a router of two passes, in which the service `web` has the addresses of a scene.
+pub(crate) fn named<J: Naming, R: Wait + Abort>(
+    rt: &R,
+    alloc: Global,
+    opened: Opened,
+    scene: &Scene<'_>,
+) -> Mem<(Router<J>, Pass<J>, Pass<J>)>
+    requires { IsNamedBy (beginning_of opened) J.Naming.own J.Ledger.own }
+{
+    let (router, mut passes) = opened.named::<J, R>(rt, alloc)?;
+    let Some(second) = passes.pop() else {
+        panic!(rt; "a pass is missing")
+    };
+    let Some(mut first) = passes.pop() else {
+        panic!(rt; "both passes are missing")
+    };
+    set_addresses(rt, alloc, &router, &mut first, scene);
+    Ok((router, first, second))
+}
+
 /// Names a router of two passes, plays a scene over it and ends it.
 fn play_named<J: Naming, R: Wait + Abort>(
     rt: &R,
     alloc: Global,
     opened: Opened,
     rule: &Rule,
-    change: Change,
     scene: &Scene<'_>,
 ) -> Mem<Played>
     requires named { IsNamedBy (beginning_of opened) J.Naming.own J.Ledger.own }
-    requires change { IsSoundChange (change_of change) }
 {
-    let (router, mut passes) = opened.named::<J, R>(rt, alloc)?;
-    let (Some(second), Some(mut first)) = (passes.pop(), passes.pop()) else {
-        panic!(rt; "a pass is missing")
-    };
-    assert!(rt; router.change(rt, alloc, &mut first, change).is_ok());
+    let (router, mut first, second) = named::<J, R>(rt, alloc, opened, scene)?;
     let context = Context {
         rt,
         alloc,
@@ -249,7 +290,7 @@ fn play_named<J: Naming, R: Wait + Abort>(
         rule,
     };
     assert!(rt; fail(&context, &mut first).is_ok());
-    let ((mut first, second), played) = serve(&context, (first, second), scene);
+    let (mut first, second, played) = serve(&context, first, second, scene);
     let count = fail(&context, &mut first);
     close(rt, alloc, router, first, second);
     with_failures(played, count)
@@ -267,7 +308,6 @@ pub(crate) fn play<R: Wait + Abort>(
     scene: &Scene<'_>,
 ) -> Result<Played, Fail> {
     let rule = by_host(alloc)?;
-    let change = addresses(alloc, scene)?;
     let opened = begin(rt, alloc, scene)?;
-    Ok(play_named::<Brand, R>(rt, alloc, opened, &rule, change, scene)?)
+    Ok(play_named::<Brand, R>(rt, alloc, opened, &rule, scene)?)
 }

@@ -81,8 +81,8 @@ fn name_text(alloc: Global, name: Option<&Path>) -> Mem<String> {
 
 /// Requests that are passed on, the second one with a body; one to a name without a replica; and
 /// bytes that are no head.
-const GIVES: &str =
-    "GET /a HTTP/1.1|Host: web||POST /b HTTP/1.1|Host: web|Content-Length: 3||abcGET /c HTTP/1.1|Host: none||BAD||";
+const GIVES: &str = "GET /a HTTP/1.1|Host: web||POST /b HTTP/1.1|Host: web|Content-Length: 3||abc\
+    GET /c HTTP/1.1|Host: none||BAD||";
 
 /// What their replica replies: well, and then not.
 const REPLIES: [&str; 2] = [
@@ -92,10 +92,16 @@ const REPLIES: [&str; 2] = [
 
 /// What is told of each, of a client at port 4711.
 const TOLD: [&str; 4] = [
-    "4711 /a /svc/web Done { answer: Passed { status: 200 }, replica: Some(Addr { ip: 2130706433, port: 9001 }), tries: 1, failures: 0, request_bytes: 0, reply_bytes: 2, hits: 0, misses: 1, broken: None }|",
-    "4711 /b /svc/web Done { answer: Passed { status: 500 }, replica: Some(Addr { ip: 2130706433, port: 9001 }), tries: 1, failures: 1, request_bytes: 3, reply_bytes: 1, hits: 1, misses: 0, broken: None }|",
-    "4711 /c /svc/none Done { answer: Own(Negative), replica: None, tries: 0, failures: 0, request_bytes: 0, reply_bytes: 9, hits: 0, misses: 1, broken: None }|",
-    "4711 - - Done { answer: Own(BadHead), replica: None, tries: 0, failures: 0, request_bytes: 0, reply_bytes: 9, hits: 0, misses: 0, broken: None }|",
+    "4711 /a /svc/web Done { answer: Passed { status: 200 }, replica: Some(Addr { ip: 2130706433, \
+        port: 9001 }), tries: 1, failures: 0, request_bytes: 0, reply_bytes: 2, hits: 0, \
+        misses: 1, broken: None }|",
+    "4711 /b /svc/web Done { answer: Passed { status: 500 }, replica: Some(Addr { ip: 2130706433, \
+        port: 9001 }), tries: 1, failures: 1, request_bytes: 3, reply_bytes: 1, hits: 1, \
+        misses: 0, broken: None }|",
+    "4711 /c /svc/none Done { answer: Own(Negative), replica: None, tries: 0, failures: 0, \
+        request_bytes: 0, reply_bytes: 9, hits: 0, misses: 1, broken: None }|",
+    "4711 - - Done { answer: Own(BadHead), replica: None, tries: 0, failures: 0, request_bytes: 0, \
+        reply_bytes: 9, hits: 0, misses: 0, broken: None }|",
 ];
 
 /// Each exchange is told of once, in order, and by its own numbers.

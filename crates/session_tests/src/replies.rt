@@ -1,301 +1,249 @@
 //! Replies of each framing, and the ways in which a try ends, with the report that each makes.
-use crate::row::{FAILED, GOOD, NOTHING, Row};
-use crate::scene::FIXED;
-use crate::scene::Failing::{Dial, Nothing, Read, Write};
+use crate::row::{NOTHING, PASSED, REFUSED, Row, UNANSWERED, play_rows};
+use crate::scene::Failing::{Dial, Read, Write};
+use crate::texts::{EMPTY, REPLY, TWO};
 use http_wire::Ended::{Closed, PeerEnded, ReadFault, UpstreamCut, WriteFault};
 use std::test::Fail;
 
-const ROWS: [Row; 25] = [
+/// Replies of each framing.
+const FRAMINGS: [Row; 6] = [
     Row {
         about: "a reply to HEAD",
-        table: FIXED,
         gives: "HEAD / HTTP/1.1|Host: web||",
         replies: &["HTTP/1.1 200 OK|Content-Length: 5||"],
-        failing: Nothing,
         written: "HTTP/1.1 200 OK|Content-Length: 5|Via: 1.1 linkerd||",
-        sent: "<HEAD / HTTP/1.1|Host: web|Via: 1.1 linkerd|l5d-dst-service: /svc/web|l5d-dst-client: /$/inet/127.0.0.1/9001|Connection: close||>",
-        ended: PeerEnded,
-        reported: GOOD,
+        sent: "<HEAD / HTTP/1.1|Host: web|Via: 1.1 linkerd|l5d-dst-service: /svc/web|\
+            l5d-dst-client: /$/inet/127.0.0.1/9001|Connection: close||>",
+        ..PASSED
     },
     Row {
         about: "a refusal of HEAD",
         table: "",
         gives: "HEAD / HTTP/1.1|Host: web||",
-        replies: &[],
-        failing: Nothing,
-        written: "HTTP/1.1 502 Bad Gateway|Content-Type: text/plain|l5d-err: negative|Content-Length: 9||",
-        sent: "",
+        written: "HTTP/1.1 502 Bad Gateway|Content-Type: text/plain|l5d-err: negative|\
+            Content-Length: 9||",
         ended: PeerEnded,
-        reported: NOTHING,
+        ..REFUSED
     },
     Row {
         about: "a 304 with a length",
-        table: FIXED,
-        gives: "GET / HTTP/1.1|Host: web||",
         replies: &["HTTP/1.1 304 Not Modified|Content-Length: 5||"],
-        failing: Nothing,
         written: "HTTP/1.1 304 Not Modified|Content-Length: 5|Via: 1.1 linkerd||",
-        sent: "<GET / HTTP/1.1|Host: web|Via: 1.1 linkerd|l5d-dst-service: /svc/web|l5d-dst-client: /$/inet/127.0.0.1/9001|Connection: close||>",
-        ended: PeerEnded,
-        reported: GOOD,
+        ..PASSED
     },
     Row {
         about: "chunks to HTTP/1.1",
-        table: FIXED,
-        gives: "GET / HTTP/1.1|Host: web||",
         replies: &["HTTP/1.1 200 OK|Transfer-Encoding: chunked||05;x|hello|0|T: 1||"],
-        failing: Nothing,
         written: "HTTP/1.1 200 OK|Transfer-Encoding: chunked|Via: 1.1 linkerd||5|hello|0||",
-        sent: "<GET / HTTP/1.1|Host: web|Via: 1.1 linkerd|l5d-dst-service: /svc/web|l5d-dst-client: /$/inet/127.0.0.1/9001|Connection: close||>",
-        ended: PeerEnded,
-        reported: GOOD,
+        ..PASSED
     },
     Row {
         about: "chunks to HTTP/1.0",
-        table: FIXED,
         gives: "GET / HTTP/1.0|Host: web||",
         replies: &["HTTP/1.1 200 OK|Transfer-Encoding: chunked||5|hello|0||"],
-        failing: Nothing,
         written: "HTTP/1.1 200 OK|Via: 1.1 linkerd|Connection: close||hello",
-        sent: "<GET / HTTP/1.1|Host: web|Via: 1.0 linkerd|l5d-dst-service: /svc/web|l5d-dst-client: /$/inet/127.0.0.1/9001|Connection: close||>",
+        sent: "<GET / HTTP/1.1|Host: web|Via: 1.0 linkerd|l5d-dst-service: /svc/web|\
+            l5d-dst-client: /$/inet/127.0.0.1/9001|Connection: close||>",
         ended: Closed,
-        reported: GOOD,
+        ..PASSED
     },
     Row {
         about: "a body up to the end",
-        table: FIXED,
-        gives: "GET / HTTP/1.1|Host: web||GET / HTTP/1.1|Host: web||",
+        gives: TWO,
         replies: &["HTTP/1.0 200 OK||hello"],
-        failing: Nothing,
         written: "HTTP/1.1 200 OK|Via: 1.0 linkerd|Connection: close||hello",
-        sent: "<GET / HTTP/1.1|Host: web|Via: 1.1 linkerd|l5d-dst-service: /svc/web|l5d-dst-client: /$/inet/127.0.0.1/9001|Connection: close||>",
         ended: Closed,
-        reported: GOOD,
+        ..PASSED
     },
+];
+
+/// Heads before the last one.
+const INTERIM: [Row; 3] = [
     Row {
         about: "eight interim heads",
-        table: FIXED,
-        gives: "GET / HTTP/1.1|Host: web||",
         replies: &[
-            "HTTP/1.1 100 Continue||HTTP/1.1 100 Continue||HTTP/1.1 100 Continue||HTTP/1.1 100 Continue||HTTP/1.1 103 Early Hints|Link: a|Content-Length: 3|Transfer-Encoding: chunked||HTTP/1.1 103 Early Hints|Link: a||HTTP/1.1 103 Early Hints|Link: a||HTTP/1.1 103 Early Hints|Link: a||HTTP/1.1 200 OK|Content-Length: 0||",
+            "HTTP/1.1 100 Continue||HTTP/1.1 100 Continue||HTTP/1.1 100 Continue||\
+                HTTP/1.1 100 Continue||HTTP/1.1 103 Early Hints|Link: a|Content-Length: 3|\
+                Transfer-Encoding: chunked||HTTP/1.1 103 Early Hints|Link: a||\
+                HTTP/1.1 103 Early Hints|Link: a||HTTP/1.1 103 Early Hints|Link: a||\
+                HTTP/1.1 200 OK|Content-Length: 0||",
         ],
-        failing: Nothing,
-        written: "HTTP/1.1 200 OK|Content-Length: 0|Via: 1.1 linkerd||",
-        sent: "<GET / HTTP/1.1|Host: web|Via: 1.1 linkerd|l5d-dst-service: /svc/web|l5d-dst-client: /$/inet/127.0.0.1/9001|Connection: close||>",
-        ended: PeerEnded,
-        reported: GOOD,
+        ..PASSED
     },
     Row {
         about: "a ninth interim head",
-        table: FIXED,
-        gives: "GET / HTTP/1.1|Host: web||",
         replies: &[
-            "HTTP/1.1 100 Continue||HTTP/1.1 100 Continue||HTTP/1.1 100 Continue||HTTP/1.1 100 Continue||HTTP/1.1 100 Continue||HTTP/1.1 100 Continue||HTTP/1.1 100 Continue||HTTP/1.1 100 Continue||HTTP/1.1 100 Continue||HTTP/1.1 200 OK|Content-Length: 0||",
+            "HTTP/1.1 100 Continue||HTTP/1.1 100 Continue||HTTP/1.1 100 Continue||\
+                HTTP/1.1 100 Continue||HTTP/1.1 100 Continue||HTTP/1.1 100 Continue||\
+                HTTP/1.1 100 Continue||HTTP/1.1 100 Continue||HTTP/1.1 100 Continue||\
+                HTTP/1.1 200 OK|Content-Length: 0||",
         ],
-        failing: Nothing,
-        written: "HTTP/1.1 502 Bad Gateway|Content-Type: text/plain|l5d-err: upstream|Content-Length: 9||upstream~",
-        sent: "<GET / HTTP/1.1|Host: web|Via: 1.1 linkerd|l5d-dst-service: /svc/web|l5d-dst-client: /$/inet/127.0.0.1/9001|Connection: close||>",
-        ended: PeerEnded,
-        reported: FAILED,
+        ..UNANSWERED
     },
     Row {
         about: "another protocol",
-        table: FIXED,
-        gives: "GET / HTTP/1.1|Host: web||",
         replies: &["HTTP/1.1 101 Switching Protocols||"],
-        failing: Nothing,
-        written: "HTTP/1.1 502 Bad Gateway|Content-Type: text/plain|l5d-err: upstream|Content-Length: 9||upstream~",
-        sent: "<GET / HTTP/1.1|Host: web|Via: 1.1 linkerd|l5d-dst-service: /svc/web|l5d-dst-client: /$/inet/127.0.0.1/9001|Connection: close||>",
-        ended: PeerEnded,
-        reported: FAILED,
+        ..UNANSWERED
     },
+];
+
+/// Replies that are none, or break.
+const BROKEN: [Row; 5] = [
     Row {
         about: "no reply",
-        table: FIXED,
-        gives: "GET / HTTP/1.1|Host: web||",
-        replies: &[""],
-        failing: Nothing,
-        written: "HTTP/1.1 502 Bad Gateway|Content-Type: text/plain|l5d-err: upstream|Content-Length: 9||upstream~",
-        sent: "<GET / HTTP/1.1|Host: web|Via: 1.1 linkerd|l5d-dst-service: /svc/web|l5d-dst-client: /$/inet/127.0.0.1/9001|Connection: close||>",
-        ended: PeerEnded,
-        reported: FAILED,
+        ..UNANSWERED
     },
     Row {
         about: "a reply's head that is cut",
-        table: FIXED,
-        gives: "GET / HTTP/1.1|Host: web||",
         replies: &["HTTP/1.1 200 OK|"],
-        failing: Nothing,
-        written: "HTTP/1.1 502 Bad Gateway|Content-Type: text/plain|l5d-err: upstream|Content-Length: 9||upstream~",
-        sent: "<GET / HTTP/1.1|Host: web|Via: 1.1 linkerd|l5d-dst-service: /svc/web|l5d-dst-client: /$/inet/127.0.0.1/9001|Connection: close||>",
-        ended: PeerEnded,
-        reported: FAILED,
+        ..UNANSWERED
     },
     Row {
         about: "bytes that are no reply",
-        table: FIXED,
-        gives: "GET / HTTP/1.1|Host: web||",
         replies: &["hello"],
-        failing: Nothing,
-        written: "HTTP/1.1 502 Bad Gateway|Content-Type: text/plain|l5d-err: upstream|Content-Length: 9||upstream~",
-        sent: "<GET / HTTP/1.1|Host: web|Via: 1.1 linkerd|l5d-dst-service: /svc/web|l5d-dst-client: /$/inet/127.0.0.1/9001|Connection: close||>",
-        ended: PeerEnded,
-        reported: FAILED,
+        ..UNANSWERED
     },
     Row {
         about: "a reply that is framed twice",
-        table: FIXED,
-        gives: "GET / HTTP/1.1|Host: web||",
         replies: &["HTTP/1.1 200 OK|Content-Length: 1|Transfer-Encoding: chunked||1|a|0||"],
-        failing: Nothing,
-        written: "HTTP/1.1 502 Bad Gateway|Content-Type: text/plain|l5d-err: upstream|Content-Length: 9||upstream~",
-        sent: "<GET / HTTP/1.1|Host: web|Via: 1.1 linkerd|l5d-dst-service: /svc/web|l5d-dst-client: /$/inet/127.0.0.1/9001|Connection: close||>",
-        ended: PeerEnded,
-        reported: FAILED,
+        ..UNANSWERED
     },
     Row {
         about: "a reply in chunks that is cut",
-        table: FIXED,
-        gives: "GET / HTTP/1.1|Host: web||",
         replies: &["HTTP/1.1 200 OK|Transfer-Encoding: chunked||5|hel"],
-        failing: Nothing,
         written: "HTTP/1.1 200 OK|Transfer-Encoding: chunked|Via: 1.1 linkerd||5|hel",
-        sent: "<GET / HTTP/1.1|Host: web|Via: 1.1 linkerd|l5d-dst-service: /svc/web|l5d-dst-client: /$/inet/127.0.0.1/9001|Connection: close||>",
         ended: UpstreamCut,
-        reported: FAILED,
+        ..UNANSWERED
     },
+];
+
+/// Calls that fail, and a body that is too long.
+const CALLS: [Row; 6] = [
     Row {
         about: "a send that fails",
-        table: FIXED,
-        gives: "GET / HTTP/1.1|Host: web||",
-        replies: &["HTTP/1.1 200 OK|Content-Length: 0||"],
+        replies: &[EMPTY],
         failing: Dial(1),
-        written: "HTTP/1.1 502 Bad Gateway|Content-Type: text/plain|l5d-err: upstream|Content-Length: 9||upstream~",
         sent: "<>",
-        ended: PeerEnded,
-        reported: FAILED,
+        ..UNANSWERED
     },
     Row {
         about: "a receive that fails",
-        table: FIXED,
-        gives: "GET / HTTP/1.1|Host: web||",
-        replies: &["HTTP/1.1 200 OK|Content-Length: 0||"],
+        replies: &[EMPTY],
         failing: Dial(2),
-        written: "HTTP/1.1 502 Bad Gateway|Content-Type: text/plain|l5d-err: upstream|Content-Length: 9||upstream~",
-        sent: "<GET / HTTP/1.1|Host: web|Via: 1.1 linkerd|l5d-dst-service: /svc/web|l5d-dst-client: /$/inet/127.0.0.1/9001|Connection: close||>",
-        ended: PeerEnded,
-        reported: FAILED,
+        ..UNANSWERED
     },
     Row {
         about: "a request's body that is too long",
-        table: FIXED,
         gives: "POST / HTTP/1.1|Host: web|Transfer-Encoding: chunked||8000000000000000|",
-        replies: &["HTTP/1.1 200 OK|Content-Length: 0||"],
-        failing: Nothing,
-        written: "HTTP/1.1 413 Content Too Large|Content-Type: text/plain|l5d-err: too-long|Content-Length: 9|Connection: close||too-long~",
-        sent: "<POST / HTTP/1.1|Host: web|Transfer-Encoding: chunked|Via: 1.1 linkerd|l5d-dst-service: /svc/web|l5d-dst-client: /$/inet/127.0.0.1/9001|Connection: close||8000000000000000|>",
-        ended: Closed,
-        reported: NOTHING,
+        replies: &[EMPTY],
+        written: "HTTP/1.1 413 Content Too Large|Content-Type: text/plain|l5d-err: too-long|\
+            Content-Length: 9|Connection: close||too-long~",
+        sent: "<POST / HTTP/1.1|Host: web|Transfer-Encoding: chunked|Via: 1.1 linkerd|\
+            l5d-dst-service: /svc/web|l5d-dst-client: /$/inet/127.0.0.1/9001|Connection: close||\
+            8000000000000000|>",
+        ..REFUSED
     },
     Row {
         about: "a request's body that can't be read",
-        table: FIXED,
         gives: "POST / HTTP/1.1|Host: web|Content-Length: 3||a",
-        replies: &["HTTP/1.1 200 OK|Content-Length: 0||"],
+        replies: &[EMPTY],
         failing: Read(1),
-        written: "",
-        sent: "<POST / HTTP/1.1|Host: web|Content-Length: 3|Via: 1.1 linkerd|l5d-dst-service: /svc/web|l5d-dst-client: /$/inet/127.0.0.1/9001|Connection: close||a>",
+        sent: "<POST / HTTP/1.1|Host: web|Content-Length: 3|Via: 1.1 linkerd|\
+            l5d-dst-service: /svc/web|l5d-dst-client: /$/inet/127.0.0.1/9001|Connection: close||a>",
         ended: ReadFault,
-        reported: NOTHING,
+        ..REFUSED
     },
     Row {
         about: "a reply that can't be written",
-        table: FIXED,
-        gives: "GET / HTTP/1.1|Host: web||",
-        replies: &["HTTP/1.1 200 OK|Content-Length: 0||"],
         failing: Write(0),
         written: "",
-        sent: "<GET / HTTP/1.1|Host: web|Via: 1.1 linkerd|l5d-dst-service: /svc/web|l5d-dst-client: /$/inet/127.0.0.1/9001|Connection: close||>",
         ended: WriteFault,
         reported: NOTHING,
+        ..PASSED
     },
     Row {
         about: "a refusal that can't be written",
-        table: FIXED,
-        gives: "GET / HTTP/1.1|Host: web||",
-        replies: &[""],
         failing: Write(0),
         written: "",
-        sent: "<GET / HTTP/1.1|Host: web|Via: 1.1 linkerd|l5d-dst-service: /svc/web|l5d-dst-client: /$/inet/127.0.0.1/9001|Connection: close||>",
         ended: WriteFault,
-        reported: FAILED,
+        ..UNANSWERED
     },
+];
+
+/// What comes behind a reply that is told, and behind a try that failed.
+const BEHIND: [Row; 5] = [
     Row {
         about: "a reply of no content, told before the next receive",
-        table: FIXED,
-        gives: "GET / HTTP/1.1|Host: web||",
         replies: &["HTTP/1.1 204 No Content||"],
         failing: Dial(3),
         written: "HTTP/1.1 204 No Content|Via: 1.1 linkerd||",
-        sent: "<GET / HTTP/1.1|Host: web|Via: 1.1 linkerd|l5d-dst-service: /svc/web|l5d-dst-client: /$/inet/127.0.0.1/9001|Connection: close||>",
-        ended: PeerEnded,
-        reported: GOOD,
+        ..PASSED
     },
     Row {
         about: "a length of 0, told before the next receive",
-        table: FIXED,
-        gives: "GET / HTTP/1.1|Host: web||",
-        replies: &["HTTP/1.1 200 OK|Content-Length: 0||"],
         failing: Dial(3),
-        written: "HTTP/1.1 200 OK|Content-Length: 0|Via: 1.1 linkerd||",
-        sent: "<GET / HTTP/1.1|Host: web|Via: 1.1 linkerd|l5d-dst-service: /svc/web|l5d-dst-client: /$/inet/127.0.0.1/9001|Connection: close||>",
-        ended: PeerEnded,
-        reported: GOOD,
+        ..PASSED
     },
     Row {
         about: "a request of no content that is not sent, and one behind it",
-        table: FIXED,
         gives: "POST / HTTP/1.1|Host: web|Content-Length: 0||GET / HTTP/1.1|Host: web||",
-        replies: &["", "HTTP/1.1 200 OK|Content-Length: 2||hi"],
+        replies: &["", REPLY],
         failing: Dial(1),
-        written: "HTTP/1.1 502 Bad Gateway|Content-Type: text/plain|l5d-err: upstream|Content-Length: 9||upstream~HTTP/1.1 200 OK|Content-Length: 2|Via: 1.1 linkerd||hi",
-        sent: "<><GET / HTTP/1.1|Host: web|Via: 1.1 linkerd|l5d-dst-service: /svc/web|l5d-dst-client: /$/inet/127.0.0.1/9001|Connection: close||>",
-        ended: PeerEnded,
-        reported: GOOD,
+        written: "HTTP/1.1 502 Bad Gateway|Content-Type: text/plain|l5d-err: upstream|\
+            Content-Length: 9||upstream~HTTP/1.1 200 OK|Content-Length: 2|Via: 1.1 linkerd||hi",
+        sent: "<><GET / HTTP/1.1|Host: web|Via: 1.1 linkerd|l5d-dst-service: /svc/web|\
+            l5d-dst-client: /$/inet/127.0.0.1/9001|Connection: close||>",
+        ..PASSED
     },
     Row {
         about: "a body that is not sent, and a request behind it",
-        table: FIXED,
         gives: "POST / HTTP/1.1|Host: web|Content-Length: 5||helloGET / HTTP/1.1|Host: web||",
-        replies: &["", "HTTP/1.1 200 OK|Content-Length: 2||hi"],
+        replies: &["", REPLY],
         failing: Dial(1),
-        written: "HTTP/1.1 502 Bad Gateway|Content-Type: text/plain|l5d-err: upstream|Content-Length: 9|Connection: close||upstream~",
+        written: "HTTP/1.1 502 Bad Gateway|Content-Type: text/plain|l5d-err: upstream|\
+            Content-Length: 9|Connection: close||upstream~",
         sent: "<>",
         ended: Closed,
-        reported: FAILED,
+        ..UNANSWERED
     },
     Row {
         about: "a long head, and a shorter one behind it",
-        table: FIXED,
         gives: "GET /long?a=b HTTP/1.1|Host: web|X-Long: 0123456789||GET / HTTP/1.1|Host: web||",
         replies: &[
             "HTTP/1.1 200 OK|Content-Length: 0|X-Long: 0123456789||",
-            "HTTP/1.1 200 OK|Content-Length: 0||",
+            EMPTY,
         ],
-        failing: Nothing,
-        written: "HTTP/1.1 200 OK|X-Long: 0123456789|Content-Length: 0|Via: 1.1 linkerd||HTTP/1.1 200 OK|Content-Length: 0|Via: 1.1 linkerd||",
-        sent: "<GET /long?a=b HTTP/1.1|Host: web|X-Long: 0123456789|Via: 1.1 linkerd|l5d-dst-service: /svc/web|l5d-dst-client: /$/inet/127.0.0.1/9001|Connection: close||><GET / HTTP/1.1|Host: web|Via: 1.1 linkerd|l5d-dst-service: /svc/web|l5d-dst-client: /$/inet/127.0.0.1/9001|Connection: close||>",
-        ended: PeerEnded,
-        reported: GOOD,
+        written: "HTTP/1.1 200 OK|X-Long: 0123456789|Content-Length: 0|Via: 1.1 linkerd||\
+            HTTP/1.1 200 OK|Content-Length: 0|Via: 1.1 linkerd||",
+        sent: "<GET /long?a=b HTTP/1.1|Host: web|X-Long: 0123456789|Via: 1.1 linkerd|\
+            l5d-dst-service: /svc/web|l5d-dst-client: /$/inet/127.0.0.1/9001|Connection: close||\
+            ><GET / HTTP/1.1|Host: web|Via: 1.1 linkerd|l5d-dst-service: /svc/web|\
+            l5d-dst-client: /$/inet/127.0.0.1/9001|Connection: close||>",
+        ..PASSED
     },
 ];
 
 #[test]
-fn replies_go_back_and_are_reported(rt: HostRuntime) -> Result<(), Fail> {
-    let alloc = rt.alloc();
-    for row in &ROWS {
-        let (comes, wanted) = row.played(&rt, alloc)?;
-        assert_eq!(rt; comes, wanted, "{}", row.about);
-    }
-    Ok(())
+fn replies_are_framed(rt: HostRuntime) -> Result<(), Fail> {
+    play_rows(&rt, rt.alloc(), &FRAMINGS)
+}
+
+#[test]
+fn interim_heads_are_skipped(rt: HostRuntime) -> Result<(), Fail> {
+    play_rows(&rt, rt.alloc(), &INTERIM)
+}
+
+#[test]
+fn a_reply_that_breaks_is_reported(rt: HostRuntime) -> Result<(), Fail> {
+    play_rows(&rt, rt.alloc(), &BROKEN)
+}
+
+#[test]
+fn a_call_that_fails_is_reported(rt: HostRuntime) -> Result<(), Fail> {
+    play_rows(&rt, rt.alloc(), &CALLS)
+}
+
+#[test]
+fn what_stands_behind_is_not_lost(rt: HostRuntime) -> Result<(), Fail> {
+    play_rows(&rt, rt.alloc(), &BEHIND)
 }

@@ -2,6 +2,7 @@
 use crate::played::play;
 use crate::row::joined;
 use crate::scene::{BOOK, FIXED, Failing, Scene};
+use crate::texts::{DIAL, GET, REPLY, TWO, UPSTREAM, WRITTEN};
 use http_wire::Ended::{self, Closed, PeerEnded, UpstreamCut};
 use retry_budget::{Budget, Tries};
 use std::alloc::Global;
@@ -17,24 +18,9 @@ const USUAL: Tries = Tries {
     most: 3,
 };
 
-/// A request.
-const REQUEST: &str = "GET / HTTP/1.1|Host: web||";
-
-/// A reply, and what goes back for it.
-const REPLY: &str = "HTTP/1.1 200 OK|Content-Length: 2||hi";
-
-const WRITTEN: &str = "HTTP/1.1 200 OK|Content-Length: 2|Via: 1.1 linkerd||hi";
-
-/// The refusals where a replica could not be dialled, and where it gave no reply.
-const DIAL: &str =
-    "HTTP/1.1 502 Bad Gateway|Content-Type: text/plain|l5d-err: dial|Content-Length: 5||dial~";
-
-const UPSTREAM: &str =
-    "HTTP/1.1 502 Bad Gateway|Content-Type: text/plain|l5d-err: upstream|Content-Length: 9||upstream~";
-
-/// The latter, behind which the connection closes.
-const LAST_UPSTREAM: &str =
-    "HTTP/1.1 502 Bad Gateway|Content-Type: text/plain|l5d-err: upstream|Content-Length: 9|Connection: close||upstream~";
+/// The refusal where a replica gave no reply, behind which the connection closes.
+const LAST_UPSTREAM: &str = "HTTP/1.1 502 Bad Gateway|Content-Type: text/plain|\
+    l5d-err: upstream|Content-Length: 9|Connection: close||upstream~";
 
 /// What goes into a session with a budget, and what comes of it.
 #[derive(Clone, Copy)]
@@ -54,17 +40,21 @@ struct Case {
     ended: Ended,
 }
 
-const CASES: [Case; 14] = [
-    Case {
-        about: "a replica that can't be dialled",
-        tries: USUAL,
-        gives: REQUEST,
-        replies: &[REPLY],
-        failing: &[0],
-        written: &[WRITTEN],
-        dials: (1, 1),
-        ended: PeerEnded,
-    },
+/// One request, whose first replica can't be dialled.
+const ONE: Case = Case {
+    about: "a replica that can't be dialled",
+    tries: USUAL,
+    gives: GET,
+    replies: &[REPLY],
+    failing: &[0],
+    written: &[WRITTEN],
+    dials: (1, 1),
+    ended: PeerEnded,
+};
+
+/// Requests whose replicas fail, and budgets for them.
+const DIALS: [Case; 5] = [
+    ONE,
     Case {
         about: "a budget of one retry",
         tries: Tries {
@@ -72,12 +62,11 @@ const CASES: [Case; 14] = [
             reserve: 1,
             most: 3,
         },
-        gives: "GET / HTTP/1.1|Host: web||GET / HTTP/1.1|Host: web||",
-        replies: &[REPLY],
+        gives: TWO,
         failing: &[0, 1, 2],
         written: &[DIAL, DIAL],
         dials: (3, 0),
-        ended: PeerEnded,
+        ..ONE
     },
     Case {
         about: "no retries for a request",
@@ -86,105 +75,91 @@ const CASES: [Case; 14] = [
             reserve: 10,
             most: 0,
         },
-        gives: REQUEST,
-        replies: &[REPLY],
-        failing: &[0],
         written: &[DIAL],
         dials: (1, 0),
-        ended: PeerEnded,
+        ..ONE
     },
     Case {
         about: "no replica gives a reply",
-        tries: USUAL,
-        gives: REQUEST,
         replies: &["", "", "", "", REPLY],
         failing: &[],
         written: &[UPSTREAM],
         dials: (0, 4),
-        ended: PeerEnded,
+        ..ONE
     },
     Case {
         about: "a request that can't be sent",
-        tries: USUAL,
-        gives: REQUEST,
         replies: &["", REPLY],
         failing: &[1],
-        written: &[WRITTEN],
         dials: (1, 2),
-        ended: PeerEnded,
+        ..ONE
     },
+];
+
+/// Requests with bodies.
+const BODIES: [Case; 4] = [
     Case {
         about: "a body whose replica gives no reply",
-        tries: USUAL,
         gives: "POST / HTTP/1.1|Host: web|Content-Length: 5||hello",
         replies: &["", REPLY],
         failing: &[],
         written: &[LAST_UPSTREAM],
         dials: (0, 1),
         ended: Closed,
+        ..ONE
     },
     Case {
         about: "a body whose replica can't be dialled",
-        tries: USUAL,
         gives: "POST / HTTP/1.1|Host: web|Content-Length: 5||hello",
-        replies: &[REPLY],
-        failing: &[0],
-        written: &[WRITTEN],
-        dials: (1, 1),
-        ended: PeerEnded,
+        ..ONE
     },
     Case {
         about: "a length of 0",
-        tries: USUAL,
         gives: "PUT / HTTP/1.1|Host: web|Content-Length: 0||",
         replies: &["", REPLY],
         failing: &[],
-        written: &[WRITTEN],
         dials: (0, 2),
-        ended: PeerEnded,
+        ..ONE
     },
     Case {
         about: "a chunked body of nothing",
-        tries: USUAL,
         gives: "PUT / HTTP/1.1|Host: web|Transfer-Encoding: chunked||0||",
         replies: &["", REPLY],
         failing: &[],
         written: &[LAST_UPSTREAM],
         dials: (0, 1),
         ended: Closed,
+        ..ONE
     },
+];
+
+/// Replies behind which nothing is tried again, and what a budget grants.
+const BUDGETS: [Case; 5] = [
     Case {
         about: "a retry whose reply is 503",
-        tries: USUAL,
-        gives: REQUEST,
         replies: &[
             "HTTP/1.1 503 Service Unavailable|Content-Length: 0||",
             REPLY,
         ],
-        failing: &[0],
         written: &["HTTP/1.1 503 Service Unavailable|Content-Length: 0|Via: 1.1 linkerd||"],
-        dials: (1, 1),
-        ended: PeerEnded,
+        ..ONE
     },
     Case {
         about: "a reply that is cut",
-        tries: USUAL,
-        gives: REQUEST,
         replies: &["HTTP/1.1 200 OK|Content-Length: 5||he", REPLY],
         failing: &[],
         written: &["HTTP/1.1 200 OK|Content-Length: 5|Via: 1.1 linkerd||he"],
         dials: (0, 1),
         ended: UpstreamCut,
+        ..ONE
     },
     Case {
         about: "a request behind one that is tried again",
-        tries: USUAL,
-        gives: "GET / HTTP/1.1|Host: web||GET / HTTP/1.1|Host: web||",
+        gives: TWO,
         replies: &[REPLY, REPLY],
-        failing: &[0],
         written: &[WRITTEN, WRITTEN],
         dials: (1, 2),
-        ended: PeerEnded,
+        ..ONE
     },
     Case {
         about: "a request that is refused pays in too",
@@ -194,14 +169,12 @@ const CASES: [Case; 14] = [
             most: 3,
         },
         gives: "GET / HTTP/1.1|Host: web|l5d-dtab: x||GET / HTTP/1.1|Host: web||",
-        replies: &[REPLY],
-        failing: &[0],
         written: &[
-            "HTTP/1.1 400 Bad Request|Content-Type: text/plain|l5d-err: dtab|Content-Length: 5||dtab~",
+            "HTTP/1.1 400 Bad Request|Content-Type: text/plain|l5d-err: dtab|\
+                Content-Length: 5||dtab~",
             WRITTEN,
         ],
-        dials: (1, 1),
-        ended: PeerEnded,
+        ..ONE
     },
     Case {
         about: "a retry pays nothing in",
@@ -210,12 +183,10 @@ const CASES: [Case; 14] = [
             reserve: 1,
             most: 3,
         },
-        gives: REQUEST,
-        replies: &[REPLY],
         failing: &[0, 1],
         written: &[DIAL],
         dials: (2, 0),
-        ended: PeerEnded,
+        ..ONE
     },
 ];
 
@@ -259,14 +230,28 @@ impl Case {
     }
 }
 
-#[test]
-fn requests_are_tried_again(rt: HostRuntime) -> Result<(), Fail> {
-    let alloc = rt.alloc();
-    for case in CASES.iter() {
-        let (comes, wanted) = case.played(&rt, alloc)?;
+/// Plays each case, of which has to come what is wanted.
+fn play_cases<R: Wait + Abort>(rt: &R, alloc: Global, cases: &[Case]) -> Result<(), Fail> {
+    for case in cases {
+        let (comes, wanted) = case.played(rt, alloc)?;
         assert!(rt; comes == wanted, "{}", case.about);
     }
     Ok(())
+}
+
+#[test]
+fn requests_are_tried_again(rt: HostRuntime) -> Result<(), Fail> {
+    play_cases(&rt, rt.alloc(), &DIALS)
+}
+
+#[test]
+fn bodies_are_not_sent_twice(rt: HostRuntime) -> Result<(), Fail> {
+    play_cases(&rt, rt.alloc(), &BODIES)
+}
+
+#[test]
+fn what_a_budget_grants(rt: HostRuntime) -> Result<(), Fail> {
+    play_cases(&rt, rt.alloc(), &BUDGETS)
 }
 
 /// The methods of requests, and whether one that got no reply is sent to another replica.
@@ -334,7 +319,7 @@ fn a_replica_that_failed_is_left_out(rt: HostRuntime) -> Result<(), Fail> {
         times: 8,
         failing: Failing::Dials(&[0]),
         tries: Some(Tries::default()),
-        ..Scene::of(BOOK, REQUEST, &[REPLY; 8])
+        ..Scene::of(BOOK, GET, &[REPLY; 8])
     };
     let played = play(&rt, alloc, &scene)?;
     let sent = played.sent.as_str();

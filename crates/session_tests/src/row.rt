@@ -1,6 +1,7 @@
 //! Rows of tables: what goes into a session and what comes of it.
 use crate::played::play;
-use crate::scene::{Failing, Mem, Scene};
+use crate::scene::{FIXED, Failing, Mem, Scene};
+use crate::texts::{EMPTY, GET, UPSTREAM, WRITTEN_EMPTY};
 use http_wire::Ended;
 use std::alloc::Global;
 use std::process::Abort;
@@ -41,6 +42,38 @@ pub(crate) struct Row {
     pub(crate) ended: Ended,
     pub(crate) reported: Failures,
 }
+
+/// A request that goes on to the one replica of `web`, which replies well.
+pub(crate) const PASSED: Row = Row {
+    about: "",
+    table: FIXED,
+    gives: GET,
+    replies: &[EMPTY],
+    failing: Failing::Nothing,
+    written: WRITTEN_EMPTY,
+    sent: "<GET / HTTP/1.1|Host: web|Via: 1.1 linkerd|l5d-dst-service: /svc/web|\
+        l5d-dst-client: /$/inet/127.0.0.1/9001|Connection: close||>",
+    ended: Ended::PeerEnded,
+    reported: GOOD,
+};
+
+/// One that goes on, and gets no reply.
+pub(crate) const UNANSWERED: Row = Row {
+    replies: &[""],
+    written: UPSTREAM,
+    reported: FAILED,
+    ..PASSED
+};
+
+/// One that is refused before a replica is tried, behind which its connection closes.
+pub(crate) const REFUSED: Row = Row {
+    replies: &[],
+    written: "",
+    sent: "",
+    ended: Ended::Closed,
+    reported: NOTHING,
+    ..PASSED
+};
 
 /// These texts behind one another.
 pub(crate) fn joined(alloc: Global, texts: &[&str]) -> Mem<String> {
@@ -86,4 +119,13 @@ impl Row {
             )?,
         ))
     }
+}
+
+/// Plays each row, of which has to come what is wanted.
+pub(crate) fn play_rows<R: Wait + Abort>(rt: &R, alloc: Global, rows: &[Row]) -> Result<(), Fail> {
+    for row in rows {
+        let (comes, wanted) = row.played(rt, alloc)?;
+        assert_eq!(rt; comes, wanted, "{}", row.about);
+    }
+    Ok(())
 }

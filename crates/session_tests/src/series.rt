@@ -2,6 +2,7 @@
 use crate::played::play;
 use crate::scene::Failing::{self, Dial, Read, Write};
 use crate::scene::{Scene, spelt};
+use crate::texts::{DIAL, UPSTREAM};
 use http_wire::Ended::{self, Cut, PeerEnded, ReadFault, UpstreamCut, WriteFault};
 use std::alloc::Global;
 use std::process::Abort;
@@ -9,20 +10,22 @@ use std::sync::Wait;
 use std::test::Fail;
 
 /// A request.
-const REQUEST: &str =
-    "GET /x?y=1 HTTP/1.1|Host: Web|User-Agent: curl/8.5.0|Accept: */*|l5d-dtab: /svc/web => /$/inet/127.0.0.1/9001|Connection: x-gone, keep-alive|X-Gone: 1|X-Kept: 2||";
+const REQUEST: &str = "GET /x?y=1 HTTP/1.1|Host: Web|User-Agent: curl/8.5.0|Accept: */*|\
+    l5d-dtab: /svc/web => /$/inet/127.0.0.1/9001|Connection: x-gone, keep-alive|X-Gone: 1|\
+    X-Kept: 2||";
 
 /// What goes on for it.
-const SENT: &str =
-    "<GET /x?y=1 HTTP/1.1|Host: Web|User-Agent: curl/8.5.0|Accept: */*|X-Kept: 2|Via: 1.1 linkerd|l5d-ctx-dtab: /svc/web=>/$/inet/127.0.0.1/9001|l5d-dst-service: /svc/web|l5d-dst-client: /$/inet/127.0.0.1/9001|Connection: close||>";
+const SENT: &str = "<GET /x?y=1 HTTP/1.1|Host: Web|User-Agent: curl/8.5.0|Accept: */*|\
+    X-Kept: 2|Via: 1.1 linkerd|l5d-ctx-dtab: /svc/web=>/$/inet/127.0.0.1/9001|\
+    l5d-dst-service: /svc/web|l5d-dst-client: /$/inet/127.0.0.1/9001|Connection: close||>";
 
 /// Its reply.
-const REPLY: &str =
-    "HTTP/1.1 200 OK|Content-Length: 50||01234567890123456789012345678901234567890123456789";
+const REPLY: &str = "HTTP/1.1 200 OK|Content-Length: 50||\
+    01234567890123456789012345678901234567890123456789";
 
 /// What goes back for that.
-const WRITTEN: &str =
-    "HTTP/1.1 200 OK|Content-Length: 50|Via: 1.1 linkerd||01234567890123456789012345678901234567890123456789";
+const WRITTEN: &str = "HTTP/1.1 200 OK|Content-Length: 50|Via: 1.1 linkerd||\
+    01234567890123456789012345678901234567890123456789";
 
 /// What comes of the request, in calls of at most 40 bytes: how the session ended, what was written
 /// and what was sent.
@@ -103,14 +106,8 @@ fn each_call_of_the_client_fails(rt: HostRuntime) -> Result<(), Fail> {
 /// ends.
 fn broken(call: u64) -> (&'static str, Ended) {
     match call {
-        0 => (
-            "HTTP/1.1 502 Bad Gateway|Content-Type: text/plain|l5d-err: dial|Content-Length: 5||dial~",
-            PeerEnded,
-        ),
-        1..=7 => (
-            "HTTP/1.1 502 Bad Gateway|Content-Type: text/plain|l5d-err: upstream|Content-Length: 9||upstream~",
-            PeerEnded,
-        ),
+        0 => (DIAL, PeerEnded),
+        1..=7 => (UPSTREAM, PeerEnded),
         _ => (
             "HTTP/1.1 200 OK|Content-Length: 50|Via: 1.1 linkerd||",
             UpstreamCut,

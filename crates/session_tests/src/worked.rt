@@ -1,184 +1,171 @@
 //! Worked exchanges.
-use crate::row::{FAILED, GOOD, NOTHING, Row};
-use crate::scene::Failing::{Dial, Nothing};
-use crate::scene::{BOOK, FIXED};
+use crate::row::{FAILED, PASSED, REFUSED, Row, UNANSWERED, play_rows};
+use crate::scene::BOOK;
+use crate::scene::Failing::Dial;
+use crate::texts::{DIAL, EMPTY, GET, LAST_NEGATIVE, TWO};
 use http_wire::Ended::{Closed, Cut, PeerEnded, UpstreamCut};
 use std::test::Fail;
 
-const ROWS: [Row; 15] = [
+/// The refusal where there is not one host.
+const HOST: &str = "HTTP/1.1 400 Bad Request|Content-Type: text/plain|l5d-err: host|\
+    Content-Length: 5|Connection: close||host~";
+
+/// What goes on of a request to a service of the book.
+const SENT: &str = "<GET / HTTP/1.1|Host: web|Via: 1.1 linkerd|l5d-dst-service: /svc/web|\
+    l5d-dst-client: /#/io.l5d.fs/web|Connection: close||>";
+
+/// Heads that go on or are refused.
+const HEADS: [Row; 6] = [
     Row {
         about: "a head that goes on",
         table: "",
-        gives: "GET /x?y=1 HTTP/1.1|Host: Web|User-Agent: curl/8.5.0|Accept: */*|l5d-dtab: /svc/web => /$/inet/127.0.0.1/9001|Connection: x-gone, keep-alive|X-Gone: 1|X-Kept: 2||",
+        gives: "GET /x?y=1 HTTP/1.1|Host: Web|User-Agent: curl/8.5.0|Accept: */*|\
+            l5d-dtab: /svc/web => /$/inet/127.0.0.1/9001|Connection: x-gone, keep-alive|X-Gone: 1|\
+            X-Kept: 2||",
         replies: &["HTTP/1.1 200 OK|Content-Length: 2|Server: t||hi"],
-        failing: Nothing,
         written: "HTTP/1.1 200 OK|Server: t|Content-Length: 2|Via: 1.1 linkerd||hi",
-        sent: "<GET /x?y=1 HTTP/1.1|Host: Web|User-Agent: curl/8.5.0|Accept: */*|X-Kept: 2|Via: 1.1 linkerd|l5d-ctx-dtab: /svc/web=>/$/inet/127.0.0.1/9001|l5d-dst-service: /svc/web|l5d-dst-client: /$/inet/127.0.0.1/9001|Connection: close||>",
-        ended: PeerEnded,
-        reported: GOOD,
+        sent: "<GET /x?y=1 HTTP/1.1|Host: Web|User-Agent: curl/8.5.0|Accept: */*|X-Kept: 2|\
+            Via: 1.1 linkerd|l5d-ctx-dtab: /svc/web=>/$/inet/127.0.0.1/9001|\
+            l5d-dst-service: /svc/web|l5d-dst-client: /$/inet/127.0.0.1/9001|Connection: close||>",
+        ..PASSED
     },
     Row {
         about: "no host",
-        table: FIXED,
         gives: "GET / HTTP/1.1||",
-        replies: &[],
-        failing: Nothing,
-        written: "HTTP/1.1 400 Bad Request|Content-Type: text/plain|l5d-err: host|Content-Length: 5|Connection: close||host~",
-        sent: "",
-        ended: Closed,
-        reported: NOTHING,
+        written: HOST,
+        ..REFUSED
     },
     Row {
         about: "two hosts",
-        table: FIXED,
         gives: "GET / HTTP/1.1|Host: a|Host: b||",
-        replies: &[],
-        failing: Nothing,
-        written: "HTTP/1.1 400 Bad Request|Content-Type: text/plain|l5d-err: host|Content-Length: 5|Connection: close||host~",
-        sent: "",
-        ended: Closed,
-        reported: NOTHING,
+        written: HOST,
+        ..REFUSED
     },
     Row {
         about: "an absolute target",
-        table: FIXED,
         gives: "GET http://web/x HTTP/1.1|Host: other||",
         replies: &["HTTP/1.1 204 No Content||"],
-        failing: Nothing,
         written: "HTTP/1.1 204 No Content|Via: 1.1 linkerd||",
-        sent: "<GET /x HTTP/1.1|Host: web|Via: 1.1 linkerd|l5d-dst-service: /svc/web|l5d-dst-client: /$/inet/127.0.0.1/9001|Connection: close||>",
-        ended: PeerEnded,
-        reported: GOOD,
+        sent: "<GET /x HTTP/1.1|Host: web|Via: 1.1 linkerd|l5d-dst-service: /svc/web|\
+            l5d-dst-client: /$/inet/127.0.0.1/9001|Connection: close||>",
+        ..PASSED
     },
     Row {
         about: "another version",
-        table: FIXED,
         gives: "PRI * HTTP/2.0|",
-        replies: &[],
-        failing: Nothing,
-        written: "HTTP/1.1 505 HTTP Version Not Supported|Content-Type: text/plain|l5d-err: version|Content-Length: 8|Connection: close||version~",
-        sent: "",
-        ended: Closed,
-        reported: NOTHING,
+        written: "HTTP/1.1 505 HTTP Version Not Supported|Content-Type: text/plain|\
+            l5d-err: version|Content-Length: 8|Connection: close||version~",
+        ..REFUSED
     },
     Row {
         about: "a length beside chunks",
-        table: FIXED,
         gives: "POST / HTTP/1.1|Host: web|Content-Length: 3|Transfer-Encoding: chunked||",
-        replies: &[],
-        failing: Nothing,
-        written: "HTTP/1.1 400 Bad Request|Content-Type: text/plain|l5d-err: length|Content-Length: 7|Connection: close||length~",
-        sent: "",
-        ended: Closed,
-        reported: NOTHING,
+        written: "HTTP/1.1 400 Bad Request|Content-Type: text/plain|l5d-err: length|\
+            Content-Length: 7|Connection: close||length~",
+        ..REFUSED
     },
+];
+
+/// Bodies, and tries of a replica.
+const TRIES: [Row; 6] = [
     Row {
         about: "a body that is cut in a chunk line",
-        table: FIXED,
         gives: "POST / HTTP/1.1|Host: web|Transfer-Encoding: chunked||5",
-        replies: &["HTTP/1.1 200 OK|Content-Length: 0||"],
-        failing: Nothing,
-        written: "",
-        sent: "<POST / HTTP/1.1|Host: web|Transfer-Encoding: chunked|Via: 1.1 linkerd|l5d-dst-service: /svc/web|l5d-dst-client: /$/inet/127.0.0.1/9001|Connection: close||>",
+        replies: &[EMPTY],
+        sent: "<POST / HTTP/1.1|Host: web|Transfer-Encoding: chunked|Via: 1.1 linkerd|\
+            l5d-dst-service: /svc/web|l5d-dst-client: /$/inet/127.0.0.1/9001|Connection: close||>",
         ended: Cut,
-        reported: NOTHING,
+        ..REFUSED
     },
     Row {
         about: "a chunk's size in other digits",
-        table: FIXED,
         gives: "POST / HTTP/1.1|Host: web|Transfer-Encoding: chunked||A|0123456789|0||",
-        replies: &["HTTP/1.1 200 OK|Content-Length: 0||"],
-        failing: Nothing,
-        written: "HTTP/1.1 200 OK|Content-Length: 0|Via: 1.1 linkerd||",
-        sent: "<POST / HTTP/1.1|Host: web|Transfer-Encoding: chunked|Via: 1.1 linkerd|l5d-dst-service: /svc/web|l5d-dst-client: /$/inet/127.0.0.1/9001|Connection: close||a|0123456789|0||>",
-        ended: PeerEnded,
-        reported: GOOD,
+        sent: "<POST / HTTP/1.1|Host: web|Transfer-Encoding: chunked|Via: 1.1 linkerd|\
+            l5d-dst-service: /svc/web|l5d-dst-client: /$/inet/127.0.0.1/9001|Connection: close||a|\
+            0123456789|0||>",
+        ..PASSED
     },
     Row {
         about: "a dial that fails, and the next request",
         table: BOOK,
-        gives: "GET / HTTP/1.1|Host: web||GET / HTTP/1.1|Host: web||",
-        replies: &["HTTP/1.1 200 OK|Content-Length: 0||"],
+        gives: TWO,
         failing: Dial(0),
-        written: "HTTP/1.1 502 Bad Gateway|Content-Type: text/plain|l5d-err: dial|Content-Length: 5||dial~HTTP/1.1 200 OK|Content-Length: 0|Via: 1.1 linkerd||",
-        sent: "<GET / HTTP/1.1|Host: web|Via: 1.1 linkerd|l5d-dst-service: /svc/web|l5d-dst-client: /#/io.l5d.fs/web|Connection: close||>",
-        ended: PeerEnded,
-        reported: GOOD,
+        written: "HTTP/1.1 502 Bad Gateway|Content-Type: text/plain|l5d-err: dial|\
+            Content-Length: 5||dial~HTTP/1.1 200 OK|Content-Length: 0|Via: 1.1 linkerd||",
+        sent: SENT,
+        ..PASSED
     },
     Row {
         about: "a dial that fails",
         table: BOOK,
-        gives: "GET / HTTP/1.1|Host: web||",
-        replies: &["HTTP/1.1 200 OK|Content-Length: 0||"],
         failing: Dial(0),
-        written: "HTTP/1.1 502 Bad Gateway|Content-Type: text/plain|l5d-err: dial|Content-Length: 5||dial~",
+        written: DIAL,
         sent: "",
-        ended: PeerEnded,
         reported: FAILED,
+        ..PASSED
     },
     Row {
         about: "an upstream's own failure",
         table: BOOK,
-        gives: "GET / HTTP/1.1|Host: web||",
         replies: &["HTTP/1.1 503 Service Unavailable|Content-Length: 0||"],
-        failing: Nothing,
         written: "HTTP/1.1 503 Service Unavailable|Content-Length: 0|Via: 1.1 linkerd||",
-        sent: "<GET / HTTP/1.1|Host: web|Via: 1.1 linkerd|l5d-dst-service: /svc/web|l5d-dst-client: /#/io.l5d.fs/web|Connection: close||>",
-        ended: PeerEnded,
-        reported: FAILED,
+        sent: SENT,
+        ..UNANSWERED
     },
     Row {
         about: "a reply that is cut",
         table: BOOK,
-        gives: "GET / HTTP/1.1|Host: web||GET / HTTP/1.1|Host: web||",
+        gives: TWO,
         replies: &["HTTP/1.1 200 OK|Content-Length: 5||hi"],
-        failing: Nothing,
         written: "HTTP/1.1 200 OK|Content-Length: 5|Via: 1.1 linkerd||hi",
-        sent: "<GET / HTTP/1.1|Host: web|Via: 1.1 linkerd|l5d-dst-service: /svc/web|l5d-dst-client: /#/io.l5d.fs/web|Connection: close||>",
+        sent: SENT,
         ended: UpstreamCut,
-        reported: FAILED,
+        ..UNANSWERED
     },
+];
+
+/// No replica, and a client that closes.
+const REFUSALS: [Row; 3] = [
     Row {
         about: "no replica, and the connection goes on",
         table: "",
         gives: "GET / HTTP/1.1|Host: web||GET / HTTP/1.1|Host: other||",
-        replies: &[],
-        failing: Nothing,
-        written: "HTTP/1.1 502 Bad Gateway|Content-Type: text/plain|l5d-err: negative|Content-Length: 9||negative~HTTP/1.1 502 Bad Gateway|Content-Type: text/plain|l5d-err: negative|Content-Length: 9||negative~",
-        sent: "",
+        written: "HTTP/1.1 502 Bad Gateway|Content-Type: text/plain|l5d-err: negative|\
+            Content-Length: 9||negative~HTTP/1.1 502 Bad Gateway|Content-Type: text/plain|\
+            l5d-err: negative|Content-Length: 9||negative~",
         ended: PeerEnded,
-        reported: NOTHING,
+        ..REFUSED
     },
     Row {
         about: "no replica, and a body that nobody reads",
         table: "",
         gives: "POST / HTTP/1.1|Host: web|Content-Length: 3||abcGET / HTTP/1.1|Host: web||",
-        replies: &[],
-        failing: Nothing,
-        written: "HTTP/1.1 502 Bad Gateway|Content-Type: text/plain|l5d-err: negative|Content-Length: 9|Connection: close||negative~",
-        sent: "",
-        ended: Closed,
-        reported: NOTHING,
+        written: LAST_NEGATIVE,
+        ..REFUSED
     },
     Row {
         about: "a residual, and a client that closes",
         table: "/svc => /$/inet/127.0.0.1/9001",
         gives: "GET / HTTP/1.1|Host: web|Connection: Close||GET / HTTP/1.1|Host: web||",
-        replies: &["HTTP/1.1 200 OK|Content-Length: 0||"],
-        failing: Nothing,
         written: "HTTP/1.1 200 OK|Content-Length: 0|Via: 1.1 linkerd|Connection: close||",
-        sent: "<GET / HTTP/1.1|Host: web|Via: 1.1 linkerd|l5d-dst-service: /svc/web|l5d-dst-client: /$/inet/127.0.0.1/9001|l5d-dst-residual: /web|Connection: close||>",
+        sent: "<GET / HTTP/1.1|Host: web|Via: 1.1 linkerd|l5d-dst-service: /svc/web|\
+            l5d-dst-client: /$/inet/127.0.0.1/9001|l5d-dst-residual: /web|Connection: close||>",
         ended: Closed,
-        reported: GOOD,
+        ..PASSED
     },
 ];
 
 #[test]
-fn exchanges_come_to_this(rt: HostRuntime) -> Result<(), Fail> {
-    let alloc = rt.alloc();
-    for row in &ROWS {
-        let (comes, wanted) = row.played(&rt, alloc)?;
-        assert_eq!(rt; comes, wanted, "{}", row.about);
-    }
-    Ok(())
+fn heads_go_on(rt: HostRuntime) -> Result<(), Fail> {
+    play_rows(&rt, rt.alloc(), &HEADS)
+}
+
+#[test]
+fn tries_come_to_this(rt: HostRuntime) -> Result<(), Fail> {
+    play_rows(&rt, rt.alloc(), &TRIES)
+}
+
+#[test]
+fn refusals_come_to_this(rt: HostRuntime) -> Result<(), Fail> {
+    play_rows(&rt, rt.alloc(), &REFUSALS)
 }
