@@ -1,5 +1,5 @@
 //! Requests of the admin interface on one router, one after the other, each with its whole reply.
-use crate::rows::{ADMIN, Row, replies};
+use crate::rows::{ADMIN, Row, play};
 use api_sessions::Which::{self, Namerd};
 use std::test::Fail;
 
@@ -228,10 +228,5 @@ const ROWS: [Row; 31] = [
 
 #[test]
 fn services_views_and_counts_are_told(rt: HostRuntime) -> Result<(), Fail> {
-    let replies = replies(&rt, rt.alloc(), &ROWS)?;
-    assert_eq!(rt; replies.len(), ROWS.len());
-    for (told, (_to, asks, _fields, _body, reply)) in replies.iter().zip(&ROWS) {
-        assert_eq!(rt; told.as_str(), *reply, "{asks}");
-    }
-    Ok(())
+    play(&rt, rt.alloc(), &ROWS)
 }

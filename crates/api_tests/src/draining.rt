@@ -1,10 +1,8 @@
 //! Connections whose listeners are closing.
-use crate::connections::{Connection, Served, run};
-use crate::rows::ADMIN;
+use crate::connections::{Connection, Mem};
+use crate::rows::{ADMIN, outcomes, said};
 use http_wire::Ended::{self, Drained, PeerEnded};
 use std::alloc::Global;
-use std::process::Abort;
-use std::sync::Wait;
 use std::test::Fail;
 
 /// Two requests, which come at once.
@@ -29,8 +27,8 @@ const ROWS: [(u64, &[&str], Ended); 5] = [
     (4, &[READY, READY], PeerEnded),
 ];
 
-/// Serves a connection for each row.
-fn serve_rows<R: Wait + Abort>(rt: &R, alloc: Global) -> Result<Vec<Served>, Fail> {
+/// A connection for each row.
+fn connections(alloc: Global) -> Mem<Vec<Connection>> {
     let mut all = Vec::new(alloc);
     for (question, _replies, _ended) in &ROWS {
         all.push(Connection {
@@ -38,21 +36,28 @@ fn serve_rows<R: Wait + Abort>(rt: &R, alloc: Global) -> Result<Vec<Served>, Fai
             ..Connection::of(ADMIN, Vec::from_slice(alloc, TWO.as_bytes())?)
         })?;
     }
-    run(rt, alloc, all.as_slice())
+    Ok(all)
+}
+
+/// Replies, one behind the other, behind `HTTP/1.1 `.
+fn joined(alloc: Global, replies: &[&'static str]) -> Mem<String> {
+    let mut bytes = Vec::new(alloc);
+    for reply in replies {
+        bytes.extend_from_slice(reply.as_bytes())?;
+    }
+    said(alloc, bytes.as_slice())
 }
 
 #[test]
 fn a_connection_is_drained(rt: HostRuntime) -> Result<(), Fail> {
-    let alloc = rt.alloc();
-    let served = serve_rows(&rt, alloc)?;
-    assert_eq!(rt; served.len(), ROWS.len());
-    for (one, (question, replies, ended)) in served.iter().zip(&ROWS) {
-        let mut wanted = Vec::new(alloc);
-        for reply in *replies {
-            wanted.extend_from_slice(reply.as_bytes())?;
-        }
-        assert_eq!(rt; one.given.as_slice(), wanted.as_slice(), "{question}");
-        assert_eq!(rt; one.ended, Some(*ended), "{question}");
+    let outcomes = outcomes(&rt, rt.alloc(), connections(rt.alloc())?.as_slice())?;
+    assert!(rt; outcomes.len() == ROWS.len());
+    for ((told, ended, _stops), (question, replies, end)) in outcomes.iter().zip(&ROWS) {
+        let wanted = joined(rt.alloc(), *replies)?;
+        assert!(rt;
+            told.as_str() == wanted.as_str() && *ended == Some(*end),
+            "{question}"
+        );
     }
     Ok(())
 }

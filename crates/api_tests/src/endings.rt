@@ -1,11 +1,9 @@
 //! Connections with several requests: each has its reply, in order, and how the connection ends.
-use crate::connections::{Connection, Mem, Served, run};
-use crate::rows::{ADMIN, said};
+use crate::connections::{Connection, Mem};
+use crate::rows::{ADMIN, outcomes};
 use api_sessions::Which::{self, Namerd};
 use http_wire::Ended;
 use std::alloc::Global;
-use std::process::Abort;
-use std::sync::Wait;
 use std::test::Fail;
 
 /// What comes on a connection, which of its reads and its writes fails, what is given behind
@@ -246,22 +244,16 @@ fn connections(alloc: Global) -> Mem<Vec<Connection>> {
     Ok(all)
 }
 
-/// What serving them came to.
-fn serve_rows<R: Wait + Abort>(rt: &R, alloc: Global) -> Result<Vec<Served>, Fail> {
-    let connections = connections(alloc)?;
-    run(rt, alloc, connections.as_slice())
-}
-
 #[test]
 fn each_request_has_its_reply_and_each_connection_its_end(rt: HostRuntime) -> Result<(), Fail> {
-    let alloc = rt.alloc();
-    let served = serve_rows(&rt, alloc)?;
-    assert_eq!(rt; served.len(), ROWS.len());
-    for (one, (_to, comes, _read, _write, gives, ended, stops)) in served.iter().zip(&ROWS) {
-        let told = said(alloc, one.given.as_slice())?;
-        assert_eq!(rt; told.as_str(), *gives, "{comes}");
-        assert_eq!(rt; one.ended, Some(*ended), "{comes}");
-        assert_eq!(rt; one.stops, *stops, "{comes}");
+    let outcomes = outcomes(&rt, rt.alloc(), connections(rt.alloc())?.as_slice())?;
+    assert!(rt; outcomes.len() == ROWS.len());
+    for ((told, ended, stops), row) in outcomes.iter().zip(&ROWS) {
+        assert!(rt;
+            told.as_str() == row.4 && *ended == Some(row.5) && *stops == row.6,
+            "{}: {told}",
+            row.1
+        );
     }
     Ok(())
 }

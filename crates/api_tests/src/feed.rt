@@ -1,6 +1,6 @@
 //! Requests of the feed's interface on one router, beside those that change its tables, each with
 //! its whole reply.
-use crate::rows::{Row, replies};
+use crate::rows::{Row, play};
 use api_sessions::Which::{self, Namerd};
 use std::test::Fail;
 
@@ -115,10 +115,5 @@ const ROWS: [Row; 14] = [
 
 #[test]
 fn a_namespace_is_told_as_it_is_at_a_place(rt: HostRuntime) -> Result<(), Fail> {
-    let replies = replies(&rt, rt.alloc(), ROWS.as_slice())?;
-    assert_eq!(rt; replies.len(), ROWS.len());
-    for (told, (_to, asks, _fields, _body, reply)) in replies.iter().zip(&ROWS) {
-        assert_eq!(rt; told.as_str(), *reply, "{asks}");
-    }
-    Ok(())
+    play(&rt, rt.alloc(), &ROWS)
 }

@@ -1,6 +1,6 @@
 //! Bodies at their limits, and the last request of a connection.
-use crate::connections::{Bytes, Connection, Mem, run};
-use crate::rows::{ADMIN, request, said};
+use crate::connections::{Bytes, Connection, Mem};
+use crate::rows::{ADMIN, Outcome, outcomes, request, said};
 use api_sessions::Which::{self, Namerd};
 use http_wire::Ended;
 use std::alloc::Global;
@@ -114,22 +114,18 @@ fn request_of(alloc: Global, row: &Row) -> Mem<Bytes> {
     request(alloc, asks, json, body.as_slice())
 }
 
-/// What a connection is given, on a new router, how it ends, and how many bytes it was given.
-fn served<R: Wait + Abort>(
+/// What comes of a connection, on a new router.
+fn outcome<R: Wait + Abort>(
     rt: &R,
     alloc: Global,
     connection: Connection,
-) -> Result<(String, Option<Ended>, usize), Fail> {
+) -> Result<Outcome, Fail> {
     let mut connections = Vec::new(alloc);
     connections.push(connection)?;
-    let all = run(rt, alloc, connections.as_slice())?;
-    match all.first() {
-        Some(one) => Ok((
-            said(alloc, one.given.as_slice())?,
-            one.ended,
-            one.given.len(),
-        )),
-        None => Ok((String::new(alloc), None, 0)),
+    let mut outcomes = outcomes(rt, alloc, connections.as_slice())?;
+    match outcomes.pop() {
+        Some(outcome) => Ok(outcome),
+        None => Err("no connection was served".into()),
     }
 }
 
@@ -219,10 +215,13 @@ fn a_full_router_takes_no_more(rt: HostRuntime) -> Result<(), Fail> {
     let alloc = rt.alloc();
     for most in &FULL {
         let connection = Connection::of(most.0, one_too_many(alloc, most)?);
-        let (told, ended, _length) = served(&rt, alloc, connection)?;
+        let (told, ended, _stops) = outcome(&rt, alloc, connection)?;
         let wanted = replies_to(alloc, most)?;
-        assert_eq!(rt; ended, Some(Ended::PeerEnded));
-        assert!(rt; told.as_str() == wanted.as_str(), "{}", most.3);
+        assert!(rt;
+            told.as_str() == wanted.as_str() && ended == Some(Ended::PeerEnded),
+            "{}",
+            most.3
+        );
     }
     Ok(())
 }
@@ -232,8 +231,8 @@ fn bodies_end_at_their_limits(rt: HostRuntime) -> Result<(), Fail> {
     let alloc = rt.alloc();
     for row in &ROWS {
         let connection = Connection::of(row.0, request_of(alloc, row)?);
-        let (told, _ended, _length) = served(&rt, alloc, connection)?;
-        assert_eq!(rt; told.as_str(), row.5, "{} {}", row.2, row.3);
+        let (told, _ended, _stops) = outcome(&rt, alloc, connection)?;
+        assert!(rt; told.as_str() == row.5, "{} {}: {told}", row.2, row.3);
     }
     Ok(())
 }
@@ -254,9 +253,9 @@ fn a_connection_carries_ten_thousand_requests(rt: HostRuntime) -> Result<(), Fai
         quiet: &[2],
         ..Connection::of(ADMIN, pings)
     };
-    let (_told, ended, length) = served(&rt, alloc, connection)?;
-    assert_eq!(rt; ended, Some(Ended::Spent));
-    // A reply has 69 bytes, and the last one says `Connection: close`, which is 19 more.
-    assert_eq!(rt; length, 10_000 * 69 + 19);
+    let (told, ended, _stops) = outcome(&rt, alloc, connection)?;
+    // A reply has 69 bytes, of which `HTTP/1.1 ` has 9, and the last one says `Connection: close`,
+    // which is 19 more.
+    assert!(rt; ended == Some(Ended::Spent) && told.len() == 10_000 * 69 + 19 - 9);
     Ok(())
 }

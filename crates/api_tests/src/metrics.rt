@@ -1,11 +1,9 @@
 //! The metrics as Prometheus scrapes them, of a service with two addresses, one of which is dead
 //! until the moment 6,000.
-use crate::connections::{Connection, Mem, run};
-use crate::rows::{ADMIN, request, said};
+use crate::connections::{Connection, Mem};
+use crate::rows::{ADMIN, outcomes, request};
 use api_sessions::Which::{self, Namerd};
 use std::alloc::Global;
-use std::process::Abort;
-use std::sync::Wait;
 use std::test::Fail;
 
 /// How often the second address fails before a request comes; which interface that goes to, its
@@ -87,23 +85,17 @@ fn connections(alloc: Global) -> Mem<Vec<Connection>> {
     Ok(all)
 }
 
-/// The replies to the requests of the rows, on a new router.
-fn replies<R: Wait + Abort>(rt: &R, alloc: Global) -> Result<Vec<String>, Fail> {
-    let served = run(rt, alloc, connections(alloc)?.as_slice())?;
-    let mut replies = Vec::new(alloc);
-    for one in &served {
-        replies.push(said(alloc, one.given.as_slice())?)?;
-    }
-    Ok(replies)
-}
-
 #[test]
 fn metrics_are_scraped(rt: HostRuntime) -> Result<(), Fail> {
-    let replies = replies(&rt, rt.alloc())?;
-    assert_eq!(rt; replies.len(), ROWS.len());
-    for (told, (_failures, _to, asks, _body, begin, end)) in replies.iter().zip(&ROWS) {
-        assert!(rt; told.as_str().starts_with(*begin), "{asks}: {told}");
-        assert!(rt; told.as_str().ends_with(*end), "{asks}: {told}");
+    let outcomes = outcomes(&rt, rt.alloc(), connections(rt.alloc())?.as_slice())?;
+    assert!(rt; outcomes.len() == ROWS.len());
+    for ((told, _ended, _stops), row) in outcomes.iter().zip(&ROWS) {
+        let told = told.as_str();
+        assert!(rt;
+            told.starts_with(row.4) && told.ends_with(row.5),
+            "{}: {told}",
+            row.2
+        );
     }
     Ok(())
 }

@@ -1,11 +1,9 @@
 //! Connections that wait, and move from one worker to another.
-use crate::connections::{Connection, Served, run};
-use crate::rows::{ADMIN, said};
+use crate::connections::{Connection, Mem};
+use crate::rows::{ADMIN, outcomes};
 use api_sessions::Which::{self, Namerd};
 use http_wire::Ended::{self, Drained, PeerEnded};
 use std::alloc::Global;
-use std::process::Abort;
-use std::sync::Wait;
 use std::test::Fail;
 
 /// What comes on a connection, and how much of it in the first read; at which questions nothing
@@ -53,8 +51,8 @@ const ROWS: [Row; 6] = [
     (ADMIN, PING, &[], &[0], Some(0), "no reply", Some(Drained)),
 ];
 
-/// What serving the rows came to.
-fn serve_rows<R: Wait + Abort>(rt: &R, alloc: Global) -> Result<Vec<Served>, Fail> {
+/// The connections of the rows.
+fn connections(alloc: Global) -> Mem<Vec<Connection>> {
     let mut all = Vec::new(alloc);
     for (to, comes, sizes, quiet, closing, _gives, _ended) in &ROWS {
         let bytes = Vec::from_slice(alloc, comes.as_bytes())?;
@@ -65,18 +63,19 @@ fn serve_rows<R: Wait + Abort>(rt: &R, alloc: Global) -> Result<Vec<Served>, Fai
             ..Connection::of(*to, bytes)
         })?;
     }
-    run(rt, alloc, all.as_slice())
+    Ok(all)
 }
 
 #[test]
 fn a_connection_that_waits_goes_on_with_another_worker(rt: HostRuntime) -> Result<(), Fail> {
-    let alloc = rt.alloc();
-    let served = serve_rows(&rt, alloc)?;
-    assert_eq!(rt; served.len(), ROWS.len());
-    for (one, (_to, comes, _sizes, quiet, _closing, gives, ended)) in served.iter().zip(&ROWS) {
-        let told = said(alloc, one.given.as_slice())?;
-        assert_eq!(rt; told.as_str(), *gives, "{comes} {}", quiet.len());
-        assert_eq!(rt; one.ended, *ended, "{comes} {}", quiet.len());
+    let outcomes = outcomes(&rt, rt.alloc(), connections(rt.alloc())?.as_slice())?;
+    assert!(rt; outcomes.len() == ROWS.len());
+    for ((told, ended, _stops), row) in outcomes.iter().zip(&ROWS) {
+        assert!(rt;
+            told.as_str() == row.5 && *ended == row.6,
+            "{}: {told}",
+            row.1
+        );
     }
     Ok(())
 }

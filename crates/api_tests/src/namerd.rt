@@ -1,5 +1,5 @@
 //! Requests of namerd's interface on one router, one after the other, each with its whole reply.
-use crate::rows::{Row, replies};
+use crate::rows::{Row, play};
 use api_sessions::Which::Namerd;
 use std::test::Fail;
 
@@ -323,12 +323,6 @@ const STALE: [Row; 3] = [
 
 #[test]
 fn tables_are_made_shown_put_and_deleted(rt: HostRuntime) -> Result<(), Fail> {
-    for rows in [ROWS.as_slice(), STALE.as_slice()] {
-        let replies = replies(&rt, rt.alloc(), rows)?;
-        assert_eq!(rt; replies.len(), rows.len());
-        for (told, (_to, asks, _fields, _body, reply)) in replies.iter().zip(rows) {
-            assert_eq!(rt; told.as_str(), *reply, "{asks}");
-        }
-    }
-    Ok(())
+    play(&rt, rt.alloc(), &ROWS)?;
+    play(&rt, rt.alloc(), &STALE)
 }

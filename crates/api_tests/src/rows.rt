@@ -1,6 +1,7 @@
 //! Requests, each on a connection of its own, and their replies.
-use crate::connections::{Bytes, Connection, Mem, run};
+use crate::connections::{Bytes, Connection, Mem, Served, run};
 use api_sessions::Which;
+use http_wire::Ended;
 use std::alloc::Global;
 use std::process::Abort;
 use std::sync::Wait;
@@ -49,16 +50,36 @@ pub(crate) fn said(alloc: Global, given: &[u8]) -> Mem<String> {
     }
 }
 
-/// The replies to the requests of some rows, on a new router.
-pub(crate) fn replies<R: Wait + Abort>(
+/// What a connection was given behind `HTTP/1.1 `, how it ended, unless it still waits, and how
+/// often the program was stopped.
+pub(crate) type Outcome = (String, Option<Ended>, u64);
+
+/// What came of some connections that were served.
+fn outcomes_of(alloc: Global, served: &[Served]) -> Mem<Vec<Outcome>> {
+    let mut outcomes = Vec::new(alloc);
+    for one in served {
+        let told = said(alloc, one.given.as_slice())?;
+        outcomes.push((told, one.ended, one.stops))?;
+    }
+    Ok(outcomes)
+}
+
+/// What comes of some connections, on a new router.
+pub(crate) fn outcomes<R: Wait + Abort>(
     rt: &R,
     alloc: Global,
-    rows: &[Row],
-) -> Result<Vec<String>, Fail> {
-    let served = run(rt, alloc, connections(alloc, rows)?.as_slice())?;
-    let mut replies = Vec::new(alloc);
-    for one in &served {
-        replies.push(said(alloc, one.given.as_slice())?)?;
+    connections: &[Connection],
+) -> Result<Vec<Outcome>, Fail> {
+    let served = run(rt, alloc, connections)?;
+    Ok(outcomes_of(alloc, served.as_slice())?)
+}
+
+/// Sends the requests of some rows to a new router: each has to have its reply.
+pub(crate) fn play<R: Wait + Abort>(rt: &R, alloc: Global, rows: &[Row]) -> Result<(), Fail> {
+    let outcomes = outcomes(rt, alloc, connections(alloc, rows)?.as_slice())?;
+    assert!(rt; outcomes.len() == rows.len());
+    for ((told, _ended, _stops), row) in outcomes.iter().zip(rows) {
+        assert!(rt; told.as_str() == row.4, "{}: {told}", row.1);
     }
-    Ok(replies)
+    Ok(())
 }

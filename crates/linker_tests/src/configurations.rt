@@ -1,5 +1,5 @@
 //! Configurations that are checked.
-use crate::running::{append, run_with, sink, source};
+use crate::running::{run_with, sink, source};
 use line_base::{MemFile, MemFolder};
 use std::alloc::{AllocError, AllocGlobal, Global};
 use std::sync::Wait;
@@ -18,16 +18,13 @@ fn checked<R: AllocGlobal + Threads + Wait + Sync>(
 ) -> Result<(String, u8), Fail> {
     let alloc = rt.alloc();
     let folder = one_file(alloc, text, blanks, failing)?;
-    let (sink, status) = run_with(
+    Ok(run_with(
         rt,
         &["check", path],
         folder,
         source(alloc, "")?,
         sink(alloc),
-    )?;
-    let mut written = String::new(alloc);
-    append(&mut written, sink.held())?;
-    Ok((written, status))
+    )?)
 }
 
 /// A folder that has one file, `conf/c.json`.

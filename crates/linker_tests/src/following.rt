@@ -1,5 +1,5 @@
 //! Leaders that are followed.
-use crate::running::{answered, append, run_over, source};
+use crate::running::{assert_answered, run_over, source};
 use line_base::{MemDials, MemFolder, MemNet, MemSink};
 use std::alloc::AllocGlobal;
 use std::sync::Wait;
@@ -41,10 +41,7 @@ fn followed<R: AllocGlobal + Threads + Wait + Sync>(
     let folder = MemFolder::of(alloc, Vec::new(alloc), Vec::new(alloc));
     let out = MemSink::of(alloc, Vec::new(alloc), Vec::from_slice(alloc, writes)?);
     let words = ["follow", "127.0.0.1:4181", "default", "2"];
-    let (sink, status) = run_over(rt, &words, folder, net, source(alloc, "")?, out)?;
-    let mut text = String::new(alloc);
-    append(&mut text, sink.held())?;
-    Ok((text, status))
+    Ok(run_over(rt, &words, folder, net, source(alloc, "")?, out)?)
 }
 
 /// What is written where the second poll tells the table, where both do, where the second tells
@@ -130,9 +127,5 @@ fn words_of_following(rt: HostRuntime) -> Result<(), Fail> {
             0,
         ),
     ];
-    for (words, written, status) in rows {
-        let (text, ended) = answered(&rt, words, &[])?;
-        assert!(rt; text.as_str() == written && ended == status, "of {words:?}");
-    }
-    Ok(())
+    assert_answered(&rt, &rows)
 }

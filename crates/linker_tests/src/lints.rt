@@ -1,6 +1,6 @@
 //! Tables of which it is told which entries are never asked.
 use crate::outside::file;
-use crate::running::{append, run_with, sink, source};
+use crate::running::{run_with, sink, source};
 use line_base::MemFolder;
 use std::alloc::{AllocError, AllocGlobal, Global};
 use std::sync::Wait;
@@ -31,10 +31,7 @@ fn linted<R: AllocGlobal + Threads + Wait + Sync>(
     folder: MemFolder,
 ) -> Result<(String, u8), Fail> {
     let alloc = rt.alloc();
-    let (sink, status) = run_with(rt, &["lint", path], folder, source(alloc, "")?, sink(alloc))?;
-    let mut text = String::new(alloc);
-    append(&mut text, sink.held())?;
-    Ok((text, status))
+    Ok(run_with(rt, &["lint", path], folder, source(alloc, "")?, sink(alloc))?)
 }
 
 /// Tables, each with a part behind it so many times: what is told of them, and why a text is none.

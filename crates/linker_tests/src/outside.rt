@@ -1,12 +1,12 @@
 //! A folder and a net in memory, for a router that serves.
 use crate::paired::Paired;
-use crate::running::{append, sink, source};
+use crate::running::{append, run_words, sink, source, text_of};
 use line_base::{
     DialEvent, Event, Listener, MemAddress, MemClock, MemDials, MemFile, MemFolder, MemNet,
     MemPeer, MemVisits, Net, Peer,
 };
 use line_log::MemJournals;
-use linker_commands::{Outside, linker};
+use linker_commands::Outside;
 use std::alloc::{AllocError, AllocGlobal, Global};
 use std::sync::Wait;
 use std::thread::Threads;
@@ -212,10 +212,6 @@ where
     <N::L as Listener>::P: Send,
 {
     let alloc = rt.alloc();
-    let words = vec![in alloc;
-        String::from_str(alloc, "serve")?,
-        String::from_str(alloc, "conf/c.json")?,
-    ]?;
     let mut outside = Outside {
         folder,
         net,
@@ -224,7 +220,7 @@ where
         out: sink(alloc),
         journals,
     };
-    let status = linker(rt, words.as_slice(), &mut outside);
+    let status = run_words(rt, &["serve", "conf/c.json"], &mut outside)?;
     let Outside {
         folder: _,
         net,
@@ -233,10 +229,8 @@ where
         out,
         journals,
     } = outside;
-    let mut written = String::new(alloc);
-    append(&mut written, out.held())?;
     Ok(Left {
-        written,
+        written: text_of(alloc, out.held())?,
         status,
         net,
         journals,

@@ -1,8 +1,12 @@
 //! Runs of the program over an outside in memory.
-use line_base::{MemClock, MemFolder, MemNet, MemPeer, MemSink, MemSource};
-use line_log::MemJournals;
+use line_base::{
+    Clock, Folder, Listener, MemClock, MemFolder, MemNet, MemPeer, MemSink, MemSource, Net, Sink,
+    Source,
+};
+use line_log::{Journals, MemJournals};
 use linker_commands::{Outside, linker};
 use std::alloc::{AllocError, AllocGlobal, Global};
+use std::process::Abort;
 use std::sync::Wait;
 use std::test::Fail;
 use std::thread::Threads;
@@ -12,13 +16,51 @@ pub(crate) const SAMPLE: &str = "dtab /svc => /$/inet/127.0.0.1/8080\n\npick /sv
 
 pub(crate) const SAMPLE_OUT: &str = "ok\n127.0.0.1:8080 /$/inet/127.0.0.1/8080 /a\nnegative\n";
 
+/// An outside in memory, over such a net.
+pub(crate) type MemOutside<N> = Outside<MemFolder, N, MemClock, MemSource, MemSink, MemJournals>;
+
+/// The status that a run of the program ends with.
+///
+/// It has no clause, so that no proof of a test carries the contract of [`linker`].
+fn status_of<
+    R: AllocGlobal + Threads + Wait + Sync,
+    F: Folder,
+    N: Net + Send,
+    C: Clock + Drop + Send,
+    S: Source,
+    K: Sink,
+    O: Journals,
+>(rt: &R, words: &[String], outside: &mut Outside<F, N, C, S, K, O>) -> u8
+where
+    <N::L as Listener>::P: Send,
+{
+    linker(rt, words, outside)
+}
+
+/// Runs the program with these words, and gives its status.
+pub(crate) fn run_words<R: AllocGlobal + Threads + Wait + Sync, N: Net + Send>(
+    rt: &R,
+    words: &[&str],
+    outside: &mut MemOutside<N>,
+) -> Result<u8, AllocError>
+where
+    <N::L as Listener>::P: Send,
+{
+    let alloc = rt.alloc();
+    let mut owned = Vec::new(alloc);
+    for word in words {
+        owned.push(String::from_str(alloc, word)?)?;
+    }
+    Ok(status_of(rt, owned.as_slice(), outside))
+}
+
 /// What is written, and the status, where there is no file.
 pub(crate) fn run<R: AllocGlobal + Threads + Wait + Sync>(
     rt: &R,
     words: &[&str],
     source: MemSource,
     sink: MemSink,
-) -> Result<(MemSink, u8), AllocError> {
+) -> Result<(String, u8), AllocError> {
     let alloc = rt.alloc();
     let folder = MemFolder::of(alloc, Vec::new(alloc), Vec::new(alloc));
     run_with(rt, words, folder, source, sink)
@@ -31,7 +73,7 @@ pub(crate) fn run_with<R: AllocGlobal + Threads + Wait + Sync>(
     folder: MemFolder,
     source: MemSource,
     sink: MemSink,
-) -> Result<(MemSink, u8), AllocError> {
+) -> Result<(String, u8), AllocError> {
     let alloc = rt.alloc();
     let net: MemNet<MemPeer> = MemNet::of(alloc, Vec::new(alloc), Vec::new(alloc), Vec::new(alloc));
     run_over(rt, words, folder, net, source, sink)
@@ -45,12 +87,8 @@ pub(crate) fn run_over<R: AllocGlobal + Threads + Wait + Sync>(
     net: MemNet<MemPeer>,
     source: MemSource,
     sink: MemSink,
-) -> Result<(MemSink, u8), AllocError> {
+) -> Result<(String, u8), AllocError> {
     let alloc = rt.alloc();
-    let mut owned = Vec::new(alloc);
-    for word in words {
-        owned.push(String::from_str(alloc, word)?)?;
-    }
     let mut outside = Outside {
         folder,
         net,
@@ -59,16 +97,8 @@ pub(crate) fn run_over<R: AllocGlobal + Threads + Wait + Sync>(
         out: sink,
         journals: MemJournals::of(alloc, Vec::new(alloc)),
     };
-    let status = linker(rt, owned.as_slice(), &mut outside);
-    let Outside {
-        folder: _,
-        net: _,
-        clock: _,
-        input: _,
-        out,
-        journals: _,
-    } = outside;
-    Ok((out, status))
+    let status = run_words(rt, words, &mut outside)?;
+    Ok((text_of(alloc, outside.out.held())?, status))
 }
 
 /// A script on standard input, of which no read fails.
@@ -93,6 +123,13 @@ pub(crate) fn append(text: &mut String, bytes: &[u8]) -> Result<(), AllocError> 
     Ok(())
 }
 
+/// The text of these bytes, each a character.
+pub(crate) fn text_of(alloc: Global, bytes: &[u8]) -> Result<String, AllocError> {
+    let mut text = String::new(alloc);
+    append(&mut text, bytes)?;
+    Ok(text)
+}
+
 /// What is written where there is no file and [`SAMPLE`] is the input, and the status. The writes
 /// whose numbers are in `failing` fail.
 pub(crate) fn answered<R: AllocGlobal + Threads + Wait + Sync>(
@@ -102,10 +139,7 @@ pub(crate) fn answered<R: AllocGlobal + Threads + Wait + Sync>(
 ) -> Result<(String, u8), Fail> {
     let alloc = rt.alloc();
     let sink = MemSink::of(alloc, Vec::new(alloc), Vec::from_slice(alloc, failing)?);
-    let (sink, status) = run(rt, words, source(alloc, SAMPLE)?, sink)?;
-    let mut text = String::new(alloc);
-    append(&mut text, sink.held())?;
-    Ok((text, status))
+    Ok(run(rt, words, source(alloc, SAMPLE)?, sink)?)
 }
 
 /// What `replay` writes for a script, and its status.
@@ -114,8 +148,37 @@ pub(crate) fn replayed<R: AllocGlobal + Threads + Wait + Sync>(
     script: &str,
 ) -> Result<(String, u8), Fail> {
     let alloc = rt.alloc();
-    let (sink, status) = run(rt, &["replay"], source(alloc, script)?, sink(alloc))?;
-    let mut text = String::new(alloc);
-    append(&mut text, sink.held())?;
-    Ok((text, status))
+    Ok(run(rt, &["replay"], source(alloc, script)?, sink(alloc))?)
+}
+
+/// Asserts that such words are answered so where [`SAMPLE`] is the input, and end with this status.
+pub(crate) fn assert_answered<R: AllocGlobal + Threads + Wait + Sync + Abort>(
+    rt: &R,
+    rows: &[(&[&str], &str, u8)],
+) -> Result<(), Fail> {
+    for (words, written, status) in rows {
+        let (text, ended) = answered(rt, words, &[])?;
+        assert!(rt;
+            text.as_str() == *written && ended == *status,
+            "{} and not {written}",
+            text.as_str()
+        );
+    }
+    Ok(())
+}
+
+/// Asserts that such scripts are answered so, and end with this status.
+pub(crate) fn assert_replayed<R: AllocGlobal + Threads + Wait + Sync + Abort>(
+    rt: &R,
+    rows: &[(&str, &str, u8)],
+) -> Result<(), Fail> {
+    for (script, written, status) in rows {
+        let (text, ended) = replayed(rt, script)?;
+        assert!(rt;
+            text.as_str() == *written && ended == *status,
+            "{} and not {written}",
+            text.as_str()
+        );
+    }
+    Ok(())
 }

@@ -1,5 +1,5 @@
 //! Scripts and their replies.
-use crate::running::{SAMPLE, SAMPLE_OUT, replayed};
+use crate::running::{SAMPLE, SAMPLE_OUT, assert_replayed, replayed};
 use std::alloc::{AllocError, Global};
 use std::test::Fail;
 
@@ -69,14 +69,7 @@ fn scripts_and_replies(rt: HostRuntime) -> Result<(), Fail> {
             0,
         ),
     ];
-    for (script, written, status) in rows {
-        let (text, ended) = replayed(&rt, script)?;
-        assert!(rt;
-            text.as_str() == written && ended == status,
-            "of {script:?}"
-        );
-    }
-    Ok(())
+    assert_replayed(&rt, &rows)
 }
 
 /// Services, marks, versions, weights, views and tables of a pick's own.
@@ -95,6 +88,7 @@ fn state_and_replies(rt: HostRuntime) -> Result<(), Fail> {
             "ok 3\nok\nmark 1 0\nmark 2 0\nmark 3 0\nmark 4 0\nmark 5 5000\n\
                 127.0.0.1:1 /#/io.l5d.fs/web /\n127.0.0.1:3 /#/io.l5d.fs/web /\n\
                 127.0.0.1:1 /#/io.l5d.fs/web /\n127.0.0.1:2 /#/io.l5d.fs/web /\n",
+            0,
         ),
         // Where all are dead, all take part.
         (
@@ -104,6 +98,7 @@ fn state_and_replies(rt: HostRuntime) -> Result<(), Fail> {
                 good 127.0.0.1:7 6001\nfail 127.0.0.1:8 0",
             "ok 1\nok\nmark 1 0\nmark 2 0\nmark 3 0\nmark 4 0\nmark 5 5100\n\
                 127.0.0.1:7 /#/io.l5d.fs/one /\nmark 5 11000\nmark 0 0\nnot-kept\n",
+            0,
         ),
         // A version never comes twice.
         (
@@ -112,12 +107,14 @@ fn state_and_replies(rt: HostRuntime) -> Result<(), Fail> {
                 get x\nlist",
             "version 1\nexists 1\nstale 1\nversion 2\nstale 2\ndeleted\nmissing\nversion 3\n\
                 version 3 dtab /svc=>/c\nmissing\nnames web\n",
+            0,
         ),
         // A service without addresses is empty, and not negative.
         (
             "addrs web\ndtab /svc => /#/io.l5d.fs | /$/inet/127.0.0.1/9\npick /svc/web\ndrop web\n\
                 pick /svc/web\ndrop web",
             "ok 0\nok\nempty\ndropped\n127.0.0.1:9 /$/inet/127.0.0.1/9 /web\nmissing\n",
+            0,
         ),
         (
             "dtab /s => 0.3 * /$/inet/127.0.0.1/1 & 0.7 * /$/inet/127.0.0.1/2\npick /s 0 0 0 0\n\
@@ -125,6 +122,7 @@ fn state_and_replies(rt: HostRuntime) -> Result<(), Fail> {
                 pick /s 0 9223372036854775808 0 0",
             "ok\n127.0.0.1:1 /$/inet/127.0.0.1/1 /\n127.0.0.1:1 /$/inet/127.0.0.1/1 /\n\
                 127.0.0.1:2 /$/inet/127.0.0.1/2 /\n127.0.0.1:2 /$/inet/127.0.0.1/2 /\n",
+            0,
         ),
         // A union of one branch takes its part of the word, and hands the rest on.
         (
@@ -133,11 +131,13 @@ fn state_and_replies(rt: HostRuntime) -> Result<(), Fail> {
                 pick /s 0 9223372036854775807 0 0\npick /s 0 9223372036854775808 0 0",
             "ok\n127.0.0.1:1 /$/inet/127.0.0.1/1 /\n127.0.0.1:2 /$/inet/127.0.0.1/2 /\n\
                 127.0.0.1:2 /$/inet/127.0.0.1/2 /\n127.0.0.1:1 /$/inet/127.0.0.1/1 /\n",
+            0,
         ),
         (
             "addrs web 127.0.0.1:1*3 127.0.0.1:2\ndtab /svc => /#/io.l5d.fs\n\
                 pick /svc/web 0 0 13835058055282163711 0\npick /svc/web 0 0 13835058055282163712 0",
             "ok 2\nok\n127.0.0.1:1 /#/io.l5d.fs/web /\n127.0.0.1:2 /#/io.l5d.fs/web /\n",
+            0,
         ),
         // The weight of a branch without addresses does not count, and a table of a pick's own
         // wins.
@@ -148,12 +148,14 @@ fn state_and_replies(rt: HostRuntime) -> Result<(), Fail> {
                 pick /s 0 0 0 0 /s => /$/inet/127.0.0.1/3",
             "ok 0\nok\n127.0.0.1:1 /$/inet/127.0.0.1/1 /\n127.0.0.1:2 /$/inet/127.0.0.1/2 /\n\
                 127.0.0.1:3 /$/inet/127.0.0.1/3 /\n",
+            0,
         ),
         // A mark goes with its address, and is not there when the address comes back.
         (
             "addrs web 127.0.0.1:1\nfail 127.0.0.1:1 0\naddrs web\naddrs web 127.0.0.1:1\n\
                 fail 127.0.0.1:1 0",
             "ok 1\nmark 1 0\nok 0\nok 1\nmark 1 0\n",
+            0,
         ),
         (
             "dtab /svc => /$/inet/127.0.0.1/8080\nview /svc/a\nview /svc/\\x2F",
@@ -163,13 +165,10 @@ fn state_and_replies(rt: HostRuntime) -> Result<(), Fail> {
                 {\"lookups\":[{\"depth\":0,\"outcome\":\"bound\",\
                 \"path\":\"/svc/\\\\x2f\"},{\"depth\":1,\"outcome\":\"bound\",\
                 \"path\":\"/$/inet/127.0.0.1/8080/\\\\x2f\"}],\"outcome\":\"bound\"}\n",
+            0,
         ),
     ];
-    for (script, written) in rows {
-        let (text, ended) = replayed(&rt, script)?;
-        assert!(rt; text.as_str() == written && ended == 0, "of {script:?}");
-    }
-    Ok(())
+    assert_replayed(&rt, &rows)
 }
 
 /// A table, and one pick so many times.

@@ -1,5 +1,5 @@
 //! The words of the command line, and generated runs.
-use crate::running::answered;
+use crate::running::{answered, assert_answered};
 use std::test::Fail;
 
 #[test]
@@ -24,11 +24,7 @@ fn words(rt: HostRuntime) -> Result<(), Fail> {
         // A path may have a `-` elsewhere; there is no such file.
         (&["check", "./-"], "error config absent\n", 3),
     ];
-    for (words, written, status) in rows {
-        let (text, ended) = answered(&rt, words, &[])?;
-        assert!(rt; text.as_str() == written && ended == status, "of {words:?}");
-    }
-    Ok(())
+    assert_answered(&rt, &rows)
 }
 
 #[test]
@@ -69,11 +65,7 @@ fn words_of_generated_runs(rt: HostRuntime) -> Result<(), Fail> {
             0,
         ),
     ];
-    for (words, written, status) in rows {
-        let (text, ended) = answered(&rt, words, &[])?;
-        assert!(rt; text.as_str() == written && ended == status, "of {words:?}");
-    }
-    Ok(())
+    assert_answered(&rt, &rows)
 }
 
 /// Runs of a thousand turns; where the write fails, that is told.

@@ -90,6 +90,20 @@ fn reply_text(alloc: Global, reply: &Reply) -> Option<String> {
     }
 }
 
+/// What comes of a change, as text.
+fn changed<J: Naming, R: Wait>(
+    rt: &R,
+    alloc: Global,
+    router: &Router<J>,
+    pass: &mut Pass<J>,
+    change: Change,
+) -> Option<String>
+    requires { IsSoundChange (change_of change) }
+{
+    let reply = router.change(rt, alloc, pass, change).ok()?;
+    reply_text(alloc, &reply)
+}
+
 /// What comes of the creation of a namespace with this table, as text.
 pub fn created<J: Naming, R: Wait>(
     rt: &R,
@@ -100,8 +114,7 @@ pub fn created<J: Naming, R: Wait>(
     table: &str,
 ) -> Option<String> {
     let change = creation(alloc, space, table)?;
-    let reply = router.change(rt, alloc, pass, change).ok()?;
-    reply_text(alloc, &reply)
+    changed(rt, alloc, router, pass, change)
 }
 
 /// What comes of a table that takes the place of a namespace's, whichever that was, as text.
@@ -114,8 +127,7 @@ pub fn put<J: Naming, R: Wait>(
     table: &str,
 ) -> Option<String> {
     let change = replacement(alloc, space, table)?;
-    let reply = router.change(rt, alloc, pass, change).ok()?;
-    reply_text(alloc, &reply)
+    changed(rt, alloc, router, pass, change)
 }
 
 /// What comes of a service's new addresses, as text.
@@ -128,8 +140,7 @@ pub fn set<J: Naming, R: Wait>(
     addrs: &str,
 ) -> Option<String> {
     let change = assignment(alloc, service, addrs)?;
-    let reply = router.change(rt, alloc, pass, change).ok()?;
-    reply_text(alloc, &reply)
+    changed(rt, alloc, router, pass, change)
 }
 
 /// A report on 127.0.0.1 with this port.
@@ -155,8 +166,7 @@ pub fn reported<J: Naming, R: Wait>(
     port: u16,
     good: bool,
 ) -> Option<String> {
-    let reply = router.change(rt, alloc, pass, report(port, good)).ok()?;
-    reply_text(alloc, &reply)
+    changed(rt, alloc, router, pass, report(port, good))
 }
 
 /// The answer to a report of a success on 127.0.0.1 with this port, without the lock.
