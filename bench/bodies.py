@@ -16,7 +16,7 @@ ghost use Rattle.std.specs.Prelude.{◌≡◌, ◌≤◌, ◌<◌, [], length, f
 
 use body_wire::{pass_back, pass_body};
 use http_wire::{Framing, Rest};
-use line_base::{Dialer, Failed, Next, Peer};
+use line_base::{Dialer, Failed, Next, Peer, SocketAddress};
 use std::alloc::{AllocError, Global};
 use std::time::Instant;
 use std::{fs, io};
@@ -160,6 +160,12 @@ impl Peer for End {
       quiets = 0;
     } };
 
+    ghost address = { λ e. None };
+
+    fn address(&self) -> Option<SocketAddress> {
+        None
+    }
+
     fn read(&mut self, into: &mut [u8]) -> Result<usize, Failed> {
         let count = self.give(into);
         if count == 0 && !into.is_empty() {
@@ -251,7 +257,7 @@ fn onward(alloc: Global, body: Body, from: &mut End, to: &mut End) -> Result<u64
     let mut rest = Rest::room(alloc)?;
     let mut out = Vec::new(alloc);
     match to.dial(0x7f000001, 9001) {
-        Ok(()) => Ok(pass_body(from, &mut rest, body.framing(), &mut out, to).unwrap_or(0)),
+        Ok(()) => Ok(pass_body(from, &mut rest, body.framing(), &mut out, to).end.unwrap_or(0)),
         Err(_) => Ok(0),
     }
 }
@@ -261,7 +267,7 @@ fn back(alloc: Global, body: Body, from: &mut End, to: &mut End) -> Result<u64, 
     let mut rest = Rest::room(alloc)?;
     let mut out = Vec::new(alloc);
     match from.dial(0x7f000001, 9001) {
-        Ok(()) => Ok(pass_back(from, &mut rest, body.framing(), true, &mut out, to).unwrap_or(0)),
+        Ok(()) => Ok(pass_back(from, &mut rest, body.framing(), true, &mut out, to).end.unwrap_or(0)),
         Err(_) => Ok(0),
     }
 }

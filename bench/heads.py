@@ -110,6 +110,7 @@ fn written(alloc: Global, head: &Head) -> Result<usize, AllocError> {
         service: &Path::new(alloc),
         client: b"/a",
         residual: b"/",
+        closes: true,
     };
     let bytes = forward_head(alloc, head, &to)?;
     Ok(bytes.len())

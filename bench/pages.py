@@ -25,8 +25,8 @@ A comment `<!-- counts: "TEXT" LEAST MOST, .. -->` before a console block says t
 
 It ends with 0 where all is as the pages say.
 """
-import argparse, ctypes, fcntl, os, re, selectors, shlex, shutil, signal, socket, struct
-import subprocess, sys, tempfile, time
+import argparse, contextlib, ctypes, fcntl, glob, os, re, selectors, shlex, shutil, signal, socket
+import struct, subprocess, sys, tempfile, time
 
 from page_texts import ROOT, pages_of
 
@@ -34,9 +34,11 @@ from page_texts import ROOT, pages_of
 MOST_SECONDS = 120
 LATE_SECONDS = 10
 
-# A command that starts a job in the background, and how long the job is given to begin.
+# A command that starts a job in the background. The job has begun once the page's processes were
+# found idle so often, with so many seconds between two looks.
 STARTS_JOB = re.compile(r"(?<![&>])&\s", re.MULTILINE)
-JOB_SECONDS = 2
+IDLE_LOOKS = 10
+LOOK_SECONDS = 0.2
 
 # What the proxy writes as a job in the background, which may come before what the command writes.
 OF_A_JOB = re.compile(r"(serving|closed) ")
@@ -195,7 +197,7 @@ class Shell:
                 came, status = came[: ended.start()] + came[ended.end():], int(ended[1])
                 break
         if not step.written and STARTS_JOB.search(f"{step.command}\n"):
-            time.sleep(JOB_SECONDS)
+            self.let_jobs_begin()
         # A job in the background writes when it begins to serve, and when it has ended.
         end = time.monotonic() + LATE_SECONDS
         while True:
@@ -204,6 +206,22 @@ class Shell:
                 return written, errors, status
             for piece in self.pieces(0.1):
                 came += piece
+
+    def let_jobs_begin(self):
+        """Waits until the page's processes have been idle for a while, on a busy machine too."""
+        idle, end = 0, time.monotonic() + MOST_SECONDS
+        while idle < IDLE_LOOKS and time.monotonic() < end:
+            time.sleep(LOOK_SECONDS)
+            idle = 0 if self.is_busy() else idle + 1
+
+    def is_busy(self):
+        """Whether a process of the page runs, is ready to run, or waits for a disk."""
+        for path in glob.glob("/proc/[0-9]*/stat"):
+            with contextlib.suppress(OSError), open(path) as file:
+                state, _, _, session, *_ = file.read().rpartition(")")[2].split()
+                if int(session) == self.process.pid and state in "RD":
+                    return True
+        return False
 
     @staticmethod
     def text(came):

@@ -19,11 +19,9 @@ PROGRAM = r'''//! Times picks by what is kept, reports and changes.
 #![tactic(auto)]
 
 ghost use Rattle.std.specs.Prelude.{◌≡◌, ◌<◌, Some, IfSome};
-ghost use Rattle.load_words.specs.Seats.{words_of};
 ghost use Rattle.machine.specs.Code.{change_of};
 ghost use Rattle.machine.specs.State.{IsSoundChange};
-ghost use Rattle.router.specs.Values.{settings_in};
-ghost use Rattle.snap_cell.specs.Writers.{cell_written, opening_written};
+ghost use Rattle.router.specs.Opening.{IsNamedBy, beginning_of};
 
 use addr_book::{Addr, Name, read_addrs};
 use choose_core::Limits;
@@ -471,12 +469,7 @@ fn measured<J: Naming + Send + Sync, R: Wait + Threads + Clock + CpuClock + Prin
     alloc: Global,
     opened: Opened,
 ) -> Option<()>
-    requires cell { Some (cell_written opened.writer) ≡ J.cell }
-    requires settings { settings_in (opening_written opened.writer) ≡ J.settings }
-    requires words { Some (words_of opened.loads) ≡ J.words }
-    requires name { opened.blank.name ≡ J.name }
-    requires parts { opened.blank.parts ≡ J.parts }
-    requires seats { opened.seats ≡ J.seats }
+    requires named { IsNamedBy (beginning_of opened) J.Naming.own J.Ledger.own }
 {
     let (router, mut passes) = opened.named::<J, R>(rt, alloc).ok()?;
     let status = match measure(rt, alloc, &router, passes.as_mut_slice()) {
@@ -503,18 +496,15 @@ fn main(rt: HostRuntime) -> io::Result<()> {
 '''
 
 PROOFS = {
-    "proofs/run/Invariants.antt": """use Rattle.std.specs.Prelude.{Some}
-use Rattle.load_words.specs.Seats.{words_of}
-use Rattle.router.specs.Values.{settings_in}
-use Rattle.snap_cell.specs.Writers.{cell_written, opening_written}
+    "proofs/run/Invariants.antt": """use Rattle.router.specs.Opening.{beginning_of, naming_of, ledger_of}
 use Rattle.peeks.proofs.run.Given as goal
 
 -- the router that was just opened
 abbrev pub ghosts-measured-J-Naming : goal.ghosts-measured-J-Naming
-ghosts-measured-J-Naming g a = record { cell = Some (cell_written a.opened.writer); settings = settings_in (opening_written a.opened.writer); words = Some (words_of a.opened.loads); seats = a.opened.seats }
+ghosts-measured-J-Naming g a = naming_of (beginning_of a.opened)
 
 abbrev pub ghosts-measured-J-Ledger : goal.ghosts-measured-J-Ledger
-ghosts-measured-J-Ledger g a = record { name = a.opened.blank.name; parts = a.opened.blank.parts }
+ghosts-measured-J-Ledger g a = ledger_of (beginning_of a.opened)
 """,
     "proofs/measure/Invariants.antt": """use Rattle.peeks.proofs.measure.Given as goal
 

@@ -13,18 +13,17 @@ PROGRAM = r'''//! Times sessions.
 #![tactic(auto)]
 
 ghost use Rattle.std.specs.Prelude.{◌≡◌, ◌≤◌, [], length, false, None, Some, List, ℕ, Option};
-ghost use Rattle.load_words.specs.Seats.{words_of};
 ghost use Rattle.machine.specs.Code.{change_of};
 ghost use Rattle.machine.specs.State.{IsSoundChange};
-ghost use Rattle.router.specs.Values.{settings_in};
-ghost use Rattle.snap_cell.specs.Writers.{cell_written, opening_written};
+ghost use Rattle.router.specs.Opening.{IsNamedBy, beginning_of};
 
 use addr_book::{AddrList, Name, read_addrs};
 use choose_core::Limits;
 use dtab_table::read_dtab;
+use exchange_record::NoRecorder;
 use http_wire::FieldName;
 use identifier::{Kind, Rule};
-use line_base::{Dialer, Failed, Gate, MemClock, Next, Peer};
+use line_base::{Dialer, Failed, Gate, MemClock, Next, Peer, SocketAddress};
 use machine::{Change, Settings};
 use name_tree::read_path;
 use proxy_session::{Connection, Context, Parts, Room, Server};
@@ -33,6 +32,7 @@ use rand_pcg::Pcg64;
 use router::{Naming, Opened, Pass, Router, open};
 use std::alloc::{AllocError, Global};
 use std::marker::Brand;
+use std::process::Abort;
 use std::rt::Runtime;
 use std::sync::Wait;
 use std::time::Instant;
@@ -114,6 +114,12 @@ impl Peer for Client {
       closings = 0;
       quiets = 0;
     } };
+
+    ghost address = { λ c. None };
+
+    fn address(&self) -> Option<SocketAddress> {
+        None
+    }
 
     fn read(&mut self, into: &mut [u8]) -> Result<usize, Failed> {
         let count = self.give(into);
@@ -326,7 +332,7 @@ fn time<J: Naming, R: Runtime + Wait>(
     let mut server = Server::of(Room::new(alloc)?, parts);
     let mut connection = Connection::of(case.client(alloc)?);
     let start = Instant::now(rt)?;
-    let paused = server.serve_stay(context, &mut connection, &Free, 0);
+    let paused = server.serve_stay(context, &mut connection, &Free, 0, &mut NoRecorder);
     let took = start.elapsed(rt)?.as_nanos() / u128::from(case.requests().max(1));
     let name = case.name();
     let Parts {
@@ -358,34 +364,36 @@ fn time_all<J: Naming, R: Runtime + Wait>(
 }
 
 /// Names a router of one pass, times sessions over it and ends it.
-fn time_named<J: Naming, R: Runtime + Wait>(
+fn time_named<J: Naming, R: Runtime + Wait + Abort>(
     rt: &R,
     alloc: Global,
     opened: Opened,
     rule: &Rule,
     change: Change,
 ) -> io::Result<()>
-    requires cell { Some (cell_written opened.writer) ≡ J.cell }
-    requires settings { settings_in (opening_written opened.writer) ≡ J.settings }
-    requires words { Some (words_of opened.loads) ≡ J.words }
-    requires name { opened.blank.name ≡ J.name }
-    requires parts { opened.blank.parts ≡ J.parts }
-    requires seats { (opened.seats ≡ J.seats) × (J.seats ≡ 1) }
+    requires named { IsNamedBy (beginning_of opened) J.Naming.own J.Ledger.own }
     requires change { IsSoundChange (change_of change) }
 {
     let (router, mut passes) = opened.named::<J, R>(rt, alloc)?;
-    if let Some(pass) = passes.pop() {
-        let context = Context {
-            rt,
-            alloc,
-            router: &router,
-            rule,
-        };
-        let pass = time_all(&context, pass, change)?;
-        passes.push(pass)?;
+    let Some(pass) = passes.pop() else {
+        panic!(rt; "a pass is missing")
+    };
+    let context = Context {
+        rt,
+        alloc,
+        router: &router,
+        rule,
+    };
+    let Ok(pass) = time_all(&context, pass, change) else {
+        panic!(rt; "a session was not timed")
+    };
+    let Ok(passes) = vec![in alloc; pass] else {
+        panic!(rt; "no memory for a pass")
+    };
+    match router.close(rt, passes) {
+        Ok(_place) => Ok(()),
+        Err(_back) => panic!(rt; "the router was not closed"),
     }
-    let _closed = router.close(rt, passes);
-    Ok(())
 }
 
 /// The change that gives a service these addresses.
@@ -433,26 +441,19 @@ fn main(rt: HostRuntime) -> io::Result<()> {
 }
 '''
 
-PROOFS = {"proofs/main/Invariants.antt": """use Rattle.std.proofs.Common.{Some}
-use Rattle.load_words.specs.Seats.{words_of}
-use Rattle.router.specs.Values.{settings_in}
-use Rattle.snap_cell.specs.Writers.{cell_written, opening_written}
+PROOFS = {"proofs/main/Invariants.antt": """use Rattle.router.specs.Opening.{beginning_of, naming_of, ledger_of}
 use Rattle.session.proofs.main.Given as goal
 
-abbrev pub ghosts-time_named-J-Ledger : goal.ghosts-time_named-J-Ledger
-ghosts-time_named-J-Ledger g a = record { name = a.opened.blank.name; parts = a.opened.blank.parts }
-
+-- the router that was just opened
 abbrev pub ghosts-time_named-J-Naming : goal.ghosts-time_named-J-Naming
-ghosts-time_named-J-Naming g a = record {
-  cell = Some (cell_written a.opened.writer);
-  settings = settings_in (opening_written a.opened.writer);
-  words = Some (words_of a.opened.loads);
-  seats = a.opened.seats;
-}
+ghosts-time_named-J-Naming g a = naming_of (beginning_of a.opened)
+
+abbrev pub ghosts-time_named-J-Ledger : goal.ghosts-time_named-J-Ledger
+ghosts-time_named-J-Ledger g a = ledger_of (beginning_of a.opened)
 """}
 
 LIBRARIES = """line_base step_count name_tree dtab_table addr_book ns_store choose_core bind_core machine bind_cache one_history router_log load_words snap_cell router http_wire identifier
-proxy_session rand_core rand_pcg body_wire forward own_reply logbook left_right crossbeam_utils atomic_table httparse http"""
+exchange_record proxy_session rand_core rand_pcg body_wire forward own_reply logbook left_right crossbeam_utils atomic_table httparse http"""
 
 CASES = {
     "kept": "a GET with eight header fields, its delegation kept",
