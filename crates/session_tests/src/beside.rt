@@ -1,5 +1,6 @@
-//! Two clients that are served at once, each by a worker of its own: while the replica of the one's
-//! request is being dialled, the other one's request is answered.
+//! Two clients that are served at once over one router, each by a server and a pass of its own:
+//! while the replica of the one's request is being dialled, the other one's request is answered.
+//! One thread does both: the first one's dialer serves the second.
 ghost use Rattle.router.specs.Opening.{IsNamedBy, beginning_of};
 
 use crate::meanwhile::{AtDial, Meanwhile};
