@@ -22,6 +22,8 @@
 //!
 //! Only want of memory is free to come at any call that takes memory.
 //!
+//! Its tests are `store_tests`' module `book`.
+//!
 //! # Example
 //! ```
 //! let name = Name::of(alloc, b"web")?;

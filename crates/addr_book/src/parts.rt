@@ -82,21 +82,17 @@ impl Parts {
             return Err(BookFault::TooManyServices);
         }
         let addrs = list.items();
-        let seats = self.seats.moved(self.addrs(service), addrs)?;
-        let news = without_slot(alloc, &seats.slots, addrs)?;
-        let count = seats.slots.len() + news.len();
+        let moved = self.seats.moved(self.addrs(service), addrs)?;
+        let news = without_slot(alloc, &moved.slots, addrs)?;
+        let count = moved.slots.len() + news.len();
         if count > MOST_SLOTS {
+            drop(moved);
+            drop(news);
             return Err(BookFault::BookFull(count as u32));
         }
-        let slots = seats.slots.with_lowest(news.as_slice())?;
-        let services = self.services.copied()?.with(service, list)?;
-        Ok(Parts {
-            services,
-            seats: Seats {
-                slots,
-                uses: seats.uses,
-            },
-        })
+        let seats = moved.seated(news)?;
+        let services = self.services.copied_with(service, list)?;
+        Ok(Parts { services, seats })
     }
 
     /// The parts without the service.
@@ -114,7 +110,7 @@ impl Parts {
             return Err(BookFault::Missing);
         };
         let seats = self.seats.moved(list.items(), &[])?;
-        let services = self.services.copied()?.without(service)?;
+        let services = self.services.copied_without(service)?;
         Ok(Parts { services, seats })
     }
 }

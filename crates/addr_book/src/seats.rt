@@ -1,9 +1,10 @@
 //! The slots of the book's addresses, and how many services have each.
 ghost use Rattle.std.specs.Prelude.{◌≡◌, ℕ, ◌+◌, ◌-◌, ◌^◌, ◌<◌, ◌≤◌, ◌&&◌, ◌==◌, IfOk, None, true};
-ghost use Rattle.std.specs.Prelude.{if◌then◌else◌};
+ghost use Rattle.std.specs.Prelude.{if◌then◌else◌, length};
 ghost use Rattle.std.specs.FinMap as map;
 ghost use Rattle.addr_book.specs.declared.addr.Addr.{Addr};
 ghost use Rattle.addr_book.specs.AddrList.{AreDistinct, has_addr};
+ghost use Rattle.addr_book.specs.Book.{with_newcomers};
 ghost use Rattle.addr_book.specs.Uses.{count_at};
 
 use crate::Mem;
@@ -54,6 +55,20 @@ impl Seats {
         let more = count_in(self.uses.copied()?, &after[front..])?;
         let uses = count_out(more, gone)?;
         let slots = release(self.slots.copied()?, &uses, gone)?;
+        Ok(Seats { slots, uses })
+    }
+
+    /// These seats, with the lowest free slots for these new addresses, in their order.
+    pub(crate) fn seated(self, news: Vec<Weighted>) -> Mem<Seats>
+        requires few { map.len self.slots + length news.items ≤ 8192 }
+        requires distinct { AreDistinct news.items }
+        requires new { (addr : Addr) → has_addr news.items addr ≡ true
+            → map.get self.slots addr ≡ None }
+        ensures slots { IfOk result (λ seats. seats.slots ≡ with_newcomers self.slots news.items) }
+        ensures uses { IfOk result (λ seats. seats.uses ≡ self.uses) }
+    {
+        let Seats { slots, uses } = self;
+        let slots = slots.with_lowest(news.as_slice())?;
         Ok(Seats { slots, uses })
     }
 }

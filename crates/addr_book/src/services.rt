@@ -123,6 +123,21 @@ impl Services {
         })
     }
 
+    /// These services with one and its addresses, in a map of its own.
+    pub(crate) fn copied_with(&self, service: &Name, list: &AddrList) -> Mem<Services>
+        requires { map.len self.now < 2 ^ 32 }
+        ensures { IfOk result (λ services. services ≡ map.insert self.now service.now list.now) }
+    {
+        self.copied()?.with(service, list)
+    }
+
+    /// These services without one, in a map of its own.
+    pub(crate) fn copied_without(&self, service: &Name) -> Mem<Services>
+        ensures { IfOk result (λ services. services ≡ map.remove self.now service.now) }
+    {
+        self.copied()?.without(service)
+    }
+
     /// The same services, in a map that shares the shards.
     pub(crate) fn copied(&self) -> Mem<Services>
         ensures { IfOk result (λ copy. copy ≡ self.now) }

@@ -95,7 +95,7 @@ fn places(list: &[Weighted], sieve: &Sieve, w1: u64, w2: u64) -> (usize, usize)
 }
 
 /// A place in a live list, and the weight of the address there.
-#[derive(Clone, Copy, Debug)]
+#[derive(Clone, Copy)]
 struct Drawn {
     at: usize,
     weight: u64,

@@ -24,6 +24,8 @@
 //! matter ([`equal_weights_do_not_matter`]). No choice takes memory, and no report and no
 //! [`Marks::keep`]: room for all marks is set aside at the start.
 //!
+//! Its tests are `store_tests`' module `choice`.
+//!
 //! # Example
 //! ```
 //! let limits = Limits { failures: 5, backoff: 5_000 };

@@ -29,6 +29,8 @@
 //! `specs/Notes.antt`, which say which entries lead to services, which have a branch of weight 0,
 //! and which have the same canonical text as a later one.
 //!
+//! Its tests are the crate `dtab_check_tests`.
+//!
 //! # Example
 //! ```
 //! let dtab = read_dtab(alloc, b"/svc => /a; /svc/web => /b; /svc => /$/inet/127.0.0.1/80")?;

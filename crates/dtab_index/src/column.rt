@@ -45,10 +45,12 @@ impl Column {
         ensures said { OnOk result (Says self.new (pattern_of pattern) place) }
         ensures kept { (other : ℕ) → other ≢ place → SaySame self.old self.new other }
     {
-        if let Some(label) = pattern {
-            put_label(&mut self.rows, label, place)?;
-            self.named.put(place);
-        }
+        let Some(label) = pattern else {
+            self.reached.put(place);
+            return Ok(());
+        };
+        put_label(&mut self.rows, label, place)?;
+        self.named.put(place);
         self.reached.put(place);
         Ok(())
     }

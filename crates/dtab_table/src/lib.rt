@@ -20,6 +20,8 @@
 //! `specs/Dtab.antt`, and takes at least one step of the [`Steps`](step_count::Steps) that it is
 //! lent.
 //!
+//! Its tests are `grammar_tests`' module `tables`.
+//!
 //! # Example
 //! ```
 //! let dtab = read_dtab(alloc, b"/svc => /srv/a ; /svc/* => /srv/b")?;

@@ -8,7 +8,7 @@ use std::alloc::Global;
 use std::mem::replace;
 
 /// A prefix that was read in part, from behind its first `/` on.
-#[derive(Debug, Drop)]
+#[derive(Drop)]
 pub(crate) struct PrefixReader {
     prefix: Prefix,
     label: LabelReader,

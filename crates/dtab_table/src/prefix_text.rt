@@ -10,7 +10,7 @@ use std::alloc::Global;
 use std::mem::replace;
 
 /// Where in a prefix's text a reader stands.
-#[derive(Clone, Copy, Debug, PartialEq, Eq)]
+#[derive(Clone, Copy)]
 pub(crate) enum PrefixPlace {
     /// In the blanks before it.
     Before,
@@ -21,7 +21,7 @@ pub(crate) enum PrefixPlace {
 }
 
 /// A prefix's text that was read in part.
-#[derive(Debug, Drop)]
+#[derive(Drop)]
 pub(crate) struct PrefixTextReader {
     place: PrefixPlace,
     reader: PrefixReader,
@@ -91,7 +91,10 @@ impl PrefixTextReader {
         ensures { Ends (λ prefix. prefix) (end_prefix (prefix_at_of self)) result }
     {
         match self.place {
-            PrefixPlace::Before => Err(TakeError::Byte),
+            PrefixPlace::Before => {
+                drop(self);
+                Err(TakeError::Byte)
+            }
             PrefixPlace::Inside => self.reader.end(alloc),
             PrefixPlace::Behind => Ok(self.prefix),
         }

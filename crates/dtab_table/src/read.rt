@@ -76,8 +76,14 @@ fn prefix_in(alloc: Global, text: &[u8]) -> Result<Prefix, PrefixFault>
     for byte in text {
         match reader.take(alloc, *byte) {
             Ok(()) => {}
-            Err(TakeError::Byte) => return Err(PrefixFault::NotPrefix),
-            Err(TakeError::OutOfMemory) => return Err(PrefixFault::OutOfMemory),
+            Err(TakeError::Byte) => {
+                drop(reader);
+                return Err(PrefixFault::NotPrefix);
+            }
+            Err(TakeError::OutOfMemory) => {
+                drop(reader);
+                return Err(PrefixFault::OutOfMemory);
+            }
         }
     }
     match reader.end(alloc) {
@@ -147,10 +153,17 @@ fn entries_in(alloc: Global, text: &[u8]) -> Result<EntryList, DtabFault>
     for (at, byte) in text.iter().enumerate() {
         match reader.take(alloc, *byte) {
             Ok(()) => {}
-            Err(TakeError::Byte) => return Err(DtabFault::Syntax(at)),
-            Err(TakeError::OutOfMemory) => return Err(DtabFault::OutOfMemory),
+            Err(TakeError::Byte) => {
+                drop(reader);
+                return Err(DtabFault::Syntax(at));
+            }
+            Err(TakeError::OutOfMemory) => {
+                drop(reader);
+                return Err(DtabFault::OutOfMemory);
+            }
         }
         if reader.depth() > MOST_OPEN {
+            drop(reader);
             return Err(DtabFault::TooNested(at));
         }
     }

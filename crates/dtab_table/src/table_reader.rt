@@ -18,7 +18,7 @@ use std::alloc::Global;
 use std::mem::replace;
 
 /// Where in an entry a reader stands.
-#[derive(Clone, Copy, Debug, PartialEq, Eq)]
+#[derive(Clone, Copy)]
 pub(crate) enum Mode {
     /// Before it.
     Start,
@@ -33,7 +33,7 @@ pub(crate) enum Mode {
 }
 
 /// A table's text that was read in part.
-#[derive(Debug, Drop)]
+#[derive(Drop)]
 pub(crate) struct TableReader {
     entries: Vec<Entry>,
     mode: Mode,
@@ -184,7 +184,18 @@ impl TableReader {
     pub(crate) fn end(mut self, alloc: Global) -> Result<Vec<Entry>, TakeError>
         ensures { Ends (λ entries. map rule_of entries.items) (ended_state (state_of self)) result }
     {
-        self.end_last(alloc)?;
-        Ok(self.entries)
+        let ended = self.end_last(alloc);
+        let TableReader {
+            entries,
+            mode: _,
+            walk,
+            prefix,
+            tree,
+        } = self;
+        drop(walk);
+        drop(prefix);
+        drop(tree);
+        ended?;
+        Ok(entries)
     }
 }

@@ -1,4 +1,5 @@
 pub mod Answered
+pub mod Apart
 pub mod Blanks
 pub mod Bridge
 pub mod Bytes

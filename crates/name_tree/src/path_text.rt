@@ -10,7 +10,7 @@ use std::alloc::Global;
 use std::mem::replace;
 
 /// Where in a path's text a reader stands.
-#[derive(Clone, Copy, Debug, PartialEq, Eq)]
+#[derive(Clone, Copy, PartialEq, Eq)]
 pub(crate) enum PathPlace {
     /// In the blanks before it.
     Before,
@@ -21,7 +21,7 @@ pub(crate) enum PathPlace {
 }
 
 /// A path's text that was read in part.
-#[derive(Debug, Drop)]
+#[derive(Drop)]
 pub(crate) struct PathTextReader {
     place: PathPlace,
     reader: PathReader,

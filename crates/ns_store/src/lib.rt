@@ -14,6 +14,8 @@
 //! one change and nothing else. Absorbing makes a store the prepared one, whatever it was before.
 //! Over every list of changes no version is given twice ([`versions_rise`]).
 //!
+//! Its tests are `store_tests`' module `store`.
+//!
 //! # Example
 //! ```
 //! let name = Name::of(alloc, b"default")?;

@@ -1,5 +1,4 @@
 use Rattle.std.proofs.Common.{ap, ◌∙◌}
-use Rattle.std.specs.FinMap.{remove}
 use Rattle.addr_book.specs.Uses.{list_of}
 use Rattle.addr_book.proofs.Sound.{few_counts, used_once, drop_slots, drop_sound}
 use Rattle.addr_book.proofs.parts.Parts.without_service.Goals as goal
@@ -16,14 +15,14 @@ returns-clause-sound c =
     let name = c.args.service.now in
     let same = c.items.ensures.items ∙ ap list_of c.in-Some.ensures in
     let seats = c.in_ok-seats.ensures in
-    rw (c.in_ok-services.ensures, c.in_ok-copied.ensures)
+    rw c.in_ok-services.ensures
     (drop_sound c.args.self.now.services c.args.self.now.seats.slots c.args.self.now.seats.uses c.requires c.args.service.now c.items.result.now same c.in_ok-seats.seats.uses
     c.in_ok-seats.seats.slots c.in_ok-seats.ensures.slots c.in_ok-seats.ensures.uses)
 
 pub returns-clause-book : goal.returns-clause-book
 returns-clause-book c =
     let same = c.items.ensures.items ∙ ap list_of c.in-Some.ensures in
-    let services = c.in_ok-services.ensures ∙ ap (λ m. remove m c.args.service.now) c.in_ok-copied.ensures in
+    let services = c.in_ok-services.ensures in
     let slots = drop_slots c.args.self.now.services c.args.self.now.seats.slots c.args.self.now.seats.uses c.requires c.args.service.now c.items.result.now same
     c.in_ok-seats.seats.uses c.in_ok-seats.seats.slots c.in_ok-seats.ensures.slots c.in_ok-seats.ensures.uses in
     λ i. record { services = services i; slots = slots i }
