@@ -64,16 +64,24 @@ impl Binding {
             → IsDelegated (rules ++ rules_of local.now) names path.now Wanted.Asked found
             → IfOk result (λ b. IsRight rules names (kept_of b)) }
     {
+        let copied = copied_key(alloc, path, local, found.asked.items());
+        let (own_path, own_local, bytes) = match copied {
+            Ok(key) => key,
+            Err(want) => {
+                drop(found);
+                return Err(want);
+            }
+        };
         let Delegated {
             outcome,
             cost,
             asked,
-            trace: _trace,
+            trace,
         } = found;
-        let bytes = count_bytes(alloc, path, local, asked.items())?;
+        drop(trace);
         Ok(Binding {
-            path: Path::new(alloc).joined(alloc, path)?,
-            local: local.copied(alloc)?,
+            path: own_path,
+            local: own_local,
             outcome,
             asked,
             cost,
@@ -151,6 +159,20 @@ impl Binding {
     {
         self.hash
     }
+}
+
+/// Copies of a path and of a request's own table, by which a binding is found, and how many bytes
+/// their texts and those of the paths that were looked up have together.
+fn copied_key(alloc: Global, path: &Path, local: &Dtab, asked: &[Path]) -> Mem<(Path, Dtab, usize)>
+    ensures path { IfOk result (λ key. key.0 ≡ path.now) }
+    ensures local { IfOk result (λ key. rules_of key.1 ≡ rules_of local.now) }
+    ensures bytes { IfOk result (λ key. key.2
+        ≡ min (text_bytes path.now (rules_of local.now) asked.now) (2 ^ 64 - 1)) }
+{
+    let bytes = count_bytes(alloc, path, local, asked)?;
+    let own_path = Path::new(alloc).joined(alloc, path)?;
+    let own_local = local.copied(alloc)?;
+    Ok((own_path, own_local, bytes))
 }
 
 /// How many bytes the canonical texts of a path, a table and some paths have together.

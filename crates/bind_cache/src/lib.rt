@@ -20,6 +20,8 @@
 //! laws: after a change that the cache was told of, each binding that stays is right for the new
 //! rules and services. It rests on [`delegation_is_local`](bind_core::delegation_is_local).
 //!
+//! Its tests are `state_tests`' module `cache`.
+//!
 //! # Example
 //! ```
 //! let found = bind(alloc, &tables, &book, &path, Wanted::Asked, &mut steps)?;

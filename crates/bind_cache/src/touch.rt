@@ -15,7 +15,7 @@ const SERVICE_LABELS: usize = 3;
 
 /// The rules of two tables that are not in both: in each those from `front` to before its end,
 /// counted from 0.
-#[derive(Debug, Drop)]
+#[derive(Drop)]
 pub(crate) struct ChangedRules<'a> {
     old: &'a Dtab,
     new: &'a Dtab,
@@ -29,7 +29,7 @@ pub(crate) struct ChangedRules<'a> {
 }
 
 /// What changed.
-#[derive(Debug, Drop)]
+#[derive(Drop)]
 pub(crate) enum Touch<'a> {
     /// Rules of a table.
     Rules(ChangedRules<'a>),

@@ -27,7 +27,7 @@ use crate::visits::Visits;
 use crate::work::{Scene, Task, Work};
 use addr_book::{Book, Bound, Leaf, name_answer};
 use name_tree::{Path, Tree};
-use std::alloc::Global;
+use std::alloc::{AllocError, Global};
 use std::sync::ledger::Ledger;
 use step_count::Steps;
 
@@ -107,7 +107,13 @@ pub fn bind<L: Ledger>(
     let mut work = Work::new(alloc, most_kept(wanted));
     let outcome = evaluate(alloc, &scene, &mut work, path, MOST_DEEP, steps)?;
     let cost = work.count;
-    let (asked, trace) = told_lists(alloc, wanted, work.visits)?;
+    let Work { stack, visits, .. } = work;
+    drop(stack);
+    let Ok(lists) = told_lists(alloc, wanted, visits) else {
+        drop(outcome);
+        return Err(AllocError);
+    };
+    let (asked, trace) = lists;
     Ok(Delegated {
         outcome,
         cost,
@@ -214,14 +220,28 @@ fn next_tree<'a>(work: &mut Work<'a>, mut choice: FirstOf<'a>, told: Outcome) ->
 {
     let Outcome::Neg = told else {
         work.visits.end(choice.visit, &told);
+        drop(choice);
         return Ok(Task::Tell(told));
     };
+    drop(told);
     let Some((tree, from)) = choice.trees.next() else {
-        let named = named_outcome(choice.named);
-        work.visits.end(choice.visit, &named);
+        let FirstOf {
+            trees,
+            path,
+            named,
+            visit,
+            ..
+        } = choice;
+        drop(trees);
+        drop(path);
+        let named = named_outcome(named);
+        work.visits.end(visit, &named);
         return Ok(Task::Tell(named));
     };
-    let path = choice.path.share()?;
+    let Ok(path) = choice.path.share() else {
+        drop(choice);
+        return Err(AllocError);
+    };
     let left = choice.left;
     work.stack.push(Frame::FirstOf(choice))?;
     Ok(Task::Try(Rewritten { tree, path, from }, left))
@@ -244,10 +264,15 @@ fn next_branch<'a>(work: &mut Work<'a>, mut union: Union<'a>, told: Outcome) -> 
     let told_of = union.weight;
     union.gathered.add(told_of, told)?;
     let Some((weight, tree)) = next_weighted(&mut union.branches) else {
-        return Ok(Task::Tell(union.gathered.into_outcome()));
+        let Union { path, gathered, .. } = union;
+        drop(path);
+        return Ok(Task::Tell(gathered.into_outcome()));
     };
     union.weight = weight;
-    let path = union.path.share()?;
+    let Ok(path) = union.path.share() else {
+        drop(union);
+        return Err(AllocError);
+    };
     let from = union.from;
     let left = union.left;
     work.stack.push(Frame::Union(union))?;
@@ -278,11 +303,24 @@ fn step<'a, L: Ledger>(
         → IfOk result (IsPaid depth start steps.new work.new.stack.items work.new.count) }
 {
     match tried.tree {
-        Tree::Neg => Ok(Task::Tell(Outcome::Neg)),
-        Tree::Fail => Ok(Task::Tell(Outcome::Fail)),
-        Tree::Empty => Ok(Task::Tell(Outcome::Empty)),
+        Tree::Neg => {
+            drop(tried);
+            Ok(Task::Tell(Outcome::Neg))
+        }
+        Tree::Fail => {
+            drop(tried);
+            Ok(Task::Tell(Outcome::Fail))
+        }
+        Tree::Empty => {
+            drop(tried);
+            Ok(Task::Tell(Outcome::Empty))
+        }
         Tree::Leaf(leaf) => {
-            let joined = tried.path.behind(alloc, leaf, tried.from)?;
+            let Ok(joined) = tried.path.behind(alloc, leaf, tried.from) else {
+                drop(tried);
+                return Err(AllocError);
+            };
+            drop(tried);
             match joined {
                 Some(path) => look_up(alloc, scene, work, path, left, steps),
                 None => Ok(Task::Tell(Outcome::TooDeep)),
@@ -338,20 +376,26 @@ fn look_up<'a, L: Ledger>(
 {
     let looked_up = path.as_path();
     if left == 0 || !looked_up.text_fits(MOST_PATH_BYTES) {
+        drop(path);
         return Ok(Task::Tell(Outcome::TooDeep));
     }
     if work.count >= MOST_WIDE {
         work.count = MOST_WIDE + 1;
         work.visits.clear();
+        drop(path);
         return Ok(Task::Tell(Outcome::TooWide));
     }
-    let entries = scene.tables.matching(alloc, looked_up, steps)?;
-    let named = name_answer(alloc, scene.book, looked_up)?;
     let depth = MOST_DEEP.saturating_sub(left);
     work.visits.begin(alloc, work.count, depth, looked_up)?;
     let visit = work.count;
     work.count += 1;
+    let entries = scene.tables.matching(alloc, looked_up, steps)?;
     let trees = TreesLeft::Entries(entries.into_iter());
+    let Ok(named) = name_answer(alloc, scene.book, looked_up) else {
+        drop(trees);
+        drop(path);
+        return Err(AllocError);
+    };
     first_tree(work, trees, path, named, visit, left - 1)
 }
 
@@ -378,14 +422,23 @@ fn first_tree<'a>(
     ensures count { work.new.count ≡ work.old.count }
 {
     let Some((tree, from)) = trees.next() else {
+        drop(trees);
+        drop(path);
         let named = named_outcome(named);
         work.visits.end(Some(visit), &named);
         return Ok(Task::Tell(named));
     };
     if trees.is_empty() && named.is_none() && !work.visits.are_kept() {
+        drop(trees);
+        drop(named);
         return Ok(Task::Try(Rewritten { tree, path, from }, left));
     }
-    let kept = path.share()?;
+    let Ok(kept) = path.share() else {
+        drop(trees);
+        drop(path);
+        drop(named);
+        return Err(AllocError);
+    };
     work.stack.push(Frame::FirstOf(FirstOf {
         trees,
         path: kept,

@@ -23,14 +23,18 @@
 //! trees without what makes no lookup; so its turns are bounded by its lookups and the depth of the
 //! trees.
 //!
+//! Its tests are `state_tests`' module `binding`.
+//!
 //! # Example
 //! ```
 //! let none = Dtab::empty(alloc);
-//! let space = read_dtab(alloc, b"/svc => 3 * /$/inet/127.0.0.1/8080 & 1 * /$/inet/127.0.0.1/8081")?;
+//! let text = b"/svc => 3 * /$/inet/127.0.0.1/8080 & 1 * /$/inet/127.0.0.1/8081";
+//! let space = read_dtab(alloc, text)?;
 //! let tables = Tables { space: &space, base: &none, local: &none };
 //! let path = read_path(alloc, b"/svc/users")?;
 //! let delegated = bind(alloc, &tables, &Book::start(alloc)?, &path, Wanted::Asked, &mut steps)?;
-//! // A union of two leaves with the residual `/users`, three of four requests to the first, after three lookups.
+//! // A union of two leaves with the residual `/users`, three of four requests to the first, after
+//! // three lookups.
 //! assert_eq!(delegated.asked.items().len(), 3);
 //! ```
 #![tactic(auto)]

@@ -79,11 +79,14 @@ impl State {
             Look::Counts => Ok(self.counts()),
             Look::Services { moment } => self.services(alloc, settings.limits, *moment),
             Look::View { path, local } => {
-                let d = self.delegate(alloc, settings, path, local, Wanted::Trace, steps)?;
-                Ok(Reply::Viewed {
-                    outcome: d.outcome,
-                    trace: d.trace,
-                })
+                let Delegated {
+                    outcome,
+                    asked,
+                    trace,
+                    ..
+                } = self.delegate(alloc, settings, path, local, Wanted::Trace, steps)?;
+                drop(asked);
+                Ok(Reply::Viewed { outcome, trace })
             }
         }
     }

@@ -82,11 +82,25 @@ impl State {
         let (reply, ready) = self.prepare(alloc, settings, change)?;
         match ready {
             None => Ok(reply),
-            Some(ready) => {
-                self.absorb(&ready)?;
-                Ok(reply)
-            }
+            Some(ready) => match self.take_up(ready) {
+                Ok(()) => Ok(reply),
+                Err(want) => {
+                    drop(reply);
+                    Err(want)
+                }
+            },
         }
+    }
+
+    /// Absorbs a change that nobody else is to absorb. An `Err` changes nothing.
+    fn take_up(&mut self, ready: Ready) -> Mem<()>
+        ensures ok { OnOk result
+            (state_of self.new ≡ absorbed (state_of self.old) (ready_of ready)) }
+        ensures err { OnErr result (state_of self.new ≡ state_of self.old) }
+    {
+        let done = self.absorb(&ready);
+        drop(ready);
+        done
     }
 
     /// What is not refused is accepted, but for a history without a place left.
@@ -100,6 +114,8 @@ impl State {
             ≡ record { part = part_value part; place = (state_of self.now).place + 1 }) }
     {
         if self.place == u64::MAX {
+            drop(reply);
+            drop(part);
             return (Reply::HistorySpent, None);
         }
         let ready = Ready {

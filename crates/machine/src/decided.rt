@@ -3,7 +3,7 @@ use crate::part::Part;
 use crate::reply::Reply;
 
 /// What is decided of a change, the length of the history apart.
-#[derive(Debug, Drop)]
+#[derive(Drop)]
 pub(crate) enum Decided {
     /// It is refused so.
     Refused(Reply),

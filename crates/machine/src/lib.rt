@@ -26,6 +26,8 @@
 //! [`State::candidates_of`] takes no memory. Of the looks [`Look::Services`] alone goes over the
 //! whole book.
 //!
+//! Its tests are `state_tests`' modules `state` and `services`.
+//!
 //! # Example
 //! ```
 //! let mut state = State::start(alloc)?;

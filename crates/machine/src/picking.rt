@@ -25,7 +25,7 @@ use crate::chosen::{Chosen, Why};
 use crate::settings::Settings;
 use crate::state::State;
 use addr_book::{Addr, Bound, Cluster, Leaf, Name, ONE_WEIGHT, Weighted};
-use bind_core::{Outcome, Wanted};
+use bind_core::{Delegated, Outcome, Wanted};
 use choose_core::{Limits, branch, is_open, pair_addrs};
 use std::alloc::Global;
 use std::sync::ledger::Ledger;
@@ -115,7 +115,15 @@ impl State {
             Wanted::Neither,
             steps,
         )?;
-        self.choose_from(alloc, settings, delegated.outcome, ask)
+        let Delegated {
+            outcome,
+            asked,
+            trace,
+            ..
+        } = delegated;
+        drop(asked);
+        drop(trace);
+        self.choose_from(alloc, settings, outcome, ask)
     }
 
     /// Picks a replica as [`choose_in`](State::choose_in) does. The paths of an outcome that is one
@@ -136,7 +144,11 @@ impl State {
     {
         match outcome {
             Outcome::Bound(Bound::One(leaf)) => Ok(self.choose_of(settings, leaf, ask)),
-            outcome => self.choose_in(alloc, settings, &outcome, ask),
+            outcome => {
+                let chosen = self.choose_in(alloc, settings, &outcome, ask);
+                drop(outcome);
+                chosen
+            }
         }
     }
 
@@ -151,13 +163,20 @@ impl State {
             0) }
     {
         if !is_open(&leaf, &self.book) {
+            drop(leaf);
             return Chosen::None(Why::Empty);
         }
         let addr = self.between(&leaf, ask, settings.limits).taken(0, 0).addr;
+        let Leaf {
+            cluster,
+            client,
+            residual,
+        } = leaf;
+        drop(cluster);
         Chosen::Picked {
             addr,
-            client: leaf.client,
-            residual: leaf.residual,
+            client,
+            residual,
         }
     }
 

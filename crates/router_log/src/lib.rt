@@ -20,6 +20,8 @@
 //! delegation where it may stand. Where the operation fits, [`taking_is_applying`]: that is what
 //! the list of operations comes to with one more.
 //!
+//! Its tests are `state_tests`' module `schedule`.
+//!
 //! # Example
 //! ```text
 //! change: create `default` with /svc => /#/io.l5d.fs     state 1, nothing kept

@@ -67,9 +67,21 @@ pub fn carry_out<L: Ledger>(
     match line {
         Line::Blank => Ok(None),
         Line::Table(dtab) => Ok(Some(set_table(alloc, settings, state, dtab)?)),
-        Line::Change(change) => Ok(Some(Said::Reply(state.apply(alloc, settings, &change)?))),
-        Line::Look(look) => Ok(Some(Said::Reply(state.answer(alloc, settings, &look, steps)?))),
-        Line::Ask(ask) => Ok(Some(Said::Chosen(state.choose(alloc, settings, &ask, steps)?))),
+        Line::Change(change) => {
+            let applied = state.apply(alloc, settings, &change);
+            drop(change);
+            Ok(Some(Said::Reply(applied?)))
+        }
+        Line::Look(look) => {
+            let answered = state.answer(alloc, settings, &look, steps);
+            drop(look);
+            Ok(Some(Said::Reply(answered?)))
+        }
+        Line::Ask(ask) => {
+            let chosen = state.choose(alloc, settings, &ask, steps);
+            drop(ask);
+            Ok(Some(Said::Chosen(chosen?)))
+        }
     }
 }
 
@@ -88,8 +100,9 @@ fn set_table(alloc: Global, settings: &Settings, state: &mut State, dtab: Dtab) 
 {
     let name = default_name(alloc)?;
     let change = table_change(state, name, dtab);
-    let reply = state.apply(alloc, settings, &change)?;
-    Ok(said_of_table(reply))
+    let applied = state.apply(alloc, settings, &change);
+    drop(change);
+    Ok(said_of_table(applied?))
 }
 
 /// The change that makes a table that of the namespace `default`.
@@ -115,7 +128,10 @@ fn said_of_table(reply: Reply) -> Said
     ensures { said_of result ≡ table_said (reply_value reply) }
 {
     match reply {
-        Reply::Version(_) => Said::Ok,
+        Reply::Version(_) => {
+            drop(reply);
+            Said::Ok
+        }
         reply => Said::Reply(reply),
     }
 }

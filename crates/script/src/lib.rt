@@ -28,6 +28,8 @@
 //! `specs/Reply.antt`. The turns of a generated run are exactly those of `specs/Turns.antt`, and
 //! its line is that of `specs/Storm.antt`.
 //!
+//! Its tests are `state_tests`' module `lines`.
+//!
 //! # Example
 //! ```
 //! let settings = script_settings(alloc)?;

@@ -12,7 +12,7 @@ use crate::{Bytes, Mem};
 use machine::{Ask, Change, Chosen, Settings, State};
 use rand_core::SeedableRng;
 use rand_pcg::Pcg64;
-use std::alloc::Global;
+use std::alloc::{AllocError, Global};
 use std::marker::Brand;
 use std::sync::ledger::{Blank, Ledger};
 use step_count::Steps;
@@ -66,7 +66,10 @@ fn run_of_turns<L: Ledger>(
     let mut words = Pcg64::seed_from_u64(seed);
     let mut run = Run::start(alloc, settings)?;
     for number in 0..turns {
-        run.take(alloc, settings, &mut words, u64::from(number), &mut steps)?;
+        let Ok(()) = run.take(alloc, settings, &mut words, u64::from(number), &mut steps) else {
+            drop(run);
+            return Err(AllocError);
+        };
     }
     Ok(run)
 }
@@ -81,7 +84,8 @@ fn is_accepted(state: &mut State, alloc: Global, settings: &Settings, change: &C
         (change_of change.now)) }
 {
     let place = state.place();
-    let _reply = state.apply(alloc, settings, change)?;
+    let reply = state.apply(alloc, settings, change)?;
+    drop(reply);
     Ok(state.place() != place)
 }
 
@@ -97,9 +101,18 @@ impl Run {
     fn start(alloc: Global, settings: &Settings) -> Mem<Run>
         ensures { IfOk result (λ run. run_of run ≡ first_run (settings_of settings.now)) }
     {
-        let mut state = State::start(alloc)?;
         let change = first_change(alloc)?;
-        let _reply = state.apply(alloc, settings, &change)?;
+        let Ok(mut state) = State::start(alloc) else {
+            drop(change);
+            return Err(AllocError);
+        };
+        let Ok(reply) = state.apply(alloc, settings, &change) else {
+            drop(change);
+            drop(state);
+            return Err(AllocError);
+        };
+        drop(change);
+        drop(reply);
         Ok(Run {
             state,
             refused: 0,
@@ -127,8 +140,16 @@ impl Run {
         ensures within { OnOk result (IsWithin (number + 1) (run_of self.new)) }
     {
         match next_turn(alloc, words, number)? {
-            Turn::Change(change) => self.change(alloc, settings, &change),
-            Turn::Pick(ask) => self.pick(alloc, settings, &ask, steps),
+            Turn::Change(change) => {
+                let changed = self.change(alloc, settings, &change);
+                drop(change);
+                changed
+            }
+            Turn::Pick(ask) => {
+                let picked = self.pick(alloc, settings, &ask, steps);
+                drop(ask);
+                picked
+            }
         }
     }
 

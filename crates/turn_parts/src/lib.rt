@@ -10,6 +10,8 @@
 //! Each call gives exactly the value that `specs/Parts.antt` has for its numbers and words, and the
 //! tables are sound: each prefix and tree in them is of bytes.
 //!
+//! Its tests are those of `script` and `weave`, in `state_tests`' modules `lines` and `schedule`.
+//!
 //! # Example
 //! ```
 //! // The service `s3` gets 127.0.0.1:1026 and 127.0.0.1:1027, each of the weight 1.

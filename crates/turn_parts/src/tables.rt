@@ -1,9 +1,9 @@
 //! Tables that send services to the book.
-ghost use Rattle.std.specs.Prelude.{◌≡◌, ◌+◌, ◌%◌, ◌∷◌, [], ◌<◌, codes, IfOk};
+ghost use Rattle.std.specs.Prelude.{◌≡◌, ◌+◌, ◌%◌, ◌∷◌, [], ◌<◌, Some, codes, IfOk};
 ghost use Rattle.dtab_table.specs.Dtab.{rules_of};
 ghost use Rattle.dtab_table.specs.Rules.{rule_of};
 ghost use Rattle.dtab_table.specs.TableCanon.{AreSoundRules};
-ghost use Rattle.turn_parts.specs.Parts.{namer_rule, service_rule, table_by};
+ghost use Rattle.turn_parts.specs.Parts.{namer_rule, service_name, service_rule, table_by};
 
 use crate::Mem;
 use crate::services::service_text;
@@ -33,17 +33,35 @@ fn namer_entry(alloc: Global) -> Mem<Entry>
     })
 }
 
+/// The prefix `/svc/sN`.
+fn service_prefix(alloc: Global, service: u64) -> Mem<Prefix>
+    ensures { IfOk result
+        (λ prefix. prefix ≡ Some (codes "svc") ∷ Some (service_name service) ∷ []) }
+{
+    let mut labels = Vec::new(alloc);
+    labels.push(PrefixLabel::Label(b"svc".to_vec(alloc)?))?;
+    labels.push(PrefixLabel::Label(service_text(alloc, service)?))?;
+    Ok(Prefix::of(labels))
+}
+
+/// The path `/#/io.l5d.fs/sN`.
+fn book_path(alloc: Global, service: u64) -> Mem<Path>
+    ensures { IfOk result
+        (λ path. path ≡ codes "#" ∷ codes "io.l5d.fs" ∷ service_name service ∷ []) }
+{
+    let mut path = namer_path(alloc)?;
+    path.push(service_text(alloc, service)?)?;
+    Ok(path)
+}
+
 /// The entry `/svc/sN => /#/io.l5d.fs/sM`.
 fn service_entry(alloc: Global, from: u64, to: u64) -> Mem<Entry>
     ensures { IfOk result (λ entry. rule_of entry ≡ service_rule from to) }
 {
-    let mut labels = Vec::new(alloc);
-    labels.push(PrefixLabel::Label(b"svc".to_vec(alloc)?))?;
-    labels.push(PrefixLabel::Label(service_text(alloc, from)?))?;
-    let mut path = namer_path(alloc)?;
-    path.push(service_text(alloc, to)?)?;
+    let prefix = service_prefix(alloc, from)?;
+    let path = book_path(alloc, to)?;
     Ok(Entry {
-        prefix: Prefix::of(labels),
+        prefix,
         tree: Tree::Leaf(path),
     })
 }

@@ -14,6 +14,7 @@ use crate::world::World;
 use bind_cache::Binding;
 use bind_core::Wanted;
 use machine::{Ask, Look};
+use std::alloc::AllocError;
 use std::snapshot::Snapshot;
 use std::sync::Arc;
 use std::sync::ledger::Ledger;
@@ -108,13 +109,18 @@ impl World {
         )?;
         let place = self.state.place();
         let binding = Binding::of(self.alloc, &ask.path, &ask.local, found, place)?;
-        let chosen = self
+        let Ok(chosen) = self
             .state
-            .choose_in(self.alloc, &self.settings, binding.outcome(), ask)?;
-        Ok((
-            Told::Chosen(place, chosen),
-            Some(Arc::new(self.alloc, binding)?),
-        ))
+            .choose_in(self.alloc, &self.settings, binding.outcome(), ask)
+        else {
+            drop(binding);
+            return Err(AllocError);
+        };
+        let Ok(fresh) = Arc::new(self.alloc, binding) else {
+            drop(chosen);
+            return Err(AllocError);
+        };
+        Ok((Told::Chosen(place, chosen), Some(fresh)))
     }
 
     /// A pass asks something, whose answer is worked out: it waits, in the place of one that was
@@ -143,7 +149,14 @@ impl World {
         let point = self.operations.len;
         let pass = &mut self.passes[number];
         let item = pass.items.len;
-        pass.call(Call::Asked(Snapshot::of(asked)), point, point)?;
+        match pass.call(Call::Asked(Snapshot::of(asked)), point, point) {
+            Ok(()) => {}
+            Err(want) => {
+                drop(told);
+                drop(fresh);
+                return Err(want);
+            }
+        }
         pass.flight = Some(Flight { item, told, fresh });
         Ok(())
     }

@@ -14,7 +14,7 @@ use machine::Settings;
 use rand_core::SeedableRng;
 use rand_core::utils::NextWord;
 use rand_pcg::Pcg64;
-use std::alloc::Global;
+use std::alloc::{AllocError, Global};
 use std::sync::ledger::Ledger;
 use step_count::Steps;
 use turn_parts::{addrs_change, draw_ask, first_change, table_change};
@@ -51,11 +51,22 @@ pub fn weave<L: Ledger>(
     let mut words = Pcg64::seed_from_u64(seed);
     let mut looks = 0;
     for _turn in 0..turns {
-        let step = turn_step(alloc, &mut words)?;
-        let told = world.step(&step, ticks)?;
+        let Ok(step) = turn_step(alloc, &mut words) else {
+            drop(world);
+            return Err(AllocError);
+        };
+        let Ok(told) = world.step(&step, ticks) else {
+            drop(step);
+            drop(world);
+            return Err(AllocError);
+        };
         looks += given_by(&step, &told);
+        drop(step);
+        drop(told);
     }
-    line(alloc, world.place(), looks, world.kept())
+    let summed = line(alloc, world.place(), looks, world.kept());
+    drop(world);
+    summed
 }
 
 /// A world of four passes, the first of which has made the first change.
@@ -65,9 +76,19 @@ fn begin<L: Ledger>(alloc: Global, settings: Settings, ticks: &mut Steps<L>) -> 
         ≡ (stepped (settings_of settings) (opening_world 4) (publish 0 first_change)).0) }
     ensures holds { IfOk result Holds }
 {
-    let mut world = World::start(alloc, settings, PASSES)?;
     let change = first_change(alloc)?;
-    world.step(&Step::Publish(0, change), ticks)?;
+    let first = Step::Publish(0, change);
+    let Ok(mut world) = World::start(alloc, settings, PASSES) else {
+        drop(first);
+        return Err(AllocError);
+    };
+    let Ok(told) = world.step(&first, ticks) else {
+        drop(first);
+        drop(world);
+        return Err(AllocError);
+    };
+    drop(first);
+    drop(told);
     Ok(world)
 }
 

@@ -31,6 +31,8 @@
 //!
 //! The text of [`weave`] is the line that `specs/Generated.antt` defines.
 //!
+//! Its tests are `state_tests`' module `schedule`.
+//!
 //! # Example
 //! Pass 0 creates the table `/s => /$/inet/127.0.0.1/1`. Pass 1 asks for `/s`. Pass 0 puts the
 //! table `/s => /$/inet/127.0.0.1/2`. Pass 1 is answered: 127.0.0.1:1, at place 1, where it asked.

@@ -35,7 +35,13 @@ impl World {
         }
         let place = self.state.place();
         let (reply, ready) = self.state.prepare(self.alloc, &self.settings, change)?;
-        self.change(number, change, ready)?;
+        match self.change(number, change, ready) {
+            Ok(_) => {}
+            Err(want) => {
+                drop(reply);
+                return Err(want);
+            }
+        }
         Ok(Told::Reply(place, reply))
     }
 

@@ -11,7 +11,7 @@ use crate::Mem;
 use crate::step::{Step, Told, ToldList};
 use crate::world::World;
 use machine::Settings;
-use std::alloc::Global;
+use std::alloc::{AllocError, Global};
 use std::sync::ledger::Ledger;
 use step_count::Steps;
 
@@ -97,8 +97,16 @@ pub fn run<L: Ledger>(
     let mut world = World::start(alloc, settings, passes)?;
     let mut told = Vec::new(alloc);
     for step in steps {
-        let said = world.step(step, ticks)?;
-        told.push(said)?;
+        let Ok(said) = world.step(step, ticks) else {
+            drop(told);
+            drop(world);
+            return Err(AllocError);
+        };
+        let Ok(()) = told.push(said) else {
+            drop(told);
+            drop(world);
+            return Err(AllocError);
+        };
     }
     Ok((world, ToldList::of(told)))
 }

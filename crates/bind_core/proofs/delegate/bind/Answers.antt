@@ -12,7 +12,7 @@ returns-clause-delegated g c =
     delegated (rules_in c.args.tables.now) (named_in c.args.book.now) c.args.path.now c.args.wanted
     _ c.evaluate.new.work _ (c.new-work.ensures.fits.most_is ∙ c.most_kept.ensures)
     c.in_ok-outcome.ensures.answer refl
-    c.in_ok-asked.ensures.asked c.in_ok-asked.ensures.trace
+    c.in-Ok.ensures.asked c.in-Ok.ensures.trace
 
 pub returns-clause-width : goal.returns-clause-width
 returns-clause-width g c = width (rules_in c.args.tables.now) (named_in c.args.book.now) 100

@@ -21,7 +21,7 @@ returns-clause-step c =
     c.args.named c.args.visit c.args.left _ _
     (record {
       trees = c.next.new.self;
-      path = c.in_ok-kept.kept;
+      path = c.in-Ok.kept;
       named = c.args.named;
       visit = Some c.args.visit;
       left = c.args.left;
@@ -33,7 +33,7 @@ returns-clause-step c =
       path = c.args.path;
       from = c.in-Some.from;
     }) ∷ trees_left
-    c.next.new.self ls) (sym c.in_ok-kept.ensures))
+    c.next.new.self ls) (sym c.in-Ok.ensures))
     c.requires.few refl refl refl c.in_ok-push.ensures.items refl refl
 
 pub returns-then-not-are_kept-clause-step : goal.returns-then-not-are_kept-clause-step
@@ -62,7 +62,7 @@ returns-clause-moves c = inr (inl (record {
   left = c.args.left;
   frame_left = FirstOf (record {
     trees = c.next.new.self;
-    path = c.in_ok-kept.kept;
+    path = c.in-Ok.kept;
     named = c.args.named;
     visit = Some c.args.visit;
     left = c.args.left;
@@ -76,7 +76,7 @@ returns-clause-moves c = inr (inl (record {
         path = c.args.path;
         from = c.in-Some.from;
       }) ∷ trees_left
-      c.next.new.self ls) (sym c.in_ok-kept.ensures);
+      c.next.new.self ls) (sym c.in-Ok.ensures);
 }))
 
 pub returns-then-not-are_kept-clause-moves : goal.returns-then-not-are_kept-clause-moves

@@ -41,9 +41,9 @@ returns-clause-step g c =
       count = c.args.work.now.count + 1;
       visits = c.begin.new.self;
     }) c.first_tree.new.work next c.in_ok-entries.entries.items _
-    c.in_ok-named.named
+    c.in-Ok.named
     c.as_path-looked_up.ensures c.into_iter.ensures.rest (omega arith)
-    (c.if-not-text_fits.ensures.0 refl) c.in_ok-entries.ensures.trees c.in_ok-named.ensures.leaf
+    (c.if-not-text_fits.ensures.0 refl) c.in_ok-entries.ensures.trees c.in-Ok.ensures.leaf
     refl refl c.begin.ensures.most (rw c.saturating_sub-depth.ensures at
     c.in_ok-begin.ensures.items))
     (c.first_tree.ensures.step (rules_at c.args.scene.now) (names_at c.args.scene.now))

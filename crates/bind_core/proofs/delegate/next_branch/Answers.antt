@@ -28,7 +28,7 @@ returns-in_default-clause-moves c =
 
 pub returns-clause-moves : goal.returns-clause-moves
 returns-clause-moves c = inr (record {
-  tree = record { tree = c.in-Some.tree; path = c.in_ok-path.path; from = c.args.union.from };
+  tree = record { tree = c.in-Some.tree; path = c.in-Ok.path; from = c.args.union.from };
   left = c.args.union.left;
   frame_left =
       Union (record {
@@ -47,8 +47,8 @@ returns-clause-moves c = inr (record {
         (listed (iter_rest c.next_weighted.new.branches)) c.in-Some.weight
         (value_of c.in-Some.tree.now)
         (drop c.args.union.from (labels_of c.args.union.path))
-        (drop c.args.union.from (labels_of c.in_ok-path.path))
-        (ap (drop c.args.union.from) c.in_ok-path.ensures) c.in-Some.ensures.0,
+        (drop c.args.union.from (labels_of c.in-Ok.path))
+        (ap (drop c.args.union.from) c.in-Ok.ensures) c.in-Some.ensures.0,
   );
 })
 
@@ -66,12 +66,12 @@ returns-clause-step c =
     })
     c.in-Some.weight (record {
       tree = c.in-Some.tree;
-      path = c.in_ok-path.path;
+      path = c.in-Ok.path;
       from = c.args.union.from;
     })
     (next_branch_is (listed (iter_rest c.args.union.branches))
     (listed (iter_rest c.next_weighted.new.branches)) c.in-Some.weight
     (value_of c.in-Some.tree.now) (drop c.args.union.from (labels_of c.args.union.path))
-    (drop c.args.union.from (labels_of c.in_ok-path.path))
-    (ap (drop c.args.union.from) c.in_ok-path.ensures) c.in-Some.ensures.0)
+    (drop c.args.union.from (labels_of c.in-Ok.path))
+    (ap (drop c.args.union.from) c.in-Ok.ensures) c.in-Some.ensures.0)
     c.in-Some.ensures.1 refl refl refl c.in_ok-push.ensures.items refl refl

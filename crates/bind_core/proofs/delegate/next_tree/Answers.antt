@@ -33,7 +33,7 @@ returns-in_default-next-clause-moves c =
 
 pub returns-clause-moves : goal.returns-clause-moves
 returns-clause-moves c = inr (record {
-  tree = record { tree = c.in-Some.tree; path = c.in_ok-path.path; from = c.in-Some.from };
+  tree = record { tree = c.in-Some.tree; path = c.in-Ok.path; from = c.in-Some.from };
   left = c.args.choice.left;
   frame_left = FirstOf (record {
     trees = c.next.new.self;
@@ -48,7 +48,7 @@ returns-clause-moves c = inr (record {
     ap ending_of c.in-Neg.is,
     c.in-Some.ensures (labels_of c.args.choice.path)
         ∙ ap (λ (ls : Labels). append_rest (value_of c.in-Some.tree.now) (drop c.in-Some.from ls) ∷
-        trees_left c.next.new.self (labels_of c.args.choice.path)) (sym c.in_ok-path.ensures),
+        trees_left c.next.new.self (labels_of c.args.choice.path)) (sym c.in-Ok.ensures),
   );
 })
 
@@ -62,9 +62,9 @@ returns-clause-step c =
       visit = c.args.choice.visit;
       left = c.args.choice.left;
     })
-    (record { tree = c.in-Some.tree; path = c.in_ok-path.path; from = c.in-Some.from }) c.args.told
+    (record { tree = c.in-Some.tree; path = c.in-Ok.path; from = c.in-Some.from }) c.args.told
     c.in-Neg.is
     (c.in-Some.ensures (labels_of c.args.choice.path)
     ∙ ap (λ (ls : Labels). append_rest (value_of c.in-Some.tree.now) (drop c.in-Some.from ls) ∷
-    trees_left c.next.new.self (labels_of c.args.choice.path)) (sym c.in_ok-path.ensures))
+    trees_left c.next.new.self (labels_of c.args.choice.path)) (sym c.in-Ok.ensures))
     refl refl refl c.in_ok-push.ensures.items refl refl

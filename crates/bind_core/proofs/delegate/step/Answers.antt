@@ -37,18 +37,18 @@ pub returns-in-Some-clause-step : goal.returns-in-Some-clause-step
 returns-in-Some-clause-step g c =
     let rest = drop c.args.tried.from (labels_of c.args.tried.path) in
     leaf_step (rules_at c.args.scene.now) (names_at c.args.scene.now) _ (tree_of c.args.tried)
-    (c.in-Leaf.leaf ++ rest) c.args.left _ _ c.look_up.result c.in_ok-joined-in-Leaf.joined
+    (c.in-Leaf.leaf ++ rest) c.args.left _ _ c.look_up.result c.in-Ok.joined
     c.in-Some.path
     (ap (λ (t : Tree). append_rest (value_of t) rest) c.in-Leaf.is) c.in-Some.is
-    c.in_ok-joined-in-Leaf.ensures c.look_up.ensures.step
+    c.in-Ok.ensures c.look_up.ensures.step
 
-pub returns-in-Leaf-clause-step : goal.returns-in-Leaf-clause-step
-returns-in-Leaf-clause-step g c =
+pub returns-in-None-clause-step : goal.returns-in-None-clause-step
+returns-in-None-clause-step g c =
     let rest = drop c.args.tried.from (labels_of c.args.tried.path) in
     long_leaf_step (rules_at c.args.scene.now) (names_at c.args.scene.now) _ (tree_of c.args.tried)
-    (c.in-Leaf.leaf ++ rest) c.args.left _ c.in_ok-joined-in-Leaf.joined c.requires
+    (c.in-Leaf.leaf ++ rest) c.args.left _ c.in-Ok.joined c.requires
     (ap (λ (t : Tree). append_rest (value_of t) rest) c.in-Leaf.is) c.in-None.is
-    c.in_ok-joined-in-Leaf.ensures
+    c.in-Ok.ensures
 
 pub returns-in-Alt-clause-step : goal.returns-in-Alt-clause-step
 returns-in-Alt-clause-step g c =
@@ -70,8 +70,8 @@ returns-in-Alt-clause-step g c =
     refl (ap (map given) (c.iter.ensures.rest ∙ c.items.ensures)) refl refl)
     (c.next_tree.ensures.step (rules_at c.args.scene.now) (names_at c.args.scene.now))
 
-pub returns-clause-step : goal.returns-clause-step
-returns-clause-step g c =
+pub returns-in-Union-clause-step : goal.returns-in-Union-clause-step
+returns-in-Union-clause-step g c =
     let rest = drop c.args.tried.from (labels_of c.args.tried.path) in
     on_ok c.next_branch.result (λ next. union_step (rules_at c.args.scene.now)
     (names_at c.args.scene.now) _ (tree_of c.args.tried) c.args.left c.args.work.now
@@ -115,8 +115,8 @@ returns-in-Some-clause-paid g c =
     (leaf_due depth start _ _ _ c.args.tried c.args.left due (c.in-Leaf.leaf ++ rest)
     (ap (λ (t : Tree). append_rest (value_of t) rest) c.in-Leaf.is))
 
-pub returns-in-Leaf-clause-paid : goal.returns-in-Leaf-clause-paid
-returns-in-Leaf-clause-paid g c =
+pub returns-in-None-clause-paid : goal.returns-in-None-clause-paid
+returns-in-None-clause-paid g c =
     let rest = drop c.args.tried.from (labels_of c.args.tried.path) in
     λ depth start less due. long_due depth start _ _ _ c.args.tried c.args.left due
     (c.in-Leaf.leaf ++ rest) (ap (λ (t : Tree). append_rest (value_of t) rest) c.in-Leaf.is)
@@ -140,8 +140,8 @@ returns-in-Alt-clause-paid g c =
     (append_rest-tree_values c.in-Alt.trees.items.items rest)))
     (ap (map given) (c.iter.ensures.rest ∙ c.items.ensures)) turn)) c.next_tree.ensures.moves
 
-pub returns-clause-paid : goal.returns-clause-paid
-returns-clause-paid g c =
+pub returns-in-Union-clause-paid : goal.returns-in-Union-clause-paid
+returns-in-Union-clause-paid g c =
     let rest = drop c.args.tried.from (labels_of c.args.tried.path) in
     λ depth start less due. on_ok c.next_branch.result (λ next turn. rw c.next_branch.ensures.count
     (union_due depth start _ _ _ c.args.tried c.args.left due

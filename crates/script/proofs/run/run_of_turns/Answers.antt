@@ -24,9 +24,9 @@ loop-number-preserved g c =
       same =
           one_taken settings c.args.turns c.loop-number.number (run_of c.loop-number.run) (run_of c.take.new.self) (after_turns settings (first_run settings) (turns_from c.args.turns 0 (words_of_seed c.args.seed)))
           c.loop-number.words c.take.new.words c.loop-number-test.true
-          (subst (λ n. run_of c.take.new.self ≡ after_turn settings (run_of c.loop-number.run) (next_turn n c.loop-number.words).0) c.from.ensures c.in_ok-take.ensures.run)
-          (subst (λ n. c.take.new.words ≡ (next_turn n c.loop-number.words).1) c.from.ensures c.in_ok-take.ensures.words) c.loop-number.invariant.same;
-      within = subst (λ n. IsWithin (n + 1) (run_of c.take.new.self)) c.from.ensures c.in_ok-take.ensures.within;
+          (subst (λ n. run_of c.take.new.self ≡ after_turn settings (run_of c.loop-number.run) (next_turn n c.loop-number.words).0) c.from.ensures c.in-Ok.ensures.run)
+          (subst (λ n. c.take.new.words ≡ (next_turn n c.loop-number.words).1) c.from.ensures c.in-Ok.ensures.words) c.loop-number.invariant.same;
+      within = subst (λ n. IsWithin (n + 1) (run_of c.take.new.self)) c.from.ensures c.in-Ok.ensures.within;
     }
 
 pub returns : goal.returns

@@ -20,7 +20,7 @@ step-requires-clause-holds g c = c.loop-turn.invariant.0.holds
 pub loop-turn-preserved : goal.loop-turn-preserved
 loop-turn-preserved g c = (
   turn_made (settings_of c.args.settings) (steps_of_seed c.args.turns c.args.seed) (opening_world 4) c.loop-turn.world c.step.new.self c.loop-turn.looks (c.loop-turn.looks + c.given_by-looks.result) c.args.turns c.loop-turn._turn
-      c.loop-turn.words c.turn_step.new.words (step_of c.in_ok-step.step) c.in_ok-told.told c.loop-turn-test.true c.in_ok-step.ensures.step c.loop-turn.invariant.0 c.in_ok-told.ensures.ok
+      c.loop-turn.words c.turn_step.new.words (step_of c.in-Ok.step) c.in-Ok-step.told c.loop-turn-test.true c.in-Ok.ensures.step c.loop-turn.invariant.0 c.in-Ok-step.ensures.ok
       (ap (λ n. c.loop-turn.looks + n) c.given_by-looks.ensures.given),
   omega (arith, c.loop-turn.invariant.1, c.given_by-looks.ensures.few),
 )
@@ -30,6 +30,6 @@ overflow_add-looks g c = omega (arith, c.loop-turn.invariant.1, c.loop-turn-test
 
 pub returns : goal.returns
 returns g c =
-    if_ok (λ (t : Vec ℕ Global). t.items ≡ weave_line c.place.result c.loop-turn.looks c.kept.result) (λ (t : Vec ℕ Global). t.items ≡ weave_of (settings_of c.args.settings) c.args.turns c.args.seed) c.line.result c.line.ensures
+    if_ok (λ (t : Vec ℕ Global). t.items ≡ weave_line c.place.result c.loop-turn.looks c.kept.result) (λ (t : Vec ℕ Global). t.items ≡ weave_of (settings_of c.args.settings) c.args.turns c.args.seed) c.line-summed.result c.line-summed.ensures
     (λ t is. is ∙ summed_up (settings_of c.args.settings) c.args.turns c.loop-turn._turn c.args.seed c.loop-turn.world c.loop-turn.looks c.place.result c.kept.result c.loop-turn.words c.loop-turn-test.false
     c.loop-turn.invariant.0 c.place.ensures c.kept.ensures)

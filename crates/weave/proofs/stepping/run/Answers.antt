@@ -17,8 +17,8 @@ step-requires-clause-sound g c = sound_at c.args.steps.now c.loop-step.step-inde
 
 pub loop-step-preserved : goal.loop-step-preserved
 loop-step-preserved g c =
-    run_step (settings_of c.args.settings) c.args.steps.now (opening_world c.args.passes) c.loop-step.world c.step.new.self c.loop-step.step-index c.step-item.result c.in_ok-said.said c.loop-step.told.items c.push.new.self.items
-    c.loop-step-test.true c.step-item.is c.loop-step.invariant c.in_ok-said.ensures.ok c.in_ok-push.ensures.items
+    run_step (settings_of c.args.settings) c.args.steps.now (opening_world c.args.passes) c.loop-step.world c.step.new.self c.loop-step.step-index c.step-item.result c.in-Ok.said c.loop-step.told.items c.push.new.self.items
+    c.loop-step-test.true c.step-item.is c.loop-step.invariant c.in-Ok.ensures.ok c.in-Ok-push.ensures.items
 
 pub returns-clause-settings : goal.returns-clause-settings
 returns-clause-settings g c = c.loop-step.invariant.same

@@ -24,5 +24,5 @@ returns-clause-ok c =
     let change = change_of c.args.change.now in
     let x = present_value old.passes.items c.args.number (omega (arith, c.if-number-len.false, c.len.ensures, old.passes.ok.0)) in
     publishes_it old c.change.new.self c.args.number x.0 change (told.Reply c.place-place.result c.in_ok-reply.reply) x.1
-    (c.in_ok-change.ensures.ok x.0 x.1)
+    (c.in-Ok.ensures.ok x.0 x.1)
     (change_told old c.requires.holds change c.place-place.result (reply_value c.in_ok-reply.reply) c.place-place.ensures c.in_ok-reply.ensures.reply)
