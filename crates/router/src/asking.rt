@@ -90,7 +90,11 @@ pub(crate) fn look_through<L: Ledger>(
 {
     let (point, detached) = detach_through(reader, alloc, look)?;
     match detached {
-        Ok(detached) => Some((point, detached.look(alloc, look, steps))),
+        Ok(detached) => {
+            let reply = detached.look(alloc, look, steps);
+            drop(detached);
+            Some((point, reply))
+        }
         Err(want) => Some((point, Err(want))),
     }
 }
@@ -162,7 +166,9 @@ pub(crate) fn pick_through<L: Ledger>(
     match found {
         Ok(CacheLookup::Hit(answer)) => Some((place, Ok(answer))),
         Ok(CacheLookup::Miss(detached)) => {
-            Some((place, detached.pick(alloc, ask, loads, seat, steps)))
+            let answer = detached.pick(alloc, ask, loads, seat, steps);
+            drop(detached);
+            Some((place, answer))
         }
         Err(want) => Some((place, Err(want))),
     }

@@ -42,6 +42,7 @@ impl<J: Naming> Router<J> {
             × (kept_in pass.new ≡ kept_in pass.old)) }
     {
         if let Some(reply) = self.report(pass, &change) {
+            drop(change);
             return Ok(reply);
         }
         let mut desk = self.desk.lock(rt);

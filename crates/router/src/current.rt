@@ -62,13 +62,20 @@ impl Current {
         ensures settings { IfOk result
             (λ current. arc_value current.settings ≡ arc_value settings) }
     {
-        Ok(Current {
-            settings,
-            none: Dtab::empty(alloc),
-            state: State::start(alloc)?,
-            cache: Cache::start(alloc)?,
-            past: Snapshot::of(&Past::Nothing),
-        })
+        let state = State::start(alloc)?;
+        match Cache::start(alloc) {
+            Ok(cache) => Ok(Current {
+                settings,
+                none: Dtab::empty(alloc),
+                state,
+                cache,
+                past: Snapshot::of(&Past::Nothing),
+            }),
+            Err(want) => {
+                drop(state);
+                Err(want)
+            }
+        }
     }
 
     /// The settings.

@@ -245,6 +245,7 @@ impl<J: Naming> Desk<J> {
         match ready {
             None => {
                 self.show_call(rt, pass, &Call::Changing(Snapshot::of(&change)));
+                drop(change);
                 Ok(reply)
             }
             Some(ready) => {
@@ -316,6 +317,7 @@ impl<J: Naming> Desk<J> {
             }
             Some(said) => {
                 self.show_call(rt, pass, &Call::Keeping(Snapshot::of(&binding)));
+                drop(binding);
                 Ok(said)
             }
         }

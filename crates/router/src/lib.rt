@@ -25,7 +25,7 @@
 //! stands at their points (`specs/Standing.antt`, kept by the type of a pass). At the end there was
 //! one list, in which each change was made by a pass, and each kept delegation given by one, once
 //! (`specs/Closing.antt`). After a refusal, a refused entry or a lack of memory nothing was
-//! published.
+//! published. Its tests are the crate `router_tests`.
 //!
 //! # Example
 //! ```text

@@ -1,9 +1,11 @@
 //! How a router begins.
-ghost use Rattle.std.specs.Prelude.{◌≡◌, ◌≤◌, All, Some, length, map, IfOk, vec_len};
+ghost use Rattle.std.specs.Prelude.{◌≡◌, ◌≤◌, [], All, Some, length, map, IfOk, vec_len};
 ghost use Rattle.std.specs.Prelude.{vec_capacity};
+ghost use Rattle.std.specs.Arc.{arc_value};
 ghost use Rattle.load_words.specs.Seats.{IsUnused, words_of_seat};
 ghost use Rattle.machine.specs.Code.{settings_of};
 ghost use Rattle.router.specs.Opening.{IsReady, IsNamedBy, AreNew, beginning_of};
+ghost use Rattle.router.specs.Update.{updates_in};
 
 use crate::Mem;
 use crate::call::Call;
@@ -21,6 +23,25 @@ use std::alloc::{AllocError, Global};
 use std::sync::ledger::{Blank, Share};
 use std::sync::{Arc, Mutex, Wait};
 
+/// Two copies of the value in which nothing was changed and nothing is kept.
+fn first_copies(alloc: Global, settings: Arc<Settings>) -> Mem<(Current, Current)>
+    ensures first { IfOk result
+        (λ both. (updates_in both.0.past.value ≡ [])
+        × (arc_value both.0.settings ≡ arc_value settings)) }
+    ensures second { IfOk result
+        (λ both. (updates_in both.1.past.value ≡ [])
+        × (arc_value both.1.settings ≡ arc_value settings)) }
+{
+    let first = Current::start(alloc, Arc::try_clone(&settings)?)?;
+    match Current::start(alloc, settings) {
+        Ok(second) => Ok((first, second)),
+        Err(want) => {
+            drop(first);
+            Err(want)
+        }
+    }
+}
+
 /// A router for so many passes. Nothing was changed in it, and nothing is kept.
 pub fn open<R: Wait>(rt: &R, alloc: Global, settings: Settings, seats: u32) -> Mem<Opened>
     requires { (1 ≤ seats) × (seats ≤ 1024) }
@@ -28,9 +49,8 @@ pub fn open<R: Wait>(rt: &R, alloc: Global, settings: Settings, seats: u32) -> M
     ensures settings { IfOk result (λ o. (beginning_of o).settings ≡ settings_of settings) }
 {
     let settings = Arc::new(alloc, settings)?;
-    let first = Current::start(alloc, Arc::try_clone(&settings)?)?;
-    let second = Current::start(alloc, settings)?;
     let (loads, places) = load_words::start(alloc, seats)?;
+    let (first, second) = first_copies(alloc, settings)?;
     let (writer, readers) = start::<Current, Update, Call, R>(rt, alloc, first, second, seats)?;
     Ok(Opened {
         writer,
@@ -60,6 +80,19 @@ fn new_pass<J: Naming>(
         kept: 0,
         place: 0,
     }
+}
+
+/// Room for so many passes, and for as many readers.
+fn set_aside<J: Naming>(
+    alloc: Global,
+    count: usize,
+) -> Mem<(Vec<Pass<J>>, Vec<Reader<Current, Update, Call>>)>
+    ensures passes { IfOk result (λ r. (vec_len r.0 ≡ 0) × (count ≤ vec_capacity r.0)) }
+    ensures readers { IfOk result (λ r. (vec_len r.1 ≡ 0) × (count ≤ vec_capacity r.1)) }
+{
+    let passes = Vec::with_capacity(alloc, count)?;
+    let readers = Vec::with_capacity(alloc, count)?;
+    Ok((passes, readers))
 }
 
 /// The passes, each with a reader and a part of the ledger. What is left of the ledger's share
@@ -107,10 +140,7 @@ impl Opened {
             places,
             seats,
         } = self;
-        let (Ok(passes), Ok(room)) = (
-            Vec::with_capacity(alloc, readers.len()),
-            Vec::with_capacity(alloc, readers.len()),
-        ) else {
+        let Ok((passes, room)) = set_aside::<J>(alloc, readers.len()) else {
             match writer.close(rt, readers) {
                 Ok(()) => return Err(AllocError),
                 Err(_back) => unreachable!(),

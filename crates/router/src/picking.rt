@@ -81,19 +81,28 @@ pub(crate) fn with_fresh(answer: Answer, binding: Binding) -> Answer
             choice,
             client,
             residual,
-            fresh: _none,
-        } => Answer::Picked {
-            choice,
-            client,
-            residual,
-            fresh,
-        },
+            fresh: none,
+        } => {
+            drop(none);
+            Answer::Picked {
+                choice,
+                client,
+                residual,
+                fresh,
+            }
+        }
         Answer::None {
             why,
             place,
-            fresh: _none,
-        } => Answer::None { why, place, fresh },
-        Answer::NoEntry => Answer::NoEntry,
+            fresh: none,
+        } => {
+            drop(none);
+            Answer::None { why, place, fresh }
+        }
+        Answer::NoEntry => {
+            drop(fresh);
+            Answer::NoEntry
+        }
     }
 }
 
