@@ -18,6 +18,8 @@
 //! ended and had not announced more than the limit, and all that goes on for what came before it
 //! had been sent.
 //!
+//! Its tests are `http_tests`' module `bodies`.
+//!
 //! # Example
 //! ```
 //! let mut out = forward_head(alloc, &head, &going)?;

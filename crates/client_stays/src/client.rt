@@ -24,10 +24,11 @@ use workers::Stay;
 /// The connection of a client that has nothing to say for now, with a ticket of what was seen for
 /// it. Any server of its router may serve it further.
 ///
-/// Contracts see what its client told when it came and what it tells now, where the client is, if it
-/// told that when it came, its count of requests, its budget of retries, and what was seen for it. Its type keeps that some stays led to it from a
-/// client that came, each of which went on with what the one before it left, since nothing else is
-/// known of what comes out of a lock. It costs its socket and some hundred bytes.
+/// Contracts see what its client told when it came and what it tells now, where the client is, if
+/// it told that when it came, its count of requests, its budget of retries, and what was seen for
+/// it. Its type keeps that some stays led to it from a client that came, each of which went on with
+/// what the one before it left, since nothing else is known of what comes out of a lock. It costs
+/// its socket and some hundred bytes.
 pub struct IdleClient<P: Peer, J: Handling> {
     connection: Connection<P>,
     ticket: Ticket<J>,

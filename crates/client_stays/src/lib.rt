@@ -10,6 +10,8 @@
 //! the one before it left, with a server that had seen all that had been seen for it. Over such
 //! stays no request is answered from an older state than one before it, and the budget of retries
 //! is one ([`connections_forget_nothing`]).
+//!
+//! It is tested in `linker_tests`, where routers serve connections that wait.
 #![tactic(auto)]
 
 mod client;

@@ -89,67 +89,110 @@ grown : (front : List ℕ) (lines more : List (List ℕ)) (before after : List �
 grown front lines more before after stand put =
     put ∙ ap (λ b. b ++ ended more) stand ∙ append_assoc front (ended lines) (ended more) ∙ ap (λ t. front ++ t) (sym (ended-append lines more))
 
-regrouped : (q h v s c : List ℕ) (ks fs ts rs es : List (List ℕ))
-    → ((((((q ∷ h ∷ ks) ++ fs) ++ v ∷ []) ++ ts) ++ s ∷ []) ++ c ∷ []) ++ rs ++ es
-    ≡ q ∷ h ∷ ks ++ fs ++ v ∷ ts ++ s ∷ c ∷ rs ++ es
-regrouped q h v s c ks fs ts rs es = simp append_assoc
-
-all_joined : (q h v s c : List ℕ) (ks fs ts rs es : List (List ℕ)) (r0 r1 r2 r3 r4 r5 r6 r7 r8 r9 r10 : List ℕ)
-    → r1 ≡ r0 ++ ended (q ∷ [])
-    → r2 ≡ r1 ++ ended (h ∷ [])
-    → r3 ≡ r2 ++ ended ks
-    → r4 ≡ r3 ++ ended fs
-    → r5 ≡ r4 ++ ended (v ∷ [])
-    → r6 ≡ r5 ++ ended ts
-    → r7 ≡ r6 ++ ended (s ∷ [])
-    → r8 ≡ r7 ++ ended (c ∷ [])
-    → r9 ≡ r8 ++ ended rs
-    → r10 ≡ r9 ++ ended es
-    → r10 ≡ r0 ++ ended (q ∷ h ∷ ks ++ fs ++ v ∷ ts ++ s ∷ c ∷ rs ++ es)
-all_joined q h v s c ks fs ts rs es r0 r1 r2 r3 r4 r5 r6 r7 r8 r9 r10 e1 e2 e3 e4 e5 e6 e7 e8 e9 e10 =
-    let l3 = q ∷ h ∷ ks in
-    let l4 = l3 ++ fs in
-    let l5 = l4 ++ v ∷ [] in
-    let l6 = l5 ++ ts in
-    let l7 = l6 ++ s ∷ [] in
-    let l8 = l7 ++ c ∷ [] in
-    let g2 : r2 ≡ r0 ++ ended (q ∷ h ∷ []) = grown r0 (q ∷ []) (h ∷ []) r1 r2 e1 e2 in
-    let g3 : r3 ≡ r0 ++ ended l3 = grown r0 (q ∷ h ∷ []) ks r2 r3 g2 e3 in
-    let g5 : r5 ≡ r0 ++ ended l5 = grown r0 l4 (v ∷ []) r4 r5 (grown r0 l3 fs r3 r4 g3 e4) e5 in
-    let g7 : r7 ≡ r0 ++ ended l7 = grown r0 l6 (s ∷ []) r6 r7 (grown r0 l5 ts r5 r6 g5 e6) e7 in
-    let g9 : r9 ≡ r0 ++ ended (l8 ++ rs) = grown r0 l8 rs r8 r9 (grown r0 l7 (c ∷ []) r7 r8 g7 e8) e9 in
-    grown r0 (l8 ++ rs) es r9 r10 g9 e10
-    ∙ ap (λ ls. r0 ++ ended ls) (regrouped q h v s c ks fs ts rs es)
-
--- the bytes behind all lines are the head
-pub head_joined : (head : Head) (to : Going) (method said : List ℕ)
-    (r0 r1 r2 r3 r4 r5 r6 r7 r8 r9 r10 r11 : List ℕ)
+-- the bytes behind the request line, the host, the fields that go on and the framing
+pub request_joined : (head : Head) (to : Going) (method : List ℕ) (r0 r1 r2 r3 r4 : List ℕ)
     → method ≡ head.method
-    → said ≡ via head.version
     → r1 ≡ r0 ++ ended (request_line method to.target.now ∷ [])
     → r2 ≡ r1 ++ ended (line_of (codes "Host") to.host.now ∷ [])
     → r3 ≡ r2 ++ ended (map field_line (kept_but never_kept head.fields))
     → r4 ≡ r3 ++ ended (framing_lines to.framing)
-    → r5 ≡ r4 ++ ended (line_of (codes "Via") said ∷ [])
-    → r6 ≡ r5 ++ ended (table_lines (rules_of to.local.now))
-    → r7 ≡ r6 ++ ended (line_of (codes "l5d-dst-service") (canon_path to.service.now) ∷ [])
-    → r8 ≡ r7 ++ ended (line_of (codes "l5d-dst-client") to.client.now ∷ [])
-    → r9 ≡ r8 ++ ended (residual_lines to.residual.now)
-    → r10 ≡ r9 ++ ended (closing_lines to.closes)
-    → r11 ≡ r10 ++ crlf_bytes
-    → r11 ≡ r0 ++ forwarded head to
+    → r4
+    ≡ r0
+    ++ ended (
+    request_line head.method to.target.now
+    ∷ line_of (codes "Host") to.host.now
+    ∷ map field_line (kept_but never_kept head.fields)
+    ++ framing_lines to.framing
+    )
+request_joined head to method r0 r1 r2 r3 r4 m e1 e2 e3 e4 =
+    let q = request_line head.method to.target.now in
+    let h = line_of (codes "Host") to.host.now in
+    let ks = map field_line (kept_but never_kept head.fields) in
+    let g1 : r1 ≡ r0 ++ ended (q ∷ []) = e1 ∙ ap (λ t. r0 ++ ended (request_line t to.target.now ∷ [])) m in
+    let g2 : r2 ≡ r0 ++ ended (q ∷ h ∷ []) = grown r0 (q ∷ []) (h ∷ []) r1 r2 g1 e2 in
+    let g3 : r3 ≡ r0 ++ ended (q ∷ h ∷ ks) = grown r0 (q ∷ h ∷ []) ks r2 r3 g2 e3 in
+    grown r0 (q ∷ h ∷ ks) (framing_lines to.framing) r3 r4 g3 e4
+
+regrouped : (v s c : List ℕ) (ts rs es : List (List ℕ))
+    → ((((v ∷ ts) ++ s ∷ []) ++ c ∷ []) ++ rs) ++ es ≡ v ∷ ts ++ s ∷ c ∷ rs ++ es
+regrouped v s c ts rs es = simp append_assoc
+
+-- the bytes behind the router's own fields
+pub own_joined : (to : Going) (minor : ℕ) (said : List ℕ) (r0 r1 r2 r3 r4 r5 r6 : List ℕ)
+    → said ≡ via minor
+    → r1 ≡ r0 ++ ended (line_of (codes "Via") said ∷ [])
+    → r2 ≡ r1 ++ ended (table_lines (rules_of to.local.now))
+    → r3 ≡ r2 ++ ended (line_of (codes "l5d-dst-service") (canon_path to.service.now) ∷ [])
+    → r4 ≡ r3 ++ ended (line_of (codes "l5d-dst-client") to.client.now ∷ [])
+    → r5 ≡ r4 ++ ended (residual_lines to.residual.now)
+    → r6 ≡ r5 ++ ended (closing_lines to.closes)
+    → r6
+    ≡ r0
+    ++ ended (
+    line_of (codes "Via") (via minor)
+    ∷ table_lines (rules_of to.local.now)
+    ++ line_of (codes "l5d-dst-service") (canon_path to.service.now)
+    ∷ line_of (codes "l5d-dst-client") to.client.now
+    ∷ residual_lines to.residual.now
+    ++ closing_lines to.closes
+    )
+own_joined to minor said r0 r1 r2 r3 r4 r5 r6 w e1 e2 e3 e4 e5 e6 =
+    let v = line_of (codes "Via") (via minor) in
+    let ts = table_lines (rules_of to.local.now) in
+    let s = line_of (codes "l5d-dst-service") (canon_path to.service.now) in
+    let c = line_of (codes "l5d-dst-client") to.client.now in
+    let rs = residual_lines to.residual.now in
+    let es = closing_lines to.closes in
+    let l3 = (v ∷ ts) ++ s ∷ [] in
+    let l4 = l3 ++ c ∷ [] in
+    let g1 : r1 ≡ r0 ++ ended (v ∷ []) = e1 ∙ ap (λ t. r0 ++ ended (line_of (codes "Via") t ∷ [])) w in
+    let g2 : r2 ≡ r0 ++ ended (v ∷ ts) = grown r0 (v ∷ []) ts r1 r2 g1 e2 in
+    let g3 : r3 ≡ r0 ++ ended l3 = grown r0 (v ∷ ts) (s ∷ []) r2 r3 g2 e3 in
+    let g4 : r4 ≡ r0 ++ ended l4 = grown r0 l3 (c ∷ []) r3 r4 g3 e4 in
+    let g5 : r5 ≡ r0 ++ ended (l4 ++ rs) = grown r0 l4 rs r4 r5 g4 e5 in
+    grown r0 (l4 ++ rs) es r5 r6 g5 e6 ∙ ap (λ ls. r0 ++ ended ls) (regrouped v s c ts rs es)
+
+behind_sent : (sent : List (List ℕ)) (v s c : List ℕ) (ts rs es : List (List ℕ))
+    → sent ++ (v ∷ ts ++ s ∷ c ∷ rs ++ es) ≡ sent ++ v ∷ ts ++ s ∷ c ∷ rs ++ es
+behind_sent sent v s c ts rs es = simp append_assoc
+
+-- the bytes behind both and the empty line are the head
+pub head_joined : (head : Head) (to : Going) (r0 r1 r2 r3 : List ℕ)
+    → r1
+    ≡ r0
+    ++ ended (
+    request_line head.method to.target.now
+    ∷ line_of (codes "Host") to.host.now
+    ∷ map field_line (kept_but never_kept head.fields)
+    ++ framing_lines to.framing
+    )
+    → r2
+    ≡ r1
+    ++ ended (
+    line_of (codes "Via") (via head.version)
+    ∷ table_lines (rules_of to.local.now)
+    ++ line_of (codes "l5d-dst-service") (canon_path to.service.now)
+    ∷ line_of (codes "l5d-dst-client") to.client.now
+    ∷ residual_lines to.residual.now
+    ++ closing_lines to.closes
+    )
+    → r3 ≡ r2 ++ crlf_bytes
+    → r3 ≡ r0 ++ forwarded head to
 unfolding forwarded
-head_joined head to method said r0 r1 r2 r3 r4 r5 r6 r7 r8 r9 r10 r11 m v e1 e2 e3 e4 e5 e6 e7 e8 e9 e10 e11 =
-    let first : r1 ≡ r0 ++ ended (request_line head.method to.target.now ∷ [])
-    = e1 ∙ ap (λ t. r0 ++ ended (request_line t to.target.now ∷ [])) m in
-    let fifth : r5 ≡ r4 ++ ended (line_of (codes "Via") (via head.version) ∷ []) = e5 ∙ ap (λ t. r4 ++ ended (line_of (codes "Via") t ∷ [])) v in
-    e11
+head_joined head to r0 r1 r2 r3 e1 e2 e3 =
+    let q = request_line head.method to.target.now in
+    let h = line_of (codes "Host") to.host.now in
+    let v = line_of (codes "Via") (via head.version) in
+    let s = line_of (codes "l5d-dst-service") (canon_path to.service.now) in
+    let c = line_of (codes "l5d-dst-client") to.client.now in
+    let sent = q ∷ h ∷ map field_line (kept_but never_kept head.fields) ++ framing_lines to.framing in
+    let ts = table_lines (rules_of to.local.now) in
+    let rs = residual_lines to.residual.now in
+    let es = closing_lines to.closes in
+    e3
     ∙ ap (λ b. b ++ crlf_bytes)
-    (all_joined (request_line head.method to.target.now) (line_of (codes "Host") to.host.now) (line_of (codes "Via") (via head.version))
-    (line_of (codes "l5d-dst-service") (canon_path to.service.now)) (line_of (codes "l5d-dst-client") to.client.now)
-    (map field_line (kept_but never_kept head.fields)) (framing_lines to.framing)
-    (table_lines (rules_of to.local.now)) (residual_lines to.residual.now)
-    (closing_lines to.closes) r0 r1 r2 r3 r4 r5 r6 r7 r8 r9 r10 first e2 e3 e4 fifth e6 e7 e8 e9 e10)
+    (grown r0 sent (v ∷ ts ++ s ∷ c ∷ rs ++ es) r1 r2 e1 e2
+    ∙ ap (λ ls. r0 ++ ended ls) (behind_sent sent v s c ts rs es))
     ∙ append_assoc r0 (ended (lines head to)) crlf_bytes
 
 back_joined : (q v : List ℕ) (ks fs cs : List (List ℕ)) (r0 r1 r2 r3 r4 r5 r6 : List ℕ)

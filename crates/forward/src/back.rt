@@ -7,7 +7,6 @@ ghost use Rattle.forward.specs.Returned.{own_length_lines, returned, status_line
 
 use crate::dropped::{NEVER_BACK, push_kept};
 use crate::going::via;
-use crate::listed::Listed;
 use crate::{Bytes, Mem, ROOM};
 use http_wire::{Framing, ReplyHead, content_length, end_line, push_line};
 use itoa::Buffer;
@@ -68,9 +67,8 @@ fn push_head(
     ensures { OnOk result
         (out.new.items ≡ out.old.items ++ returned head.now framing chunked closing) }
 {
-    let listed = Listed::of(alloc, head.fields.items())?;
     push_status_line(out, head.status, head.reason.bytes())?;
-    push_kept(alloc, out, head.fields.items(), &NEVER_BACK, &listed)?;
+    push_kept(alloc, out, head.fields.items(), &NEVER_BACK)?;
     push_framing(out, head, framing, chunked)?;
     push_line(out, "Via", via(head.version).as_bytes())?;
     push_closing(out, closing)?;

@@ -1,6 +1,6 @@
 //! The received fields that go on.
 ghost use Rattle.std.specs.Prelude.{◌≡◌, ◌++◌, [], ◌∷◌, IfOk, OnOk, map};
-ghost use Rattle.forward.specs.Dropped.{has_name_of};
+ghost use Rattle.forward.specs.Dropped.{has_name_of, kept_but};
 ghost use Rattle.forward.specs.Kept.{is_left, left_by};
 ghost use Rattle.http_wire.specs.Lines.{ended, field_line};
 
@@ -45,6 +45,22 @@ pub(crate) const NEVER_BACK: [&str; 8] = [
 /// Adds the lines of the fields that go on: all but those of the names that never do, and those
 /// that the Connection fields list.
 pub(crate) fn push_kept(
+    alloc: Global,
+    head: &mut Bytes,
+    fields: &[Field],
+    never: &[&str],
+) -> Mem<()>
+    ensures { OnOk result (head.new.items ≡ head.old.items
+        ++ ended (map field_line (kept_but (map (λ n. n.now) never.now) fields.now))) }
+{
+    let listed = Listed::of(alloc, fields)?;
+    let pushed = push_left(alloc, head, fields, never, &listed);
+    drop(listed);
+    pushed
+}
+
+/// Adds the lines of the fields that have none of these names, and none that is listed.
+fn push_left(
     alloc: Global,
     head: &mut Bytes,
     fields: &[Field],

@@ -1,14 +1,14 @@
 //! The whole head, line by line.
-ghost use Rattle.std.specs.Prelude.{◌≡◌, ◌++◌, [], ◌∷◌, codes, IfOk, OnErr, OnOk};
+ghost use Rattle.std.specs.Prelude.{◌≡◌, ◌++◌, [], ◌∷◌, codes, map, IfOk, OnErr, OnOk};
 ghost use Rattle.name_tree.specs.Path.{canon_path};
 ghost use Rattle.dtab_table.specs.Dtab.{rules_of};
-ghost use Rattle.http_wire.specs.Lines.{ended, line_of};
-ghost use Rattle.forward.specs.Forwarded.{forwarded, framing_lines, request_line, residual_lines};
-ghost use Rattle.forward.specs.Forwarded.{table_lines, via};
+ghost use Rattle.http_wire.specs.Lines.{ended, field_line, line_of};
+ghost use Rattle.forward.specs.Dropped.{kept};
+ghost use Rattle.forward.specs.Forwarded.{closing_lines, forwarded, framing_lines, request_line};
+ghost use Rattle.forward.specs.Forwarded.{residual_lines, table_lines, via};
 
 use crate::back::push_closing;
 use crate::dropped::{NEVER_KEPT, push_kept};
-use crate::listed::Listed;
 use crate::{Bytes, Mem, ROOM};
 use dtab_table::{Dtab, write_dtab};
 use http_wire::{Framing, Head, end_line, push_line};
@@ -75,18 +75,44 @@ pub fn forward_head_into(alloc: Global, head: &Head, to: &Going<'_>, out: &mut B
 fn push_head(alloc: Global, out: &mut Bytes, head: &Head, to: &Going<'_>) -> Mem<()>
     ensures { OnOk result (out.new.items ≡ out.old.items ++ forwarded head.now to.now) }
 {
-    let listed = Listed::of(alloc, head.fields.items())?;
+    push_request(alloc, out, head, to)?;
+    push_own(alloc, out, head.version, to)?;
+    end_line(out)?;
+    Ok(())
+}
+
+/// Adds the request as it was meant: its request line, its host, the fields that go on, and how its
+/// body is framed.
+fn push_request(alloc: Global, out: &mut Bytes, head: &Head, to: &Going<'_>) -> Mem<()>
+    ensures { OnOk result (out.new.items ≡ out.old.items
+        ++ ended (request_line head.now.method to.now.target.now
+        ∷ line_of (codes "Host") to.now.host.now
+        ∷ map field_line (kept head.now.fields)
+        ++ framing_lines to.now.framing)) }
+{
     push_request_line(out, head.method.as_str(), to.target)?;
     push_line(out, "Host", to.host)?;
-    push_kept(alloc, out, head.fields.items(), &NEVER_KEPT, &listed)?;
+    push_kept(alloc, out, head.fields.items(), &NEVER_KEPT)?;
     push_framing(out, to.framing)?;
-    push_line(out, "Via", via(head.version).as_bytes())?;
+    Ok(())
+}
+
+/// Adds the router's own fields, for a request of this minor version.
+fn push_own(alloc: Global, out: &mut Bytes, minor: u8, to: &Going<'_>) -> Mem<()>
+    ensures { OnOk result (out.new.items ≡ out.old.items
+        ++ ended (line_of (codes "Via") (via minor)
+        ∷ table_lines (rules_of to.now.local.now)
+        ++ line_of (codes "l5d-dst-service") (canon_path to.now.service.now)
+        ∷ line_of (codes "l5d-dst-client") to.now.client.now
+        ∷ residual_lines to.now.residual.now
+        ++ closing_lines to.now.closes)) }
+{
+    push_line(out, "Via", via(minor).as_bytes())?;
     push_table(alloc, out, to.local)?;
     push_service(out, to.service)?;
     push_line(out, "l5d-dst-client", to.client)?;
     push_residual(out, to.residual)?;
     push_closing(out, to.closes)?;
-    end_line(out)?;
     Ok(())
 }
 

@@ -13,6 +13,8 @@
 //! [`back_head_into`] put the same bytes into a buffer. [`heads_read_back`] says of which heads and
 //! ways what is written is read as it was meant.
 //!
+//! Its tests are `http_tests`' module `forwarding`.
+//!
 //! # Example
 //! ```
 //! // `GET / HTTP/1.1`, `Host: web`, `Connection: x-gone`, `X-Gone: 1`, `X-Kept: 2`
@@ -29,7 +31,9 @@
 //! };
 //! assert_eq!(
 //!     forward_head(alloc, &head, &to)?.as_slice(),
-//!     b"GET / HTTP/1.1\r\nHost: web\r\nX-Kept: 2\r\nVia: 1.1 linkerd\r\nl5d-dst-service: /svc/web\r\nl5d-dst-client: /$/inet/127.0.0.1/9001\r\nConnection: close\r\n\r\n"
+//!     b"GET / HTTP/1.1\r\nHost: web\r\nX-Kept: 2\r\nVia: 1.1 linkerd\r\n\
+//!       l5d-dst-service: /svc/web\r\nl5d-dst-client: /$/inet/127.0.0.1/9001\r\n\
+//!       Connection: close\r\n\r\n"
 //! );
 //! ```
 #![tactic(auto)]

@@ -23,6 +23,8 @@
 //! [`readings_exclude_one_another`]), and what was read has the bytes that may go on
 //! (`specs/Sound.antt`).
 //!
+//! Its tests are `http_tests`' modules `heads` and `requests`.
+//!
 //! # Example
 //! ```
 //! let mut rest = Rest::room(alloc)?;

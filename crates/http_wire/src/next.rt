@@ -44,7 +44,7 @@ pub fn read_next_head<P: Peer>(alloc: Global, peer: &mut P, rest: &mut Rest) -> 
 }
 
 /// What came of a wait for the begin of a request.
-#[derive(Clone, Copy, Debug, PartialEq, Eq)]
+#[derive(Clone, Copy)]
 enum Awaited {
     /// Bytes of it are kept.
     Begun,

@@ -14,7 +14,7 @@ use httparse::{Error, Status};
 use std::alloc::{AllocError, Global};
 
 /// What was parsed of some bytes.
-#[derive(Debug, Drop)]
+#[derive(Drop)]
 pub(crate) enum Parsed {
     /// A head, and its length with the empty lines before it.
     Whole(Head, usize),
@@ -76,9 +76,9 @@ fn head_of(alloc: Global, bytes: &[u8], parts: &RequestSpans, spans: &[HeaderSpa
     requires token { IsToken (span_bytes bytes.now parts.now.method) }
     ensures { IfOk result (IsHeadAt bytes.now parts.now spans.now) }
 {
-    let method = method_of(alloc, parts.method.of(bytes))?;
     let target = Text::of(Vec::from_slice(alloc, parts.path.of(bytes))?);
     let fields = fields_of(alloc, bytes, spans)?;
+    let method = method_of(alloc, parts.method.of(bytes))?;
     Ok(Head {
         method,
         target,

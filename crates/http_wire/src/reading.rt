@@ -87,7 +87,7 @@ pub fn read_request_head<P: Peer>(
 }
 
 /// What one turn of reading came to.
-#[derive(Debug, Drop)]
+#[derive(Drop)]
 enum Turn {
     /// The answer.
     Answered(Result<Head, HeadEnd>),

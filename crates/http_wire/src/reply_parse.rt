@@ -12,7 +12,7 @@ use httparse::{Error, Status};
 use std::alloc::Global;
 
 /// What was parsed of some bytes.
-#[derive(Debug, Drop)]
+#[derive(Drop)]
 pub(crate) enum ParsedReply {
     /// A head, and its length with the empty lines before it.
     Whole(ReplyHead, usize),

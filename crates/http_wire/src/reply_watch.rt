@@ -6,7 +6,7 @@ use crate::section::Place;
 
 /// How far the bytes of a reply's head have come. What may follow there, up to the head's end, is
 /// `Completes` of `specs/Replies.antt`.
-#[derive(Clone, Copy, Debug, PartialEq, Eq)]
+#[derive(Clone, Copy)]
 pub(crate) enum StatusPlace {
     /// In the empty lines before the status line.
     Before,
@@ -123,7 +123,7 @@ fn is_minor(byte: u8) -> bool
 
 /// Follows bytes as they come, each once, until they show the end of a reply's head, or that there
 /// is none.
-#[derive(Debug, Drop)]
+#[derive(Drop)]
 pub(crate) struct ReplyWatch {
     place: StatusPlace,
 }

@@ -34,7 +34,7 @@ impl Model for Rest {
 }
 
 /// Why no bytes could be read.
-#[derive(Clone, Copy, Debug, PartialEq, Eq)]
+#[derive(Clone, Copy)]
 pub(crate) enum FillFault {
     /// The count of read faults rose.
     ReadFault,

@@ -6,7 +6,7 @@ use httparse::{is_header_name_token, is_header_value_token};
 
 /// Where the next byte of the field lines stands. What may follow there, up to the head's end, is
 /// `Completes` of `specs/Places.antt`.
-#[derive(Clone, Copy, Debug, PartialEq, Eq)]
+#[derive(Clone, Copy)]
 pub(crate) enum Place {
     /// A line's first byte.
     Start,

@@ -13,7 +13,7 @@ use std::alloc::Global;
 pub(crate) const MOST_HEAD: usize = 65536;
 
 /// What was seen at the front of some bytes.
-#[derive(Debug, Drop)]
+#[derive(Drop)]
 pub(crate) enum Seen {
     /// A head, and its length with the empty lines before it.
     Whole(Head, usize),

@@ -58,7 +58,11 @@ pub fn read_target(alloc: Global, head: &Head) -> Result<Target, TargetFault>
     }
     let text = head.target.bytes();
     match Uri::from_bytes(alloc, text) {
-        Ok(uri) => served_target(alloc, method, text, &uri),
+        Ok(uri) => {
+            let target = served_target(alloc, method, text, &uri);
+            drop(uri);
+            target
+        }
         Err(UriError::Invalid(_)) => Err(TargetFault::NoTarget),
         Err(UriError::OutOfMemory) => Err(TargetFault::OutOfMemory),
     }

@@ -7,7 +7,7 @@ ghost use Rattle.http_wire.specs.Places.{StandsAt};
 use crate::section::Place;
 
 /// How far the bytes of a request's head have come.
-#[derive(Clone, Copy, Debug, PartialEq, Eq)]
+#[derive(Clone, Copy)]
 pub(crate) enum Progress {
     /// In the empty lines before the request line.
     Before,
@@ -97,7 +97,7 @@ fn line(byte: u8) -> Progress
 /// line has ended, where the head has, and at a byte that can stand in no head. So bytes that come
 /// one by one are not parsed from the front at each of them, and a head and a refusal are told at
 /// once.
-#[derive(Debug, Drop)]
+#[derive(Drop)]
 pub(crate) struct Watch {
     progress: Progress,
     due: bool,

@@ -18,6 +18,8 @@
 //! [`cleared_requests_bring_nothing`] is the law that nothing of the context is left in it. That
 //! memory is there is not proved.
 //!
+//! Its tests are `http_tests`' module `naming`.
+//!
 //! # Example
 //! ```
 //! // A request `GET //a//b/c?d HTTP/1.1`.

@@ -17,10 +17,16 @@
 //! whose one Content-Length is the length of its body. [`test_request`] answers what was read of a
 //! request that passes each test, or the first of the tests in `specs/Tests.antt` that refuses it.
 //!
+//! Its tests are `http_tests`' module `replies`.
+//!
 //! # Example
 //! ```
 //! let reply = own_reply(alloc, OwnError::Host, true, true)?;
-//! assert_eq!(reply.as_slice(), b"HTTP/1.1 400 Bad Request\r\nContent-Type: text/plain\r\nl5d-err: host\r\nContent-Length: 5\r\nConnection: close\r\n\r\nhost\n");
+//! assert_eq!(
+//!     reply.as_slice(),
+//!     b"HTTP/1.1 400 Bad Request\r\nContent-Type: text/plain\r\nl5d-err: host\r\n\
+//!       Content-Length: 5\r\nConnection: close\r\n\r\nhost\n",
+//! );
 //! ```
 #![tactic(auto)]
 

@@ -1,11 +1,11 @@
 -- The tests of a request: those of its head alone, and behind them the path that it names and its
 -- own table.
-use Rattle.std.proofs.Common.{◌≡◌, ◌∙◌, ℕ, List, refl, sym, ap, subst, inl, inr, Option, Some, None}
+use Rattle.std.proofs.Common.{◌≡◌, ◌∙◌, List, refl, sym, ap, inl, inr, Option, Some, None}
 use Rattle.std.proofs.Common.{Result, Ok, Err}
 use Rattle.name_tree.specs.Path.{Labels}
 use Rattle.dtab_table.specs.Rules.{Rule as DtabRule}
 use Rattle.http_wire.specs.declared.head.Head.{Head}
-use Rattle.http_wire.specs.Target.{Form, form_of}
+use Rattle.http_wire.specs.Target.{form_of}
 use Rattle.identifier.specs.declared.fault.IdentifyFault.{IdentifyFault}
 use Rattle.identifier.specs.declared.fault.IdentifyFault.TheVariants.{Unidentified, OutOfMemory}
 use Rattle.identifier.specs.declared.rule.Rule.{Rule}

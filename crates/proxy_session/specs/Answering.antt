@@ -64,8 +64,8 @@ has_reply_body head = not (bytes_eq head.method (codes "HEAD"))
 
 -- ---- the replies that the router makes
 
--- a reply was written whole, or a prefix of it, which the count of failed writes shows; or there was
--- no memory for it
+-- a reply was written whole, or a prefix of it, which the count of failed writes shows; or there
+-- was no memory for it
 abbrev pub Writes : Line → Line → List ℕ → Result (Unit {0}) Ended → Type 0
 Writes old new reply (Ok x) = Gives old new reply × (new.write_faults ≡ old.write_faults)
 Writes old new reply (Err ended.WriteFault) =

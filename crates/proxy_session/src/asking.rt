@@ -119,7 +119,7 @@ impl AdmittedAnswer {
 }
 
 /// What is kept for an ask, as a pass saw it that was let in.
-#[derive(Clone, Copy, Debug, PartialEq, Eq)]
+#[derive(Clone, Copy)]
 enum AdmittedPeek {
     /// A delegation, and there is this replica. Its names were written.
     Hit(Choice),
@@ -233,13 +233,24 @@ fn keep<J: Naming, R: Wait>(
             client,
             residual,
             fresh,
-        } => match texts_of(context.alloc, &client, &residual) {
-            Ok(texts) => match give_back(context, pass, fresh) {
-                Ok(()) => Ok(ReplicaPick::Replica { choice, texts }),
-                Err(want) => Err(want),
-            },
-            Err(want) => Err(want),
-        },
+        } => {
+            let texts = texts_of(context.alloc, &client, &residual);
+            drop(client);
+            drop(residual);
+            match texts {
+                Ok(texts) => match give_back(context, pass, fresh) {
+                    Ok(()) => Ok(ReplicaPick::Replica { choice, texts }),
+                    Err(want) => {
+                        drop(texts);
+                        Err(want)
+                    }
+                },
+                Err(want) => {
+                    drop(fresh);
+                    Err(want)
+                }
+            }
+        }
         AdmittedAnswer::None { why, fresh } => match give_back(context, pass, fresh) {
             Ok(()) => Ok(ReplicaPick::None(why)),
             Err(want) => Err(want),

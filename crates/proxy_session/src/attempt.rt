@@ -28,7 +28,7 @@ use router::{Choice, Naming};
 use std::sync::Wait;
 
 /// How an attempt ends.
-#[derive(Clone, Copy, Debug, PartialEq, Eq)]
+#[derive(Clone, Copy)]
 pub(crate) enum Attempt {
     /// It was the last one of its request, behind which the connection ends so; `None` where it
     /// goes on.
@@ -38,7 +38,7 @@ pub(crate) enum Attempt {
 }
 
 /// An attempt that was made.
-#[derive(Clone, Copy, Debug)]
+#[derive(Clone, Copy)]
 pub(crate) struct Made {
     /// How it ends.
     pub(crate) how: Attempt,
@@ -81,7 +81,9 @@ impl<J: Naming, D: Dialer, C: Clock> Server<J, D, C> {
                     closes: !self.way.dialer.keeps(),
                     hit: asked.hit,
                 };
-                self.send_found(context, connection, &going, &asked.pick)
+                let made = self.send_found(context, connection, &going, &asked.pick);
+                drop(asked);
+                made
             }
             Err(_) => {
                 let end = Some(Ended::OutOfMemory);

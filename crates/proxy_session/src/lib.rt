@@ -54,6 +54,8 @@
 //! (`stay_told` of `specs/Recorded.antt`): where the client is, the head as it was heard, the path
 //! that it named, and its numbers.
 //!
+//! Its tests are `session_tests`.
+//!
 //! # Example
 //! ```text
 //! let rule = Rule {

@@ -7,7 +7,7 @@ use crate::Mem;
 use crate::context::Context;
 use addr_book::Addr;
 use line_base::Clock;
-use machine::{Change, Reply};
+use machine::Change;
 use router::{Naming, Pass};
 use std::sync::Wait;
 
@@ -30,13 +30,11 @@ pub(crate) fn report<J: Naming, C: Clock, R: Wait>(
         .router
         .change(context.rt, context.alloc, pass, change)
     {
+        // How it was taken in is told by the pass.
         Ok(reply) => {
-            forget(reply);
+            drop(reply);
             Ok(())
         }
         Err(want) => Err(want),
     }
 }
-
-/// Lets a reply go: how a report was taken in is told by the pass.
-fn forget(_reply: Reply) {}

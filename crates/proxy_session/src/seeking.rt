@@ -31,16 +31,19 @@ impl SoughtRequest {
     {
         let SoughtRequest {
             framing: _,
-            target: _,
-            host: _,
+            target,
+            host,
             ask,
         } = self;
+        drop(target);
+        drop(host);
         let Ask {
             path,
-            local: _,
+            local,
             moment: _,
             words: _,
         } = ask;
+        drop(local);
         path
     }
 }
@@ -53,13 +56,27 @@ pub(crate) fn seek(alloc: Global, rule: &Rule, head: &Head) -> Result<SoughtRequ
     let tested = test_request(alloc, head, None)?;
     let path = match identify(alloc, rule, head, tested.host.as_slice()) {
         Ok(path) => path,
-        Err(IdentifyFault::Unidentified) => return Err(Refusal::Own(OwnError::Unidentified)),
-        Err(IdentifyFault::OutOfMemory) => return Err(Refusal::OutOfMemory),
+        Err(IdentifyFault::Unidentified) => {
+            drop(tested);
+            return Err(Refusal::Own(OwnError::Unidentified));
+        }
+        Err(IdentifyFault::OutOfMemory) => {
+            drop(tested);
+            return Err(Refusal::OutOfMemory);
+        }
     };
     let local = match local_dtab(alloc, head) {
         Ok(local) => local,
-        Err(LocalFault::BadDtab) => return Err(Refusal::Own(OwnError::Dtab)),
-        Err(LocalFault::OutOfMemory) => return Err(Refusal::OutOfMemory),
+        Err(LocalFault::BadDtab) => {
+            drop(path);
+            drop(tested);
+            return Err(Refusal::Own(OwnError::Dtab));
+        }
+        Err(LocalFault::OutOfMemory) => {
+            drop(path);
+            drop(tested);
+            return Err(Refusal::OutOfMemory);
+        }
     };
     let Tested {
         target,

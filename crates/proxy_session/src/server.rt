@@ -78,9 +78,11 @@ impl<J: Naming, D, C> Server<J, D, C> {
             way,
             clock,
             words,
-            rest: _,
-            names: _,
+            rest,
+            names,
         } = self;
+        drop(rest);
+        drop(names);
         Parts {
             pass,
             dialer: way.into_dialer(),

@@ -51,8 +51,8 @@ impl<J: Naming, D: Dialer, C: Clock> Server<J, D, C> {
     /// `reserve + percent * requests / 100`.
     ///
     /// It ends with `PeerEnded` and `Cut` only where a read gave the end, and a client that tells
-    /// its bytes has then given them all; and with `ReadFault` and `WriteFault` only where a read or
-    /// a write failed. So where none does, every request that the client's bytes begin with is
+    /// its bytes has then given them all; and with `ReadFault` and `WriteFault` only where a read
+    /// or a write failed. So where none does, every request that the client's bytes begin with is
     /// answered, up to one that closes, unless there is no memory. `Spent` says that 10,000 were,
     /// and `Drained` that the listeners are closing: it comes only where the client's connection
     /// said so. `Quiet` comes where that said that nothing came for a while, and only there.
@@ -168,7 +168,10 @@ impl<J: Naming, D: Dialer, C: Clock> Server<J, D, C> {
                 let served = self.proxy_once(context, connection, &heard, is_last(spent, closing));
                 gate.done(worker);
                 tell(recorder, client, &heard, &served);
-                paused_by(drained(closing, served.end))
+                let end = served.end;
+                drop(served);
+                drop(heard);
+                paused_by(drained(closing, end))
             }
             NextHead::Ended(end) => {
                 Some(Paused::Ended(end_without_head(

@@ -108,16 +108,21 @@ fn decide(
     ensures more { IfNone result ((is_interim head.status ≡ true) × (dropped < 8)) }
 {
     if is_interim(head.status) {
+        drop(head);
         if dropped + 1 < MOST_HEADS {
             return None;
         }
         return Some(Err(HeadFault::NoReply));
     }
     if head.status == 101 {
+        drop(head);
         return Some(Err(HeadFault::NoReply));
     }
     match reply_framing(method, &head) {
         Ok(framing) => Some(Ok((head, framing))),
-        Err(_) => Some(Err(HeadFault::NoReply)),
+        Err(_) => {
+            drop(head);
+            Some(Err(HeadFault::NoReply))
+        }
     }
 }

@@ -29,6 +29,8 @@
 //! would have moved. Behind each try no connection is open: it was ended, or it was kept where
 //! `is_reusable` says so.
 //!
+//! Its tests are `session_tests`: modules `keeping` and `retries` above all.
+//!
 //! # Example
 //! ```text
 //! let mut way = Way::of(dialer, WayRoom::new(alloc)?);

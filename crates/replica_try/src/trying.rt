@@ -192,7 +192,11 @@ impl Try<'_> {
     {
         way.back.clear();
         match receive_final(alloc, &self.head.method, &mut way.dialer, &mut way.back) {
-            Ok((reply, framing)) => { self.pass_reply(alloc, &reply, framing, peer, way, sent) }
+            Ok((reply, framing)) => {
+                let tried = self.pass_reply(alloc, &reply, framing, peer, way, sent);
+                drop(reply);
+                tried
+            }
             Err(fault) => Tried::of_head(sent, fault),
         }
     }

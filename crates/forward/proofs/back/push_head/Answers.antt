@@ -1,19 +1,15 @@
-use Rattle.std.proofs.Common.{◌≡◌, ℕ, List, ◌++◌, map, ap, subst, ◌∙◌}
+use Rattle.std.proofs.Common.{◌≡◌, List, ◌++◌, map, subst, ◌∙◌}
 use Rattle.http_wire.specs.declared.head.Field.{Field}
 use Rattle.http_wire.specs.Lines.{ended, field_line}
-use Rattle.forward.specs.Dropped.{kept_but, named_in_connection, never_back}
-use Rattle.forward.specs.Listed.{StandFor}
-use Rattle.forward.proofs.Joined.{returned_joined, left_kept}
+use Rattle.forward.specs.Dropped.{kept_but, never_back}
+use Rattle.forward.proofs.Joined.{returned_joined}
 use Rattle.forward.proofs.back.push_head.Goals as goal
 
 pub returns : goal.returns
 returns c =
-    let listed = c.in_ok-listed.listed in
-    let stands = subst (λ (fs : List Field). StandFor listed.names.items (named_in_connection fs)) c.items.ensures c.in_ok-listed.ensures in
     let kept : c.push_kept.new.head.items ≡ c.push_status_line.new.head.items ++ ended (map field_line (kept_but never_back c.args.head.now.fields)) =
-    c.in_ok-push_kept.ensures
-    ∙ ap (λ (lines : List ℕ). c.push_status_line.new.head.items ++ lines)
-    (left_kept never_back listed c.items-2.result.now c.args.head.now.fields c.items-2.ensures stands) in
+    subst (λ (fs : List Field). c.push_kept.new.head.items ≡ c.push_status_line.new.head.items ++ ended (map field_line (kept_but never_back fs)))
+    c.items.ensures c.in_ok-push_kept.ensures in
     returned_joined c.args.head.now c.args.framing c.args.chunked c.args.closing c.as_bytes.result.now c.bytes.result.now c.args.out.now.items
     c.push_status_line.new.head.items c.push_kept.new.head.items c.push_framing.new.head.items c.push_line.new.head.items c.push_closing.new.head.items
     c.end_line.new.head.items c.bytes.ensures (c.as_bytes.ensures.value ∙ c.via.ensures)

@@ -1,10 +1,10 @@
-use Rattle.forward.proofs.Joined.{nothing_left, left_more}
+use Rattle.std.proofs.Common.{◌≡◌, ℕ, List, ◌++◌, OnOk, map, refl, subst}
+use Rattle.forward.proofs.Joined.{left_kept}
 use Rattle.forward.proofs.dropped.push_kept.Goals as goal
 
-pub loop-field-init : goal.loop-field-init
-loop-field-init c = nothing_left _ c.args.listed.now c.args.head.now.items
-
-pub loop-field-preserved : goal.loop-field-preserved
-loop-field-preserved c =
-    left_more _ c.args.listed.now c.args.fields.now c.loop-field.field-index c.field-item.result _ _ _ c.loop-field-test.true c.field-item.is c.loop-field.invariant
-    c.in_ok-push_where_left.ensures
+pub returns : goal.returns
+returns c =
+    subst (λ (lines : List ℕ). OnOk c.push_left-pushed.result
+    (c.push_left-pushed.new.head.items ≡ c.args.head.now.items ++ lines))
+    (left_kept (map (λ n. n.now) c.args.never.now) c.in_ok-listed.listed c.args.fields.now c.args.fields.now refl c.in_ok-listed.ensures)
+    c.push_left-pushed.ensures

@@ -1,7 +1,5 @@
-use Rattle.std.proofs.Common.{ℕ, List, Result, Ok, Err, Some, None, ap, subst, sym, ◌∙◌}
-use Rattle.name_tree.specs.Path.{Labels}
+use Rattle.std.proofs.Common.{ℕ, List, Err, Some, None, subst}
 use Rattle.http_wire.specs.Target.{form_of}
-use Rattle.identifier.specs.declared.fault.IdentifyFault.{IdentifyFault}
 use Rattle.identifier.specs.declared.fault.LocalFault.{LocalFault}
 use Rattle.identifier.specs.Local.{Gives, local_rules}
 use Rattle.identifier.specs.Naming.{Answers, identified}

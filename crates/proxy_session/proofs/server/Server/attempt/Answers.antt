@@ -9,15 +9,15 @@ use Rattle.replica_try.proofs.Resting.{idle_same, rests_same}
 use Rattle.proxy_session.proofs.Slots.{finding_slot, finding_word, stopping_slot}
 use Rattle.proxy_session.proofs.server.Server.attempt.Goals as goal
 
-pub send_found-requires-clause-word : goal.send_found-requires-clause-word
-send_found-requires-clause-word g c =
+pub send_found-made-requires-clause-word : goal.send_found-made-requires-clause-word
+send_found-made-requires-clause-word g c =
     let f = c.in-Ok.ensures.ok in
     word_found f.0 c.find.new.names c.in-Ok.asked.pick f.2
     (finding_word g.J.Naming.settings (caller_of c.args.self.now.pass) (caller_of c.find.new.pass)
     (ask_of c.args.request.now.ask) f.0 f.1)
 
-pub send_found-requires-clause-free : goal.send_found-requires-clause-free
-send_found-requires-clause-free g c =
+pub send_found-made-requires-clause-free : goal.send_found-made-requires-clause-free
+send_found-made-requires-clause-free g c =
     let f = c.in-Ok.ensures.ok in
     finding_slot g.J.Naming.settings (caller_of c.args.self.now.pass) (caller_of c.find.new.pass)
     (ask_of c.args.request.now.ask) f.0 f.1 ∙ c.requires.free
@@ -38,17 +38,17 @@ returns-in-Ok-clause-asks g c =
       hit = c.in-Ok.asked.hit;
     } in
     asks_sent g.J.Naming.settings (sought_of c.args.request.now) going
-    (at c.args.connection.now c.args.self.now) (at c.send_found.new.connection
-    c.send_found.new.self)
+    (at c.args.connection.now c.args.self.now) (at c.send_found-made.new.connection
+    c.send_found-made.new.self)
     (record {
       host = c.as_slice-in-Ok.ensures.value;
       line = c.as_slice.ensures.value;
       framing = refl;
       closes = ap not c.keeps.ensures;
     }) (caller_of c.find.new.pass)
-    c.args.connection.now.budget c.send_found.new.connection.budget refl refl
-    f.0 c.find.new.names c.in-Ok.asked.pick c.send_found.result.how c.send_found.result.done f.1
-    f.2 f.3 c.send_found.ensures.words c.send_found.ensures.sends
+    c.args.connection.now.budget c.send_found-made.new.connection.budget refl refl
+    f.0 c.find.new.names c.in-Ok.asked.pick c.send_found-made.result.how c.send_found-made.result.done f.1
+    f.2 f.3 c.send_found-made.ensures.words c.send_found-made.ensures.sends
 
 pub returns-in-Err-clause-asks : goal.returns-in-Err-clause-asks
 returns-in-Err-clause-asks g c = (

@@ -17,14 +17,14 @@ returns-in-Err-clause-replies g c =
 pub returns-in-Ok-clause-replies : goal.returns-in-Ok-clause-replies
 returns-in-Ok-clause-replies g c =
     let h = c.in-Ok.ensures.hears in
-    let b = c.pass_reply.ensures.backs in
+    let b = c.pass_reply-tried.ensures.backs in
     hears_one c.args.self.now.head.now c.args.self.now.last c.args.sent
     (g.P.Peer.line c.args.peer.now)
     (g.D.Dialer.upstream c.args.way.now.dialer).faults
     (g.D.Dialer.upstream c.receive_final.new.dialer).faults
     (g.D.Dialer.upstream c.args.way.now.dialer).log
     (g.D.Dialer.upstream c.receive_final.new.dialer).log c.clear.new.self c.receive_final.new.rest
-    c.clear.ensures (g.P.Peer.line c.pass_reply.new.peer) c.in-Ok.reply c.in-Ok.framing
-    (g.D.Dialer.upstream c.pass_reply.new.way.dialer).faults
-    (g.D.Dialer.upstream c.pass_reply.new.way.dialer).log c.pass_reply.result h.0 h.1 h.2 b.0
+    c.clear.ensures (g.P.Peer.line c.pass_reply-tried.new.peer) c.in-Ok.reply c.in-Ok.framing
+    (g.D.Dialer.upstream c.pass_reply-tried.new.way.dialer).faults
+    (g.D.Dialer.upstream c.pass_reply-tried.new.way.dialer).log c.pass_reply-tried.result h.0 h.1 h.2 b.0
     b.1 b.2

@@ -1,7 +1,7 @@
 use Rattle.std.proofs.Common.{◌≡◌, ◌++◌, map, take}
 use Rattle.http_wire.specs.Lines.{ended, field_line}
 use Rattle.forward.specs.Kept.{left_by}
-use Rattle.forward.proofs.dropped.push_kept.Given as goal
+use Rattle.forward.proofs.dropped.push_left.Given as goal
 
 abbrev pub invariant-loop-field : goal.invariant-loop-field
 invariant-loop-field l =
