@@ -9,6 +9,8 @@
 //! thread watches for a signal that asks for an end and that whoever started the program has
 //! blocked (`env --block-signal=TERM,INT`).
 //!
+//! A run of it is stored beside its sources; the tests of its commands are those of `linker_tests`.
+//!
 //! # What is proved
 //! That the code to exit with is the status of the words is a clause of
 //! [`run_arguments`](linker_commands::run_arguments); what the statuses stand for are clauses of

@@ -13,7 +13,8 @@
 //!
 //! [`run_arguments`] calls it with the arguments of a process and gives the code to exit with. The
 //! program is a `main` that makes an [`Outside`] of the machine's files, sockets, clock and
-//! streams: so all that it decides is decided here, where tests hand in an outside in memory.
+//! streams: so all that it decides is decided here, where tests hand in an outside in memory. Its
+//! tests are those of `linker_tests`.
 //!
 //! # What is proved
 //! At status 0 the output has grown by the replay of what was read, as `specs/Replay.antt` defines

@@ -17,6 +17,9 @@
 //! a row, close all listeners. Then each job is taken apart, the connections that still wait are
 //! ended, the listeners go back to the net, and the router is ended.
 //!
+//! Its tests are `linker_tests`' modules `routers`, `quiet`, `breaking` and `access_logs`, which
+//! call it as `linker serve` does, over a net in memory.
+//!
 //! # What is proved
 //! [`start`] leaves new listeners, one for each place of its addresses, and passes that have all
 //! seen the services set. It answers that the book has no room only where `BookRefuses` of
