@@ -14,7 +14,7 @@ PROGRAM = r'''//! Times the reading of heads.
 use dtab_table::Dtab;
 use forward::{Going, forward_head};
 use http_wire::{Framing, Head, Rest, read_request_head};
-use line_base::{MemPeer, MemSink, MemSource};
+use line_doubles::{MemPeer, MemSink, MemSource};
 use name_tree::Path;
 use std::alloc::{AllocError, Global};
 use std::io;
@@ -137,4 +137,4 @@ fn main(rt: HostRuntime) -> io::Result<()> {
 '''
 
 if __name__ == "__main__":
-    print_output_of("heads", PROGRAM, ["line_base", "http_wire", "name_tree", "dtab_table", "forward"])
+    print_output_of("heads", PROGRAM, ["line_base", "line_doubles", "http_wire", "name_tree", "dtab_table", "forward"])

@@ -23,7 +23,8 @@ use dtab_table::read_dtab;
 use exchange_record::NoRecorder;
 use http_wire::FieldName;
 use identifier::{Kind, Rule};
-use line_base::{Dialer, Failed, Gate, MemClock, Next, Peer, SocketAddress};
+use line_base::{Dialer, Failed, Gate, Next, Peer, SocketAddress};
+use line_doubles::MemClock;
 use machine::{Change, Settings};
 use name_tree::read_path;
 use proxy_session::{Connection, Context, Parts, Room, Server};
@@ -452,7 +453,7 @@ abbrev pub ghosts-time_named-J-Ledger : goal.ghosts-time_named-J-Ledger
 ghosts-time_named-J-Ledger g a = ledger_of (beginning_of a.opened)
 """}
 
-LIBRARIES = """line_base step_count name_tree dtab_table addr_book ns_store choose_core bind_core machine bind_cache one_history router_log load_words snap_cell router http_wire identifier
+LIBRARIES = """line_base line_doubles step_count name_tree dtab_table addr_book ns_store choose_core bind_core machine bind_cache one_history router_log load_words snap_cell router http_wire identifier
 exchange_record proxy_session rand_core rand_pcg body_wire forward own_reply logbook left_right crossbeam_utils atomic_table httparse http"""
 
 CASES = {

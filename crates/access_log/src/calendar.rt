@@ -4,7 +4,7 @@ ghost use Rattle.access_log.specs.Calendar.{date_of, days_in_month, days_in_year
 ghost use Rattle.access_log.specs.Calendar.{is_leap_year};
 
 /// A date of the Gregorian calendar.
-#[derive(Clone, Copy, Debug, PartialEq, Eq)]
+#[derive(Clone, Copy)]
 pub(crate) struct Date {
     /// The year.
     pub(crate) year: u32,

@@ -10,7 +10,7 @@
 //! What a request asks for is a function of its head, the target that goes on, and its body, and of
 //! whether the program is ready for more connections: `admin_demand` of `specs/Demand.antt`. The
 //! text of the metrics has the numbers of the state, of each service, and of the sums
-//! (`specs/Metrics.antt`).
+//! (`specs/Metrics.antt`). Its tests are `api_tests`' modules `admin` and `metrics`.
 //!
 //! # Example
 //! ```text

@@ -22,7 +22,17 @@ pub fn metrics_response(alloc: Global, said: Reply, kept: usize, sums: &Sums) ->
     ensures { IfOk result (λ response. TellsMetrics (reply_value said) kept sums.now
         (response_value response)) }
 {
-    let body = metrics_body(alloc, &said, kept, sums)?;
+    let told = response_of(alloc, &said, kept, sums);
+    drop(said);
+    told
+}
+
+/// The response with the text of all metrics.
+fn response_of(alloc: Global, said: &Reply, kept: usize, sums: &Sums) -> Mem<Response>
+    ensures { IfOk result (λ response. TellsMetrics (reply_value said.now) kept sums.now
+        (response_value response)) }
+{
+    let body = metrics_body(alloc, said, kept, sums)?;
     Ok(Response::of(StatusCode::OK, None, Media::Metrics, body))
 }
 

@@ -26,10 +26,23 @@ use Rattle.api_sessions.specs.declared.which.Which.{Which}
 use Rattle.api_sessions.specs.declared.which.Which.TheVariants.{Namerd, Admin, Feed}
 use Rattle.api_sessions.specs.Answering.{AnswersAs, IsDone, IsSaid, IsScraped, LeavesAs, LeavesDone}
 use Rattle.api_sessions.specs.Answering.{MayHaveScraped, Sources, TellsMetrics, at_once, sources_of}
-use Rattle.api_sessions.specs.Asked.{AskedValue, IsSoundAsked, asked_of, demand, feed, metrics}
-use Rattle.api_sessions.specs.Asked.{of_admin, of_feed}
+use Rattle.api_sessions.specs.declared.asked.Asked.{Asked}
+use Rattle.api_sessions.specs.Asked.{AskedValue, IsSoundAsked, asked_of, asked_value, demand, feed}
+use Rattle.api_sessions.specs.Asked.{metrics, of_admin, of_feed}
 use Rattle.api_sessions.proofs.Carrying.{leaves_all}
 use Rattle.api_sessions.proofs.Forms.{one_form}
+
+-- what is asked for in the form that was read is what is asked for in each form of the target
+pub asked_in_each : (result : Result Asked AllocError) (which : Which) (head : Head)
+    (line body : List ℕ) (form : Form) → IsServed head.method head.target form → line ≡ form.line
+    → IfOk result (λ asked. asked_value asked ≡ asked_of which head line body)
+    → IfOk result (λ asked. (any : Form) → IsServed head.method head.target any
+    → asked_value asked ≡ asked_of which head any.line body)
+asked_in_each (Ok asked) which head line body form served read known = λ any is.
+    let P : List ℕ → Type 0 = λ l. asked_value asked ≡ asked_of which head l body in
+    let Q : Form → Type 0 = λ f. P f.line in
+    subst Q (one_form head.method head.target form any served is) (subst P read known)
+asked_in_each (Err want) which head line body form served read known = tt
 
 -- where nothing was scraped
 pub unscraped : {A : Type 0} (P : A → Type 0) (told : Scraping) (result : Result A AllocError)
@@ -83,35 +96,37 @@ module _ {J : Type 0} {g : Ghosts J} (old new : Sources J g) (result : Result Ap
         by_case (Ok reply) known = tt
         by_case (Err want) known = inr known
 
-    -- and what is known of one form of the target is known of each
-    pub answers_by : (which : Which) (head : Head) (last : Bool) (body : List ℕ) (form : Form)
-        → IsServed head.method head.target form
-        → IfOk result (IsDone (asked_of which head form.line body) (delivery_of head last) old new)
+    -- and what is known of it is known of what is asked for in each form of the target
+    pub answers_by : (asked : AskedValue) (delivery : Delivery) (which : Which) (head : Head)
+        (last : Bool) (body : List ℕ)
+        → ((form : Form) → IsServed head.method head.target form
+        → asked ≡ asked_of which head form.line body)
+        → delivery ≡ delivery_of head last → IfOk result (IsDone asked delivery old new)
         → IfOk result (AnswersAs which head last body old new)
-    answers_by which head last body form served h = by_case result h
+    answers_by asked delivery which head last body is alike h = by_case result h
       where
-        by_case : (r : Result ApiReply AllocError)
-            → IfOk r (IsDone (asked_of which head form.line body) (delivery_of head last) old new)
+        by_case : (r : Result ApiReply AllocError) → IfOk r (IsDone asked delivery old new)
             → IfOk r (AnswersAs which head last body old new)
-        by_case (Ok reply) known = λ any is.
-            let P : Form → Type 0 = λ f.
-            IsDone (asked_of which head f.line body) (delivery_of head last) old new reply in
-            subst P (one_form head.method head.target form any served is) known
+        by_case (Ok reply) known = λ form served.
+            let P : AskedValue → Type 0 = λ a. IsDone a delivery old new reply in
+            let Q : Delivery → Type 0 = λ d.
+            IsDone (asked_of which head form.line body) d old new reply in
+            subst Q alike (subst P (is form served) known)
         by_case (Err want) known = tt
 
-    pub leaves_by : (which : Which) (head : Head) (body : List ℕ) (form : Form)
-        → IsServed head.method head.target form
-        → OnErr result (LeavesDone (asked_of which head form.line body) old new)
+    pub leaves_by : (asked : AskedValue) (which : Which) (head : Head) (body : List ℕ)
+        → ((form : Form) → IsServed head.method head.target form
+        → asked ≡ asked_of which head form.line body)
+        → OnErr result (LeavesDone asked old new)
         → OnErr result (LeavesAs which head body old new)
-    leaves_by which head body form served h = by_case result h
+    leaves_by asked which head body is h = by_case result h
       where
-        by_case : (r : Result ApiReply AllocError)
-            → OnErr r (LeavesDone (asked_of which head form.line body) old new)
+        by_case : (r : Result ApiReply AllocError) → OnErr r (LeavesDone asked old new)
             → OnErr r (LeavesAs which head body old new)
         by_case (Ok reply) known = tt
-        by_case (Err want) known = λ any is.
-            let P : Form → Type 0 = λ f. LeavesDone (asked_of which head f.line body) old new in
-            subst P (one_form head.method head.target form any served is) known
+        by_case (Err want) known = λ form served.
+            let P : AskedValue → Type 0 = λ a. LeavesDone a old new in
+            subst P (is form served) known
 
 -- nothing was done
 pub leaves_nothing : {J : Type 0} {g : Ghosts J} (asked : AskedValue) (p : Sources J g)

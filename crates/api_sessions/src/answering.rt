@@ -7,7 +7,8 @@ ghost use Rattle.router.specs.Passes.{number_in};
 ghost use Rattle.api_wire.specs.Delivery.{IsWritten};
 ghost use Rattle.api_wire.specs.Demand.{IsSoundDemand, demand_value};
 ghost use Rattle.api_wire.specs.Telling.{response_to};
-ghost use Rattle.api_sessions.specs.Asked.{IsSoundAsked, asked_value};
+ghost use Rattle.http_wire.specs.Target.{Form, IsServed};
+ghost use Rattle.api_sessions.specs.Asked.{IsSoundAsked, asked_of, asked_value};
 ghost use Rattle.api_sessions.specs.Answering.{AnswersAs, IsAltered, IsAsked, IsCarriedOut, IsDone};
 ghost use Rattle.api_sessions.specs.Answering.{IsSaid, IsScraped, IsShown, IsTaken, Leaves};
 ghost use Rattle.api_sessions.specs.Answering.{LeavesAs, LeavesDone, MayHaveChanged};
@@ -58,13 +59,23 @@ pub fn answer<J: Naming, R: Wait, X: Scrape>(
     ensures want { OnErr result (LeavesAs which head.now body.now.items
         (sources_of pass.old (X.told scraper.old)) (sources_of pass.new (X.told scraper.new))) }
 {
-    match read_target(context.alloc, head) {
+    match asked_by(context.alloc, which, head, body.as_slice()) {
+        Ok(asked) => do_asked(context, pass, scraper, asked, delivery_of(head, last)),
+        Err(want) => Err(want),
+    }
+}
+
+/// What a request of this interface asks for, by its head and its body.
+fn asked_by(alloc: Global, which: Which, head: &Head, body: &[u8]) -> Mem<Asked>
+    requires { IsTaken head.now }
+    ensures { IfOk result (λ asked. (form : Form)
+        → IsServed head.now.method head.now.target form
+        → asked_value asked ≡ asked_of which head.now form.line body.now) }
+{
+    match read_target(alloc, head) {
         Ok(target) => {
             let line = target.line.as_slice();
-            match asked_of(context.alloc, which, head, line, body.as_slice()) {
-                Ok(asked) => do_asked(context, pass, scraper, asked, delivery_of(head, last)),
-                Err(want) => Err(want),
-            }
+            asked_of(alloc, which, head, line, body)
         }
         Err(TargetFault::OutOfMemory) => Err(AllocError),
         Err(TargetFault::Connect) => unreachable!(),

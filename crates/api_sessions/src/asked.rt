@@ -15,7 +15,7 @@ use ns_api::ns_demand;
 use std::alloc::Global;
 
 /// What a request of an interface asks for. `asked_value` is how contracts see it.
-#[derive(Debug, Drop)]
+#[derive(Drop)]
 pub(crate) enum Asked {
     /// What the router alone answers, or nobody.
     Demand(Demand),

@@ -40,6 +40,8 @@
 //! it left, with a worker that had seen all that had been seen for it. Over such stays a connection
 //! reads its own writes, and has at most 10,000 requests ([`callers_forget_nothing`]).
 //!
+//! Its tests are `api_tests`' modules `connections`, `limits`, `endings`, `draining` and `moving`.
+//!
 //! # Example
 //! ```text
 //! let mut worker = ApiWorker { pass, stop, scraper };

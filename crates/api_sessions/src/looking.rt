@@ -14,7 +14,7 @@ use std::sync::ledger::{Blank, Ledger};
 use step_count::Steps;
 
 /// What a look told, at one point of the history.
-#[derive(Debug, Drop)]
+#[derive(Drop)]
 pub(crate) struct Told {
     /// How many changes were accepted before it.
     pub(crate) place: u64,

@@ -14,14 +14,14 @@ use own_reply::{OwnError, Refusal, test_request};
 use std::alloc::Global;
 
 /// A whole request.
-#[derive(Debug, Drop)]
+#[derive(Drop)]
 pub(crate) struct WholeRequest {
     pub(crate) head: Head,
     pub(crate) body: Bytes,
 }
 
 /// Why there is no request to answer.
-#[derive(Clone, Copy, Debug, PartialEq, Eq)]
+#[derive(Clone, Copy)]
 pub(crate) enum NoRequest {
     /// It is refused with this reply, whose body is written or not.
     Own(OwnError, bool),
@@ -109,7 +109,10 @@ pub(crate) fn read_request<P: Peer>(
     };
     let framing = match framing_tested(alloc, &head) {
         Ok(framing) => framing,
-        Err(none) => return Err(none),
+        Err(none) => {
+            drop(head);
+            return Err(none);
+        }
     };
     match read_body(alloc, peer, rest, framing) {
         Ok(body) => Ok(WholeRequest { head, body }),

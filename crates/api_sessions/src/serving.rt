@@ -84,6 +84,7 @@ fn serve_next<J: Naming, R: Wait, P: Peer, S: Stop, X: Scrape>(
             let last = is_last(spent, closing);
             let found = which.while_closing(closing);
             let ended = reply_to(context, worker, found, last, peer, &request);
+            drop(request);
             paused_by(drained(closing, ended))
         }
         Err(NoRequest::Own(err, with_body)) => {

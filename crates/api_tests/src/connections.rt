@@ -3,12 +3,13 @@
 ghost use Rattle.std.specs.Prelude.{◌≡◌};
 ghost use Rattle.router.specs.Opening.{IsNamedBy, beginning_of};
 
+use crate::wanted::Wanted;
 use addr_book::{Addr, Name};
 use api_sessions::{ApiWorker, Context, IdleCaller, Stayed, Which};
 use choose_core::Limits;
 use dtab_table::Dtab;
 use http_wire::Ended;
-use line_base::{MemClock, MemPeer, MemSink, MemSource, MemStop};
+use line_doubles::{MemClock, MemPeer, MemSink, MemSource, MemStop};
 use machine::{Change, Settings};
 use router::{Naming, Opened, Pass, Router, open};
 use scrape::NoWords;
@@ -26,8 +27,8 @@ pub(crate) type Bytes = Vec<u8>;
 
 /// A connection: how often a replica fails before it comes; the bytes that come on it, and how many
 /// in each of its first reads; which of its reads and which of its writes fails, the first being 0;
-/// at which questions nothing comes; and from which question on it says that its listeners are
-/// closing.
+/// at which questions nothing comes; from which question on it says that its listeners are closing;
+/// and what is to come of it.
 #[derive(Drop)]
 pub(crate) struct Connection {
     pub(crate) to: Which,
@@ -38,11 +39,12 @@ pub(crate) struct Connection {
     pub(crate) write_fails: Option<u64>,
     pub(crate) quiet: &'static [u64],
     pub(crate) closing: Option<u64>,
+    pub(crate) wanted: Wanted,
 }
 
 impl Connection {
     /// One whose bytes come at once, on which no call fails, and whose listeners stay open.
-    pub(crate) fn of(to: Which, bytes: Bytes) -> Connection {
+    pub(crate) fn of(to: Which, bytes: Bytes, wanted: Wanted) -> Connection {
         Connection {
             to,
             failures: 0,
@@ -52,6 +54,7 @@ impl Connection {
             write_fails: None,
             quiet: &[],
             closing: None,
+            wanted,
         }
     }
 }
@@ -74,24 +77,34 @@ fn failing(alloc: Global, call: Option<u64>) -> Mem<Vec<u64>> {
     Ok(calls)
 }
 
-/// The peer of a connection.
-fn peer_of(alloc: Global, connection: &Connection) -> Mem<MemPeer> {
+/// What comes on a connection.
+fn source_of(alloc: Global, connection: &Connection) -> Mem<MemSource> {
     let bytes = Vec::from_slice(alloc, connection.bytes.as_slice())?;
-    let source = MemSource::of(
-        bytes,
-        Vec::from_slice(alloc, connection.sizes)?,
-        failing(alloc, connection.read_fails)?,
-    );
-    let sink = MemSink::of(
-        alloc,
-        Vec::new(alloc),
-        failing(alloc, connection.write_fails)?,
-    );
-    let peer = match connection.closing {
+    let sizes = Vec::from_slice(alloc, connection.sizes)?;
+    let fails = failing(alloc, connection.read_fails)?;
+    Ok(MemSource::of(bytes, sizes, fails))
+}
+
+/// Where a connection's replies go.
+fn sink_of(alloc: Global, connection: &Connection) -> Mem<MemSink> {
+    let fails = failing(alloc, connection.write_fails)?;
+    Ok(MemSink::of(alloc, Vec::new(alloc), fails))
+}
+
+/// A peer that says from this question on that its listeners are closing, if it does.
+fn peer_over(source: MemSource, sink: MemSink, closing: Option<u64>) -> MemPeer {
+    match closing {
         Some(question) => MemPeer::closing(source, sink, question),
         None => MemPeer::of(source, sink),
-    };
-    Ok(peer.quiet(Vec::from_slice(alloc, connection.quiet)?))
+    }
+}
+
+/// The peer of a connection.
+fn peer_of(alloc: Global, connection: &Connection) -> Mem<MemPeer> {
+    let quiet = Vec::from_slice(alloc, connection.quiet)?;
+    let sink = sink_of(alloc, connection)?;
+    let source = source_of(alloc, connection)?;
+    Ok(peer_over(source, sink, connection.closing).quiet(quiet))
 }
 
 /// A worker of the interfaces of a program whose own workers count nothing.
@@ -165,10 +178,13 @@ fn serve<J: Naming, R: Wait>(
     let peer = peer_of(context.alloc, connection)?;
     let before = stops_of(pair);
     let (peer, ended) = serve_by_turns(context, pair, connection.to, peer);
+    let stops = stops_of(pair).saturating_sub(before);
+    let given = Vec::from_slice(context.alloc, peer.sink().held());
+    drop(peer);
     Ok(Served {
-        given: Vec::from_slice(context.alloc, peer.sink().held())?,
+        given: given?,
         ended,
-        stops: stops_of(pair).saturating_sub(before),
+        stops,
     })
 }
 
@@ -217,6 +233,30 @@ fn worker_of<J: Naming>(pass: Pass<J>, clock: MemClock) -> Worker<J> {
     }
 }
 
+/// The workers with the last two passes, the last one for the second, and with these clocks.
+fn pair_of<J: Naming, R: Abort>(
+    rt: &R,
+    passes: &mut Vec<Pass<J>>,
+    clocks: (MemClock, MemClock),
+) -> Pair<J> {
+    let Some(second) = passes.pop() else {
+        panic!(rt; "no second pass")
+    };
+    let Some(first) = passes.pop() else {
+        panic!(rt; "no first pass")
+    };
+    Pair {
+        first: worker_of(first, clocks.0),
+        second: worker_of(second, clocks.1),
+    }
+}
+
+/// The passes of the two workers.
+fn passes_of<J: Naming>(pair: Pair<J>) -> (Pass<J>, Pass<J>) {
+    let Pair { first, second } = pair;
+    (first.pass, second.pass)
+}
+
 /// Ends a router, whose workers had these passes.
 fn close<J: Naming, R: Wait + Abort>(
     rt: &R,
@@ -249,22 +289,22 @@ fn staged<J: Naming, R: Wait + Abort>(
     requires named { IsNamedBy (beginning_of opened) J.Naming.own J.Ledger.own }
     requires seats { J.seats ≡ 2 }
 {
-    let (router, mut passes) = opened.named::<J, R>(rt, alloc)?;
-    let (Some(second), Some(first)) = (passes.pop(), passes.pop()) else {
-        panic!(rt; "no passes")
+    let (router, mut passes) = match opened.named::<J, R>(rt, alloc) {
+        Ok(named) => named,
+        Err(want) => {
+            drop(clocks);
+            return Err(want);
+        }
     };
+    let mut pair = pair_of(rt, &mut passes, clocks);
     let context = Context {
         rt,
         alloc,
         router: &router,
     };
-    let mut pair = Pair {
-        first: worker_of(first, clocks.0),
-        second: worker_of(second, clocks.1),
-    };
     let served = serve_all(&context, &mut pair, connections);
-    let Pair { first, second } = pair;
-    close(rt, router, passes, first.pass, second.pass);
+    let (first, second) = passes_of(pair);
+    close(rt, router, passes, first, second);
     served
 }
 

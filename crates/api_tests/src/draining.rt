@@ -1,6 +1,7 @@
 //! Connections whose listeners are closing.
 use crate::connections::{Connection, Mem};
-use crate::rows::{ADMIN, outcomes, said};
+use crate::rows::ADMIN;
+use crate::wanted::{Wanted, check};
 use http_wire::Ended::{self, Drained, PeerEnded};
 use std::alloc::Global;
 use std::test::Fail;
@@ -9,55 +10,46 @@ use std::test::Fail;
 const TWO: &str =
     "GET /admin/ready HTTP/1.1\r\nHost: n\r\n\r\nGET /admin/ready HTTP/1.1\r\nHost: n\r\n\r\n";
 
-const READY: &str =
-    "HTTP/1.1 200 OK\r\nContent-Type: text/plain\r\nContent-Length: 6\r\n\r\nready\n";
+/// The reply behind which the connection closes, to the first request or to the second.
+const LAST: &str = "503 Service Unavailable\r\nContent-Type: text/plain\r\nContent-Length: 10\r\n\
+    Connection: close\r\n\r\nnot-ready\n";
 
-/// Behind it the connection closes.
-const LAST: &str =
-    "HTTP/1.1 503 Service Unavailable\r\nContent-Type: text/plain\r\nContent-Length: 10\r\nConnection: close\r\n\r\nnot-ready\n";
+const READY_AND_LAST: &str = "\
+    200 OK\r\nContent-Type: text/plain\r\nContent-Length: 6\r\n\r\nready\n\
+    HTTP/1.1 503 Service Unavailable\r\nContent-Type: text/plain\r\nContent-Length: 10\r\n\
+    Connection: close\r\n\r\nnot-ready\n";
+
+const READY_TWICE: &str = "\
+    200 OK\r\nContent-Type: text/plain\r\nContent-Length: 6\r\n\r\nready\n\
+    HTTP/1.1 200 OK\r\nContent-Type: text/plain\r\nContent-Length: 6\r\n\r\nready\n";
 
 /// From which question on the connection says that its listeners are closing, the replies, and the
 /// end. The questions are: a wait for the first request, whether it is the last, whether the second
 /// is, and a wait for a third.
-const ROWS: [(u64, &[&str], Ended); 5] = [
-    (0, &[], Drained),
-    (1, &[LAST], Drained),
-    (2, &[READY, LAST], Drained),
-    (3, &[READY, READY], Drained),
-    (4, &[READY, READY], PeerEnded),
+const ROWS: [(u64, &str, Ended); 5] = [
+    (0, "no reply", Drained),
+    (1, LAST, Drained),
+    (2, READY_AND_LAST, Drained),
+    (3, READY_TWICE, Drained),
+    (4, READY_TWICE, PeerEnded),
 ];
 
 /// A connection for each row.
 fn connections(alloc: Global) -> Mem<Vec<Connection>> {
     let mut all = Vec::new(alloc);
-    for (question, _replies, _ended) in &ROWS {
+    for (question, replies, ended) in &ROWS {
+        let bytes = Vec::from_slice(alloc, TWO.as_bytes())?;
+        let wanted = Wanted::reply(*replies).and_left(Some(*ended), 0);
         all.push(Connection {
             closing: Some(*question),
-            ..Connection::of(ADMIN, Vec::from_slice(alloc, TWO.as_bytes())?)
+            ..Connection::of(ADMIN, bytes, wanted)
         })?;
     }
     Ok(all)
 }
 
-/// Replies, one behind the other, behind `HTTP/1.1 `.
-fn joined(alloc: Global, replies: &[&'static str]) -> Mem<String> {
-    let mut bytes = Vec::new(alloc);
-    for reply in replies {
-        bytes.extend_from_slice(reply.as_bytes())?;
-    }
-    said(alloc, bytes.as_slice())
-}
-
 #[test]
 fn a_connection_is_drained(rt: HostRuntime) -> Result<(), Fail> {
-    let outcomes = outcomes(&rt, rt.alloc(), connections(rt.alloc())?.as_slice())?;
-    assert!(rt; outcomes.len() == ROWS.len());
-    for ((told, ended, _stops), (question, replies, end)) in outcomes.iter().zip(&ROWS) {
-        let wanted = joined(rt.alloc(), *replies)?;
-        assert!(rt;
-            told.as_str() == wanted.as_str() && *ended == Some(*end),
-            "{question}"
-        );
-    }
+    check(&rt, rt.alloc(), connections(rt.alloc())?.as_slice())?;
     Ok(())
 }

@@ -1,6 +1,7 @@
 //! Connections with several requests: each has its reply, in order, and how the connection ends.
 use crate::connections::{Connection, Mem};
-use crate::rows::{ADMIN, outcomes};
+use crate::rows::ADMIN;
+use crate::wanted::{Wanted, check};
 use api_sessions::Which::{self, Namerd};
 use http_wire::Ended;
 use std::alloc::Global;
@@ -233,12 +234,13 @@ const ROWS: [Row; 23] = [
 /// The connections of the rows.
 fn connections(alloc: Global) -> Mem<Vec<Connection>> {
     let mut all = Vec::new(alloc);
-    for (to, comes, read_fails, write_fails, _gives, _ended, _stops) in &ROWS {
+    for (to, comes, read_fails, write_fails, gives, ended, stops) in &ROWS {
         let bytes = Vec::from_slice(alloc, comes.as_bytes())?;
+        let wanted = Wanted::reply(*gives).and_left(Some(*ended), *stops);
         all.push(Connection {
             read_fails: *read_fails,
             write_fails: *write_fails,
-            ..Connection::of(*to, bytes)
+            ..Connection::of(*to, bytes, wanted)
         })?;
     }
     Ok(all)
@@ -246,14 +248,6 @@ fn connections(alloc: Global) -> Mem<Vec<Connection>> {
 
 #[test]
 fn each_request_has_its_reply_and_each_connection_its_end(rt: HostRuntime) -> Result<(), Fail> {
-    let outcomes = outcomes(&rt, rt.alloc(), connections(rt.alloc())?.as_slice())?;
-    assert!(rt; outcomes.len() == ROWS.len());
-    for ((told, ended, stops), row) in outcomes.iter().zip(&ROWS) {
-        assert!(rt;
-            told.as_str() == row.4 && *ended == Some(row.5) && *stops == row.6,
-            "{}: {told}",
-            row.1
-        );
-    }
+    check(&rt, rt.alloc(), connections(rt.alloc())?.as_slice())?;
     Ok(())
 }

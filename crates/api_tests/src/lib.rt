@@ -24,3 +24,5 @@ mod namerd;
 mod rows;
 #[cfg(test)]
 mod spent;
+#[cfg(test)]
+mod wanted;

@@ -1,6 +1,7 @@
 //! Bodies at their limits, and the last request of a connection.
 use crate::connections::{Bytes, Connection, Mem};
-use crate::rows::{ADMIN, Outcome, outcomes, request, said};
+use crate::rows::{ADMIN, request};
+use crate::wanted::{Wanted, check_alone};
 use api_sessions::Which::{self, Namerd};
 use http_wire::Ended;
 use std::alloc::Global;
@@ -114,21 +115,6 @@ fn request_of(alloc: Global, row: &Row) -> Mem<Bytes> {
     request(alloc, asks, json, body.as_slice())
 }
 
-/// What comes of a connection, on a new router.
-fn outcome<R: Wait + Abort>(
-    rt: &R,
-    alloc: Global,
-    connection: Connection,
-) -> Result<Outcome, Fail> {
-    let mut connections = Vec::new(alloc);
-    connections.push(connection)?;
-    let mut outcomes = outcomes(rt, alloc, connections.as_slice())?;
-    match outcomes.pop() {
-        Some(outcome) => Ok(outcome),
-        None => Err("no connection was served".into()),
-    }
-}
-
 /// How many requests of a kind a new router takes, how many addresses each has, and the reply to
 /// one more.
 type Most = (Which, usize, usize, &'static str);
@@ -188,8 +174,8 @@ fn one_too_many(alloc: Global, most: &Most) -> Mem<Bytes> {
     Ok(bytes)
 }
 
-/// The replies to them, behind `HTTP/1.1 `: a new namespace has the next version.
-fn replies_to(alloc: Global, most: &Most) -> Mem<String> {
+/// The replies to them: a new namespace has the next version.
+fn replies_to(alloc: Global, most: &Most) -> Mem<Bytes> {
     let (to, taken, _count, refusal) = most;
     let mut replies = Vec::new(alloc);
     for number in 0..*taken {
@@ -207,55 +193,56 @@ fn replies_to(alloc: Global, most: &Most) -> Mem<String> {
         replies.extend_from_slice(reply.as_bytes())?;
     }
     replies.extend_from_slice(refusal.as_bytes())?;
-    said(alloc, replies.as_slice())
+    Ok(replies)
+}
+
+/// Whether a new router replies to them so, and the connection ends behind them.
+fn is_full<R: Wait + Abort>(rt: &R, alloc: Global, most: &Most) -> Result<bool, Fail> {
+    let replies = replies_to(alloc, most)?;
+    let bytes = one_too_many(alloc, most)?;
+    let wanted = Wanted::between("204 No Content", most.3).and_left(Some(Ended::PeerEnded), 0);
+    let served = check_alone(rt, alloc, Connection::of(most.0, bytes, wanted))?;
+    Ok(served.given.as_slice() == replies.as_slice())
 }
 
 #[test]
 fn a_full_router_takes_no_more(rt: HostRuntime) -> Result<(), Fail> {
-    let alloc = rt.alloc();
     for most in &FULL {
-        let connection = Connection::of(most.0, one_too_many(alloc, most)?);
-        let (told, ended, _stops) = outcome(&rt, alloc, connection)?;
-        let wanted = replies_to(alloc, most)?;
-        assert!(rt;
-            told.as_str() == wanted.as_str() && ended == Some(Ended::PeerEnded),
-            "{}",
-            most.3
-        );
+        assert!(rt; is_full(&rt, rt.alloc(), most)?, "{}", most.3);
     }
     Ok(())
+}
+
+/// The connection of a row.
+fn connection_of(alloc: Global, row: &Row) -> Mem<Connection> {
+    let bytes = request_of(alloc, row)?;
+    Ok(Connection::of(row.0, bytes, Wanted::reply(row.5)))
 }
 
 #[test]
 fn bodies_end_at_their_limits(rt: HostRuntime) -> Result<(), Fail> {
-    let alloc = rt.alloc();
     for row in &ROWS {
-        let connection = Connection::of(row.0, request_of(alloc, row)?);
-        let (told, _ended, _stops) = outcome(&rt, alloc, connection)?;
-        assert!(rt; told.as_str() == row.5, "{} {}: {told}", row.2, row.3);
+        check_alone(&rt, rt.alloc(), connection_of(rt.alloc(), row)?)?;
     }
     Ok(())
 }
 
-/// The first request comes alone, and the connection waits behind it.
-#[test]
-fn a_connection_carries_ten_thousand_requests(rt: HostRuntime) -> Result<(), Fail> {
-    let alloc = rt.alloc();
-    let pings = repeated(
-        alloc,
-        "",
-        "GET /admin/ping HTTP/1.1\r\nHost: n\r\n\r\n",
-        10_001,
-        "",
-    )?;
-    let connection = Connection {
+/// So many pings, of which the first comes alone, and the connection waits behind it.
+fn pings(alloc: Global, count: usize) -> Mem<Connection> {
+    let ping = "GET /admin/ping HTTP/1.1\r\nHost: n\r\n\r\n";
+    let bytes = repeated(alloc, "", ping, count, "")?;
+    let wanted = Wanted::between("200 OK", "pong\n").and_left(Some(Ended::Spent), 0);
+    Ok(Connection {
         sizes: &[37],
         quiet: &[2],
-        ..Connection::of(ADMIN, pings)
-    };
-    let (told, ended, _stops) = outcome(&rt, alloc, connection)?;
-    // A reply has 69 bytes, of which `HTTP/1.1 ` has 9, and the last one says `Connection: close`,
-    // which is 19 more.
-    assert!(rt; ended == Some(Ended::Spent) && told.len() == 10_000 * 69 + 19 - 9);
+        ..Connection::of(ADMIN, bytes, wanted)
+    })
+}
+
+#[test]
+fn a_connection_carries_ten_thousand_requests(rt: HostRuntime) -> Result<(), Fail> {
+    let served = check_alone(&rt, rt.alloc(), pings(rt.alloc(), 10_001)?)?;
+    // A reply has 69 bytes, and the last one says `Connection: close`, which is 19 more.
+    assert!(rt; served.given.len() == 10_000 * 69 + 19);
     Ok(())
 }

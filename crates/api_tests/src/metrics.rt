@@ -1,7 +1,8 @@
 //! The metrics as Prometheus scrapes them, of a service with two addresses, one of which is dead
 //! until the moment 6,000.
 use crate::connections::{Connection, Mem};
-use crate::rows::{ADMIN, outcomes, request};
+use crate::rows::{ADMIN, request};
+use crate::wanted::{Wanted, check};
 use api_sessions::Which::{self, Namerd};
 use std::alloc::Global;
 use std::test::Fail;
@@ -76,10 +77,12 @@ const ROWS: [Row; 6] = [
 /// The connections of the rows.
 fn connections(alloc: Global) -> Mem<Vec<Connection>> {
     let mut all = Vec::new(alloc);
-    for (failures, to, asks, body, _begin, _end) in &ROWS {
+    for (failures, to, asks, body, begin, end) in &ROWS {
+        let bytes = request(alloc, asks, "", body.as_bytes())?;
+        let wanted = Wanted::between(*begin, *end);
         all.push(Connection {
             failures: *failures,
-            ..Connection::of(*to, request(alloc, asks, "", body.as_bytes())?)
+            ..Connection::of(*to, bytes, wanted)
         })?;
     }
     Ok(all)
@@ -87,15 +90,6 @@ fn connections(alloc: Global) -> Mem<Vec<Connection>> {
 
 #[test]
 fn metrics_are_scraped(rt: HostRuntime) -> Result<(), Fail> {
-    let outcomes = outcomes(&rt, rt.alloc(), connections(rt.alloc())?.as_slice())?;
-    assert!(rt; outcomes.len() == ROWS.len());
-    for ((told, _ended, _stops), row) in outcomes.iter().zip(&ROWS) {
-        let told = told.as_str();
-        assert!(rt;
-            told.starts_with(row.4) && told.ends_with(row.5),
-            "{}: {told}",
-            row.2
-        );
-    }
+    check(&rt, rt.alloc(), connections(rt.alloc())?.as_slice())?;
     Ok(())
 }

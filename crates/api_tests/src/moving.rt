@@ -1,6 +1,7 @@
 //! Connections that wait, and move from one worker to another.
 use crate::connections::{Connection, Mem};
-use crate::rows::{ADMIN, outcomes};
+use crate::rows::ADMIN;
+use crate::wanted::{Wanted, check};
 use api_sessions::Which::{self, Namerd};
 use http_wire::Ended::{self, Drained, PeerEnded};
 use std::alloc::Global;
@@ -20,11 +21,12 @@ type Row = (
 );
 
 /// A table, which is asked for behind it, and an answer to both.
-const PUT_AND_GET: &str =
-    "POST /api/1/dtabs/a HTTP/1.1\r\nHost: n\r\nContent-Length: 6\r\n\r\n/a=>/bGET /api/1/dtabs/a HTTP/1.1\r\nHost: n\r\nAccept: application/dtab\r\n\r\n";
+const PUT_AND_GET: &str = "POST /api/1/dtabs/a HTTP/1.1\r\nHost: n\r\nContent-Length: 6\r\n\r\n\
+    /a=>/bGET /api/1/dtabs/a HTTP/1.1\r\nHost: n\r\nAccept: application/dtab\r\n\r\n";
 
-const MADE_AND_TOLD: &str =
-    "204 No Content\r\nETag: \"1\"\r\n\r\nHTTP/1.1 200 OK\r\nETag: \"1\"\r\nContent-Type: application/dtab\r\nContent-Length: 6\r\n\r\n/a=>/b";
+const MADE_AND_TOLD: &str = "204 No Content\r\nETag: \"1\"\r\n\r\n\
+    HTTP/1.1 200 OK\r\nETag: \"1\"\r\nContent-Type: application/dtab\r\nContent-Length: 6\r\n\r\n\
+    /a=>/b";
 
 const PING: &str = "GET /admin/ping HTTP/1.1\r\nHost: n\r\n\r\n";
 
@@ -54,13 +56,13 @@ const ROWS: [Row; 6] = [
 /// The connections of the rows.
 fn connections(alloc: Global) -> Mem<Vec<Connection>> {
     let mut all = Vec::new(alloc);
-    for (to, comes, sizes, quiet, closing, _gives, _ended) in &ROWS {
+    for (to, comes, sizes, quiet, closing, gives, ended) in &ROWS {
         let bytes = Vec::from_slice(alloc, comes.as_bytes())?;
         all.push(Connection {
             sizes: *sizes,
             quiet: *quiet,
             closing: *closing,
-            ..Connection::of(*to, bytes)
+            ..Connection::of(*to, bytes, Wanted::reply(*gives).and_left(*ended, 0))
         })?;
     }
     Ok(all)
@@ -68,14 +70,6 @@ fn connections(alloc: Global) -> Mem<Vec<Connection>> {
 
 #[test]
 fn a_connection_that_waits_goes_on_with_another_worker(rt: HostRuntime) -> Result<(), Fail> {
-    let outcomes = outcomes(&rt, rt.alloc(), connections(rt.alloc())?.as_slice())?;
-    assert!(rt; outcomes.len() == ROWS.len());
-    for ((told, ended, _stops), row) in outcomes.iter().zip(&ROWS) {
-        assert!(rt;
-            told.as_str() == row.5 && *ended == row.6,
-            "{}: {told}",
-            row.1
-        );
-    }
+    check(&rt, rt.alloc(), connections(rt.alloc())?.as_slice())?;
     Ok(())
 }

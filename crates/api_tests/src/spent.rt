@@ -1,7 +1,7 @@
 //! The replies of a router that has given its last version, or made its last change. No test can
 //! make so many changes, so that these replies are told directly.
 use crate::connections::Mem;
-use crate::rows::said;
+use crate::wanted::said;
 use api_wire::response_to;
 use machine::Reply;
 use std::alloc::Global;

@@ -1,5 +1,5 @@
 -- JSON texts, and the code's values of them.
-use Rattle.std.proofs.Common.{◌≡◌, ℕ, Bool, true, false, List, [], ◌∷◌, length, map, Option, Some}
+use Rattle.std.proofs.Common.{◌≡◌, ℕ, Bool, true, false, List, [], ◌∷◌, length, map, Some}
 use Rattle.std.proofs.Common.{None, refl, sym, ap, ◌∙◌, arith, String}
 use Rattle.std.specs.Prelude.{if◌then◌else◌, IsUtf8, unwrap_or, option_map}
 use Rattle.std.specs.declared.alloc.Global.{Global}

@@ -1,7 +1,7 @@
 -- What a path has behind a front.
-use Rattle.std.proofs.Common.{◌≡◌, ℕ, true, false, List, length, take, drop, None, Option, sym, ap}
-use Rattle.std.proofs.Common.{◌∙◌, refl}
-use Rattle.std.specs.Prelude.{bytes_eq, if◌then◌else◌}
+use Rattle.std.proofs.Common.{◌≡◌, ℕ, true, false, List, length, take, drop, None, ap}
+use Rattle.std.proofs.Common.{refl}
+use Rattle.std.specs.Prelude.{bytes_eq}
 use Rattle.api_wire.specs.Request.{one_segment, segment_behind}
 
 pub behind_front : (front path rest : List ℕ) → bytes_eq (take (length front) path) front ≡ true

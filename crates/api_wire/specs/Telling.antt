@@ -1,6 +1,5 @@
 -- How the replies of a router's state are told over HTTP.
 use Rattle.std.specs.Prelude.{ℕ, Bool, true, false, List, codes, length, None, Some}
-use Rattle.name_tree.specs.Path.{Labels}
 use Rattle.dtab_table.specs.Rules.{Rule}
 use Rattle.dtab_table.specs.TableCanon.{canon_table}
 use Rattle.delegate_view.specs.View.{view_of}

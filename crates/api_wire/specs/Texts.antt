@@ -11,7 +11,7 @@ use Rattle.addr_book.specs.declared.addr.Weighted.{Weighted}
 use Rattle.addr_book.specs.Addr.{ip_text}
 
 -- a rule as a JSON object
-abbrev pub rule_text : Rule → List ℕ
+unfoldable pub rule_text : Rule → List ℕ
 rule_text r =
     codes "{\"dst\":" ++ json_string (canon r.tree) ++ codes ",\"prefix\":"
     ++ json_string (canon_prefix r.prefix) ++ codes "}"
@@ -43,7 +43,7 @@ abbrev pub weight_part : ℕ → List ℕ
 weight_part weight = if weight == one_whole then [] else codes " * " ++ canon_weight weight
 
 -- a line of an address file
-abbrev pub addr_line : Weighted → List ℕ
+unfoldable pub addr_line : Weighted → List ℕ
 addr_line item =
     ip_text item.addr.ip ++ codes " " ++ decimal item.addr.port ++ weight_part item.weight ++ 10
     ∷ []

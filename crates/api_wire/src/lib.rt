@@ -12,7 +12,8 @@
 //! Each part of a request is a function of its bytes (`specs/Request.antt`, `Verbs.antt`,
 //! `Json.antt`), and so is the response to each reply of the state (`specs/Telling.antt`), with its
 //! bytes (`specs/Response.antt`, `Delivery.antt`): the status line, the version of a table as
-//! `ETag`, the methods of the path as `Allow`, and the body with its type and length.
+//! `ETag`, the methods of the path as `Allow`, and the body with its type and length. Its tests are
+//! `api_tests`' module `spent`, and what `api_tests` asks of the interfaces above it.
 //!
 //! # Example
 //! ```text

@@ -1,6 +1,7 @@
 //! The bodies of responses.
-ghost use Rattle.std.specs.Prelude.{◌≡◌, ◌++◌, IfOk, OnOk, map};
+ghost use Rattle.std.specs.Prelude.{◌≡◌, ◌++◌, IfOk, OnOk, codes, map};
 ghost use Rattle.std.specs.Fmt.{decimal};
+ghost use Rattle.text_parts.specs.Json.{json_string};
 ghost use Rattle.dtab_table.specs.Dtab.{rules_of};
 ghost use Rattle.dtab_table.specs.Rules.{rule_of};
 ghost use Rattle.api_wire.specs.Texts.{addr_line, addrs_text, counts_text, listed_names};
@@ -49,17 +50,23 @@ fn put_more_rules(entries: &[Entry], out: &mut Bytes) -> Mem<()>
 }
 
 /// Puts an entry behind some bytes.
+#[tactic(auto, unfolding(crate::specs::Texts::rule_text))]
 fn put_rule(entry: &Entry, out: &mut Bytes) -> Mem<()>
     ensures { OnOk result (out.new.items ≡ out.old.items ++ rule_text (rule_of entry.now)) }
 {
     let alloc = *out.allocator();
-    let tree = write_tree(alloc, &entry.tree)?;
-    let prefix = write_prefix(alloc, &entry.prefix)?;
-    out.extend_from_slice(b"{\"dst\":")?;
-    append_json_string(tree.as_slice(), out)?;
-    out.extend_from_slice(b",\"prefix\":")?;
-    append_json_string(prefix.as_slice(), out)?;
+    put_member(b"{\"dst\":", write_tree(alloc, &entry.tree)?, out)?;
+    put_member(b",\"prefix\":", write_prefix(alloc, &entry.prefix)?, out)?;
     out.extend_from_slice(b"}")
+}
+
+/// Puts a text as a JSON string behind some bytes, behind what comes before it.
+fn put_member(before: &[u8], text: Bytes, out: &mut Bytes) -> Mem<()>
+    ensures { OnOk result
+        (out.new.items ≡ out.old.items ++ before.now ++ json_string text.items) }
+{
+    out.extend_from_slice(before)?;
+    append_json_string(text.as_slice(), out)
 }
 
 /// Names as a JSON array, in order.
@@ -107,6 +114,7 @@ pub fn addrs_text(alloc: Global, items: &[Weighted]) -> Mem<Bytes>
 }
 
 /// Puts a line of an address file behind some bytes. An `Err` may leave a part there.
+#[tactic(auto, unfolding(crate::specs::Texts::addr_line))]
 fn put_addr(item: Weighted, out: &mut Bytes) -> Mem<()>
     ensures { OnOk result (out.new.items ≡ out.old.items ++ addr_line item) }
 {
@@ -142,10 +150,20 @@ pub fn counts_text(
     let mut out = Vec::new(alloc);
     put_count(b"{\"changes\":", changes, &mut out)?;
     put_count(b",\"marks\":", u64::from(marks), &mut out)?;
-    put_count(b",\"namespaces\":", u64::from(namespaces), &mut out)?;
-    put_count(b",\"services\":", services, &mut out)?;
-    out.push(b'}')?;
+    put_names_counted(namespaces, services, &mut out)?;
     Ok(out)
+}
+
+/// Puts how many namespaces and services there are behind some bytes, and the end of the object.
+fn put_names_counted(namespaces: u32, services: u64, out: &mut Bytes) -> Mem<()>
+    ensures { OnOk result (out.new.items
+        ≡ out.old.items ++ codes ",\"namespaces\":" ++ decimal namespaces
+        ++ codes ",\"services\":" ++ decimal services ++ codes "}") }
+{
+    put_count(b",\"namespaces\":", u64::from(namespaces), out)?;
+    put_count(b",\"services\":", services, out)?;
+    out.push(b'}')?;
+    Ok(())
 }
 
 /// Puts a number behind some bytes, behind what comes before it.

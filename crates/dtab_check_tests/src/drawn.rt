@@ -174,14 +174,23 @@ fn is_same(alloc: Global, own: &Delegated, other: &Delegated) -> Mem<bool> {
     )
 }
 
+/// Whether the path comes to this where this table stands between the other two.
+fn comes_to(alloc: Global, drawn: &Drawn, base: &Dtab, want: &Delegated) -> Mem<bool> {
+    let delegated = delegate_by(alloc, drawn, base)?;
+    let same = is_same(alloc, &delegated, want);
+    drop(delegated);
+    same
+}
+
 /// Whether the path comes to the same without these entries of the middle table.
 fn stays(alloc: Global, drawn: &Drawn, list: &HiddenList) -> Mem<bool>
     requires { list.now ≡ hidden_in (rules_of drawn.now.base) }
 {
     let rest = taken_out(alloc, &drawn.base, list)?;
     let before = delegate_by(alloc, drawn, &drawn.base)?;
-    let after = delegate_by(alloc, drawn, &rest)?;
-    is_same(alloc, &before, &after)
+    let stays = comes_to(alloc, drawn, &rest, &before);
+    drop(before);
+    stays
 }
 
 /// How many entries of the middle table are hidden, and whether the path comes to the same without
@@ -198,7 +207,9 @@ fn paths_come_to_the_same_without_hidden_entries(rt: HostRuntime) -> Result<(), 
     let mut all = 0usize;
     for turn in 0..TURNS {
         let drawn = draw(rt.alloc(), &mut words)?;
-        let (count, is_same) = check(rt.alloc(), &drawn)?;
+        let checked = check(rt.alloc(), &drawn);
+        drop(drawn);
+        let (count, is_same) = checked?;
         all = all.saturating_add(count);
         assert!(rt; is_same, "{turn}");
     }

@@ -1,5 +1,5 @@
 //! What else the texts of tables show.
-use dtab_check::{Note, NoteList, Remark, notes_of};
+use dtab_check::{Note, Remark, notes_of};
 use dtab_table::read_dtab;
 use std::alloc::Global;
 use std::test::Fail;
@@ -39,12 +39,6 @@ const ROWS: [Row; 7] = [
     ),
 ];
 
-/// The notes on the table of a text.
-fn noted(alloc: Global, text: &str) -> Result<NoteList, Fail> {
-    let dtab = read_dtab(alloc, text.as_bytes())?;
-    Ok(notes_of(alloc, &dtab)?)
-}
-
 /// Whether these are the notes of a list.
 fn are_notes(notes: &[Note], want: &[(u32, Remark)]) -> bool {
     if notes.len() != want.len() {
@@ -58,11 +52,17 @@ fn are_notes(notes: &[Note], want: &[(u32, Remark)]) -> bool {
     true
 }
 
+/// Whether these are the notes on the table of a text.
+fn is_noted(alloc: Global, text: &str, want: &[(u32, Remark)]) -> Result<bool, Fail> {
+    let dtab = read_dtab(alloc, text.as_bytes())?;
+    let list = notes_of(alloc, &dtab)?;
+    Ok(are_notes(list.items(), want))
+}
+
 #[test]
 fn notes_are_told_entry_by_entry(rt: HostRuntime) -> Result<(), Fail> {
-    for (text, want) in ROWS {
-        let list = noted(rt.alloc(), text)?;
-        assert!(rt; are_notes(list.items(), want), "{text}");
+    for (text, want) in &ROWS {
+        assert!(rt; is_noted(rt.alloc(), text, want)?, "{text}");
     }
     Ok(())
 }

@@ -1,6 +1,6 @@
 //! Tables, the entries of them that are never asked, and what is left without those.
 
-use dtab_check::{Hidden, HiddenList, hidden, taken_out};
+use dtab_check::{Hidden, hidden, taken_out};
 use dtab_table::{read_dtab, write_dtab};
 use std::alloc::Global;
 use std::test::Fail;
@@ -14,7 +14,9 @@ const SECOND_BY_THIRD: Hidden = Hidden { entry: 1, by: 2 };
 
 const FIRST_BY_SECOND: Hidden = Hidden { entry: 0, by: 1 };
 
-const ROWS: [Row; 16] = [
+/// Which prefixes cover others. The last of several covers is named, also for one that covers
+/// another.
+const COVERS: [Row; 6] = [
     // Two entries are hidden by one that sends all of `/svc` to an address.
     (
         "/svc => /a; /svc/web => /b; /svc => /$/inet/127.0.0.1/80",
@@ -26,6 +28,16 @@ const ROWS: [Row; 16] = [
     ("/s/x => /a; /s/* => !", &[FIRST_BY_SECOND], "/s/*=>!"),
     // A longer prefix covers no shorter one.
     ("/s => /a; /s/x => !", &[], "/s=>/a;/s/x=>!"),
+    (
+        "/a => /x; /a => !; / => $",
+        &[FIRST_BY_THIRD, SECOND_BY_THIRD],
+        "/=>$",
+    ),
+    ("", &[], ""),
+];
+
+/// Which leaves are sure.
+const LEAVES: [Row; 6] = [
     // A leaf is sure by an entry that matches it, wherever that stands, and not by one that leads
     // back.
     (
@@ -55,6 +67,10 @@ const ROWS: [Row; 16] = [
         &[],
         "/a=>/x;/a=>/$/inet/127.0.0.1/0",
     ),
+];
+
+/// Which alternatives, branches and marks are sure.
+const CHOICES: [Row; 4] = [
     // One alternative or one branch with a weight is enough, and `~` is none.
     (
         "/a => /x; /a => ~ | /y | !",
@@ -72,31 +88,40 @@ const ROWS: [Row; 16] = [
         "/a=>/x;/a=>1 * /y & 0 * $",
     ),
     ("/a => /x; /a => ~", &[], "/a=>/x;/a=>~"),
-    // The last of several covers is named, also for one that covers another.
-    (
-        "/a => /x; /a => !; / => $",
-        &[FIRST_BY_THIRD, SECOND_BY_THIRD],
-        "/=>$",
-    ),
-    ("", &[], ""),
 ];
 
-/// The hidden entries of the table of a text, and the text of the table without them.
-fn checked(alloc: Global, text: &str) -> Result<(HiddenList, Vec<u8>), Fail> {
+/// Whether the table of a text has these hidden entries, and this text without them.
+fn is_checked(alloc: Global, text: &str, want: &[Hidden], rest: &str) -> Result<bool, Fail> {
     let dtab = read_dtab(alloc, text.as_bytes())?;
     let list = hidden(alloc, &dtab)?;
-    let rest = taken_out(alloc, &dtab, &list)?;
-    Ok((list, write_dtab(alloc, &rest)?))
+    let left = write_dtab(alloc, &taken_out(alloc, &dtab, &list)?)?;
+    Ok(list.items() == want && left.as_slice() == rest.as_bytes())
+}
+
+/// The first row that is not so.
+fn first_wrong(alloc: Global, rows: &[Row]) -> Result<Option<usize>, Fail> {
+    for (at, (text, want, rest)) in rows.iter().enumerate() {
+        if !is_checked(alloc, text, want, rest)? {
+            return Ok(Some(at));
+        }
+    }
+    Ok(None)
 }
 
 #[test]
-fn hidden_entries_are_named_and_taken_out(rt: HostRuntime) -> Result<(), Fail> {
-    for (text, want, rest) in ROWS {
-        let (list, left) = checked(rt.alloc(), text)?;
-        assert!(rt;
-            list.items() == want && left.as_slice() == rest.as_bytes(),
-            "{text}"
-        );
-    }
+fn entries_are_hidden_by_those_that_cover_them(rt: HostRuntime) -> Result<(), Fail> {
+    assert_eq!(rt; first_wrong(rt.alloc(), &COVERS)?, None);
+    Ok(())
+}
+
+#[test]
+fn leaves_are_sure_by_addresses_and_entries(rt: HostRuntime) -> Result<(), Fail> {
+    assert_eq!(rt; first_wrong(rt.alloc(), &LEAVES)?, None);
+    Ok(())
+}
+
+#[test]
+fn trees_are_sure_by_one_of_their_parts(rt: HostRuntime) -> Result<(), Fail> {
+    assert_eq!(rt; first_wrong(rt.alloc(), &CHOICES)?, None);
     Ok(())
 }

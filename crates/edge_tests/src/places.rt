@@ -42,41 +42,52 @@ fn client_at(ip: u32) -> Option<TcpStream> {
     Some(stream)
 }
 
-/// Where a client at this address is by its own socket; and where it is told to be when it comes,
-/// and behind the first byte that it says.
-fn places<L: Listener>(listener: &mut L, ip: u32) -> Result<[Option<SocketAddress>; 3], Fail>
-where
-    L::P: Drop,
-{
-    let (Some(mut client), Some(mut peer)) = (client_at(ip), next_client(listener)) else {
-        return Err(Fail::from("no client"));
-    };
-    let own = SocketAddress {
-        ip,
-        port: client.local_addr()?.port(),
-    };
+/// Where a client at this address is by its own socket; and where its peer is told to be, at first
+/// and behind the first byte that the client says.
+fn places_of<P: Peer>(
+    peer: &mut P,
+    client: &mut TcpStream,
+    ip: u32,
+) -> Result<[Option<SocketAddress>; 3], Fail> {
+    let port = client.local_addr()?.port();
     let first = peer.address();
     client.write(b"a")?;
     let _ = peer.read(&mut [0u8; 1]);
-    let later = peer.address();
-    drop(client);
-    listener.finish(peer);
-    Ok([Some(own), first, later])
+    Ok([Some(SocketAddress { ip, port }), first, peer.address()])
 }
 
-/// Two clients, one behind the other, at two addresses.
-#[test]
-fn a_client_is_where_its_own_end_is(rt: HostRuntime) -> Result<(), Fail> {
-    let mut net = SocketNet::of(&rt)?;
-    let Some(mut listener) = net
-        .listen(LISTENING.0, LISTENING.1, 1, 0)?
-        .into_items()
-        .pop()
-    else {
+/// The same of a client that comes to a listener.
+fn places<L: Listener>(listener: &mut L, ip: u32) -> Result<[Option<SocketAddress>; 3], Fail> {
+    let Some(mut client) = client_at(ip) else {
+        return Err(Fail::from("no client"));
+    };
+    let Some(peer) = next_client(listener) else {
+        return Err(Fail::from("no peer"));
+    };
+    let mut peer = peer;
+    let places = places_of(&mut peer, &mut client, ip);
+    drop(client);
+    listener.finish(peer);
+    places
+}
+
+/// The same of two clients, one behind the other, at two addresses.
+fn places_of_two<N: Net>(net: &mut N) -> Result<[[Option<SocketAddress>; 3]; 2], Fail> {
+    let mut listeners = net.listen(LISTENING.0, LISTENING.1, 1, 0)?.into_items();
+    let Some(mut listener) = listeners.pop() else {
         return Err(Fail::from("no listener"));
     };
     let one = places(&mut listener, 0x7f00_0002)?;
     let other = places(&mut listener, 0x7f00_0104)?;
+    Ok([one, other])
+}
+
+#[test]
+fn a_client_is_where_its_own_end_is(rt: HostRuntime) -> Result<(), Fail> {
+    let mut net = SocketNet::of(&rt)?;
+    let told = places_of_two(&mut net);
+    drop(net);
+    let [one, other] = told?;
     assert!(rt; one[1] == one[0] && one[2] == one[0]);
     assert!(rt; other[1] == other[0] && other[2] == other[0]);
     Ok(())

@@ -2,10 +2,11 @@
 use crate::clients::{at, next_client};
 use line_base::{Event, Listener, Net, Next, Peer, Stop};
 use net_edge::SocketNet;
-use std::io::Write;
+use std::io::{self, Write};
 use std::net::TcpStream;
 use std::sync::atomic::{AtomicU64, Ordering};
 use std::test::Fail;
+use std::thread::Threads;
 use std::time::{Duration, Instant};
 use std::{rt, thread};
 
@@ -103,6 +104,77 @@ fn waits<R: rt::Clock, L: Listener>(
     Ok((prompt, paused))
 }
 
+/// The same while the other listener is asked, until both are stopped.
+fn waits_beside<R: rt::Clock + Threads + Sync, L: Listener + Send + Sync, S: Stop + Send>(
+    rt: &R,
+    first: &L,
+    second: &mut L,
+    peer: &mut L::P,
+    client: &mut TcpStream,
+    stop: &mut S,
+) -> Result<(u32, u32), Fail>
+where
+    L::P: Send,
+{
+    let told = AtomicU64::new(0);
+    let (counts, ()) = thread::join(
+        rt,
+        || {
+            let counts = waits(rt, first, peer, client, &told);
+            stop.stop();
+            counts
+        },
+        || count_told(second, &told),
+    );
+    counts
+}
+
+/// The same of a client that comes to the first listener, and says a byte.
+fn waits_for_next<R: rt::Clock + Threads + Sync, L: Listener + Send + Sync, S: Stop + Send>(
+    rt: &R,
+    first: &mut L,
+    second: &mut L,
+    client: io::Result<TcpStream>,
+    stop: &mut S,
+) -> Result<(u32, u32), Fail>
+where
+    L::P: Send,
+{
+    let mut client = client?;
+    client.write(b"a")?;
+    let Some(peer) = next_client(first) else {
+        return Err(Fail::from("no client"));
+    };
+    let mut peer = peer;
+    let begun = peer.read(&mut [0u8; 8]);
+    let counts = waits_beside(rt, first, second, &mut peer, &mut client, stop);
+    first.finish(peer);
+    let (prompt, paused) = counts?;
+    if begun != Ok(1) {
+        return Err(Fail::from("not read"));
+    }
+    Ok((prompt, paused))
+}
+
+/// The same of two listeners.
+fn waits_of_two<R: rt::Clock + Threads + Sync, L: Listener + Send + Sync + Drop, S: Stop + Send>(
+    rt: &R,
+    listeners: &mut Vec<L>,
+    client: io::Result<TcpStream>,
+    stop: &mut S,
+) -> Result<(u32, u32), Fail>
+where
+    L::P: Send,
+{
+    let Some(mut first) = listeners.pop() else {
+        return Err(Fail::from("no listener"));
+    };
+    let Some(mut second) = listeners.pop() else {
+        return Err(Fail::from("no other listener"));
+    };
+    waits_for_next(rt, &mut first, &mut second, client, stop)
+}
+
 /// A client that speaks at once and behind a pause in turn, while another listener is free. One
 /// that is waited for is never found quiet sooner. But on a busy machine one that is not may be
 /// found so late, and one that speaks at once may be heard late: so not every round has to go as it
@@ -111,29 +183,13 @@ fn waits<R: rt::Clock, L: Listener>(
 fn only_a_prompt_client_is_waited_for(rt: HostRuntime) -> Result<(), Fail> {
     let mut net = SocketNet::of(&rt)?;
     let mut listeners = net.listen(0x7f00_0001, PORT, 2, 0)?.into_items();
-    let (Some(mut first), Some(mut second)) = (listeners.pop(), listeners.pop()) else {
-        return Err(Fail::from("no listener"));
-    };
-    let mut client = TcpStream::connect(&rt, at(PORT))?;
-    let Some(mut peer) = next_client(&mut first) else {
-        return Err(Fail::from("no client"));
-    };
-    client.write(b"a")?;
-    let begun = peer.read(&mut [0u8; 8]);
     let mut stop = net.stopper();
-    let told = AtomicU64::new(0);
-    let (counts, ()) = thread::join(
-        &rt,
-        || {
-            let counts = waits(&rt, &first, &mut peer, &mut client, &told);
-            stop.stop();
-            counts
-        },
-        || count_told(&mut second, &told),
-    );
-    first.finish(peer);
+    let client = TcpStream::connect(&rt, at(PORT));
+    let counts = waits_of_two(&rt, &mut listeners, client, &mut stop);
+    drop(stop);
+    drop(listeners);
+    drop(net);
     let (prompt, paused) = counts?;
-    assert!(rt; begun == Ok(1));
     assert!(rt; prompt > 1);
     assert!(rt; paused < ROUNDS - 1);
     Ok(())

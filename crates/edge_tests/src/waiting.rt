@@ -2,7 +2,7 @@
 use crate::clients::at;
 use line_base::{Event, Failed, Listener, Net, Next, Peer, Stop};
 use net_edge::SocketNet;
-use std::io::Write;
+use std::io::{self, Write};
 use std::net::TcpStream;
 use std::test::Fail;
 
@@ -34,41 +34,77 @@ fn heard<P: Peer>(peer: &mut P) -> u8 {
     }
 }
 
+/// The next event of a listener that is no tick, as text. A peer that came has gone again.
+fn told_only<L: Listener>(listener: &mut L) -> u8 {
+    let (text, peer) = told(listener);
+    if let Some(peer) = peer {
+        listener.finish(peer);
+    }
+    text
+}
+
+/// What becomes of a client, as text: it comes to the first listener, and is quiet; then it speaks,
+/// of which the second is told; it ends, of which the first is told; and a stop closes both.
+fn told_of_client<L: Listener, S: Stop>(
+    first: &mut L,
+    second: &mut L,
+    client: io::Result<TcpStream>,
+    stop: &mut S,
+) -> Result<[u8; 8], Fail> {
+    let mut client = client?;
+    let (came, peer) = told(first);
+    let Some(peer) = peer else {
+        return Err(Fail::from("no client"));
+    };
+    let mut peer = peer;
+    let quiet = heard(&mut peer);
+    let watched = first.watch(&peer, 7);
+    let said = client.write(b"abc").is_ok();
+    let ready = told_only(second);
+    let bytes = heard(&mut peer);
+    let again = first.watch(&peer, 7);
+    drop(client);
+    let gone = told_only(first);
+    let ended = heard(&mut peer);
+    stop.stop();
+    let one = told_only(first);
+    let other = told_only(second);
+    first.finish(peer);
+    if !watched || !said || !again {
+        return Err(Fail::from("not watched"));
+    }
+    Ok([came, quiet, ready, bytes, gone, ended, one, other])
+}
+
+/// The same of two listeners.
+fn told_of_two<L: Listener + Drop, S: Stop>(
+    listeners: &mut Vec<L>,
+    client: io::Result<TcpStream>,
+    stop: &mut S,
+) -> Result<[u8; 8], Fail> {
+    let Some(mut first) = listeners.pop() else {
+        return Err(Fail::from("no listener"));
+    };
+    let Some(mut second) = listeners.pop() else {
+        return Err(Fail::from("no other listener"));
+    };
+    told_of_client(&mut first, &mut second, client, stop)
+}
+
 /// A client comes, says nothing for a while, and is watched; when it says something, another
 /// listener is told. After a stop both are closed.
 #[test]
 fn who_waits_is_told_by_a_number(rt: HostRuntime) -> Result<(), Fail> {
     let mut net = SocketNet::of(&rt)?;
-    let Ok(listeners) = net.listen(0x7f00_0001, 28_991, 2, 0) else {
-        return Err(Fail::from(Failed));
-    };
-    let mut listeners = listeners.into_items();
-    let (Some(mut first), Some(mut second)) = (listeners.pop(), listeners.pop()) else {
-        return Err(Fail::from(Failed));
-    };
-    let mut client = TcpStream::connect(&rt, at(28_991))?;
-    let (came, Some(mut peer)) = told(&mut first) else {
-        return Err(Fail::from(Failed));
-    };
-    let quiet = heard(&mut peer);
-    let watched = first.watch(&peer, 7);
-    client.write(b"abc")?;
-    let (ready, _) = told(&mut second);
-    let bytes = heard(&mut peer);
-    let again = first.watch(&peer, 7);
-    drop(client);
-    let (gone, _) = told(&mut first);
-    let ended = heard(&mut peer);
+    let mut listeners = net.listen(0x7f00_0001, 28_991, 2, 0)?.into_items();
+    let client = TcpStream::connect(&rt, at(28_991));
     let mut stop = net.stopper();
-    stop.stop();
-    let (one, _) = told(&mut first);
-    let (other, _) = told(&mut second);
-    first.finish(peer);
-    assert_eq!(rt; net.waiting_room(100), 100);
-    assert!(rt; watched && again);
-    assert_eq!(rt;
-        [came, quiet, ready, bytes, gone, ended, one, other],
-        [b'c', b'q', b'7', b'3', b'7', b'e', b'.', b'.']
-    );
+    let told = told_of_two(&mut listeners, client, &mut stop);
+    let room = net.waiting_room(100);
+    drop(stop);
+    drop(listeners);
+    drop(net);
+    assert_eq!(rt; told?, [b'c', b'q', b'7', b'3', b'7', b'e', b'.', b'.']);
+    assert_eq!(rt; room, 100);
     Ok(())
 }

@@ -3,13 +3,14 @@
 //! Whoever serves a connection tells a [`Recorder`] of each exchange twice: [`Recorder::begin`]
 //! once its request's head was read, and [`Recorder::end`] once its reply has ended, with what the
 //! exchange was ([`Exchange`]). So a recorder can take the moments itself, and one that needs none,
-//! as [`NoRecorder`], costs nothing. Whoever accepts connections and lets them wait tells it of that
-//! too ([`Recorder::step`]). A recorder can't fail its caller: what it could not write is for it to
-//! count.
+//! as [`NoRecorder`], costs nothing. Whoever accepts connections and lets them wait tells it of
+//! that too ([`Recorder::step`]). A recorder can't fail its caller: what it could not write is for
+//! it to count.
 //!
 //! # What is proved
 //! A recorder says by three relations what it is after each call. `Records` of `specs/Told.antt`
-//! is what it is after a list of exchanges: it was told of each, in order, and of each once.
+//! is what it is after a list of exchanges: it was told of each, in order, and of each once. Its
+//! tests are `operator_tests`' module `recorded`.
 //!
 //! # Example
 //! ```

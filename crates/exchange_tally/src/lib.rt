@@ -12,6 +12,7 @@
 //! its own reply's word if it has one, and to the one bucket of its duration. A count never falls,
 //! and stands still at the last value of a `u64`. [`tallies_add_up`] is the law over many
 //! exchanges: a count is what it began with and the sum of what each was worth, up to that value.
+//! Its tests are `operator_tests`' module `tallies`.
 //!
 //! # Example
 //! ```

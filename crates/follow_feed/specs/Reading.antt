@@ -1,9 +1,8 @@
 -- The feed that a JSON text stands for.
 use Rattle.std.specs.Prelude.{◌≡◌, ℕ, ◌==◌, if◌then◌else◌, List, codes, Option, Some, None}
-use Rattle.std.specs.Prelude.{option_and_then, option_map, Result, Ok, Err}
-use Rattle.std.specs.Option.{unwrap_or}
+use Rattle.std.specs.Prelude.{option_and_then, Result, Ok, Err}
 use Rattle.serde_json.specs.Data.{Data}
-use Rattle.serde_json.specs.Find.{as_number, as_object, as_u64, get}
+use Rattle.serde_json.specs.Find.{as_number, as_u64, get}
 use Rattle.dtab_table.specs.Computed.{table_of}
 use Rattle.dtab_table.specs.Dtab.{rules_of}
 use Rattle.dtab_table.specs.declared.dtab.Dtab.{Dtab}

@@ -35,7 +35,7 @@ pub enum FollowEnd {
 }
 
 /// What some polls came to: what is held, how many gave a later feed, and how many gave none.
-#[derive(Debug, Drop)]
+#[derive(Drop)]
 pub(crate) struct Following {
     follower: Follower,
     newer: u32,

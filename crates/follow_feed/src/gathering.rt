@@ -6,7 +6,7 @@ use std::alloc::Global;
 
 /// Gathers the bytes that are written to it, and gives none: the peer behind a reply that is read
 /// rather than passed on. A write fails where there is no memory for it.
-#[derive(Debug, Drop)]
+#[derive(Drop)]
 pub(crate) struct Gathered {
     pub(crate) bytes: Vec<u8>,
     faults: u64,

@@ -26,6 +26,7 @@
 //! written are those of the feeds that the polls gave, in order (`specs/Progress.antt`).
 //!
 //! That a poll arrives is not promised, nor that what is held is the newest that the leader has.
+//! Its tests are `follow_feed_tests`, and `api_tests`' module `feed`.
 //!
 //! # Example
 //! ```text
@@ -47,6 +48,7 @@ mod following;
 mod gathering;
 mod laws;
 mod lines;
+mod numbers;
 mod polling;
 mod reading;
 mod texts;

@@ -4,10 +4,11 @@ ghost use Rattle.follow_feed.specs.Feeds.{feed_value, space_of};
 ghost use Rattle.follow_feed.specs.Lines.{feed_line, space_words, total_line};
 
 use crate::feed::{Feed, Versioned};
+use crate::numbers::put_number;
 use crate::{Bytes, Mem};
 use dtab_table::write_dtab;
 use std::alloc::Global;
-use text_parts::{append_number, append_spaced};
+use text_parts::append_spaced;
 
 /// The line of a feed: `run R place P version V dtab TEXT`, with no blank behind `dtab` where the
 /// table has no entry, or `run R place P gone`.
@@ -15,10 +16,8 @@ pub(crate) fn feed_line(alloc: Global, feed: &Feed) -> Mem<Bytes>
     ensures { IfOk result (λ line. line.items ≡ feed_line (feed_value feed.now)) }
 {
     let mut out = Vec::new(alloc);
-    out.extend_from_slice(b"run ")?;
-    append_number(feed.run, &mut out)?;
-    out.extend_from_slice(b" place ")?;
-    append_number(feed.place, &mut out)?;
+    put_number(b"run ", feed.run, &mut out)?;
+    put_number(b" place ", feed.place, &mut out)?;
     put_space(alloc, &feed.table, &mut out)?;
     out.push(b'\n')?;
     Ok(out)
@@ -40,8 +39,7 @@ fn put_table(alloc: Global, table: &Versioned, out: &mut Bytes) -> Mem<()>
     ensures { OnOk result (out.new.items
         ≡ out.old.items ++ space_words (Some (space_of table.now))) }
 {
-    out.extend_from_slice(b" version ")?;
-    append_number(table.version, out)?;
+    put_number(b" version ", table.version, out)?;
     out.extend_from_slice(b" dtab")?;
     let text = write_dtab(alloc, &table.dtab)?;
     append_spaced(text.as_slice(), out)
@@ -53,12 +51,9 @@ pub(crate) fn total_line(alloc: Global, polls: u32, newer: u32, lost: u32) -> Me
     ensures { IfOk result (λ line. line.items ≡ total_line polls newer lost) }
 {
     let mut out = Vec::new(alloc);
-    out.extend_from_slice(b"polls ")?;
-    append_number(u64::from(polls), &mut out)?;
-    out.extend_from_slice(b" newer ")?;
-    append_number(u64::from(newer), &mut out)?;
-    out.extend_from_slice(b" lost ")?;
-    append_number(u64::from(lost), &mut out)?;
+    put_number(b"polls ", u64::from(polls), &mut out)?;
+    put_number(b" newer ", u64::from(newer), &mut out)?;
+    put_number(b" lost ", u64::from(lost), &mut out)?;
     out.push(b'\n')?;
     Ok(out)
 }

@@ -1,12 +1,13 @@
 //! Asking a leader for the feed of a namespace.
 ghost use Rattle.std.specs.Prelude.{◌≡◌, ◌≤◌, ◌++◌, ℕ, List, [], map, IfOk, IfSome, IfNone, IsSome};
-ghost use Rattle.std.specs.Prelude.{None};
+ghost use Rattle.std.specs.Prelude.{◌∷◌, None, OnOk, codes};
 ghost use Rattle.line_base.specs.declared.dialer.DialEvent.TheVariants.{Got, Sent};
 ghost use Rattle.line_base.specs.Dials.{Grows, HasSameLinks};
 ghost use Rattle.addr_book.specs.Addr.{addr_text};
+ghost use Rattle.http_wire.specs.Lines.{ended, line_of};
 ghost use Rattle.follow_feed.specs.Polling.{IsFeedHead, Polls, Says, SaysBehind, Speaks};
 ghost use Rattle.follow_feed.specs.Polling.{end_of_body, end_of_head, faults_after, given};
-ghost use Rattle.follow_feed.specs.Polling.{request_of};
+ghost use Rattle.follow_feed.specs.Polling.{request_line, request_of};
 
 use crate::feed::Feed;
 use crate::gathering::Gathered;
@@ -110,15 +111,31 @@ fn request_to(alloc: Global, leader: Addr, space: &Name) -> Mem<Bytes>
     ensures { IfOk result (λ request. request.items ≡ request_of leader space.now) }
 {
     let mut out = Vec::new(alloc);
-    out.extend_from_slice(b"GET /feed/")?;
-    out.extend_from_slice(space.text())?;
-    out.extend_from_slice(b" HTTP/1.1")?;
-    end_line(&mut out)?;
-    let host = host_of(alloc, leader)?;
-    push_line(&mut out, "Host", host.as_slice())?;
+    put_request_line(space, &mut out)?;
+    put_host(alloc, leader, &mut out)?;
     push_line(&mut out, "Connection", b"close")?;
     end_line(&mut out)?;
     Ok(out)
+}
+
+/// Puts the request line behind some bytes. An `Err` may leave a part there.
+fn put_request_line(space: &Name, out: &mut Bytes) -> Mem<()>
+    ensures { OnOk result (out.new.items
+        ≡ out.old.items ++ ended (request_line space.now ∷ [])) }
+{
+    out.extend_from_slice(b"GET /feed/")?;
+    out.extend_from_slice(space.text())?;
+    out.extend_from_slice(b" HTTP/1.1")?;
+    end_line(out)
+}
+
+/// Puts the field `Host` behind some bytes. An `Err` may leave a part there.
+fn put_host(alloc: Global, leader: Addr, out: &mut Bytes) -> Mem<()>
+    ensures { OnOk result (out.new.items
+        ≡ out.old.items ++ ended (line_of (codes "Host") (addr_text leader) ∷ [])) }
+{
+    let host = host_of(alloc, leader)?;
+    push_line(out, "Host", host.as_slice())
 }
 
 /// The text of an address.

@@ -7,6 +7,7 @@ ghost use Rattle.follow_feed.specs.Texts.{bare_text, feed_response, full_text, n
 ghost use Rattle.follow_feed.specs.Texts.{space_in, space_response, table_response};
 
 use crate::feed::{Feed, Versioned};
+use crate::numbers::put_number;
 use crate::{Bytes, Mem};
 use api_wire::{Media, Response};
 use dtab_table::write_dtab;
@@ -14,7 +15,7 @@ use http::StatusCode;
 use machine::Reply;
 use name_tree::MOST_BYTES;
 use std::alloc::Global;
-use text_parts::{append_json_string, append_number};
+use text_parts::append_json_string;
 
 /// The response that tells the feed of a namespace, which a look at it in this run showed at this
 /// place. What the look told is let go of once it is told.
@@ -91,8 +92,7 @@ fn full_text(alloc: Global, run: u64, place: u64, version: u64, table: &[u8]) ->
     append_json_string(table, &mut out)?;
     out.push(b',')?;
     put_numbers(place, run, &mut out)?;
-    out.extend_from_slice(b",\"version\":")?;
-    append_number(version, &mut out)?;
+    put_number(b",\"version\":", version, &mut out)?;
     out.push(b'}')?;
     Ok(out)
 }
@@ -112,8 +112,6 @@ fn bare_text(alloc: Global, run: u64, place: u64) -> Mem<Bytes>
 fn put_numbers(place: u64, run: u64, out: &mut Bytes) -> Mem<()>
     ensures { OnOk result (out.new.items ≡ out.old.items ++ numbers_text place run) }
 {
-    out.extend_from_slice(b"\"place\":")?;
-    append_number(place, out)?;
-    out.extend_from_slice(b",\"run\":")?;
-    append_number(run, out)
+    put_number(b"\"place\":", place, out)?;
+    put_number(b",\"run\":", run, out)
 }

@@ -1,17 +1,17 @@
 //! The lines that following a leader writes.
 use addr_book::{Addr, Name};
 use follow_feed::{FollowEnd, follow_all};
-use line_base::{MemDialer, MemSink};
+use line_doubles::{MemDialer, MemSink};
 use std::alloc::Global;
 use std::test::Fail;
 
 /// A namespace with one rule.
-const FULL: &str =
-    "HTTP/1.1 200 OK\r\nContent-Type: application/json\r\nContent-Length: 59\r\n\r\n{\"dtab\":\"/svc=>/#/io.l5d.fs\",\"place\":1,\"run\":7,\"version\":1}";
+const FULL: &str = "HTTP/1.1 200 OK\r\nContent-Type: application/json\r\nContent-Length: 59\r\n\r\n\
+    {\"dtab\":\"/svc=>/#/io.l5d.fs\",\"place\":1,\"run\":7,\"version\":1}";
 
 /// The same namespace with no rule, later in the same run.
-const EMPTY: &str =
-    "HTTP/1.1 200 OK\r\nContent-Length: 41\r\n\r\n{\"dtab\":\"\",\"place\":2,\"run\":7,\"version\":2}";
+const EMPTY: &str = "HTTP/1.1 200 OK\r\nContent-Length: 41\r\n\r\n\
+    {\"dtab\":\"\",\"place\":2,\"run\":7,\"version\":2}";
 
 /// No such namespace, in a later run.
 const GONE: &str = "HTTP/1.1 200 OK\r\nContent-Length: 19\r\n\r\n{\"place\":0,\"run\":8}";
@@ -93,17 +93,27 @@ fn dialer_of(alloc: Global, row: &Row) -> Result<MemDialer, Fail> {
     Ok(MemDialer::of(alloc, replies, Vec::new(alloc), failing(alloc, row.2)?))
 }
 
+/// The address of the leader.
+const LEADER: Addr = Addr {
+    ip: 0x7f00_0001,
+    port: 4181,
+};
+
 /// What following the leader of a row writes, and how it ends.
 fn followed(alloc: Global, row: &Row) -> Result<String, Fail> {
-    let mut dialer = dialer_of(alloc, row)?;
-    let mut sink = MemSink::of(alloc, Vec::new(alloc), failing(alloc, row.3)?);
     let space = Name::of(alloc, b"default")?;
-    let leader = Addr {
-        ip: 0x7f00_0001,
-        port: 4181,
-    };
-    let end = follow_all(alloc, &mut dialer, leader, &space, row.1, &mut sink);
-    let mut text = Vec::from_slice(alloc, sink.held())?;
+    let mut sink = MemSink::of(alloc, Vec::new(alloc), failing(alloc, row.3)?);
+    let mut dialer = dialer_of(alloc, row)?;
+    let end = follow_all(alloc, &mut dialer, LEADER, &space, row.1, &mut sink);
+    drop(dialer);
+    let told = told(alloc, sink.held(), end);
+    drop(sink);
+    told
+}
+
+/// What was written, and how it ended.
+fn told(alloc: Global, written: &[u8], end: FollowEnd) -> Result<String, Fail> {
+    let mut text = Vec::from_slice(alloc, written)?;
     text.extend_from_slice(name_of(end).as_bytes())?;
     match String::from_utf8(text) {
         Ok(text) => Ok(text),

@@ -1,68 +1,51 @@
 //! What a poll makes of a reply.
 use addr_book::{Addr, Name};
 use follow_feed::{Feed, PollEnd, poll};
-use line_base::MemDialer;
+use line_doubles::MemDialer;
 use std::alloc::Global;
 use std::test::Fail;
 
 /// A good reply, whose table is that of a new namespace.
-const GOOD: &str =
-    "HTTP/1.1 200 OK\r\nContent-Type: application/json\r\nContent-Length: 59\r\n\r\n{\"dtab\":\"/svc=>/#/io.l5d.fs\",\"place\":1,\"run\":7,\"version\":1}";
+const GOOD: &str = "HTTP/1.1 200 OK\r\nContent-Type: application/json\r\nContent-Length: 59\r\n\r\n\
+    {\"dtab\":\"/svc=>/#/io.l5d.fs\",\"place\":1,\"run\":7,\"version\":1}";
 
-/// Replies, and whether a poll takes a feed from them.
-const ROWS: [(&str, &str); 16] = [
+/// Replies, and the feed that a poll takes from them. The bytes behind the body don't count, nor do
+/// blanks and the order of the members.
+const TAKEN: [(&str, &str); 3] = [
     (GOOD, "run 7 place 1 version 1"),
     (
         "HTTP/1.0 200 \r\nContent-Length: 19\r\n\r\n{\"place\":0,\"run\":7}",
         "run 7 place 0 gone",
     ),
-    // The bytes behind the body don't count, nor do blanks and the order of the members.
     (
         "HTTP/1.1 200 OK\r\nContent-Length: 26\r\n\r\n { \"run\": 7, \"place\": 3 } HTTP/1.1 500",
         "run 7 place 3 gone",
     ),
-    // Another status, no length, chunks, a length over the limit, and two lengths.
-    (
-        "HTTP/1.1 404 Not Found\r\nContent-Length: 19\r\n\r\n{\"place\":0,\"run\":7}",
-        "strange",
-    ),
-    ("HTTP/1.1 200 OK\r\n\r\n{\"place\":0,\"run\":7}", "strange"),
-    (
-        "HTTP/1.1 200 OK\r\nTransfer-Encoding: chunked\r\n\r\n13\r\n{\"place\":0,\"run\":7}\r\n0\r\n\r\n",
-        "strange",
-    ),
-    (
-        "HTTP/1.1 200 OK\r\nContent-Length: 1048577\r\n\r\n",
-        "strange",
-    ),
-    (
-        "HTTP/1.1 200 OK\r\nContent-Length: 1, 2\r\n\r\n{}",
-        "strange",
-    ),
-    ("HTTP/2 200 OK\r\n\r\n", "strange"),
-    // An unknown key, one too few, numbers that are none, no table, and no object.
-    (
-        "HTTP/1.1 200 OK\r\nContent-Length: 25\r\n\r\n{\"place\":0,\"run\":7,\"x\":1}",
-        "strange",
-    ),
-    (
-        "HTTP/1.1 200 OK\r\nContent-Length: 29\r\n\r\n{\"dtab\":\"\",\"place\":0,\"run\":7}",
-        "strange",
-    ),
-    (
-        "HTTP/1.1 200 OK\r\nContent-Length: 21\r\n\r\n{\"place\":0.0,\"run\":7}",
-        "strange",
-    ),
-    (
-        "HTTP/1.1 200 OK\r\nContent-Length: 20\r\n\r\n{\"place\":-1,\"run\":7}",
-        "strange",
-    ),
-    (
-        "HTTP/1.1 200 OK\r\nContent-Length: 45\r\n\r\n{\"dtab\":\"/svc\",\"place\":0,\"run\":7,\"version\":1}",
-        "strange",
-    ),
-    ("HTTP/1.1 200 OK\r\nContent-Length: 2\r\n\r\n[]", "strange"),
-    ("", "strange"),
+];
+
+/// Replies with another status, without a length, in chunks, with a length over the limit, with two
+/// lengths, of another version, and none.
+const STRANGE_HEADS: [&str; 7] = [
+    "HTTP/1.1 404 Not Found\r\nContent-Length: 19\r\n\r\n{\"place\":0,\"run\":7}",
+    "HTTP/1.1 200 OK\r\n\r\n{\"place\":0,\"run\":7}",
+    "HTTP/1.1 200 OK\r\nTransfer-Encoding: chunked\r\n\r\n\
+        13\r\n{\"place\":0,\"run\":7}\r\n0\r\n\r\n",
+    "HTTP/1.1 200 OK\r\nContent-Length: 1048577\r\n\r\n",
+    "HTTP/1.1 200 OK\r\nContent-Length: 1, 2\r\n\r\n{}",
+    "HTTP/2 200 OK\r\n\r\n",
+    "",
+];
+
+/// Replies with an unknown key, with one too few, with numbers that are none, without a table, and
+/// without an object.
+const STRANGE_BODIES: [&str; 6] = [
+    "HTTP/1.1 200 OK\r\nContent-Length: 25\r\n\r\n{\"place\":0,\"run\":7,\"x\":1}",
+    "HTTP/1.1 200 OK\r\nContent-Length: 29\r\n\r\n{\"dtab\":\"\",\"place\":0,\"run\":7}",
+    "HTTP/1.1 200 OK\r\nContent-Length: 21\r\n\r\n{\"place\":0.0,\"run\":7}",
+    "HTTP/1.1 200 OK\r\nContent-Length: 20\r\n\r\n{\"place\":-1,\"run\":7}",
+    "HTTP/1.1 200 OK\r\nContent-Length: 45\r\n\r\n\
+        {\"dtab\":\"/svc\",\"place\":0,\"run\":7,\"version\":1}",
+    "HTTP/1.1 200 OK\r\nContent-Length: 2\r\n\r\n[]",
 ];
 
 /// The bytes of each receive in pieces, and those of each send.
@@ -78,7 +61,9 @@ fn polled(alloc: Global, reply: &[u8], failing: Option<u64>) -> Result<String, F
     }
     let sizes = Vec::from_elem(alloc, PIECE, 64)?;
     let mut dialer = MemDialer::of(alloc, replies, sizes, calls);
-    told(alloc, &mut dialer)
+    let told = told(alloc, &mut dialer);
+    drop(dialer);
+    told
 }
 
 /// What a poll of this dialer gives, and how often its calls failed.
@@ -115,11 +100,38 @@ fn said(alloc: Global, feed: Feed) -> Result<String, Fail> {
 }
 
 #[test]
-fn good_replies_are_taken_and_strange_ones_are_not(rt: HostRuntime) -> Result<(), Fail> {
-    for (reply, want) in ROWS {
+fn good_replies_are_taken(rt: HostRuntime) -> Result<(), Fail> {
+    for (reply, want) in &TAKEN {
         let told = polled(rt.alloc(), reply.as_bytes(), None)?;
-        assert_eq!(rt; told.as_str(), want, "{reply}");
+        assert!(rt; told.as_str() == *want, "{reply}: {told}");
     }
+    Ok(())
+}
+
+/// The first of some replies that a poll does not find strange, if there is one.
+fn first_not_strange(
+    alloc: Global,
+    replies: &[&'static str],
+) -> Result<Option<&'static str>, Fail> {
+    for reply in replies {
+        if polled(alloc, reply.as_bytes(), None)?.as_str() != "strange" {
+            return Ok(Some(*reply));
+        }
+    }
+    Ok(None)
+}
+
+#[test]
+fn replies_with_strange_heads_are_not_taken(rt: HostRuntime) -> Result<(), Fail> {
+    let taken = first_not_strange(rt.alloc(), &STRANGE_HEADS)?;
+    assert!(rt; taken.is_none(), "{taken:?}");
+    Ok(())
+}
+
+#[test]
+fn replies_with_strange_bodies_are_not_taken(rt: HostRuntime) -> Result<(), Fail> {
+    let taken = first_not_strange(rt.alloc(), &STRANGE_BODIES)?;
+    assert!(rt; taken.is_none(), "{taken:?}");
     Ok(())
 }
 

@@ -5,26 +5,15 @@ use name_tree::read_path;
 use std::alloc::{AllocError, Global};
 use std::test::Fail;
 
-/// The labels of a text such as `/a/b`; those of `/` are none.
-fn labels_of(alloc: Global, text: &[u8]) -> Mem<Vec<Vec<u8>>> {
-    let mut labels = Vec::new(alloc);
-    for label in text.split(|byte| *byte == b'/') {
-        if !label.is_empty() {
-            labels.push(Vec::from_slice(alloc, label)?)?;
-        }
-    }
-    Ok(labels)
-}
-
-/// The labels of a text such as `/a/*`, in which `*` is any label.
+/// The labels of a text such as `/a/*`, in which `*` is any label; those of `/` are none.
 fn prefix(alloc: Global, text: &[u8]) -> Mem<Vec<Option<Vec<u8>>>> {
     let mut labels = Vec::new(alloc);
-    for label in labels_of(alloc, text)? {
-        labels.push(if label.as_slice() == b"*".as_slice() {
-            None
-        } else {
-            Some(label)
-        })?;
+    for label in text.split(|byte| *byte == b'/') {
+        if label == b"*".as_slice() {
+            labels.push(None)?;
+        } else if !label.is_empty() {
+            labels.push(Some(Vec::from_slice(alloc, label)?))?;
+        }
     }
     Ok(labels)
 }
@@ -49,18 +38,20 @@ fn found(alloc: Global, index: &Index, text: &[u8]) -> Mem<Vec<u32>> {
     index.matching(alloc, &path)
 }
 
+/// Paths, and the positions of those that match them.
+const FOUND: [(&[u8], &[u32]); 4] = [
+    (b"/a/b/c", &[4, 3, 2, 1, 0]),
+    (b"/a", &[4, 1, 0]),
+    (b"/c/b", &[4, 3, 1]),
+    (b"/", &[4]),
+];
+
 #[test]
 fn gives_the_greatest_first(rt: HostRuntime) -> Result<(), Fail> {
     let index = five(rt.alloc())?;
-    let rows: [(&[u8], &[u32]); 4] = [
-        (b"/a/b/c", &[4, 3, 2, 1, 0]),
-        (b"/a", &[4, 1, 0]),
-        (b"/c/b", &[4, 3, 1]),
-        (b"/", &[4]),
-    ];
-    for (text, want) in rows {
+    for (text, want) in &FOUND {
         let found = found(rt.alloc(), &index, text)?;
-        assert!(rt; found.as_slice() == want, "{text:?}");
+        assert!(rt; found.as_slice() == *want, "{text:?}");
     }
     Ok(())
 }
@@ -88,14 +79,22 @@ fn found_behind(alloc: Global, index: &Index, number: u32) -> Mem<Vec<u32>> {
     found(alloc, index, text.as_slice())
 }
 
+/// The first of the three thousand numbers whose path does not find its own prefix alone.
+fn first_lost(alloc: Global, index: &Index) -> Mem<Option<u32>> {
+    for at in 0..3000u32 {
+        if found_behind(alloc, index, at)?.as_slice() != [at].as_slice() {
+            return Ok(Some(at));
+        }
+    }
+    Ok(None)
+}
+
 #[test]
 fn finds_one_of_thousands(rt: HostRuntime) -> Result<(), Fail> {
     let index = thousands(rt.alloc())?;
-    assert!(rt; found(rt.alloc(), &index, b"/svc")?.is_empty());
-    for at in 0..3000u32 {
-        let found = found_behind(rt.alloc(), &index, at)?;
-        assert!(rt; found.as_slice() == [at].as_slice(), "{at}");
+    assert_eq!(rt; first_lost(rt.alloc(), &index)?, None);
+    for text in [b"/svc".as_slice(), b"/svc/s3000/x"] {
+        assert!(rt; found(rt.alloc(), &index, text)?.is_empty());
     }
-    assert!(rt; found_behind(rt.alloc(), &index, 3000)?.is_empty());
     Ok(())
 }

@@ -43,44 +43,51 @@ fn text_of(alloc: Global, path: &Path) -> Mem<Vec<u8>> {
     Ok(text)
 }
 
-/// A part of the path of some labels, with `/z` behind it, and then the path that it is a part of.
-fn part_and_path(
-    alloc: Global,
-    labels: Labels<'_>,
-    from: usize,
-    to: usize,
-) -> Mem<(Vec<u8>, Vec<u8>)> {
-    let path = path_of(alloc, labels)?;
+/// Whether the labels of a path are these.
+fn has_labels(alloc: Global, path: &Path, want: &[u8]) -> Mem<bool> {
+    Ok(text_of(alloc, path)?.as_slice() == want)
+}
+
+/// Whether a part of a path, with `/z` behind it, has these labels.
+fn has_part(alloc: Global, path: &Path, from: usize, to: usize, want: &[u8]) -> Mem<bool> {
     let to = to.min(path.len());
     let mut part = path.part(alloc, from.min(to), to)?;
     push(alloc, &mut part, b'z', 1)?;
-    Ok((text_of(alloc, &part)?, text_of(alloc, &path)?))
+    has_labels(alloc, &part, want)
 }
+
+/// Parts of a path, from one label to before another, and their labels with `/z` behind them.
+type Parts = &'static [(usize, usize, &'static [u8])];
+
+/// Whether the path of some labels has such parts, and its own labels behind that.
+fn has_parts(alloc: Global, labels: Labels<'_>, parts: Parts, want: &[u8]) -> Mem<bool> {
+    let path = path_of(alloc, labels)?;
+    for (from, to, part) in parts {
+        if !has_part(alloc, &path, *from, *to, part)? {
+            return Ok(false);
+        }
+    }
+    has_labels(alloc, &path, want)
+}
+
+/// Labels that end at 65,534 bytes, at 65,535 and past these.
+const LONG: Labels<'static> = &[(b'a', 65_534), (b'b', 1), (b'c', 1), (b'd', 2)];
+
+const LONG_PARTS: Parts = &[
+    (0, 4, b"a65534a b1b c1c d2d z1z "),
+    (0, 2, b"a65534a b1b z1z "),
+    (1, 3, b"b1b c1c z1z "),
+    (2, 4, b"c1c d2d z1z "),
+];
+
+/// Labels that all end past 65,535 bytes.
+const LONGER: Labels<'static> = &[(b'a', 65_536), (b'b', 3)];
+
+const LONGER_PARTS: Parts = &[(1, 2, b"b3b z1z "), (0, 0, b"z1z ")];
 
 #[test]
 fn counts_bytes_past_65_535(rt: HostRuntime) -> Result<(), Fail> {
-    let long: Labels<'_> = &[(b'a', 65_534), (b'b', 1), (b'c', 1), (b'd', 2)];
-    let longer: Labels<'_> = &[(b'a', 65_536), (b'b', 3)];
-    let rows: [(Labels<'_>, usize, usize, &[u8], &[u8]); 6] = [
-        (
-            long,
-            0,
-            4,
-            b"a65534a b1b c1c d2d z1z ",
-            b"a65534a b1b c1c d2d ",
-        ),
-        (long, 0, 2, b"a65534a b1b z1z ", b"a65534a b1b c1c d2d "),
-        (long, 1, 3, b"b1b c1c z1z ", b"a65534a b1b c1c d2d "),
-        (long, 2, 4, b"c1c d2d z1z ", b"a65534a b1b c1c d2d "),
-        (longer, 1, 2, b"b3b z1z ", b"a65536a b3b "),
-        (longer, 0, 0, b"z1z ", b"a65536a b3b "),
-    ];
-    for (labels, from, to, part, path) in rows {
-        let texts = part_and_path(rt.alloc(), labels, from, to)?;
-        assert!(rt;
-            texts.0.as_slice() == part && texts.1.as_slice() == path,
-            "{from} {to}"
-        );
-    }
+    assert!(rt; has_parts(rt.alloc(), LONG, LONG_PARTS, b"a65534a b1b c1c d2d ")?);
+    assert!(rt; has_parts(rt.alloc(), LONGER, LONGER_PARTS, b"a65536a b3b ")?);
     Ok(())
 }

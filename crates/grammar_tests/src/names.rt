@@ -124,9 +124,17 @@ fn tree_of(alloc: Global, text: &[u8]) -> Result<Tree, Fail> {
     }
 }
 
+/// The text of a tree.
+fn text_of(alloc: Global, tree: Tree) -> Mem<Vec<u8>> {
+    let text = write_tree(alloc, &tree);
+    drop(tree);
+    text
+}
+
 /// The text of the tree that a text stands for.
 fn tree_text(alloc: Global, text: &[u8]) -> Result<Vec<u8>, Fail> {
-    Ok(write_tree(alloc, &tree_of(alloc, text)?)?)
+    let tree = tree_of(alloc, text)?;
+    Ok(text_of(alloc, tree)?)
 }
 
 /// Texts of trees, and what is written for them.
@@ -178,18 +186,20 @@ fn nested_fault(
     Ok(tree_fault(alloc, text.as_slice()))
 }
 
+/// How many `(` there are, a text, how many `)`, and why such a tree is refused.
+const NESTED: [(usize, &str, usize, Option<TextFault>); 5] = [
+    (65, "", 0, Some(TextFault::TooNested(64))),
+    (65, "|", 0, Some(TextFault::TooNested(64))),
+    (64, "~ (", 0, Some(TextFault::Syntax(66))),
+    (64, "~", 64, None),
+    (65_537, "", 0, Some(TextFault::TooLong(65_536))),
+];
+
 #[test]
 fn nests_so_deep_and_no_deeper(rt: HostRuntime) -> Result<(), Fail> {
-    let rows = [
-        (65, "", 0, Some(TextFault::TooNested(64))),
-        (65, "|", 0, Some(TextFault::TooNested(64))),
-        (64, "~ (", 0, Some(TextFault::Syntax(66))),
-        (64, "~", 64, None),
-        (65_537, "", 0, Some(TextFault::TooLong(65_536))),
-    ];
-    for (opened, between, closed, want) in rows {
-        let fault = nested_fault(rt.alloc(), opened, between, closed)?;
-        assert!(rt; fault == want, "{opened} {between}");
+    for (opened, between, closed, want) in &NESTED {
+        let fault = nested_fault(rt.alloc(), *opened, between, *closed)?;
+        assert!(rt; fault == *want, "{opened} {between}");
     }
     Ok(())
 }
@@ -199,19 +209,19 @@ fn long_fault(alloc: Global, front: &str, count: usize) -> Mem<Option<TextFault>
     Ok(path_fault(alloc, repeated(alloc, front, "a", count, "")?.as_slice()))
 }
 
+/// A text, how many `a` stand behind it, and why such a path is refused.
+const LONG: [(&str, usize, Option<TextFault>); 4] = [
+    ("(", 65_536, Some(TextFault::TooLong(65_536))),
+    ("(", 65_535, Some(TextFault::Syntax(0))),
+    ("/", 65_535, None),
+    ("/", 65_536, Some(TextFault::TooLong(65_536))),
+];
+
 #[test]
 fn reads_so_long_and_no_longer(rt: HostRuntime) -> Result<(), Fail> {
-    let rows = [
-        ("(", 65_536, Some(TextFault::TooLong(65_536))),
-        ("(", 65_535, Some(TextFault::Syntax(0))),
-        ("/", 65_535, None),
-        ("/", 65_536, Some(TextFault::TooLong(65_536))),
-    ];
-    for (front, count, want) in rows {
-        assert!(rt;
-            long_fault(rt.alloc(), front, count)? == want,
-            "{front} {count}"
-        );
+    for (front, count, want) in &LONG {
+        let fault = long_fault(rt.alloc(), front, *count)?;
+        assert!(rt; fault == *want, "{front} {count}");
     }
     Ok(())
 }
@@ -284,17 +294,19 @@ fn put_text(
     Ok(write_path(alloc, &put_together(alloc, &path, from, to, &path, place)?)?)
 }
 
+/// Three places, and the text of what is put together by them of the path `/a\x2fb/c`.
+const JOINED: [(usize, usize, usize, &[u8]); 4] = [
+    (1, 2, 0, b"/c/a\\x2fb/c"),
+    (1, 2, 1, b"/c/c"),
+    (0, 2, 2, b"/a\\x2fb/c"),
+    (2, 2, 1, b"/c"),
+];
+
 #[test]
 fn takes_and_joins_labels(rt: HostRuntime) -> Result<(), Fail> {
-    let rows: [(usize, usize, usize, &[u8]); 4] = [
-        (1, 2, 0, b"/c/a\\x2fb/c"),
-        (1, 2, 1, b"/c/c"),
-        (0, 2, 2, b"/a\\x2fb/c"),
-        (2, 2, 1, b"/c"),
-    ];
-    for (from, to, place, want) in rows {
-        let text = put_text(rt.alloc(), b" /a\\x2Fb/c ", from, to, place)?;
-        assert!(rt; text.as_slice() == want, "{from} {to} {place}");
+    for (from, to, place, want) in &JOINED {
+        let text = put_text(rt.alloc(), b" /a\\x2Fb/c ", *from, *to, *place)?;
+        assert!(rt; text.as_slice() == *want, "{from} {to} {place}");
     }
     Ok(())
 }
@@ -316,20 +328,25 @@ fn are_same_paths(alloc: Global, text: &[u8], other: &[u8]) -> Result<bool, Fail
 }
 
 #[test]
-fn compares_labels(rt: HostRuntime) -> Result<(), Fail> {
+fn tells_labels(rt: HostRuntime) -> Result<(), Fail> {
     let labels = labels_of(rt.alloc(), b" /a\\x2Fb/c ")?;
     assert!(rt; labels.as_slice() == b"a/b c ".as_slice());
-    let rows: [(&[u8], bool); 4] = [
-        (b"/a/c", true),
-        (b"/a", false),
-        (b"/a/c/c", false),
-        (b"/a/d", false),
-    ];
-    for (text, want) in rows {
-        assert!(rt;
-            are_same_paths(rt.alloc(), b"/\\x61/c", text)? == want,
-            "{text:?}"
-        );
+    Ok(())
+}
+
+/// Paths, and whether they are the same as `/\x61/c`.
+const PATHS: [(&[u8], bool); 4] = [
+    (b"/a/c", true),
+    (b"/a", false),
+    (b"/a/c/c", false),
+    (b"/a/d", false),
+];
+
+#[test]
+fn compares_labels(rt: HostRuntime) -> Result<(), Fail> {
+    for (text, want) in &PATHS {
+        let is_same = are_same_paths(rt.alloc(), b"/\\x61/c", text)?;
+        assert!(rt; is_same == *want, "{text:?}");
     }
     Ok(())
 }
@@ -344,11 +361,14 @@ fn are_written_as_read(alloc: Global, count: usize) -> Result<bool, Fail> {
     Ok(is_same && tree_text(alloc, text.as_slice())? == text)
 }
 
-/// Texts of lengths between the limits, which are read, and written as they were.
+/// Lengths between the limits.
+const MIDDLE: [usize; 5] = [3, 31, 617, 700, 4_999];
+
+/// Texts of such lengths are read, and written as they were.
 #[test]
 fn reads_middle_lengths(rt: HostRuntime) -> Result<(), Fail> {
-    for count in [3usize, 31, 617, 700, 4_999] {
-        assert!(rt; are_written_as_read(rt.alloc(), count)?, "{count}");
+    for count in &MIDDLE {
+        assert!(rt; are_written_as_read(rt.alloc(), *count)?, "{count}");
     }
     Ok(())
 }
@@ -373,13 +393,26 @@ const TREES: [&[u8]; 14] = [
 
 /// The text of a copy of a text's tree.
 fn copy_text(alloc: Global, text: &[u8]) -> Result<Vec<u8>, Fail> {
-    let copy = tree_of(alloc, text)?.copied(alloc)?;
-    Ok(write_tree(alloc, &copy)?)
+    let tree = tree_of(alloc, text)?;
+    let copy = tree.copied(alloc);
+    drop(tree);
+    Ok(text_of(alloc, copy?)?)
+}
+
+/// Whether the tree of a text is the same as another.
+fn is_tree(alloc: Global, text: &[u8], other: &Tree) -> Result<bool, Fail> {
+    let tree = tree_of(alloc, text)?;
+    let is_same = tree.same(other);
+    drop(tree);
+    Ok(is_same)
 }
 
 /// Whether the trees of two texts are the same.
 fn are_same_trees(alloc: Global, text: &[u8], other: &[u8]) -> Result<bool, Fail> {
-    Ok(tree_of(alloc, text)?.same(&tree_of(alloc, other)?))
+    let other = tree_of(alloc, other)?;
+    let is_same = is_tree(alloc, text, &other);
+    drop(other);
+    is_same
 }
 
 /// A tree is the same as its copy, and as no other of these.
@@ -399,9 +432,10 @@ fn copies_and_compares_trees(rt: HostRuntime) -> Result<(), Fail> {
 /// The text of a tree with a path from its second label on behind each leaf.
 fn rest_text(alloc: Global, tree: &[u8], path: &[u8]) -> Result<Vec<u8>, Fail> {
     let path = path_of(alloc, path)?;
-    let from = path.len().min(1);
-    let tree = tree_of(alloc, tree)?.with_rest(alloc, &path, from)?;
-    Ok(write_tree(alloc, &tree)?)
+    let tree = tree_of(alloc, tree)?;
+    let longer = tree.with_rest(alloc, &path, path.len().min(1));
+    drop(tree);
+    Ok(text_of(alloc, longer?)?)
 }
 
 #[test]

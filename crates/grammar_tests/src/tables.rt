@@ -161,17 +161,19 @@ fn prefix_text(alloc: Global, text: &[u8]) -> Result<Vec<u8>, Fail> {
     Ok(write_prefix(alloc, &prefix_of(alloc, text)?)?)
 }
 
+/// Texts of prefixes, and what is written for them.
+const PREFIXES: [(&[u8], &[u8]); 4] = [
+    (b" /svc/* ", b"/svc/*"),
+    (b"/", b"/"),
+    (b"/*", b"/*"),
+    (b"/\\x41/\\x2F", b"/A/\\x2f"),
+];
+
 #[test]
 fn writes_prefixes_that_were_read(rt: HostRuntime) -> Result<(), Fail> {
-    let rows: [(&[u8], &[u8]); 4] = [
-        (b" /svc/* ", b"/svc/*"),
-        (b"/", b"/"),
-        (b"/*", b"/*"),
-        (b"/\\x41/\\x2F", b"/A/\\x2f"),
-    ];
-    for (text, want) in rows {
+    for (text, want) in &PREFIXES {
         let written = prefix_text(rt.alloc(), text)?;
-        assert!(rt; written.as_slice() == want, "{text:?}");
+        assert!(rt; written.as_slice() == *want, "{text:?}");
     }
     Ok(())
 }
@@ -201,35 +203,41 @@ fn count_of(
     }
 }
 
+/// A text, a part, how often it stands there, and an end; and how many entries are read of such a
+/// text, or why it is refused.
+const LIMITS: [(&str, &str, usize, &str, Result<usize, DtabFault>); 11] = [
+    ("", "/a=>/b;", 177, "", Ok(177)),
+    ("", "/a=>/b;", 700, "", Ok(700)),
+    ("", "/a=>/b;", 1_024, "", Ok(1_024)),
+    (
+        "",
+        "/a=>/b;",
+        1_024,
+        "/a=>/b",
+        Err(DtabFault::TooMany(1_025)),
+    ),
+    (
+        "",
+        "/a=>/b;",
+        1_024,
+        "/a=>/b&",
+        Err(DtabFault::Syntax(7_175)),
+    ),
+    ("/a=>/", "b", 65_531, "", Ok(1)),
+    ("/a=>/", "b", 65_532, "", Err(DtabFault::TooLong(65_536))),
+    ("/a=>", "(", 65_536, "", Err(DtabFault::TooLong(65_536))),
+    ("/a=>", "(", 96, "", Err(DtabFault::TooNested(68))),
+    ("/a=>", "(", 65, "", Err(DtabFault::TooNested(68))),
+    ("/a=>", "(", 64, "", Err(DtabFault::Syntax(68))),
+];
+
 /// So many entries and no more, so long and no longer, so deep and no deeper, and which of these is
 /// told first.
 #[test]
 fn keeps_the_limits(rt: HostRuntime) -> Result<(), Fail> {
-    let rows = [
-        ("", "/a=>/b;", 177, "", Ok(177)),
-        ("", "/a=>/b;", 700, "", Ok(700)),
-        ("", "/a=>/b;", 1_024, "", Ok(1_024)),
-        (
-            "",
-            "/a=>/b;",
-            1_024,
-            "/a=>/b",
-            Err(DtabFault::TooMany(1_025)),
-        ),
-        (
-            "",
-            "/a=>/b;",
-            1_024,
-            "/a=>/b&",
-            Err(DtabFault::Syntax(7_175)),
-        ),
-        ("/a=>", "(", 65_536, "", Err(DtabFault::TooLong(65_536))),
-        ("/a=>", "(", 96, "", Err(DtabFault::TooNested(68))),
-        ("/a=>", "(", 64, "", Err(DtabFault::Syntax(68))),
-    ];
-    for (front, part, count, end, want) in rows {
-        let read = count_of(rt.alloc(), front, part, count, end)?;
-        assert!(rt; read == want, "{front} {count} {end}");
+    for (front, part, count, end, want) in &LIMITS {
+        let read = count_of(rt.alloc(), front, part, *count, end)?;
+        assert!(rt; read == *want, "{front} {count} {end}");
     }
     Ok(())
 }
@@ -241,12 +249,15 @@ fn is_written_as_read(alloc: Global, count: usize) -> Result<bool, Fail> {
     Ok(len == count.saturating_add(1) && written == text)
 }
 
+/// Numbers of entries between the limits.
+const MIDDLE: [usize; 4] = [99, 112, 299, 699];
+
 /// Tables of so many entries and of texts of so many bytes between the limits are read, and written
 /// as they were.
 #[test]
 fn reads_middle_sizes(rt: HostRuntime) -> Result<(), Fail> {
-    for count in [99usize, 112, 299, 699] {
-        assert!(rt; is_written_as_read(rt.alloc(), count)?, "{count}");
+    for count in &MIDDLE {
+        assert!(rt; is_written_as_read(rt.alloc(), *count)?, "{count}");
     }
     Ok(())
 }
@@ -276,23 +287,34 @@ fn rewritten(alloc: Global, dtab: &Dtab, text: &[u8]) -> Result<Vec<u8>, Fail> {
     Ok(leaves::<Brand>(alloc, dtab, &path, Blank::new(1))?)
 }
 
+/// A path, and the leaves that a table rewrites it to.
+type Rewritten = (&'static [u8], &'static [u8]);
+
+/// The first of some paths that a table rewrites to other leaves.
+fn first_wrong(alloc: Global, dtab: &Dtab, rows: &[Rewritten]) -> Result<Option<usize>, Fail> {
+    for (at, (path, want)) in rows.iter().enumerate() {
+        if rewritten(alloc, dtab, path)?.as_slice() != *want {
+            return Ok(Some(at));
+        }
+    }
+    Ok(None)
+}
+
+const LOOKED_UP: [Rewritten; 5] = [
+    (b"/svc/web/x", b" ? /d/svc/web/x /b/x /a/web/x"),
+    (b"/svc", b" /d/svc /a"),
+    (b"/svc/webs", b" /d/svc/webs /a/webs"),
+    (b"/sv", b" /d/sv"),
+    (b"/", b" /d"),
+];
+
 #[test]
 fn looks_up(rt: HostRuntime) -> Result<(), Fail> {
     let text = b"/svc => /a ; /svc/web => /b ; /svc/mail => /c ; / => /d ; /svc/web => ~";
     let dtab = table_of(rt.alloc(), text)?;
-    let rows: [(&[u8], &[u8]); 5] = [
-        (b"/svc/web/x", b" ? /d/svc/web/x /b/x /a/web/x"),
-        (b"/svc", b" /d/svc /a"),
-        (b"/svc/webs", b" /d/svc/webs /a/webs"),
-        (b"/sv", b" /d/sv"),
-        (b"/", b" /d"),
-    ];
-    for (text, want) in rows {
-        let leaves = rewritten(rt.alloc(), &dtab, text)?;
-        assert!(rt; leaves.as_slice() == want, "{text:?}");
-    }
-    let leaves = rewritten(rt.alloc(), &Dtab::empty(rt.alloc()), b"/svc")?;
-    assert!(rt; leaves.is_empty());
+    assert_eq!(rt; first_wrong(rt.alloc(), &dtab, &LOOKED_UP)?, None);
+    let none = Dtab::empty(rt.alloc());
+    assert!(rt; rewritten(rt.alloc(), &none, b"/svc")?.is_empty());
     Ok(())
 }
 
@@ -313,20 +335,18 @@ fn any_web(alloc: Global) -> Mem<Prefix> {
     Ok(Prefix::of(labels))
 }
 
+const OF_ENTRY: [Rewritten; 3] = [
+    (b"/any/web/1", b" /s/1"),
+    (b"/any", b""),
+    (b"/any/webs", b""),
+];
+
 #[test]
 fn makes_a_table_of_an_entry(rt: HostRuntime) -> Result<(), Fail> {
     let dtab = table_of_entry(rt.alloc(), any_web(rt.alloc())?)?;
     let text = write_dtab(rt.alloc(), &dtab)?;
     assert!(rt; text.as_slice() == b"/*/web=>/s".as_slice());
-    let rows: [(&[u8], &[u8]); 3] = [
-        (b"/any/web/1", b" /s/1"),
-        (b"/any", b""),
-        (b"/any/webs", b""),
-    ];
-    for (text, want) in rows {
-        let leaves = rewritten(rt.alloc(), &dtab, text)?;
-        assert!(rt; leaves.as_slice() == want, "{text:?}");
-    }
+    assert_eq!(rt; first_wrong(rt.alloc(), &dtab, &OF_ENTRY)?, None);
     Ok(())
 }
 
@@ -386,21 +406,26 @@ fn are_same(one: &Dtab, at: usize, other: &Dtab, place: usize) -> Option<bool> {
     }
 }
 
+/// The places of two entries, and whether these are the same.
+const SAME: [(usize, usize, Option<bool>); 5] = [
+    (0, 1, Some(true)),
+    (2, 0, Some(true)),
+    (0, 0, Some(false)),
+    (1, 1, Some(false)),
+    (3, 0, None),
+];
+
 #[test]
 fn joins_copies_and_compares(rt: HostRuntime) -> Result<(), Fail> {
     let both = joined_copy(rt.alloc(), b"/a => /b; /c/* => /d", b"/a => /e | ~")?;
     let text = write_dtab(rt.alloc(), &both)?;
     assert!(rt; text.as_slice() == b"/a=>/b;/c/*=>/d;/a=>/e | ~".as_slice());
     let other = table_of(rt.alloc(), b"/a => /e | ~; /a => /b")?;
-    let rows = [
-        (0, 1, Some(true)),
-        (2, 0, Some(true)),
-        (0, 0, Some(false)),
-        (1, 1, Some(false)),
-        (3, 0, None),
-    ];
-    for (at, place, want) in rows {
-        assert!(rt; are_same(&both, at, &other, place) == want, "{at} {place}");
+    for (at, place, want) in &SAME {
+        assert!(rt;
+            are_same(&both, *at, &other, *place) == *want,
+            "{at} {place}"
+        );
     }
     Ok(())
 }

@@ -2,205 +2,18 @@
 //! call, and limits.
 mod exchange;
 
-use crate::bodies::exchange::{Calls, Passed, back, onward, unsent, whole, written};
+use crate::bodies::exchange::{Calls, Way, onward, pass, unsent, whole, written};
+use crate::requests::{room_of, spelled};
 use body_wire::BodyEnd::{
     self, BadChunk, Cut, ReadFault, RecvFault, SendFault, TooLong, WriteFault,
 };
 use body_wire::{Bytes, Mem};
 use http_wire::Framing::{self, Chunked, Length, Nothing, ToEnd};
+use http_wire::Rest;
 use std::alloc::Global;
 use std::test::Fail;
 
-/// A part of a body in chunks.
-#[derive(Clone, Copy)]
-enum Part {
-    /// Content, of which each byte goes on as it comes.
-    Content(&'static str),
-    /// Other bytes, and what goes on in chunks for them, once they have all come.
-    Frame(&'static str, &'static str),
-}
-
-/// A body in two chunks, with extensions and trailers, part by part.
-const PARTS: [Part; 7] = [
-    Part::Frame("D;n=v\r\n", "d\r\n"),
-    Part::Content("hello, world\n"),
-    Part::Frame("\r\n", "\r\n"),
-    Part::Frame("03 \r\n", "3\r\n"),
-    Part::Content("\r\n0"),
-    Part::Frame("\r\n", "\r\n"),
-    Part::Frame("0;last\r\nX-Sum: 1\r\n\r\n", "0\r\n\r\n"),
-];
-
-/// The bytes of that body.
-fn body(alloc: Global) -> Mem<Bytes> {
-    let mut body = Vec::new(alloc);
-    for part in &PARTS {
-        match part {
-            Part::Content(text) | Part::Frame(text, _) => body.extend_from_slice(text.as_bytes())?,
-        }
-    }
-    Ok(body)
-}
-
-/// What goes on for its first bytes, so many, in chunks or as content alone.
-fn goes(alloc: Global, chunked: bool, count: usize) -> Mem<Bytes> {
-    let mut goes = Vec::new(alloc);
-    let mut left = count;
-    for part in &PARTS {
-        match part {
-            Part::Content(text) => {
-                goes.extend_from_slice(&text.as_bytes()[..left.min(text.len())])?;
-                left = left.saturating_sub(text.len());
-            }
-            Part::Frame(text, whole) => {
-                if chunked && text.len() <= left {
-                    goes.extend_from_slice(whole.as_bytes())?;
-                }
-                left = left.saturating_sub(text.len());
-            }
-        }
-    }
-    Ok(goes)
-}
-
-/// The answer where so many bytes of that body come, and then the end.
-fn answer(alloc: Global, count: usize) -> Mem<Result<u64, BodyEnd>> {
-    Ok(if count == body(alloc)?.len() {
-        Ok(16)
-    } else {
-        Err(Cut)
-    })
-}
-
-/// Whether a body came to this answer, and these bytes went on.
-fn came_to(passed: &Passed, answer: Result<u64, BodyEnd>, went: &[u8]) -> bool {
-    passed.answer == answer && passed.went.as_slice() == went
-}
-
-/// Whether a body of which these bytes come in such calls is passed on so in both directions, and
-/// read.
-fn is_passed(
-    alloc: Global,
-    comes: &[u8],
-    gives: Calls,
-    answers: [Result<u64, BodyEnd>; 2],
-    count: usize,
-) -> Result<bool, Fail> {
-    let [read, received] = answers;
-    let chunks = goes(alloc, true, count)?;
-    let content = goes(alloc, false, count)?;
-    Ok(
-        goes_onward(alloc, comes, gives, read, chunks.as_slice())?
-            && goes_back(alloc, true, comes, gives, received, chunks.as_slice())?
-            && goes_back(alloc, false, comes, gives, received, content.as_slice())?
-            && length_of(alloc, comes, gives)? == read,
-    )
-}
-
-/// Whether a body of which these bytes come in such calls is passed on so.
-fn goes_onward(
-    alloc: Global,
-    comes: &[u8],
-    gives: Calls,
-    answer: Result<u64, BodyEnd>,
-    went: &[u8],
-) -> Result<bool, Fail> {
-    let passed = onward(alloc, Chunked, b"", comes, gives, Calls::whole())?;
-    Ok(came_to(&passed, answer, went))
-}
-
-/// Whether such a body is passed back so, in chunks or as content alone.
-fn goes_back(
-    alloc: Global,
-    chunked: bool,
-    comes: &[u8],
-    gives: Calls,
-    answer: Result<u64, BodyEnd>,
-    went: &[u8],
-) -> Result<bool, Fail> {
-    let returned = back(alloc, Chunked, chunked, comes, gives, Calls::whole())?;
-    Ok(came_to(&returned, answer, went))
-}
-
-/// How long the content of such a body is that is read.
-fn length_of(alloc: Global, comes: &[u8], gives: Calls) -> Mem<Result<u64, BodyEnd>> {
-    match whole(alloc, Chunked, b"", comes, gives)? {
-        Ok(content) => Ok(Ok(content.len() as u64)),
-        Err(end) => Ok(Err(end)),
-    }
-}
-
-#[test]
-fn a_body_may_be_cut_at_each_byte(rt: HostRuntime) -> Result<(), Fail> {
-    let body = body(rt.alloc())?;
-    for count in 0..body.len() + 1 {
-        let answer = answer(rt.alloc(), count)?;
-        for most in [1, 5, usize::MAX] {
-            let comes = &body[..count];
-            let is_passed = is_passed(rt.alloc(), comes, Calls::by(most), [answer, answer], count)?;
-            assert!(rt; is_passed, "{count} by {most}");
-        }
-    }
-    Ok(())
-}
-
-/// Whether the body is passed on whole where its first bytes are kept, so many.
-fn is_passed_behind(alloc: Global, body: &[u8], count: usize) -> Result<bool, Fail> {
-    let once = Calls::whole();
-    let count = count.min(body.len());
-    let passed = onward(alloc, Chunked, &body[..count], &body[count..], once, once)?;
-    Ok(came_to(&passed, Ok(16), goes(alloc, true, body.len())?.as_slice()))
-}
-
-/// Whether the body is passed on as far as the call goes that fails at the other end.
-fn is_passed_until(alloc: Global, body: &[u8], call: usize) -> Result<bool, Fail> {
-    let once = Calls::whole();
-    // The first call takes the head.
-    let takes = Calls::until(call.saturating_add(1));
-    let all = goes(alloc, true, body.len())?;
-    let went = &all[..call.min(all.len())];
-    let passed = onward(alloc, Chunked, b"", body, once, takes)?;
-    let returned = back(alloc, Chunked, true, body, once, takes)?;
-    Ok(came_to(&passed, Err(SendFault), went) && came_to(&returned, Err(WriteFault), went))
-}
-
-#[test]
-fn each_call_fails_in_turn(rt: HostRuntime) -> Result<(), Fail> {
-    let body = body(rt.alloc())?;
-    let faults = [Err(ReadFault), Err(RecvFault)];
-    for call in 0..body.len() {
-        let is_passed = is_passed(
-            rt.alloc(),
-            body.as_slice(),
-            Calls::until(call),
-            faults,
-            call,
-        )?;
-        assert!(rt; is_passed, "read {call}");
-        let is_passed = is_passed_behind(rt.alloc(), body.as_slice(), call)?;
-        assert!(rt; is_passed, "{call} kept");
-    }
-    for call in 0..goes(rt.alloc(), true, body.len())?.len() {
-        let is_passed = is_passed_until(rt.alloc(), body.as_slice(), call)?;
-        assert!(rt; is_passed, "send {call}");
-    }
-    Ok(())
-}
-
-/// The bytes of a text in which `|` is CR LF, and `*` so many bytes `x`.
-fn spelled(alloc: Global, text: &str, count: usize) -> Mem<Bytes> {
-    let mut bytes = Vec::new(alloc);
-    for byte in text.as_bytes() {
-        match byte {
-            b'|' => bytes.extend_from_slice(b"\r\n")?,
-            b'*' => bytes.append(&mut Vec::from_elem(alloc, b'x', count)?)?,
-            other => bytes.push(*other)?,
-        }
-    }
-    Ok(bytes)
-}
-
-/// A body up to the byte that ends it: its framing, its text and the number of bytes that `*`
+/// A body up to the byte that ends it: its framing, its text and the number of bytes that `%`
 /// stands for; the texts that go on in chunks and as content alone; and the answer.
 type Row = (
     Framing,
@@ -232,10 +45,10 @@ const ROWS: [Row; 32] = [
     (Chunked, "2|a\n|0|T: 1\n\n", 0, "2|a\n|0||", "a\n", Ok(2)),
     (Chunked, "0|T: 1|\rU\n\r||", 0, "0||", "", Ok(0)),
     (Chunked, "0|\n", 0, "0||", "", Ok(0)),
-    (Chunked, "1;*|a|0||", 4092, "1|a|0||", "a", Ok(1)),
-    (Chunked, "1|a|0|*\n|", 65533, "1|a|0||", "a", Ok(1)),
-    (Chunked, "1;*\r", 4093, "", "", Err(BadChunk(0))),
-    (Chunked, "1|a|0|*\n\r", 65534, "1|a|", "a", Err(BadChunk(1))),
+    (Chunked, "1;%|a|0||", 4092, "1|a|0||", "a", Ok(1)),
+    (Chunked, "1|a|0|%\n|", 65533, "1|a|0||", "a", Ok(1)),
+    (Chunked, "1;%\r", 4093, "", "", Err(BadChunk(0))),
+    (Chunked, "1|a|0|%\n\r", 65534, "1|a|", "a", Err(BadChunk(1))),
     (Chunked, "x", 0, "", "", Err(BadChunk(0))),
     (Chunked, "\r", 0, "", "", Err(BadChunk(0))),
     (Chunked, "5\n", 0, "", "", Err(BadChunk(0))),
@@ -246,10 +59,10 @@ const ROWS: [Row; 32] = [
     (Chunked, "1|a\rb", 0, "1|a", "a", Err(BadChunk(1))),
     (
         Chunked,
-        "7fffffffffffffff|*",
+        "7fffffffffffffff|%",
         9,
-        "7fffffffffffffff|*",
-        "*",
+        "7fffffffffffffff|%",
+        "%",
         Err(Cut),
     ),
     (
@@ -274,11 +87,11 @@ const ROWS: [Row; 32] = [
     (Length(5), "hello", 0, "hello", "hello", Ok(5)),
     (Length(5), "", 0, "", "", Err(Cut)),
     (Length(5), "hell", 0, "hell", "hell", Err(Cut)),
-    (Length(9223372036854775807), "*", 9, "*", "*", Err(Cut)),
+    (Length(9223372036854775807), "%", 9, "%", "%", Err(Cut)),
     (Length(9223372036854775808), "", 0, "", "", Err(TooLong)),
     (ToEnd, "", 0, "", "", Ok(0)),
     (ToEnd, "hello", 0, "hello", "hello", Ok(5)),
-    (ToEnd, "*", 70000, "*", "*", Ok(70000)),
+    (ToEnd, "%", 70000, "%", "%", Ok(70000)),
 ];
 
 /// The connection ends where the body does.
@@ -289,216 +102,379 @@ fn is_at_end(framing: Framing, answer: Result<u64, BodyEnd>) -> bool {
     }
 }
 
-/// What a body comes to: the answer, what goes on, and how many bytes are taken by calls of one
-/// byte.
-#[derive(Clone, Copy)]
-struct Wanted<'a> {
-    answer: Result<u64, BodyEnd>,
-    went: &'a [u8],
-    ends: usize,
+/// The bytes of a row's body, with others behind them where the connection does not end there; and
+/// how many are the body's.
+fn comes_of(alloc: Global, row: &Row) -> Mem<(Bytes, usize)> {
+    let mut comes = spelled(alloc, row.1, "x", row.2)?;
+    let ends = comes.len();
+    if !is_at_end(row.0, row.5) {
+        comes.extend_from_slice(b"behind")?;
+    }
+    Ok((comes, ends))
 }
 
-/// Whether a body that was passed on in such calls came to this.
-fn is_wanted(passed: &Passed, calls: Calls, wanted: Wanted<'_>) -> bool {
-    (passed.got == wanted.ends || calls.most > 1) && came_to(passed, wanted.answer, wanted.went)
+/// What goes on for a row's body this way.
+fn went_of(alloc: Global, row: &Row, way: Way) -> Mem<Bytes> {
+    match way {
+        Way::Back { chunked: false } => spelled(alloc, row.4, "x", row.2),
+        _ => spelled(alloc, row.3, "x", row.2),
+    }
 }
 
-/// Whether a body comes to this where it is passed on in such calls.
-fn is_onward(
-    alloc: Global,
-    framing: Framing,
-    comes: &[u8],
-    calls: Calls,
-    wanted: Wanted<'_>,
-) -> Result<bool, Fail> {
-    let passed = onward(alloc, framing, b"", comes, calls, calls)?;
-    Ok(is_wanted(&passed, calls, wanted))
-}
-
-/// Whether a body comes to this where it is passed back in such calls, in chunks or as content
-/// alone.
-fn is_back(
-    alloc: Global,
-    framing: Framing,
-    chunked: bool,
-    comes: &[u8],
-    calls: Calls,
-    wanted: Wanted<'_>,
-) -> Result<bool, Fail> {
-    let returned = back(alloc, framing, chunked, comes, calls, calls)?;
-    Ok(is_wanted(&returned, calls, wanted))
-}
-
-/// Whether a row's body is passed on as it says, in calls of so many bytes at most, and no byte
-/// behind it is taken by calls of one byte.
-fn is_row_passed(
-    alloc: Global,
-    row: &Row,
-    comes: &[u8],
-    ends: usize,
-    most: usize,
-) -> Result<bool, Fail> {
-    let (framing, _text, count, chunks, content, answer) = row;
-    let chunks = spelled(alloc, chunks, *count)?;
-    let content = spelled(alloc, content, *count)?;
-    let in_chunks = Wanted {
-        answer: *answer,
-        went: chunks.as_slice(),
-        ends,
-    };
-    let bare = Wanted {
-        went: content.as_slice(),
-        ..in_chunks
-    };
+/// Whether a row's body is passed this way as the row says, in calls of so many bytes at most, and
+/// no byte behind it is taken by calls of one byte.
+fn is_row_passed(alloc: Global, row: &Row, way: Way, most: usize) -> Result<bool, Fail> {
+    let (comes, ends) = comes_of(alloc, row)?;
     let calls = Calls::by(most);
-    Ok(
-        is_onward(alloc, *framing, comes, calls, in_chunks)?
-            && is_back(alloc, *framing, true, comes, calls, in_chunks)?
-            && is_back(alloc, *framing, false, comes, calls, bare)?,
-    )
+    let passed = pass(alloc, way, row.0, comes.as_slice(), calls, calls)?;
+    let went = went_of(alloc, row, way)?;
+    Ok(passed.came_to(row.5, went.as_slice()) && (passed.got == ends || most > 1))
 }
+
+/// Back in chunks.
+const BACK: Way = Way::Back { chunked: true };
+
+/// Back as content alone.
+const BARE: Way = Way::Back { chunked: false };
+
+/// All ways.
+const WAYS: [Way; 3] = [Way::Onward, BACK, BARE];
 
 #[test]
 fn bodies_end_at_their_byte(rt: HostRuntime) -> Result<(), Fail> {
     for row in &ROWS {
-        let mut comes = spelled(rt.alloc(), row.1, row.2)?;
-        let ends = comes.len();
-        if !is_at_end(row.0, row.5) {
-            comes.extend_from_slice(b"behind")?;
-        }
-        for most in [1, 2, 7, 4096, usize::MAX] {
-            let is_passed = is_row_passed(rt.alloc(), row, comes.as_slice(), ends, most)?;
-            assert!(rt; is_passed, "{:?} by {most}", row.1);
+        for way in WAYS {
+            for most in [1, 2, 7, 4096, usize::MAX] {
+                let is_passed = is_row_passed(rt.alloc(), row, way, most)?;
+                assert!(rt; is_passed, "{:?} by {most}", row.1);
+            }
         }
     }
     Ok(())
 }
 
-/// Whether a body goes on as it comes, in both directions.
-fn is_unchanged(alloc: Global, framing: Framing, text: &str, count: usize) -> Result<bool, Fail> {
-    let once = Calls::whole();
-    let comes = spelled(alloc, text, count)?;
-    let passed = onward(alloc, framing, b"", comes.as_slice(), once, once)?;
-    let returned = back(alloc, framing, true, comes.as_slice(), once, once)?;
-    let answer = Ok(count as u64);
-    Ok(came_to(&passed, answer, comes.as_slice()) && came_to(&returned, answer, comes.as_slice()))
-}
-
-/// How many bytes of a long body go on whose read 62 fails: 62 reads give 1,000,000 bytes.
-fn went_before_fault(alloc: Global) -> Result<usize, Fail> {
-    let comes = spelled(alloc, "*", 1000000)?;
-    let fails = Calls {
-        most: usize::MAX,
-        failing: Some(62),
-    };
-    let once = Calls::whole();
-    let passed = onward(alloc, Length(3000000), b"", comes.as_slice(), fails, once)?;
-    if passed.answer != Err(ReadFault) {
-        return Err("no fault".into());
-    }
-    Ok(passed.went.len())
-}
-
 /// Long bodies.
-const LONG: [(Framing, &str, usize); 2] = [
-    (Length(3000000), "*", 3000000),
-    (Chunked, "30d40|*|0||", 200000),
+const LONG: [Row; 2] = [
+    (Length(3000000), "%", 3000000, "%", "%", Ok(3000000)),
+    (
+        Chunked,
+        "30d40|%|0||",
+        200000,
+        "30d40|%|0||",
+        "%",
+        Ok(200000),
+    ),
 ];
 
 #[test]
 fn long_bodies_go_on_whole(rt: HostRuntime) -> Result<(), Fail> {
-    for (framing, text, count) in &LONG {
-        assert!(rt;
-            is_unchanged(rt.alloc(), *framing, text, *count)?,
-            "{text:?}"
-        );
+    for row in &LONG {
+        for way in WAYS {
+            let is_passed = is_row_passed(rt.alloc(), row, way, usize::MAX)?;
+            assert!(rt; is_passed, "{:?}", row.1);
+        }
     }
-    assert!(rt; went_before_fault(rt.alloc())? >= 983616);
     Ok(())
 }
 
-/// What a body comes to that is kept whole, and in how many sends it goes on.
-fn kept_whole(
-    alloc: Global,
-    framing: Framing,
-    text: &str,
-) -> Result<(Result<u64, BodyEnd>, usize), Fail> {
-    let kept = spelled(alloc, text, 0)?;
-    let once = Calls::whole();
-    let passed = onward(alloc, framing, kept.as_slice(), b"", once, once)?;
-    Ok((passed.answer, passed.sends))
+/// How many bytes of a long body go on whose read 62 fails, the head among them: 62 reads give
+/// 1,000,000 bytes.
+fn went_before_fault(alloc: Global) -> Result<usize, Fail> {
+    let comes = Vec::from_elem(alloc, b'x', 1000000)?;
+    let gives = Calls {
+        most: usize::MAX,
+        failing: 62,
+    };
+    let passed = onward(
+        alloc,
+        Length(3000000),
+        b"",
+        comes.as_slice(),
+        gives,
+        Calls::WHOLE,
+    )?;
+    Ok(if passed.answer == Err(ReadFault) {
+        passed.went.len()
+    } else {
+        0
+    })
 }
-
-/// Bodies, and their lengths.
-const KEPT: [(Framing, &str, u64); 3] = [
-    (Nothing, "", 0),
-    (Length(5), "hello", 5),
-    (Chunked, "3|abc|2|de|0||", 5),
-];
 
 #[test]
-fn a_head_leaves_with_what_is_kept(rt: HostRuntime) -> Result<(), Fail> {
-    for (framing, text, count) in &KEPT {
-        assert!(rt;
-            kept_whole(rt.alloc(), *framing, text)? == (Ok(*count), 1),
-            "{text:?}"
-        );
-    }
+fn bytes_go_on_before_a_later_read_fails(rt: HostRuntime) -> Result<(), Fail> {
+    assert!(rt; went_before_fault(rt.alloc())? > 983616);
     Ok(())
 }
 
-/// How long the content of a body is that is read.
-fn read_length(
+/// A part of a body in chunks.
+#[derive(Clone, Copy)]
+enum Part {
+    /// Content, of which each byte goes on as it comes.
+    Content(&'static str),
+    /// Other bytes, and what goes on in chunks for them, once they have all come.
+    Frame(&'static str, &'static str),
+}
+
+/// A body in two chunks, with extensions and trailers, part by part.
+const PARTS: [Part; 7] = [
+    Part::Frame("D;n=v\r\n", "d\r\n"),
+    Part::Content("hello, world\n"),
+    Part::Frame("\r\n", "\r\n"),
+    Part::Frame("03 \r\n", "3\r\n"),
+    Part::Content("\r\n0"),
+    Part::Frame("\r\n", "\r\n"),
+    Part::Frame("0;last\r\nX-Sum: 1\r\n\r\n", "0\r\n\r\n"),
+];
+
+/// How many bytes of content it has.
+const CONTENT: u64 = 16;
+
+/// The bytes of that body.
+fn body(alloc: Global) -> Mem<Bytes> {
+    let mut body = Vec::new(alloc);
+    for part in &PARTS {
+        match part {
+            Part::Content(text) | Part::Frame(text, _) => body.extend_from_slice(text.as_bytes())?,
+        }
+    }
+    Ok(body)
+}
+
+/// What goes on this way for its first bytes, so many.
+fn goes(alloc: Global, way: Way, count: usize) -> Mem<Bytes> {
+    let mut goes = Vec::new(alloc);
+    let mut left = count;
+    for part in &PARTS {
+        goes.extend_from_slice(goes_for(*part, way, left))?;
+        left = left.saturating_sub(length_of(*part));
+    }
+    Ok(goes)
+}
+
+/// How many bytes a part has.
+fn length_of(part: Part) -> usize {
+    match part {
+        Part::Content(text) | Part::Frame(text, _) => text.len(),
+    }
+}
+
+/// What goes on this way for the first bytes of a part, so many.
+fn goes_for(part: Part, way: Way, left: usize) -> &'static [u8] {
+    match (part, way) {
+        (Part::Content(text), _) => &text.as_bytes()[..left.min(text.len())],
+        (Part::Frame(_, _), Way::Back { chunked: false }) => b"".as_slice(),
+        (Part::Frame(text, whole), _) if text.len() <= left => whole.as_bytes(),
+        (Part::Frame(_, _), _) => b"".as_slice(),
+    }
+}
+
+/// What a body comes to that is passed on or read: the answers of these in turn.
+type Ends = (Result<u64, BodyEnd>, Result<u64, BodyEnd>);
+
+/// Whether a body of which these bytes come in such calls goes on this way as far as so many of
+/// them bring it, and comes to this answer.
+fn is_passed(
     alloc: Global,
-    framing: Framing,
-    text: &str,
+    way: Way,
+    comes: &[u8],
     count: usize,
-) -> Mem<Result<u64, BodyEnd>> {
-    let comes = spelled(alloc, text, count)?;
-    match whole(alloc, framing, b"", comes.as_slice(), Calls::whole())? {
+    gives: Calls,
+    answer: Result<u64, BodyEnd>,
+) -> Result<bool, Fail> {
+    let went = goes(alloc, way, count)?;
+    let passed = pass(alloc, way, Chunked, comes, gives, Calls::WHOLE)?;
+    Ok(passed.came_to(answer, went.as_slice()))
+}
+
+/// How long the content of such a body is that is read.
+fn read_length(alloc: Global, comes: &[u8], gives: Calls) -> Mem<Result<u64, BodyEnd>> {
+    let mut rest = Rest::room(alloc)?;
+    match whole(alloc, Chunked, comes, &mut rest, gives)? {
         Ok(content) => Ok(Ok(content.len() as u64)),
         Err(end) => Ok(Err(end)),
     }
 }
 
-/// Bodies, and how long their content is that is read.
-const READ: [(Framing, &str, usize, Result<u64, BodyEnd>); 8] = [
-    (Length(1048576), "*", 1048576, Ok(1048576)),
-    (Length(1048577), "", 0, Err(TooLong)),
-    (Chunked, "100000|*|0||", 1048576, Ok(1048576)),
-    (Chunked, "100001|", 0, Err(TooLong)),
-    (Chunked, "100000|*|1|", 1048576, Err(TooLong)),
-    (ToEnd, "*", 1048576, Ok(1048576)),
-    (ToEnd, "*", 1048577, Err(TooLong)),
-    (Chunked, "2|ab|1|cx", 0, Err(BadChunk(3))),
-];
+/// Whether such a body is passed on so all ways, and read: it comes to the one answer where it is
+/// read off a peer, and to the other where it is received.
+fn is_moved(
+    alloc: Global,
+    comes: &[u8],
+    count: usize,
+    gives: Calls,
+    ends: Ends,
+) -> Result<bool, Fail> {
+    let (read, received) = ends;
+    Ok(
+        is_passed(alloc, Way::Onward, comes, count, gives, read)?
+            && is_passed(alloc, BACK, comes, count, gives, received)?
+            && is_passed(alloc, BARE, comes, count, gives, received)?
+            && read_length(alloc, comes, gives)? == read,
+    )
+}
+
+/// What the body comes to where so many of its bytes come, of all, and then the end.
+fn end_at(count: usize, all: usize) -> Result<u64, BodyEnd> {
+    if count == all { Ok(CONTENT) } else { Err(Cut) }
+}
 
 #[test]
-fn a_body_is_read_up_to_its_limit(rt: HostRuntime) -> Result<(), Fail> {
-    let address = whole(
-        rt.alloc(),
-        Length(12),
-        b"127.0",
-        b".0.1 1\nGET",
-        Calls::whole(),
-    )?;
-    let address = address.unwrap_or(Vec::new(rt.alloc()));
-    assert!(rt; address.as_slice() == b"127.0.0.1 1\n".as_slice());
-    for (framing, text, count, answer) in &READ {
-        let length = read_length(rt.alloc(), *framing, text, *count)?;
-        assert!(rt; length == *answer, "{text:?}");
+fn a_body_may_be_cut_at_each_byte(rt: HostRuntime) -> Result<(), Fail> {
+    let body = body(rt.alloc())?;
+    for count in 0..body.len() + 1 {
+        let end = end_at(count, body.len());
+        for most in [1, 5, usize::MAX] {
+            let gives = Calls::by(most);
+            let is_moved = is_moved(rt.alloc(), &body[..count], count, gives, (end, end))?;
+            assert!(rt; is_moved, "{count} by {most}");
+        }
     }
     Ok(())
 }
 
-/// Bodies that are refused before the first read, with the bytes that are kept of them.
-const AT_ONCE: [(Framing, &[u8]); 2] = [(Length(1048577), b""), (Chunked, b"100001\r\n")];
+#[test]
+fn each_read_fails_in_turn(rt: HostRuntime) -> Result<(), Fail> {
+    let body = body(rt.alloc())?;
+    for call in 0..body.len() {
+        let ends = (Err(ReadFault), Err(RecvFault));
+        let gives = Calls::until(call);
+        let is_moved = is_moved(rt.alloc(), body.as_slice(), call, gives, ends)?;
+        assert!(rt; is_moved, "{call}");
+    }
+    Ok(())
+}
+
+/// Whether the body goes on whole where its first bytes are kept, so many.
+fn is_passed_behind(alloc: Global, body: &[u8], count: usize) -> Result<bool, Fail> {
+    let (kept, comes) = body.split_at(count.min(body.len()));
+    let went = goes(alloc, Way::Onward, body.len())?;
+    let passed = onward(alloc, Chunked, kept, comes, Calls::WHOLE, Calls::WHOLE)?;
+    Ok(passed.came_to(Ok(CONTENT), went.as_slice()))
+}
 
 #[test]
-fn a_body_is_too_long_before_the_next_read(rt: HostRuntime) -> Result<(), Fail> {
-    for (framing, kept) in &AT_ONCE {
-        let read = whole(rt.alloc(), *framing, kept, b"", Calls::until(0))?;
-        assert!(rt; read.err() == Some(TooLong), "{kept:?}");
+fn each_front_of_a_body_may_be_kept(rt: HostRuntime) -> Result<(), Fail> {
+    let body = body(rt.alloc())?;
+    for count in 0..body.len() {
+        let is_passed = is_passed_behind(rt.alloc(), body.as_slice(), count)?;
+        assert!(rt; is_passed, "{count}");
+    }
+    Ok(())
+}
+
+/// Whether the body goes on this way as far as the call goes that fails at the other end. The first
+/// call takes the head.
+fn is_passed_until(
+    alloc: Global,
+    way: Way,
+    body: &[u8],
+    went: &[u8],
+    end: BodyEnd,
+) -> Result<bool, Fail> {
+    let takes = Calls::until(went.len().saturating_add(1));
+    let passed = pass(alloc, way, Chunked, body, Calls::WHOLE, takes)?;
+    Ok(passed.came_to(Err(end), went))
+}
+
+#[test]
+fn each_send_fails_in_turn(rt: HostRuntime) -> Result<(), Fail> {
+    let body = body(rt.alloc())?;
+    let all = goes(rt.alloc(), Way::Onward, body.len())?;
+    for call in 0..all.len() {
+        for (way, end) in [(Way::Onward, SendFault), (BACK, WriteFault)] {
+            let is_passed = is_passed_until(rt.alloc(), way, body.as_slice(), &all[..call], end)?;
+            assert!(rt; is_passed, "{call}");
+        }
+    }
+    Ok(())
+}
+
+/// Bodies, and their lengths.
+const KEPT: [(Framing, &[u8], u64); 3] = [
+    (Nothing, b"", 0),
+    (Length(5), b"hello", 5),
+    (Chunked, b"3\r\nabc\r\n2\r\nde\r\n0\r\n\r\n", 5),
+];
+
+#[test]
+fn a_head_leaves_with_what_is_kept(rt: HostRuntime) -> Result<(), Fail> {
+    for (framing, kept, count) in &KEPT {
+        let (alloc, once) = (rt.alloc(), Calls::WHOLE);
+        let passed = onward(alloc, *framing, kept, b"", once, once)?;
+        assert!(rt;
+            passed.answer == Ok(*count) && passed.sends == 1,
+            "{kept:?}"
+        );
+    }
+    Ok(())
+}
+
+/// A body that is read: its framing, what is kept of it, what comes and the number of bytes that
+/// `%` stands for, and the call that fails; why it is refused, and its content.
+type Read = (
+    Framing,
+    &'static str,
+    &'static str,
+    usize,
+    u64,
+    Option<BodyEnd>,
+    &'static str,
+);
+
+const READ: [Read; 11] = [
+    (Length(1048576), "", "%", 1048576, 99, None, "%"),
+    (Length(1048577), "", "", 0, 99, Some(TooLong), ""),
+    (Chunked, "", "100000|%|0||", 1048576, 99, None, "%"),
+    (Chunked, "", "100001|", 0, 99, Some(TooLong), ""),
+    (Chunked, "", "100000|%|1|", 1048576, 99, Some(TooLong), ""),
+    (ToEnd, "", "%", 1048576, 99, None, "%"),
+    (ToEnd, "", "%", 1048577, 99, Some(TooLong), ""),
+    (Chunked, "", "2|ab|1|cx", 0, 99, Some(BadChunk(3)), ""),
+    (
+        Length(12),
+        "127.0",
+        ".0.1 1\nGET",
+        0,
+        99,
+        None,
+        "127.0.0.1 1\n",
+    ),
+    // What is too long is refused before the first read.
+    (Length(1048577), "", "", 0, 0, Some(TooLong), ""),
+    (Chunked, "100001\r\n", "", 0, 0, Some(TooLong), ""),
+];
+
+/// Whether the content of a body that was read is this; or it was refused so.
+fn is_content(read: Result<Bytes, BodyEnd>, end: Option<BodyEnd>, content: &[u8]) -> bool {
+    match read {
+        Ok(bytes) => end == None && bytes.as_slice() == content,
+        Err(refused) => end == Some(refused),
+    }
+}
+
+/// Reads a body of which these bytes come, as a row says.
+fn read(alloc: Global, row: &Read, comes: &[u8]) -> Mem<Result<Bytes, BodyEnd>> {
+    let (framing, kept, _, _, failing, _, _) = row;
+    let calls = Calls {
+        most: usize::MAX,
+        failing: *failing,
+    };
+    let mut rest = room_of(alloc, kept.as_bytes())?;
+    whole(alloc, *framing, comes, &mut rest, calls)
+}
+
+/// Whether a body is read as a row says.
+fn is_read(alloc: Global, row: &Read) -> Mem<bool> {
+    let comes = spelled(alloc, row.2, "x", row.3)?;
+    let content = spelled(alloc, row.6, "x", row.3)?;
+    let read = read(alloc, row, comes.as_slice())?;
+    Ok(is_content(read, row.5, content.as_slice()))
+}
+
+#[test]
+fn a_body_is_read_up_to_its_limit(rt: HostRuntime) -> Result<(), Fail> {
+    for row in &READ {
+        assert!(rt; is_read(rt.alloc(), row)?, "{:?} {:?}", row.1, row.2);
     }
     Ok(())
 }
@@ -514,15 +490,18 @@ const BEHIND: [(Framing, &[u8], &[u8]); 4] = [
 #[test]
 fn what_lies_behind_an_unsent_body_is_kept(rt: HostRuntime) -> Result<(), Fail> {
     for (framing, kept, behind) in &BEHIND {
-        let (answer, stays) = unsent(rt.alloc(), *framing, kept)?;
-        assert!(rt; answer == Err(SendFault), "{kept:?}");
-        assert!(rt; stays.as_slice().ends_with(behind), "{kept:?}");
+        let mut rest = room_of(rt.alloc(), kept)?;
+        let answer = unsent(rt.alloc(), *framing, &mut rest)?;
+        assert!(rt;
+            answer == Err(SendFault) && rest.kept().ends_with(behind),
+            "{kept:?}"
+        );
     }
     Ok(())
 }
 
 /// Calls of 3 bytes, and what is given of `hello`.
-const WRITTEN: [(Option<u64>, bool, &[u8]); 2] = [(None, true, b"hello"), (Some(1), false, b"hel")];
+const WRITTEN: [(u64, bool, &[u8]); 2] = [(99, true, b"hello"), (1, false, b"hel")];
 
 #[test]
 fn bytes_are_written_up_to_a_fault(rt: HostRuntime) -> Result<(), Fail> {
@@ -534,7 +513,7 @@ fn bytes_are_written_up_to_a_fault(rt: HostRuntime) -> Result<(), Fail> {
         let (whole, bytes) = written(rt.alloc(), b"hello", takes)?;
         assert!(rt;
             whole == *is_whole && bytes.as_slice() == *given,
-            "{failing:?}"
+            "{failing}"
         );
     }
     Ok(())

@@ -1,12 +1,15 @@
 //! Configurations with the lines that tell of them, and folders with what they load.
 
-use addr_book::Name;
+use crate::requests::spelled;
 use identifier::Kind;
-use line_base::{Folder, MemFile, MemFolder};
+use line_base::ConnectionPool;
+use line_doubles::{MemFile, MemFolder};
 use linker_config::{
-    Bytes, Config, LoadFault, Mem, check_line, fault_line, load_folder, read_config,
+    Bytes, Config, ConfigFault, FeedAt, LoadedItem, Mem, Port, check_line, fault_line, load_folder,
+    read_config,
 };
 use name_tree::append_path;
+use retry_budget::Tries;
 use std::alloc::Global;
 use std::process::Abort;
 use std::test::Fail;
@@ -30,8 +33,8 @@ const WHOLE: &str = r#"{} => routers missing
 {"workers":0} => routers missing
 "#;
 
-/// Members beside a good router, and what is told of each.
-const TOP: &str = r#""telemetry":[],"usage":1 => ok
+/// Members beside a good router, and what is told of each: its numbers of workers and its seed.
+const NUMBERS: &str = r#""telemetry":[],"usage":1 => ok
 "workers":1 => ok
 "workers":256 => ok
 "workers":0 => workers bad
@@ -42,7 +45,10 @@ const TOP: &str = r#""telemetry":[],"usage":1 => ok
 "seed":18446744073709551615 => ok
 "seed":18446744073709551616 => seed bad
 "seed":-1 => seed bad
-"admin":[] => admin bad
+"#;
+
+/// Where its interfaces are.
+const PORTS: &str = r#""admin":[] => admin bad
 "admin":{"x":0} => admin.x unknown
 "admin":{"ip":"255.0.0.1","port":65535} => ok
 "admin":{"ip":"localhost"} => admin.ip bad
@@ -53,7 +59,10 @@ const TOP: &str = r#""telemetry":[],"usage":1 => ok
 "namerd":{"port":1,"namespace":"web"} => ok
 "namerd":{"port":0,"namespace":""} => namerd.port bad
 "namerd":{"namespace":"a b"} => namerd.namespace bad
-"namers":{} => namers bad
+"#;
+
+/// Where its names come from.
+const NAMERS: &str = r#""namers":{} => namers bad
 "namers":[] => ok
 "namers":[{},{}] => namers bad
 "namers":["x"] => namers[0] bad
@@ -61,12 +70,10 @@ const TOP: &str = r#""telemetry":[],"usage":1 => ok
 "namers":[{"kind":"io.l5d.fs"}] => namers[0].rootDir missing
 "namers":[{"kind":"fs","rootDir":""}] => namers[0].kind bad
 "namers":[{"kind":"io.l5d.fs","rootDir":""}] => namers[0].rootDir bad
-"workers":0,"x":1 => x unknown
-"admin":1,"namerd":1 => admin bad
-"namerd":1,"namers":1 => namerd bad
-"workers":0,"seed":-1 => workers bad
-"seed":-1,"feed":1 => seed bad
-"feed":[] => feed bad
+"#;
+
+/// Where its feed is.
+const FEED: &str = r#""feed":[] => feed bad
 "feed":{} => ok
 "feed":{"x":0} => feed.x unknown
 "feed":{"ip":"0.0.0.0","port":1,"run":0} => ok
@@ -79,14 +86,25 @@ const TOP: &str = r#""telemetry":[],"usage":1 => ok
 "feed":{"run":"1"} => feed.run bad
 "#;
 
-/// Members of a router beside its protocol, and what is told of each.
-const ROUTER: &str = r#""label":{},"httpAccessLog":null => ok
-"x":1 => routers[0].x unknown
-"dtab":"/svc => /a ; " => ok
+/// Of several faults the first is told.
+const FIRST: &str = r#""workers":0,"x":1 => x unknown
+"admin":1,"namerd":1 => admin bad
+"namerd":1,"namers":1 => namerd bad
+"workers":0,"seed":-1 => workers bad
+"seed":-1,"feed":1 => seed bad
+"#;
+
+/// Members of a router beside its protocol, and what is told of each: its table and its prefix.
+const TABLE: &str = r#""dtab":"/svc => /a ; " => ok
 "dtab":"/svc =>" => routers[0].dtab bad
 "dtab":1 => routers[0].dtab bad
 "dstPrefix":"/" => ok
 "dstPrefix":"svc" => routers[0].dstPrefix bad
+"#;
+
+/// Its servers, and what is not read or not known.
+const SERVERS: &str = r#""label":{},"httpAccessLog":null => ok
+"x":1 => routers[0].x unknown
 "servers":[] => routers[0].servers bad
 "servers":[1] => routers[0].servers[0] bad
 "servers":[{"port":1}] => ok
@@ -95,7 +113,10 @@ const ROUTER: &str = r#""label":{},"httpAccessLog":null => ok
 "servers":[{"clearContext":true}] => ok
 "servers":[{"clearContext":"true"}] => routers[0].servers[0].clearContext bad
 "servers":[{"clearContext":1,"port":0}] => routers[0].servers[0].port bad
-"client":1 => routers[0].client bad
+"#;
+
+/// How its connections to replicas are kept.
+const CLIENT: &str = r#""client":1 => routers[0].client bad
 "client":{} => ok
 "client":{"tls":1} => routers[0].client.tls unknown
 "client":{"failureAccrual":{}} => routers[0].client.failureAccrual.kind missing
@@ -108,12 +129,10 @@ const ROUTER: &str = r#""label":{},"httpAccessLog":null => ok
 "client":{"hostConnectionPool":{"maxSize":65,"idleTimeMs":-1}} => routers[0].client.hostConnectionPool.maxSize bad
 "client":{"hostConnectionPool":{"idleTimeMs":3600001}} => routers[0].client.hostConnectionPool.idleTimeMs bad
 "client":{"failureAccrual":{"kind":"none","failures":0}} => routers[0].client.failureAccrual.kind bad
-"dtab":"","dstPrefix":"","identifier":1 => routers[0].dstPrefix bad
-"dtab":1,"dstPrefix":1 => routers[0].dtab bad
-"identifier":1,"servers":1 => routers[0].identifier bad
-"servers":1,"client":1 => routers[0].servers bad
-"client":1,"retries":1 => routers[0].client bad
-"retries":1 => routers[0].retries bad
+"#;
+
+/// How often a request is tried again.
+const RETRIES: &str = r#""retries":1 => routers[0].retries bad
 "retries":{} => ok
 "retries":{"budget":{}} => routers[0].retries.budget unknown
 "retries":{"percent":0,"reserve":0,"most":0} => ok
@@ -123,6 +142,14 @@ const ROUTER: &str = r#""label":{},"httpAccessLog":null => ok
 "retries":{"reserve":101,"most":11} => routers[0].retries.reserve bad
 "retries":{"reserve":0.5} => routers[0].retries.reserve bad
 "retries":{"most":11} => routers[0].retries.most bad
+"#;
+
+/// Of several faults the first is told.
+const FIRST_OF_ROUTER: &str = r#""dtab":"","dstPrefix":"","identifier":1 => routers[0].dstPrefix bad
+"dtab":1,"dstPrefix":1 => routers[0].dtab bad
+"identifier":1,"servers":1 => routers[0].identifier bad
+"servers":1,"client":1 => routers[0].servers bad
+"client":1,"retries":1 => routers[0].client bad
 "#;
 
 /// What stands behind the kind of a count of failures, and what is told of each.
@@ -162,16 +189,26 @@ const IDENTIFIER: &str = r#"[] => routers[0].identifier bad
 /// shown.
 fn told(alloc: Global, text: &[u8]) -> Mem<Bytes> {
     match read_config(alloc, text) {
-        Ok(_) => Vec::from_slice(alloc, b"ok"),
+        Ok(config) => {
+            drop(config);
+            Vec::from_slice(alloc, b"ok")
+        }
         Err(fault) => {
-            let line = fault_line(alloc, &fault)?;
-            let shown = format!(in alloc; "error {fault}\n")?;
-            if line.as_slice() == shown.as_bytes() {
-                return Ok(line);
-            }
-            Vec::from_slice(alloc, b"two texts")
+            let told = told_of(alloc, &fault);
+            drop(fault);
+            told
         }
     }
+}
+
+/// The line of a fault, if it is as the fault is shown.
+fn told_of(alloc: Global, fault: &ConfigFault) -> Mem<Bytes> {
+    let line = fault_line(alloc, fault)?;
+    let shown = format!(in alloc; "error {fault}\n")?;
+    if line.as_slice() == shown.as_bytes() {
+        return Ok(line);
+    }
+    Vec::from_slice(alloc, b"two texts")
 }
 
 /// What is to be told, by the end of a case's line.
@@ -195,41 +232,84 @@ fn tell(rt: &impl Abort, alloc: Global, front: &str, cases: &str, back: &str) ->
     Ok(())
 }
 
-/// Whole texts: JSON or none, the keys of the whole, the array of routers.
+/// Tells each case of members beside a good router.
+fn tell_members(rt: &impl Abort, alloc: Global, cases: &str) -> Mem<()> {
+    tell(
+        rt,
+        alloc,
+        r#"{"routers":[{"protocol":"http"}],"#,
+        cases,
+        "}",
+    )
+}
+
+/// Tells each case of members of a router beside its protocol.
+fn tell_of_router(rt: &impl Abort, alloc: Global, cases: &str) -> Mem<()> {
+    tell(
+        rt,
+        alloc,
+        r#"{"routers":[{"protocol":"http","#,
+        cases,
+        "}]}",
+    )
+}
+
+/// JSON or none, the keys of the whole, the array of routers.
 #[test]
 fn whole_texts(rt: HostRuntime) -> Result<(), Fail> {
     tell(&rt, rt.alloc(), "", WHOLE, "")?;
-    tell(
-        &rt,
-        rt.alloc(),
-        r#"{"routers":[{"protocol":"http"}],"#,
-        TOP,
-        "}",
-    )?;
     Ok(())
 }
 
-/// The keys of a router, and of what stands in it.
 #[test]
-fn routers_of_texts(rt: HostRuntime) -> Result<(), Fail> {
-    let alloc = rt.alloc();
+fn numbers_of_a_run(rt: HostRuntime) -> Result<(), Fail> {
+    tell_members(&rt, rt.alloc(), NUMBERS)?;
+    tell_members(&rt, rt.alloc(), FIRST)?;
+    Ok(())
+}
+
+#[test]
+fn where_interfaces_are(rt: HostRuntime) -> Result<(), Fail> {
+    tell_members(&rt, rt.alloc(), PORTS)?;
+    Ok(())
+}
+
+#[test]
+fn where_names_come_from(rt: HostRuntime) -> Result<(), Fail> {
+    tell_members(&rt, rt.alloc(), NAMERS)?;
+    Ok(())
+}
+
+#[test]
+fn where_the_feed_is(rt: HostRuntime) -> Result<(), Fail> {
+    tell_members(&rt, rt.alloc(), FEED)?;
+    Ok(())
+}
+
+#[test]
+fn tables_of_routers(rt: HostRuntime) -> Result<(), Fail> {
+    tell_of_router(&rt, rt.alloc(), TABLE)?;
+    tell_of_router(&rt, rt.alloc(), FIRST_OF_ROUTER)?;
+    Ok(())
+}
+
+#[test]
+fn servers_of_routers(rt: HostRuntime) -> Result<(), Fail> {
+    tell_of_router(&rt, rt.alloc(), SERVERS)?;
+    Ok(())
+}
+
+#[test]
+fn clients_of_routers(rt: HostRuntime) -> Result<(), Fail> {
+    tell_of_router(&rt, rt.alloc(), CLIENT)?;
+    Ok(())
+}
+
+#[test]
+fn failures_that_are_counted(rt: HostRuntime) -> Result<(), Fail> {
     tell(
         &rt,
-        alloc,
-        r#"{"routers":[{"protocol":"http","#,
-        ROUTER,
-        "}]}",
-    )?;
-    tell(
-        &rt,
-        alloc,
-        r#"{"routers":[{"protocol":"http","identifier":"#,
-        IDENTIFIER,
-        "}]}",
-    )?;
-    tell(
-        &rt,
-        alloc,
+        rt.alloc(),
         r#"{"routers":[{"protocol":"http","client":{"failureAccrual":{"kind":"io.l5d.consecutiveFailures""#,
         ACCRUAL,
         "}}}]}",
@@ -237,10 +317,31 @@ fn routers_of_texts(rt: HostRuntime) -> Result<(), Fail> {
     Ok(())
 }
 
+#[test]
+fn retries_of_routers(rt: HostRuntime) -> Result<(), Fail> {
+    tell_of_router(&rt, rt.alloc(), RETRIES)?;
+    Ok(())
+}
+
+#[test]
+fn identifiers_of_routers(rt: HostRuntime) -> Result<(), Fail> {
+    tell(
+        &rt,
+        rt.alloc(),
+        r#"{"routers":[{"protocol":"http","identifier":"#,
+        IDENTIFIER,
+        "}]}",
+    )?;
+    Ok(())
+}
+
 fn config_of(alloc: Global, text: &str) -> Result<Config, Fail> {
     match read_config(alloc, text.as_bytes()) {
         Ok(config) => Ok(config),
-        Err(_) => Err("no configuration".into()),
+        Err(fault) => {
+            drop(fault);
+            Err("no configuration".into())
+        }
     }
 }
 
@@ -254,7 +355,7 @@ const SAID: &str =
 
 /// The folder of a configuration, `-` where there is none, how many entries its table has, its
 /// line, and its prefix.
-fn values_text(alloc: Global, config: &Config) -> Mem<Bytes> {
+fn values_text(alloc: Global, config: &Config) -> Result<Bytes, Fail> {
     let root = match &config.root {
         Some(root) => root.as_str(),
         None => "-",
@@ -276,188 +377,255 @@ fn numbers_text(alloc: Global, config: &Config) -> Mem<Bytes> {
     Ok(text)
 }
 
+/// The values of a configuration whose line tells the usual addresses.
+fn usual_text(alloc: Global) -> Result<Bytes, Fail> {
+    let config = config_of(alloc, USUAL)?;
+    let text = values_text(alloc, &config);
+    drop(config);
+    text
+}
+
 #[test]
 fn usual_values(rt: HostRuntime) -> Result<(), Fail> {
-    let config = config_of(rt.alloc(), USUAL)?;
-    let text = values_text(rt.alloc(), &config)?;
+    let text = usual_text(rt.alloc())?;
     let want = "disco 1 ok router 127.0.0.1:4140 namerd 127.0.0.1:4180 admin 127.0.0.1:9990\n/svc";
     assert!(rt; text.as_slice() == want.as_bytes());
     Ok(())
 }
 
-#[test]
-fn values_that_are_said(rt: HostRuntime) -> Result<(), Fail> {
-    let config = config_of(rt.alloc(), SAID)?;
-    let mut text = numbers_text(rt.alloc(), &config)?;
+/// Whether requests are named by one label, the same for all.
+fn is_static(kind: &Kind) -> bool {
+    match kind {
+        Kind::Static(path) => path.len() == 1,
+        _ => false,
+    }
+}
+
+/// The numbers of a configuration, its namespace and its prefix.
+fn said_of(alloc: Global, config: &Config) -> Result<(Bytes, bool), Fail> {
+    let mut text = numbers_text(alloc, config)?;
     text.push(b' ')?;
     append_path(&config.rule.prefix, &mut text)?;
-    let is_static = matches!(&config.rule.kind, Kind::Static(path) if path.len() == 1);
+    Ok((text, is_static(&config.rule.kind)))
+}
+
+/// The same of a configuration where all is said.
+fn said_text(alloc: Global) -> Result<(Bytes, bool), Fail> {
+    let config = config_of(alloc, SAID)?;
+    let said = said_of(alloc, &config);
+    drop(config);
+    said
+}
+
+#[test]
+fn values_that_are_said(rt: HostRuntime) -> Result<(), Fail> {
+    let (text, is_static) = said_text(rt.alloc())?;
     assert!(rt; is_static && text.as_slice() == b"7 16 3 5000 web /x".as_slice());
     Ok(())
 }
 
 /// Which connections to replicas are kept, how often a request may be tried again, and where the
-/// feed is served with the number of its run: `-` stands for what is not said.
-fn additions_text(alloc: Global, config: &Config) -> Mem<Bytes> {
-    let mut text = match config.pool {
-        Some(pool) => format!(in alloc; "{} {} ", pool.max_size, pool.idle_ms)?,
-        None => String::from_str(alloc, "- ")?,
-    };
-    match config.retries {
-        Some(tries) => write!(text, "{} {} {} ", tries.percent, tries.reserve, tries.most)?,
-        None => text.push_str("- ")?,
-    }
-    match config.feed {
-        Some(feed) => {
-            let (ip, port) = (feed.port.ip, feed.port.port);
-            write!(text, "{ip:x} {port} ")?;
-            match feed.run {
-                Some(run) => write!(text, "{run}")?,
-                None => text.push('-')?,
-            }
-        }
-        None => text.push('-')?,
-    }
-    Ok(text.into_bytes())
+/// feed is served.
+type Additions = (Option<ConnectionPool>, Option<Tries>, Option<FeedAt>);
+
+fn additions_of(alloc: Global, text: &str) -> Result<Additions, Fail> {
+    let config = config_of(alloc, text)?;
+    let additions = (config.pool, config.retries, config.feed);
+    drop(config);
+    Ok(additions)
 }
+
+/// Configurations, and their additions.
+const ADDITIONS: [(&str, Additions); 5] = [
+    (r#"{"routers":[{"protocol":"http"}]}"#, (None, None, None)),
+    (
+        r#"{"routers":[{"protocol":"http","client":{"hostConnectionPool":{}}}]}"#,
+        (
+            Some(ConnectionPool {
+                max_size: 16,
+                idle_ms: 10_000,
+            }),
+            None,
+            None,
+        ),
+    ),
+    (
+        r#"{"routers":[{"protocol":"http","retries":{}}],"feed":{}}"#,
+        (
+            None,
+            Some(Tries {
+                percent: 20,
+                reserve: 10,
+                most: 3,
+            }),
+            Some(FeedAt {
+                port: Port {
+                    ip: 0x7f00_0001,
+                    port: 4181,
+                },
+                run: None,
+            }),
+        ),
+    ),
+    (
+        r#"{"routers":[{"protocol":"http","retries":{"percent":1,"reserve":2,"most":4}}]}"#,
+        (
+            None,
+            Some(Tries {
+                percent: 1,
+                reserve: 2,
+                most: 4,
+            }),
+            None,
+        ),
+    ),
+    (
+        r#"{"routers":[{"protocol":"http"}],"feed":{"ip":"10.0.0.1","port":5,"run":6}}"#,
+        (
+            None,
+            None,
+            Some(FeedAt {
+                port: Port {
+                    ip: 0x0a00_0001,
+                    port: 5,
+                },
+                run: Some(6),
+            }),
+        ),
+    ),
+];
 
 #[test]
 fn additions(rt: HostRuntime) -> Result<(), Fail> {
-    let rows = [
-        (r#"{"routers":[{"protocol":"http"}]}"#, "- - -"),
-        (
-            r#"{"routers":[{"protocol":"http","client":{"hostConnectionPool":{}}}]}"#,
-            "16 10000 - -",
-        ),
-        (
-            r#"{"routers":[{"protocol":"http","retries":{}}],"feed":{}}"#,
-            "- 20 10 3 7f000001 4181 -",
-        ),
-        (
-            r#"{"routers":[{"protocol":"http","retries":{"percent":1,"reserve":2,"most":4}}]}"#,
-            "- 1 2 4 -",
-        ),
-        (
-            r#"{"routers":[{"protocol":"http"}],"feed":{"ip":"10.0.0.1","port":5,"run":6}}"#,
-            "- - a000001 5 6",
-        ),
-    ];
-    for (said, want) in rows {
-        let config = config_of(rt.alloc(), said)?;
-        let text = additions_text(rt.alloc(), &config)?;
-        assert!(rt; text.as_slice() == want.as_bytes(), "of {said}");
+    for (text, want) in &ADDITIONS {
+        assert!(rt; additions_of(rt.alloc(), text)? == *want, "of {text}");
     }
     Ok(())
+}
+
+/// Configurations, and whether the table of each covers its prefix.
+const COVERING: [(&str, bool); 6] = [
+    (r#"{"routers":[{"protocol":"http"}]}"#, false),
+    (
+        r#"{"routers":[{"protocol":"http","dtab":"/svc => /host"}]}"#,
+        true,
+    ),
+    (
+        r#"{"routers":[{"protocol":"http","dtab":"/host => /svc; /svc/web => /host"}]}"#,
+        false,
+    ),
+    (
+        r#"{"routers":[{"protocol":"http","dtab":"/* => /host; /host => !"}]}"#,
+        true,
+    ),
+    (
+        r#"{"routers":[{"protocol":"http","dtab":"/a => /host","dstPrefix":"/a/b"}]}"#,
+        true,
+    ),
+    (
+        r#"{"routers":[{"protocol":"http","dtab":"/a/b => /host","dstPrefix":"/a"}]}"#,
+        false,
+    ),
+];
+
+fn covers(alloc: Global, text: &str) -> Result<bool, Fail> {
+    let config = config_of(alloc, text)?;
+    let covers = config.table_covers_prefix();
+    drop(config);
+    Ok(covers)
 }
 
 #[test]
 fn tables_that_cover_the_prefix(rt: HostRuntime) -> Result<(), Fail> {
-    let rows = [
-        (r#"{"routers":[{"protocol":"http"}]}"#, false),
-        (
-            r#"{"routers":[{"protocol":"http","dtab":"/svc => /host"}]}"#,
-            true,
-        ),
-        (
-            r#"{"routers":[{"protocol":"http","dtab":"/host => /svc; /svc/web => /host"}]}"#,
-            false,
-        ),
-        (
-            r#"{"routers":[{"protocol":"http","dtab":"/* => /host; /host => !"}]}"#,
-            true,
-        ),
-        (
-            r#"{"routers":[{"protocol":"http","dtab":"/a => /host","dstPrefix":"/a/b"}]}"#,
-            true,
-        ),
-        (
-            r#"{"routers":[{"protocol":"http","dtab":"/a/b => /host","dstPrefix":"/a"}]}"#,
-            false,
-        ),
-    ];
-    for (text, is_covered) in rows {
-        let config = config_of(rt.alloc(), text)?;
-        assert_eq!(rt; config.table_covers_prefix(), is_covered, "of {text}");
+    for (text, is_covered) in &COVERING {
+        assert!(rt; covers(rt.alloc(), text)? == *is_covered, "of {text}");
     }
     Ok(())
 }
 
-/// What loading a folder of these files comes to, a line each: a service with the number of its
-/// addresses, or the refusal.
-fn loaded<F: Folder>(alloc: Global, folder: &mut F) -> Mem<String> {
-    let mut text = String::new(alloc);
+/// What loading a folder comes to: each service with the number of its addresses, or the refusal.
+fn loaded(alloc: Global, folder: &mut MemFolder) -> Mem<String> {
     match load_folder(alloc, folder, "disco") {
         Ok(loaded) => {
-            for item in loaded.items() {
-                add(&mut text, &item.service)?;
-                write!(text, "{} ", item.list.items().len())?;
-            }
+            let text = listed(alloc, loaded.items());
+            drop(loaded);
+            text
         }
-        Err(LoadFault::LongFile { name }) => {
-            add(&mut text, &name)?;
-            text.push_str("long")?;
+        Err(fault) => {
+            let text = fault.to_string(alloc);
+            drop(fault);
+            text
         }
-        Err(LoadFault::BadFile { name, line }) => {
-            add(&mut text, &name)?;
-            write!(text, "bad {line}")?;
-        }
-        Err(LoadFault::FolderFault) => text.push_str("fault")?,
-        Err(LoadFault::OutOfMemory) => text.push_str("memory")?,
+    }
+}
+
+/// Services, each with the number of its addresses.
+fn listed(alloc: Global, items: &[LoadedItem]) -> Mem<String> {
+    let mut text = String::new(alloc);
+    for item in items {
+        write!(text, "{} {} ", item.service, item.list.items().len())?;
     }
     Ok(text)
 }
 
-/// Puts a name and a space behind a text.
-fn add(text: &mut String, name: &Name) -> Mem<()> {
-    for byte in name.text() {
-        text.push(char::from(*byte))?;
-    }
-    text.push(' ')
+/// A file of the folder, in whose text `%` stands for so many blanks.
+fn file(alloc: Global, name: &str, text: &str, blanks: usize) -> Mem<MemFile> {
+    let folder = String::from_str(alloc, "disco")?;
+    let name = String::from_str(alloc, name)?;
+    Ok(MemFile::of(folder, name, spelled(alloc, text, " ", blanks)?))
 }
 
-/// A file of the folder.
-fn file(alloc: Global, name: &str, bytes: Vec<u8>) -> Mem<MemFile> {
-    Ok(MemFile::of(
-        String::from_str(alloc, "disco")?,
-        String::from_str(alloc, name)?,
-        bytes,
-    ))
-}
-
-/// A folder with a file of some blanks, and behind it one of these bytes.
-fn folder_of(alloc: Global, blanks: usize, bytes: &[u8]) -> Mem<MemFolder> {
+/// A folder with a file of this text, one of another kind of name, and one of so many blanks.
+fn folder_of(alloc: Global, blanks: usize, text: &str) -> Mem<MemFolder> {
     let mut files = Vec::new(alloc);
-    files.push(file(alloc, "web", Vec::from_slice(alloc, bytes)?)?)?;
-    files.push(file(alloc, "no name", Vec::from_slice(alloc, bytes)?)?)?;
-    files.push(file(alloc, "api", Vec::from_elem(alloc, b' ', blanks)?)?)?;
-    Ok(MemFolder::of(alloc, files, vec![in alloc; 5]?))
+    for (name, text) in [("web", text), ("no name", text), ("api", "%")] {
+        files.push(file(alloc, name, text, blanks)?)?;
+    }
+    Ok(MemFolder::of(alloc, files, Vec::from_elem(alloc, 5, 1)?))
 }
 
-/// What loading such a folder comes to, so many times: the last answer.
-fn told_last(alloc: Global, blanks: usize, bytes: &[u8], times: u32) -> Mem<String> {
-    let mut folder = folder_of(alloc, blanks, bytes)?;
+/// What loading a folder comes to, so many times: the last answer.
+fn last_of(alloc: Global, folder: &mut MemFolder, times: u32) -> Mem<String> {
     let mut told = String::new(alloc);
     for _time in 0..times {
-        told = loaded(alloc, &mut folder)?;
+        told = loaded(alloc, folder)?;
     }
     Ok(told)
+}
+
+/// The same of a folder with a file of this text and one of so many blanks.
+fn told_last(alloc: Global, blanks: usize, text: &str, times: u32) -> Mem<String> {
+    let mut folder = folder_of(alloc, blanks, text)?;
+    let told = last_of(alloc, &mut folder, times);
+    drop(folder);
+    told
 }
 
 /// How many blanks one file has, the bytes of another, how often the folder is loaded, and what the
 /// last time comes to.
 const FOLDERS: [(usize, &str, u32, &str); 4] = [
     (1_048_576, "127.0.0.1 9001\n", 1, "api 0 web 1 "),
-    (1_048_576, "127.0.0.1 9001\n", 2, "fault"),
-    (0, "\n127.0.0.1\n", 1, "web bad 2"),
-    (1_048_577, "x", 1, "api long"),
+    (
+        1_048_576,
+        "127.0.0.1 9001\n",
+        2,
+        "the folder of services could not be read",
+    ),
+    (
+        0,
+        "\n127.0.0.1\n",
+        1,
+        "the file of the service web is bad at line 2",
+    ),
+    (1_048_577, "x", 1, "the file of the service api is too long"),
 ];
 
 /// Services come in the order of their names; the first file that is refused decides, and a file of
 /// one byte too many is; a call that fails is told.
 #[test]
 fn folders(rt: HostRuntime) -> Result<(), Fail> {
-    for (blanks, bytes, times, want) in &FOLDERS {
-        let told = told_last(rt.alloc(), *blanks, bytes.as_bytes(), *times)?;
+    for (blanks, text, times, want) in &FOLDERS {
+        let told = told_last(rt.alloc(), *blanks, text, *times)?;
         assert!(rt; told.as_str() == *want, "{want}");
     }
     Ok(())

@@ -1,117 +1,133 @@
 //! Heads as they come and as they go on, written out here by hand.
+use crate::requests::{asked_by, head_of, method_of, reply_head, spelled};
 use dtab_table::{Dtab, read_dtab};
 use forward::{Bytes, Going, back_head, back_head_into, forward_head, forward_head_into};
 use http::Method;
-use http_wire::{
-    Head, ReplyHead, Rest, framing, read_host, read_reply_head, read_request_head, read_target,
-    reply_framing,
-};
-use line_base::{Dialer, MemDialer, MemPeer, MemSink, MemSource};
+use http_wire::{Framing, Head, ReplyHead, reply_framing};
 use name_tree::read_path;
+use own_reply::Tested;
 use std::alloc::Global;
 use std::test::Fail;
 
-/// Reads the head of a request.
-fn read_head(alloc: Global, request: &str) -> Result<Head, Fail> {
-    let bytes = Vec::from_slice(alloc, request.as_bytes())?;
-    let source = MemSource::of(bytes, Vec::new(alloc), Vec::new(alloc));
-    let mut peer = MemPeer::of(source, MemSink::of(alloc, Vec::new(alloc), Vec::new(alloc)));
-    let mut rest = Rest::room(alloc)?;
-    match read_request_head(alloc, &mut peer, &mut rest) {
-        Ok(head) => Ok(head),
-        Err(_) => Err("no head".into()),
+/// The head of a request as it goes on this way: as new bytes, and in place of others.
+fn written(alloc: Global, head: &Head, to: &Going<'_>) -> Result<Bytes, Fail> {
+    let mut into = Vec::from_slice(alloc, b"old")?;
+    forward_head_into(alloc, head, to, &mut into)?;
+    if forward_head(alloc, head, to)? != into {
+        return Err("another head".into());
     }
+    Ok(into)
 }
 
-/// The way of a request to the service `/svc/web` and one address, and its head as it goes on: as
-/// new bytes, and in place of others.
-fn gone(
-    alloc: Global,
-    head: &Head,
-    host: &[u8],
-    target: &[u8],
-    local: &Dtab,
-) -> Result<Bytes, Fail> {
-    let (Ok(framing), Ok(service)) = (framing(head), read_path(alloc, b"/svc/web")) else {
-        return Err("no framing".into());
+/// The same to the service `/svc/web` and one address.
+fn gone(alloc: Global, head: &Head, asked: &Tested, local: &Dtab) -> Result<Bytes, Fail> {
+    let Ok(service) = read_path(alloc, b"/svc/web") else {
+        return Err("no path".into());
     };
     let to = Going {
-        host,
-        target,
-        framing,
+        host: asked.host.as_slice(),
+        target: asked.target.line.as_slice(),
+        framing: asked.framing,
         local,
         service: &service,
         client: b"/$/inet/127.0.0.1/9001",
         residual: b"/",
         closes: true,
     };
-    let mut into = Vec::from_slice(alloc, b"old")?;
-    forward_head_into(alloc, head, &to, &mut into)?;
-    let gone = forward_head(alloc, head, &to)?;
-    if gone != into {
-        return Err("another head".into());
+    written(alloc, head, &to)
+}
+
+/// The line of a field.
+const LINE: &str = "X: 1\r\n";
+
+/// The table of a text.
+fn table_of(alloc: Global, text: &str) -> Result<Dtab, Fail> {
+    match read_dtab(alloc, text.as_bytes()) {
+        Ok(dtab) => Ok(dtab),
+        Err(_) => Err("no table".into()),
     }
-    Ok(gone)
 }
 
 /// A request's head as it goes on, with this table.
-fn forwarded(alloc: Global, request: &str, table: &str) -> Result<Bytes, Fail> {
-    let head = read_head(alloc, request)?;
-    let Ok(target) = read_target(alloc, &head) else {
-        return Err("no target".into());
-    };
-    let Ok(host) = read_host(alloc, &head, &target) else {
-        return Err("no host".into());
-    };
-    let Ok(local) = read_dtab(alloc, table.as_bytes()) else {
-        return Err("no table".into());
-    };
-    gone(
-        alloc,
-        &head,
-        host.as_slice(),
-        target.line.as_slice(),
-        &local,
-    )
+fn forwarded_with(alloc: Global, head: &Head, table: &str) -> Result<Bytes, Fail> {
+    let local = table_of(alloc, table)?;
+    let asked = asked_by(alloc, head)?;
+    let gone = gone(alloc, head, &asked, &local);
+    drop(asked);
+    gone
 }
 
-/// The request, its table, and the front of the head that goes on.
-const ROWS: [(&str, &str, &str); 6] = [
+/// The same of a text.
+fn forwarded(alloc: Global, request: &str, count: usize, table: &str) -> Result<Bytes, Fail> {
+    let head = head_of(alloc, request, LINE, count)?;
+    let forwarded = forwarded_with(alloc, &head, table);
+    drop(head);
+    forwarded
+}
+
+/// The request, for how many lines `%` stands, its table, and the front of the head that goes on.
+type Row = (&'static str, usize, &'static str, &'static str);
+
+/// Targets, hosts, lengths, tables, and many fields.
+const REQUESTS: [Row; 5] = [
     // A table, and a field that the Connection field names.
     (
-        "GET /x?y=1 HTTP/1.1\r\nHost: Web\r\nUser-Agent: curl/8.5.0\r\nAccept: */*\r\nl5d-dtab: /svc/web => /$/inet/127.0.0.1/9001\r\nConnection: x-gone, keep-alive\r\nX-Gone: 1\r\nX-Kept: 2\r\n\r\n",
+        "GET /x?y=1 HTTP/1.1|Host: Web|User-Agent: curl/8.5.0|Accept: */*|l5d-dtab: /svc/web => /$/inet/127.0.0.1/9001|Connection: x-gone, keep-alive|X-Gone: 1|X-Kept: 2||",
+        0,
         "/svc/web => /$/inet/127.0.0.1/9001",
-        "GET /x?y=1 HTTP/1.1\r\nHost: Web\r\nUser-Agent: curl/8.5.0\r\nAccept: */*\r\nX-Kept: 2\r\nVia: 1.1 linkerd\r\nl5d-ctx-dtab: /svc/web=>/$/inet/127.0.0.1/9001\r\n",
+        "GET /x?y=1 HTTP/1.1|Host: Web|User-Agent: curl/8.5.0|Accept: */*|X-Kept: 2|Via: 1.1 linkerd|l5d-ctx-dtab: /svc/web=>/$/inet/127.0.0.1/9001|",
     ),
     // An absolute target: its authority is the host, whatever the Host field says.
     (
-        "GET http://web/x HTTP/1.1\r\nHost: other\r\n\r\n",
+        "GET http://web/x HTTP/1.1|Host: other||",
+        0,
         "",
-        "GET /x HTTP/1.1\r\nHost: web\r\nVia: 1.1 linkerd\r\n",
+        "GET /x HTTP/1.1|Host: web|Via: 1.1 linkerd|",
     ),
     // HTTP/1.0 goes on as HTTP/1.1, and Via tells; a length that is said three times.
     (
-        "POST / HTTP/1.0\r\nhost: web\r\ncontent-length: 007, 7\r\nX: 1\r\nContent-Length: 7\r\n\r\n",
+        "POST / HTTP/1.0|host: web|content-length: 007, 7|X: 1|Content-Length: 7||",
+        0,
         "",
-        "POST / HTTP/1.1\r\nHost: web\r\nX: 1\r\nContent-Length: 7\r\nVia: 1.0 linkerd\r\n",
+        "POST / HTTP/1.1|Host: web|X: 1|Content-Length: 7|Via: 1.0 linkerd|",
     ),
+    // Many fields.
+    (
+        "GET / HTTP/1.1|Host: web|%|",
+        50,
+        "",
+        "GET / HTTP/1.1|Host: web|%Via: 1.1 linkerd|",
+    ),
+    (
+        "GET / HTTP/1.1|Host: web|%|",
+        700,
+        "",
+        "GET / HTTP/1.1|Host: web|%Via: 1.1 linkerd|",
+    ),
+];
+
+/// What Connection fields list, and what never goes on.
+const DROPPED: [Row; 3] = [
     // Two Connection fields, names in other case, and blanks and empty pieces between them.
     (
-        "GET / HTTP/1.1\r\nX-C: 1\r\nHost: web\r\nConnection: ,X-A ,\tx-b\r\nX-a: 2\r\nx-B: 3\r\nX: 4\r\nconnection: CLOSE, x-c\r\nX-AB: 5\r\nx: 6\r\n\r\n",
+        "GET / HTTP/1.1|X-C: 1|Host: web|Connection: ,X-A ,\tx-b|X-a: 2|x-B: 3|X: 4|connection: CLOSE, x-c|X-AB: 5|x: 6||",
+        0,
         "",
-        "GET / HTTP/1.1\r\nHost: web\r\nX: 4\r\nX-AB: 5\r\nx: 6\r\nVia: 1.1 linkerd\r\n",
+        "GET / HTTP/1.1|Host: web|X: 4|X-AB: 5|x: 6|Via: 1.1 linkerd|",
     ),
     // What never goes on, named or not, and a received Via.
     (
-        "GET / HTTP/1.1\r\nHost: web\r\nConnection: te\r\nTE: trailers\r\nKeep-Alive: timeout=5\r\nProxy-Connection: close\r\nTrailer: X\r\nUpgrade: h2c\r\nExpect: 100-continue\r\nL5D-Ctx-Dtab: /a=>/b\r\nl5d-dst-service: /a\r\nl5d-dst-client: /b\r\nl5d-dst-residual: /c\r\nVia: 1.1 edge\r\n\r\n",
+        "GET / HTTP/1.1|Host: web|Connection: te|TE: trailers|Keep-Alive: timeout=5|Proxy-Connection: close|Trailer: X|Upgrade: h2c|Expect: 100-continue|L5D-Ctx-Dtab: /a=>/b|l5d-dst-service: /a|l5d-dst-client: /b|l5d-dst-residual: /c|Via: 1.1 edge||",
+        0,
         "",
-        "GET / HTTP/1.1\r\nHost: web\r\nVia: 1.1 edge\r\nVia: 1.1 linkerd\r\n",
+        "GET / HTTP/1.1|Host: web|Via: 1.1 edge|Via: 1.1 linkerd|",
     ),
     // A Connection field has no effect on the lines that are written.
     (
-        "POST / HTTP/1.1\r\nVia: 1.1 edge\r\nHost: web\r\nTransfer-Encoding: Chunked\r\nConnection: host, transfer-encoding, via, connection\r\n\r\n",
+        "POST / HTTP/1.1|Via: 1.1 edge|Host: web|Transfer-Encoding: Chunked|Connection: host, transfer-encoding, via, connection||",
+        0,
         "",
-        "POST / HTTP/1.1\r\nHost: web\r\nTransfer-Encoding: chunked\r\nVia: 1.1 linkerd\r\n",
+        "POST / HTTP/1.1|Host: web|Transfer-Encoding: chunked|Via: 1.1 linkerd|",
     ),
 ];
 
@@ -119,78 +135,80 @@ const ROWS: [(&str, &str, &str); 6] = [
 const LAST: &str =
     "l5d-dst-service: /svc/web\r\nl5d-dst-client: /$/inet/127.0.0.1/9001\r\nConnection: close\r\n\r\n";
 
+/// Whether a text is made of these two.
+fn is_made_of(text: &[u8], front: &[u8], end: &[u8]) -> bool {
+    text.starts_with(front)
+        && text.ends_with(end)
+        && text.len() == front.len().saturating_add(end.len())
+}
+
+/// Whether a request goes on as its row says.
+fn goes_on(alloc: Global, row: &Row) -> Result<bool, Fail> {
+    let (request, count, table, front) = row;
+    let head = forwarded(alloc, request, *count, table)?;
+    let front = spelled(alloc, front, LINE, *count)?;
+    Ok(is_made_of(head.as_slice(), front.as_slice(), LAST.as_bytes()))
+}
+
 #[test]
 fn heads_go_on_as_written_here(rt: HostRuntime) -> Result<(), Fail> {
-    let alloc = rt.alloc();
-    for (request, table, front) in &ROWS {
-        let head = forwarded(alloc, request, table)?;
-        let mut written = Vec::from_slice(alloc, front.as_bytes())?;
-        written.extend_from_slice(LAST.as_bytes())?;
-        assert!(rt; head == written, "{request:?}");
+    for row in &REQUESTS {
+        assert!(rt; goes_on(rt.alloc(), row)?, "{:?} {}", row.0, row.1);
     }
     Ok(())
-}
-
-/// So many lines of a field.
-fn lines_of(alloc: Global, count: usize) -> Result<String, Fail> {
-    let mut lines = String::new(alloc);
-    for _ in 0..count {
-        lines.push_str("X: 1\r\n")?;
-    }
-    Ok(lines)
-}
-
-/// Whether a request with so many fields goes on with all of them.
-fn goes_whole(alloc: Global, count: usize) -> Result<bool, Fail> {
-    let lines = lines_of(alloc, count)?;
-    let request = format!(in alloc; "GET / HTTP/1.1\r\nHost: web\r\n{lines}\r\n")?;
-    let written = format!(in alloc;
-        "GET / HTTP/1.1\r\nHost: web\r\n{lines}Via: 1.1 linkerd\r\n{LAST}"
-    )?;
-    let head = forwarded(alloc, request.as_str(), "")?;
-    Ok(head.as_slice() == written.as_bytes())
 }
 
 #[test]
-fn heads_of_many_fields_go_on_whole(rt: HostRuntime) -> Result<(), Fail> {
-    for count in [50, 700] {
-        assert!(rt; goes_whole(rt.alloc(), count)?, "{count}");
+fn fields_of_one_connection_go_no_further(rt: HostRuntime) -> Result<(), Fail> {
+    for row in &DROPPED {
+        assert!(rt; goes_on(rt.alloc(), row)?, "{:?}", row.0);
     }
     Ok(())
 }
 
-/// Reads the head of a reply.
-fn read_reply(alloc: Global, reply: &str) -> Result<ReplyHead, Fail> {
-    let mut replies = Vec::new(alloc);
-    replies.push(Vec::from_slice(alloc, reply.as_bytes())?)?;
-    let mut dialer = MemDialer::of(alloc, replies, Vec::new(alloc), Vec::new(alloc));
-    let mut rest = Rest::room(alloc)?;
-    match dialer.dial(0x7f000001, 9001) {
-        Ok(()) => match read_reply_head(alloc, &mut dialer, &mut rest) {
-            Ok(head) => Ok(head),
-            Err(_) => Err("no head".into()),
-        },
-        Err(_) => Err("no dial".into()),
+/// A reply's head as it goes back, as new bytes and in place of others; chunks stay chunks to a
+/// client that keeps its connection.
+fn back_of(
+    alloc: Global,
+    head: &ReplyHead,
+    framing: Framing,
+    closing: bool,
+) -> Result<Bytes, Fail> {
+    let mut into = Vec::from_slice(alloc, b"old")?;
+    back_head_into(alloc, head, framing, !closing, closing, &mut into)?;
+    if back_head(alloc, head, framing, !closing, closing)? != into {
+        return Err("another head".into());
+    }
+    Ok(into)
+}
+
+/// A reply's head as it goes back to a request with this method.
+fn returned_to(
+    alloc: Global,
+    method: &Method,
+    head: &ReplyHead,
+    closing: bool,
+) -> Result<Bytes, Fail> {
+    match reply_framing(method, head) {
+        Ok(framing) => back_of(alloc, head, framing, closing),
+        Err(_) => Err("no framing".into()),
     }
 }
 
-/// A reply's head as it goes back to a request with this method, as new bytes and in place of
-/// others; chunks stay chunks to a client that keeps its connection.
+/// The same of texts.
 fn returned(alloc: Global, method: &str, reply: &str, closing: bool) -> Result<Bytes, Fail> {
-    let Ok(method) = Method::from_bytes(alloc, method.as_bytes()) else {
-        return Err("no method".into());
-    };
-    let head = read_reply(alloc, reply)?;
-    let Ok(framing) = reply_framing(&method, &head) else {
-        return Err("no framing".into());
-    };
-    let mut into = Vec::from_slice(alloc, b"old")?;
-    back_head_into(alloc, &head, framing, !closing, closing, &mut into)?;
-    let back = back_head(alloc, &head, framing, !closing, closing)?;
-    if back != into {
-        return Err("another head".into());
-    }
-    Ok(back)
+    let method = method_of(alloc, method)?;
+    let returned = returned_by(alloc, &method, reply, closing);
+    drop(method);
+    returned
+}
+
+/// The same to this method.
+fn returned_by(alloc: Global, method: &Method, reply: &str, closing: bool) -> Result<Bytes, Fail> {
+    let head = reply_head(alloc, reply)?;
+    let returned = returned_to(alloc, method, &head, closing);
+    drop(head);
+    returned
 }
 
 /// The method, the reply, whether the connection closes, and what goes back.

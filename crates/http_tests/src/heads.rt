@@ -1,174 +1,211 @@
-//! Heads of requests and replies: when they are told, what they ask, and what is refused.
-
+//! Heads of requests and replies: when they are known, what they ask, and what is refused.
+use crate::requests::{dialer_of, head_of, method_of, peer_of, reply_of, room_of, spelled};
 use http::Method;
 use http_wire::{
-    Bytes, Framing, FramingFault, Head, HeadEnd, Mem, ReplyHead, Rest, framing, names_close,
-    push_line, read_host, read_reply_head, read_request_head, read_target, reply_framing,
-    same_bytes,
+    Bytes, Framing, Head, HeadEnd, Mem, ReplyHead, Rest, names_close, push_line, read_request_head,
+    reply_framing, same_bytes,
 };
-use line_base::{Dialer, MemDialer, MemPeer, MemSink, MemSource};
+use line_doubles::{MemDialer, MemPeer};
+use own_reply::{OwnError, Refusal, Tested, test_request};
 use std::alloc::Global;
 use std::test::Fail;
 
-/// A peer that gives these bytes at its first read, and whose calls with these numbers fail.
-fn peer_of(alloc: Global, bytes: &[u8], failing: &[u64]) -> Mem<MemPeer> {
-    let bytes = Vec::from_slice(alloc, bytes)?;
-    let failing = Vec::from_slice(alloc, failing)?;
-    let sink = MemSink::of(alloc, Vec::new(alloc), Vec::new(alloc));
-    Ok(MemPeer::of(MemSource::of(bytes, Vec::new(alloc), failing), sink))
-}
+/// What is kept and what comes, where `%` stands for so many `x`; the size of its pieces; the
+/// number of the read that fails; why no head is read; and how many reads failed and gave the end.
+type Read = (
+    &'static str,
+    &'static str,
+    usize,
+    usize,
+    u64,
+    Option<HeadEnd>,
+    (u64, u64),
+);
 
-/// A room with these bytes.
-fn room_of(alloc: Global, kept: &[u8]) -> Mem<Rest> {
-    let mut rest = Rest::room(alloc)?;
-    rest.add(kept)?;
-    Ok(rest)
-}
+/// A size that no piece has.
+const MOST: usize = usize::MAX;
 
-/// Whether a head is told of what is kept and what comes, with no read behind them.
-fn is_told(alloc: Global, kept: &str, comes: &str) -> Mem<bool> {
-    let mut peer = peer_of(alloc, comes.as_bytes(), &[1])?;
-    let mut rest = room_of(alloc, kept.as_bytes())?;
-    let told = read_request_head(alloc, &mut peer, &mut rest).is_ok();
-    Ok(told && peer.source().faults() == 0 && peer.source().ends() == 0)
-}
-
-/// What is kept, what comes, and whether a head is told of it.
-const TOLD: [(&str, &str, bool); 6] = [
-    ("", "GET / HTTP/1.1\r\nHost: a\r\n\r\n", true),
-    ("", "GET / HTTP/1.1\nHost: a\n\n", true),
+const READ: [Read; 23] = [
+    // A head is known before the next read, which would fail.
+    ("", "GET / HTTP/1.1|Host: a||", 0, MOST, 1, None, (0, 0)),
+    ("", "GET / HTTP/1.1\nHost: a\n\n", 0, MOST, 1, None, (0, 0)),
     (
         "",
-        "POST / HTTP/1.1\r\nHost: a\r\nContent-Length: 2\r\n\r\nhi",
-        true,
+        "POST / HTTP/1.1|Host: a|Content-Length: 2||hi",
+        0,
+        MOST,
+        1,
+        None,
+        (0, 0),
     ),
-    ("GET / HTTP/1.1\r\nHost: a\r\n\r\nx", "", true),
-    ("\r\nGET / HTTP/1.1\nHost: a\n\r", "\n", true),
-    ("GET / HTTP/1.1\nHost: a\n\r", "", false),
+    (
+        "GET / HTTP/1.1\r\nHost: a\r\n\r\nx",
+        "",
+        0,
+        MOST,
+        0,
+        None,
+        (0, 0),
+    ),
+    (
+        "\r\nGET / HTTP/1.1\nHost: a\n\r",
+        "\n",
+        0,
+        MOST,
+        1,
+        None,
+        (0, 0),
+    ),
+    (
+        "GET / HTTP/1.1\nHost: a\n\r",
+        "",
+        0,
+        MOST,
+        1,
+        Some(HeadEnd::Cut),
+        (0, 1),
+    ),
+    // A head in pieces is known at its last byte, and not before it.
+    ("", "GET / HTTP/1.1|Host: a||", 0, 1, 27, None, (0, 0)),
+    ("", "GET / HTTP/1.1|Host: a||", 0, 7, 4, None, (0, 0)),
+    ("", "GET / HTTP/1.1|Host: a||", 0, 10, 3, None, (0, 0)),
+    (
+        "",
+        "GET / HTTP/1.1|Host: a|\r",
+        0,
+        1,
+        26,
+        Some(HeadEnd::ReadFault),
+        (1, 0),
+    ),
+    (
+        "",
+        "GET / HTTP/1.1|Host: a|\r",
+        0,
+        7,
+        4,
+        Some(HeadEnd::ReadFault),
+        (1, 0),
+    ),
+    (
+        "",
+        "GET / HTTP/1.1|Host: a|\r",
+        0,
+        10,
+        3,
+        Some(HeadEnd::ReadFault),
+        (1, 0),
+    ),
+    // What is no head is refused.
+    ("", "|\n", 0, MOST, 99, Some(HeadEnd::Ended), (0, 1)),
+    ("", "|\r", 0, MOST, 99, Some(HeadEnd::Cut), (0, 1)),
+    (
+        "",
+        "PRI * HTTP/2.0|",
+        0,
+        MOST,
+        99,
+        Some(HeadEnd::Version),
+        (0, 0),
+    ),
+    (
+        "",
+        "GET  / HTTP/1.1|",
+        0,
+        MOST,
+        99,
+        Some(HeadEnd::Bad),
+        (0, 0),
+    ),
+    (
+        "",
+        "GET / HTTP/1.1\nA: b\n c\n\n",
+        0,
+        MOST,
+        99,
+        Some(HeadEnd::Bad),
+        (0, 0),
+    ),
+    // A head has at most 65,536 bytes.
+    ("", "GET / HTTP/1.1\nA:%|\n", 1_234, MOST, 99, None, (0, 0)),
+    ("", "GET / HTTP/1.1\nA:%|\n", 5_000, MOST, 99, None, (0, 0)),
+    ("", "GET / HTTP/1.1\nA:%|\n", 17_000, MOST, 99, None, (0, 0)),
+    ("", "GET / HTTP/1.1\nA:%|\n", 40_000, MOST, 99, None, (0, 0)),
+    ("", "GET / HTTP/1.1\nA:%|\n", 65_516, MOST, 99, None, (0, 0)),
+    (
+        "",
+        "GET / HTTP/1.1\nA:%|\n",
+        65_517,
+        MOST,
+        99,
+        Some(HeadEnd::TooLarge),
+        (0, 0),
+    ),
 ];
 
+/// Why no head is read of what is kept and what a peer gives, and how many reads failed and gave
+/// the end.
+fn end_from(alloc: Global, kept: &str, peer: &mut MemPeer) -> Mem<(Option<HeadEnd>, (u64, u64))> {
+    let mut rest = room_of(alloc, kept.as_bytes())?;
+    let end = read_request_head(alloc, peer, &mut rest).err();
+    Ok((end, (peer.source().faults(), peer.source().ends())))
+}
+
+/// The same of what a row says.
+fn end_of(alloc: Global, row: &Read) -> Mem<(Option<HeadEnd>, (u64, u64))> {
+    let comes = spelled(alloc, row.1, "x", row.2)?;
+    let mut peer = peer_of(alloc, comes, row.3, row.4)?;
+    let end = end_from(alloc, row.0, &mut peer);
+    drop(peer);
+    end
+}
+
 #[test]
-fn a_head_is_told_before_the_next_read(rt: HostRuntime) -> Result<(), Fail> {
-    for (kept, comes, want) in &TOLD {
-        let is_told = is_told(rt.alloc(), kept, comes)?;
-        assert!(rt; is_told == *want, "{comes:?}");
+fn heads_are_read_at_their_last_byte(rt: HostRuntime) -> Result<(), Fail> {
+    for row in &READ {
+        let end = end_of(rt.alloc(), row)?;
+        assert!(rt; end == (row.5, row.6), "{:?} {:?} {}", row.0, row.1, row.2);
     }
     Ok(())
 }
 
-/// Whether a head is told of what comes in pieces of this size before the call of this number
-/// fails, and how many reads failed and gave the end.
-fn told_in_pieces(alloc: Global, text: &str, size: usize, failing: u64) -> Mem<(bool, u64, u64)> {
-    let bytes = Vec::from_slice(alloc, text.as_bytes())?;
-    let sizes = Vec::from_elem(alloc, size, 30)?;
-    let source = MemSource::of(bytes, sizes, Vec::from_elem(alloc, failing, 1)?);
-    let mut peer = MemPeer::of(source, MemSink::of(alloc, Vec::new(alloc), Vec::new(alloc)));
-    let mut rest = Rest::room(alloc)?;
-    let is_told = read_request_head(alloc, &mut peer, &mut rest).is_ok();
-    Ok((is_told, peer.source().faults(), peer.source().ends()))
-}
-
-/// A head of 27 bytes, and all of it but its last byte.
-const WHOLE: &str = "GET / HTTP/1.1\r\nHost: a\r\n\r\n";
-
-const SHORT: &str = "GET / HTTP/1.1\r\nHost: a\r\n\r";
-
-/// A text, the size of its pieces, the call behind its last piece, and what is told.
-const PIECES: [(&str, usize, u64, (bool, u64, u64)); 6] = [
-    (WHOLE, 1, 27, (true, 0, 0)),
-    (WHOLE, 7, 4, (true, 0, 0)),
-    (WHOLE, 10, 3, (true, 0, 0)),
-    (SHORT, 1, 26, (false, 1, 0)),
-    (SHORT, 7, 4, (false, 1, 0)),
-    (SHORT, 10, 3, (false, 1, 0)),
-];
-
-#[test]
-fn a_head_in_pieces_is_told_at_its_last(rt: HostRuntime) -> Result<(), Fail> {
-    for (text, size, failing, want) in &PIECES {
-        let told = told_in_pieces(rt.alloc(), text, *size, *failing)?;
-        assert!(rt; told == *want, "{text:?} by {size}");
-    }
-    Ok(())
-}
-
-/// Why no head is read of these bytes.
-fn end_of(alloc: Global, bytes: &[u8]) -> Mem<Option<HeadEnd>> {
-    let mut peer = peer_of(alloc, bytes, &[])?;
-    let mut rest = Rest::room(alloc)?;
-    Ok(read_request_head(alloc, &mut peer, &mut rest).err())
-}
-
-/// Texts, and why no head is read of them.
-const ENDS: [(&str, HeadEnd); 5] = [
-    ("\r\n\n", HeadEnd::Ended),
-    ("\r\n\r", HeadEnd::Cut),
-    ("PRI * HTTP/2.0\r\n", HeadEnd::Version),
-    ("GET  / HTTP/1.1\r\n", HeadEnd::Bad),
-    ("GET / HTTP/1.1\nA: b\n c\n\n", HeadEnd::Bad),
-];
-
-#[test]
-fn what_is_no_head_is_refused(rt: HostRuntime) -> Result<(), Fail> {
-    for (text, end) in &ENDS {
-        assert!(rt;
-            end_of(rt.alloc(), text.as_bytes())? == Some(*end),
-            "{text:?}"
-        );
-    }
-    Ok(())
-}
-
-/// Why a head of so many bytes and 20 more is refused.
-fn long_end(alloc: Global, len: usize) -> Mem<Option<HeadEnd>> {
-    let mut bytes = Vec::from_slice(alloc, b"GET / HTTP/1.1\nA:")?;
-    bytes.append(&mut Vec::from_elem(alloc, b'x', len)?)?;
-    bytes.extend_from_slice(b"\r\n\n")?;
-    end_of(alloc, bytes.as_slice())
-}
-
-/// Numbers of bytes, and why such a head is refused.
-const LONG: [(usize, Option<HeadEnd>); 6] = [
-    (1_234, None),
-    (5_000, None),
-    (17_000, None),
-    (40_000, None),
-    (65_516, None),
-    (65_517, Some(HeadEnd::TooLarge)),
-];
-
-#[test]
-fn a_head_has_at_most_65536_bytes(rt: HostRuntime) -> Result<(), Fail> {
-    for (len, end) in &LONG {
-        assert!(rt; long_end(rt.alloc(), *len)? == *end, "{len}");
-    }
-    Ok(())
-}
-
-/// Puts the method of the next head behind a text; whether there was one.
-fn put_method(alloc: Global, peer: &mut MemPeer, rest: &mut Rest, text: &mut Bytes) -> Mem<bool> {
+/// The method of the next head, and `|`; nothing where there is no head.
+fn next_method(alloc: Global, peer: &mut MemPeer, rest: &mut Rest) -> Mem<Bytes> {
     match read_request_head(alloc, peer, rest) {
         Ok(head) => {
-            text.extend_from_slice(head.method.as_str().as_bytes())?;
-            text.push(b'|')?;
-            Ok(true)
+            let method = line_to(alloc, head.method.as_str().as_bytes(), b'|');
+            drop(head);
+            method
         }
-        Err(_) => Ok(false),
+        Err(_) => Ok(Vec::new(alloc)),
     }
 }
 
-/// The methods of all heads that come, one by one, with the bytes that are kept behind the last.
-fn methods_of(alloc: Global, text: &str) -> Mem<Bytes> {
-    let mut peer = peer_of(alloc, text.as_bytes(), &[1])?;
+/// Some bytes with one more behind them.
+fn line_to(alloc: Global, bytes: &[u8], end: u8) -> Mem<Bytes> {
+    let mut line = Vec::from_slice(alloc, bytes)?;
+    line.push(end)?;
+    Ok(line)
+}
+
+/// The methods of the heads that a peer gives, and then the bytes that are kept behind them.
+fn methods_from(alloc: Global, peer: &mut MemPeer) -> Mem<Bytes> {
     let mut rest = Rest::room(alloc)?;
     let mut methods = Vec::new(alloc);
-    for _ in 0..9u32 {
-        if !put_method(alloc, &mut peer, &mut rest, &mut methods)? {
-            break;
-        }
+    for _ in 0..4u32 {
+        methods.append(&mut next_method(alloc, peer, &mut rest)?)?;
     }
     methods.extend_from_slice(rest.kept())?;
     Ok(methods)
+}
+
+/// The same of a text.
+fn methods_of(alloc: Global, text: &str) -> Mem<Bytes> {
+    let text = Vec::from_slice(alloc, text.as_bytes())?;
+    let mut peer = peer_of(alloc, text, MOST, 1)?;
+    let methods = methods_from(alloc, &mut peer);
+    drop(peer);
+    methods
 }
 
 #[test]
@@ -180,84 +217,191 @@ fn many_heads_come_through_one_room(rt: HostRuntime) -> Result<(), Fail> {
     Ok(())
 }
 
-/// The head of a request.
-fn head_of(alloc: Global, text: &str) -> Result<Head, Fail> {
-    let mut peer = peer_of(alloc, text.as_bytes(), &[1])?;
-    let mut rest = Rest::room(alloc)?;
-    match read_request_head(alloc, &mut peer, &mut rest) {
-        Ok(head) => Ok(head),
-        Err(_) => Err("no head".into()),
-    }
-}
-
 /// The target and the host of a request, with a blank between them.
-fn way_of(alloc: Global, head: &Head) -> Result<Bytes, Fail> {
-    let Ok(target) = read_target(alloc, head) else {
-        return Err("no target".into());
-    };
-    let Ok(host) = read_host(alloc, head, &target) else {
-        return Err("no host".into());
-    };
-    let mut way = target.line;
-    way.push(b' ')?;
-    way.extend_from_slice(host.as_slice())?;
+fn way_of(alloc: Global, tested: &Tested) -> Result<Bytes, Fail> {
+    let mut way = line_to(alloc, tested.target.line.as_slice(), b' ')?;
+    way.extend_from_slice(tested.host.as_slice())?;
     Ok(way)
 }
 
-/// What a request goes on with, which has this head: its target, a blank and its host; and how its
-/// body is framed.
-fn asked(alloc: Global, text: &str) -> Result<(Bytes, Result<Framing, FramingFault>), Fail> {
-    let head = head_of(alloc, text)?;
-    Ok((way_of(alloc, &head)?, framing(&head)))
+/// How the body of a request is framed, or why the request is refused; whether its head names
+/// `close`; and how many fields it has.
+type Asked = (Result<Framing, Refusal>, bool, usize);
+
+/// What a request asks whose body may have so many bytes: its way, and the rest.
+fn asked_of(alloc: Global, head: &Head, most: Option<u64>) -> Result<(Bytes, Asked), Fail> {
+    let (closes, fields) = (names_close(&head.fields), head.fields.items().len());
+    match test_request(alloc, head, most) {
+        Ok(tested) => {
+            let (way, framing) = (way_of(alloc, &tested), tested.framing);
+            drop(tested);
+            Ok((way?, (Ok(framing), closes, fields)))
+        }
+        Err(refusal) => Ok((Vec::new(alloc), (Err(refusal), closes, fields))),
+    }
 }
 
-/// Requests, their targets and hosts, and how their bodies are framed.
-const ASKED: [(&str, &str, Framing); 2] = [
+/// The same of a text, in which `%` stands for so many fields.
+fn asked(
+    alloc: Global,
+    text: &str,
+    count: usize,
+    most: Option<u64>,
+) -> Result<(Bytes, Asked), Fail> {
+    let head = head_of(alloc, text, "A: b\n", count)?;
+    let asked = asked_of(alloc, &head, most);
+    drop(head);
+    asked
+}
+
+/// Requests, how many fields `%` stands for, the most bytes of their bodies, their targets and
+/// hosts, and what they ask. The first test that refuses one decides.
+const ASKED: [(&str, usize, Option<u64>, &str, Asked); 19] = [
     (
         "GET http://web?x=1#y HTTP/1.1\nHost: other\nContent-Length: 03 ,\t3\n\n",
+        0,
+        Some(3),
         "/?x=1 web",
-        Framing::Length(3),
+        (Ok(Framing::Length(3)), false, 2),
     ),
     (
         "OPTIONS http://web HTTP/1.1\nHost: other\n\n",
+        0,
+        None,
         "* web",
-        Framing::Nothing,
+        (Ok(Framing::Nothing), false, 1),
+    ),
+    (
+        "PUT / HTTP/1.1\nHost: a\nTransfer-Encoding: chunked\n\n",
+        0,
+        Some(0),
+        "/ a",
+        (Ok(Framing::Chunked), false, 2),
+    ),
+    (
+        "CONNECT a:1 HTTP/1.1\nContent-Length: x\n\n",
+        0,
+        None,
+        "",
+        (Err(Refusal::Own(OwnError::Connect)), false, 1),
+    ),
+    (
+        "GET * HTTP/1.1\nContent-Length: x\n\n",
+        0,
+        None,
+        "",
+        (Err(Refusal::Own(OwnError::Target)), false, 1),
+    ),
+    (
+        "GET / HTTP/1.1\nContent-Length: 1, 2\n\n",
+        0,
+        Some(0),
+        "",
+        (Err(Refusal::Own(OwnError::Length)), false, 1),
+    ),
+    (
+        "GET / HTTP/1.1\nTransfer-Encoding: gzip\n\n",
+        0,
+        Some(0),
+        "",
+        (Err(Refusal::Own(OwnError::Coding)), false, 1),
+    ),
+    (
+        "GET / HTTP/1.1\nContent-Length: 4\n\n",
+        0,
+        Some(3),
+        "",
+        (Err(Refusal::Own(OwnError::TooLong)), false, 1),
+    ),
+    (
+        "GET / HTTP/1.1\nContent-Length: 4\n\n",
+        0,
+        Some(4),
+        "",
+        (Err(Refusal::Own(OwnError::Host)), false, 1),
+    ),
+    (
+        "GET / HTTP/1.1\nContent-Length: 4\n\n",
+        0,
+        None,
+        "",
+        (Err(Refusal::Own(OwnError::Host)), false, 1),
+    ),
+    // Which heads name `close`.
+    (
+        "GET / HTTP/1.0\nConnection: close\n\n",
+        0,
+        None,
+        "/ ",
+        (Ok(Framing::Nothing), true, 1),
+    ),
+    (
+        "GET / HTTP/1.0\nconnection: keep-alive ,\tCLOSE\n\n",
+        0,
+        None,
+        "/ ",
+        (Ok(Framing::Nothing), true, 1),
+    ),
+    (
+        "GET / HTTP/1.0\nConnection: closed\n\n",
+        0,
+        None,
+        "/ ",
+        (Ok(Framing::Nothing), false, 1),
+    ),
+    (
+        "GET / HTTP/1.0\nConnection: keep-alive\nConnection: close\n\n",
+        0,
+        None,
+        "/ ",
+        (Ok(Framing::Nothing), true, 2),
+    ),
+    (
+        "GET / HTTP/1.0\nX-Connection: close\n\n",
+        0,
+        None,
+        "/ ",
+        (Ok(Framing::Nothing), false, 1),
+    ),
+    (
+        "GET / HTTP/1.0\n\n",
+        0,
+        None,
+        "/ ",
+        (Ok(Framing::Nothing), false, 0),
+    ),
+    // A head has all its fields.
+    (
+        "GET / HTTP/1.0\n%\n",
+        64,
+        None,
+        "/ ",
+        (Ok(Framing::Nothing), false, 64),
+    ),
+    (
+        "GET / HTTP/1.0\n%\n",
+        65,
+        None,
+        "/ ",
+        (Ok(Framing::Nothing), false, 65),
+    ),
+    (
+        "GET / HTTP/1.0\n%\n",
+        200,
+        None,
+        "/ ",
+        (Ok(Framing::Nothing), false, 200),
     ),
 ];
 
 #[test]
 fn what_a_request_asks(rt: HostRuntime) -> Result<(), Fail> {
-    for (text, way, framing) in &ASKED {
-        let (told, framed) = asked(rt.alloc(), text)?;
+    for (text, count, most, way, asks) in &ASKED {
+        let asked = asked(rt.alloc(), text, *count, *most)?;
         assert!(rt;
-            told.as_slice() == way.as_bytes() && framed == Ok(*framing),
+            asked.0.as_slice() == way.as_bytes() && asked.1 == *asks,
             "{text:?}"
         );
-    }
-    Ok(())
-}
-
-/// Whether the Connection fields among these lines name `close`.
-fn closes(alloc: Global, lines: &str) -> Result<bool, Fail> {
-    let text = format!(in alloc; "GET / HTTP/1.1\n{lines}\n")?;
-    let head = head_of(alloc, text.as_str())?;
-    Ok(names_close(&head.fields))
-}
-
-/// Lines of fields, and whether they name `close`.
-const CLOSES: [(&str, bool); 6] = [
-    ("Connection: close\n", true),
-    ("connection: keep-alive ,\tCLOSE\n", true),
-    ("Connection: closed\n", false),
-    ("Connection: keep-alive\nConnection: close\n", true),
-    ("X-Connection: close\n", false),
-    ("", false),
-];
-
-#[test]
-fn which_heads_name_close(rt: HostRuntime) -> Result<(), Fail> {
-    for (lines, want) in &CLOSES {
-        assert!(rt; closes(rt.alloc(), lines)? == *want, "{lines:?}");
     }
     Ok(())
 }
@@ -278,116 +422,141 @@ fn names_and_lines(rt: HostRuntime) -> Result<(), Fail> {
     Ok(())
 }
 
-/// A dialer whose first connection gives these bytes, and whose second receive fails.
-fn dialer_of(alloc: Global, bytes: &[u8]) -> Mem<MemDialer> {
-    let mut replies = Vec::new(alloc);
-    replies.push(Vec::from_slice(alloc, bytes)?)?;
-    let failing = Vec::from_elem(alloc, 2, 1)?;
-    Ok(MemDialer::of(alloc, replies, Vec::new(alloc), failing))
+/// How the body of a reply is framed, if at all, and how many fields its head has; or why it has
+/// none.
+type Replied = Result<(Option<Framing>, usize), HeadEnd>;
+
+/// How the body of a reply to this method is framed, and how many fields its head has.
+fn shown(method: &Method, read: Result<ReplyHead, HeadEnd>) -> Replied {
+    match read {
+        Ok(head) => {
+            let framing = reply_framing(method, &head).ok();
+            let count = head.fields.items().len();
+            drop(head);
+            Ok((framing, count))
+        }
+        Err(end) => Err(end),
+    }
 }
 
-/// The head of a reply of which these bytes come, and then a fault.
-fn reply_of(alloc: Global, text: &str) -> Result<Result<ReplyHead, HeadEnd>, Fail> {
-    let mut dialer = dialer_of(alloc, text.as_bytes())?;
+/// What comes of a reply to this method that a dialer gives; and how many bytes are kept behind its
+/// head.
+fn replied_from(
+    alloc: Global,
+    method: &Method,
+    dialer: &mut MemDialer,
+) -> Result<(Replied, usize), Fail> {
     let mut rest = Rest::room(alloc)?;
-    match dialer.dial(0x7f000001, 9001) {
-        Ok(()) => Ok(read_reply_head(alloc, &mut dialer, &mut rest)),
-        Err(_) => Err("no dial".into()),
-    }
+    let read = reply_of(alloc, dialer, &mut rest)?;
+    Ok((shown(method, read), rest.kept().len()))
 }
 
-/// How the body of a reply to this method is framed.
-fn framed(alloc: Global, method: &str, text: &str) -> Result<Result<Framing, FramingFault>, Fail> {
-    let Ok(method) = Method::from_bytes(alloc, method.as_bytes()) else {
-        return Err("no method".into());
-    };
-    match reply_of(alloc, text)? {
-        Ok(head) => Ok(reply_framing(&method, &head)),
-        Err(_) => Err("no head".into()),
-    }
+/// The same to a method of this name.
+fn replied_to(
+    alloc: Global,
+    method: &str,
+    dialer: &mut MemDialer,
+) -> Result<(Replied, usize), Fail> {
+    let method = method_of(alloc, method)?;
+    let replied = replied_from(alloc, &method, dialer);
+    drop(method);
+    replied
 }
+
+/// The same of a row.
+fn replied(alloc: Global, row: &Reply) -> Result<(Replied, usize), Fail> {
+    let text = spelled(alloc, row.1, row.2, row.3)?;
+    let mut dialer = dialer_of(alloc, text)?;
+    let replied = replied_to(alloc, row.0, &mut dialer);
+    drop(dialer);
+    replied
+}
+
+/// A method, a reply, what `%` stands for in it and how often, what comes of it, and how many bytes
+/// are kept behind its head.
+type Reply = (
+    &'static str,
+    &'static str,
+    &'static str,
+    usize,
+    Replied,
+    usize,
+);
 
 /// A reply of two bytes.
-const OK: &str = "HTTP/1.1 200 OK\r\nContent-Length: 2\r\nServer: t\r\n\r\nhi";
+const OK: &str = "HTTP/1.1 200 OK|Content-Length: 2|Server: t||hi";
 
-/// Methods, replies to them, and how their bodies are framed.
-const FRAMED: [(&str, &str, Framing); 3] = [
-    ("GET", OK, Framing::Length(2)),
-    ("HEAD", OK, Framing::Nothing),
-    ("GET", "\nHTTP/1.0 007\n\n", Framing::ToEnd),
+/// A first line and lines behind it.
+const LINES: &str = "HTTP/1.1 200 OK\n%\n";
+
+/// One receive brings at most 16,384 bytes.
+const REPLIES: [Reply; 10] = [
+    ("GET", OK, "", 0, Ok((Some(Framing::Length(2)), 2)), 2),
+    ("HEAD", OK, "", 0, Ok((Some(Framing::Nothing), 2)), 2),
+    (
+        "GET",
+        "\nHTTP/1.0 007\n\n",
+        "",
+        0,
+        Ok((Some(Framing::ToEnd), 0)),
+        0,
+    ),
+    (
+        "GET",
+        "HTTP/1.1 200 OK|",
+        "",
+        0,
+        Err(HeadEnd::ReadFault),
+        17,
+    ),
+    ("GET", "HTTP/1.2", "", 0, Err(HeadEnd::Bad), 8),
+    (
+        "GET",
+        "HTTP/1.1 200 OK||%",
+        "x",
+        10_000,
+        Ok((Some(Framing::ToEnd), 0)),
+        10_000,
+    ),
+    (
+        "GET",
+        "HTTP/1.1 200 OK||%",
+        "x",
+        20_000,
+        Ok((Some(Framing::ToEnd), 0)),
+        16_365,
+    ),
+    (
+        "GET",
+        LINES,
+        "A: b\n",
+        64,
+        Ok((Some(Framing::ToEnd), 64)),
+        0,
+    ),
+    (
+        "GET",
+        LINES,
+        "A: b\n",
+        65,
+        Ok((Some(Framing::ToEnd), 65)),
+        0,
+    ),
+    (
+        "GET",
+        LINES,
+        "A: b\n",
+        200,
+        Ok((Some(Framing::ToEnd), 200)),
+        0,
+    ),
 ];
 
 #[test]
-fn how_a_reply_is_framed(rt: HostRuntime) -> Result<(), Fail> {
-    for (method, text, want) in &FRAMED {
-        assert!(rt; framed(rt.alloc(), method, text)? == Ok(*want), "{text:?}");
-    }
-    Ok(())
-}
-
-/// Texts, and why no head of a reply is read of them.
-const NO_REPLIES: [(&str, HeadEnd); 2] = [
-    ("HTTP/1.1 200 OK\r\n", HeadEnd::ReadFault),
-    ("HTTP/1.2", HeadEnd::Bad),
-];
-
-#[test]
-fn what_is_no_reply_is_refused(rt: HostRuntime) -> Result<(), Fail> {
-    for (text, end) in &NO_REPLIES {
-        assert!(rt; reply_of(rt.alloc(), text)?.err() == Some(*end), "{text:?}");
-    }
-    Ok(())
-}
-
-/// How many bytes are kept behind the head of a reply with which so many come.
-fn kept_behind(alloc: Global, len: usize) -> Result<usize, Fail> {
-    let mut bytes = Vec::from_slice(alloc, b"HTTP/1.1 200 OK\r\n\r\n")?;
-    bytes.append(&mut Vec::from_elem(alloc, b'x', len)?)?;
-    let mut dialer = dialer_of(alloc, bytes.as_slice())?;
-    let mut rest = Rest::room(alloc)?;
-    match dialer.dial(0x7f000001, 9001) {
-        Ok(()) => match read_reply_head(alloc, &mut dialer, &mut rest) {
-            Ok(_head) => Ok(rest.kept().len()),
-            Err(_) => Err("no head".into()),
-        },
-        Err(_) => Err("no dial".into()),
-    }
-}
-
-/// A head has 19 bytes here, and one receive brings at most 16,384.
-#[test]
-fn a_body_comes_with_its_head(rt: HostRuntime) -> Result<(), Fail> {
-    for (len, kept) in [(10_000, 10_000), (20_000, 16_365)] {
-        assert!(rt; kept_behind(rt.alloc(), len)? == kept, "{len}");
-    }
-    Ok(())
-}
-
-/// A first line and so many fields.
-fn with_fields(alloc: Global, line: &str, count: usize) -> Mem<String> {
-    let mut text = format!(in alloc; "{line}\n")?;
-    for _ in 0..count {
-        text.push_str("A: b\n")?;
-    }
-    text.push('\n')?;
-    Ok(text)
-}
-
-/// How many fields are read of a request and of a reply with so many.
-fn fields_of(alloc: Global, count: usize) -> Result<(usize, usize), Fail> {
-    let request = with_fields(alloc, "GET / HTTP/1.1", count)?;
-    let head = head_of(alloc, request.as_str())?;
-    let reply = with_fields(alloc, "HTTP/1.1 200 OK", count)?;
-    match reply_of(alloc, reply.as_str())? {
-        Ok(reply) => Ok((head.fields.items().len(), reply.fields.items().len())),
-        Err(_) => Err("no head".into()),
-    }
-}
-
-#[test]
-fn a_head_has_all_its_fields(rt: HostRuntime) -> Result<(), Fail> {
-    for count in [64, 65, 200] {
-        assert!(rt; fields_of(rt.alloc(), count)? == (count, count), "{count}");
+fn replies_with_their_heads(rt: HostRuntime) -> Result<(), Fail> {
+    for row in &REPLIES {
+        let replied = replied(rt.alloc(), row)?;
+        assert!(rt; replied == (row.4, row.5), "{:?} {}", row.1, row.3);
     }
     Ok(())
 }

@@ -14,3 +14,5 @@ mod heads;
 mod naming;
 #[cfg(test)]
 mod replies;
+#[cfg(test)]
+mod requests;

@@ -1,123 +1,65 @@
 //! What requests are named, and the tables that they bring along.
+use crate::requests::{head_of, spelled};
 use dtab_table::write_dtab;
-use http_wire::{FieldName, Head, Rest, read_host, read_request_head, read_target};
+use http_wire::{Field, FieldName, Head, Mem, read_host, read_target};
 use identifier::{IdentifyFault, Kind, LocalFault, Rule, hear, identify, local_dtab};
-use line_base::{MemPeer, MemSink, MemSource};
 use name_tree::{Path, read_path, write_path};
-use std::alloc::{AllocError, Global};
+use std::alloc::Global;
 use std::test::Fail;
 
-/// Requests with the kind by which they are named, and what they are named under the prefix `/svc`.
-const NAMED: [(&str, &str, &str, &str); 22] = [
+/// Numbers of pieces, requests, and what they are named under the prefix `/svc`.
+const BY_TARGET: [(u32, &str, &str); 7] = [
+    (2, "GET //a//b/c?d HTTP/1.1|Host: x||", "/svc/a/b"),
+    (1, "GET http://web/A/b HTTP/1.1|Host: x||", "/svc/A"),
+    (1, "GET /a#b/c HTTP/1.1|Host: x||", "/svc/a"),
+    (0, "GET / HTTP/1.1|Host: x||", "/svc"),
+    (2, "GET /a HTTP/1.1|Host: x||", ""),
+    (1, "GET http://web?/a HTTP/1.1|Host: x||", ""),
+    (1, "OPTIONS * HTTP/1.1|Host: x||", ""),
+];
+
+/// Requests, and what they are named by their method and host.
+const BY_METHOD_AND_HOST: [(&str, &str); 4] = [
+    ("GET / HTTP/1.0||", "/svc/1.0/GET"),
+    ("PUT / HTTP/1.0|Host: web||", "/svc/1.0/PUT"),
     (
-        "segments",
-        "2",
-        "GET //a//b/c?d HTTP/1.1\r\nHost: x\r\n\r\n",
-        "/svc/a/b",
-    ),
-    (
-        "segments",
-        "1",
-        "GET http://web/A/b HTTP/1.1\r\nHost: x\r\n\r\n",
-        "/svc/A",
-    ),
-    (
-        "segments",
-        "1",
-        "GET /a#b/c HTTP/1.1\r\nHost: x\r\n\r\n",
-        "/svc/a",
-    ),
-    ("segments", "0", "GET / HTTP/1.1\r\nHost: x\r\n\r\n", "/svc"),
-    ("method", "", "GET / HTTP/1.0\r\n\r\n", "/svc/1.0/GET"),
-    (
-        "method",
-        "",
-        "PUT / HTTP/1.0\r\nHost: web\r\n\r\n",
-        "/svc/1.0/PUT",
-    ),
-    (
-        "method",
-        "",
-        "GET / HTTP/1.1\r\nHost: Web.Example:80\r\n\r\n",
+        "GET / HTTP/1.1|Host: Web.Example:80||",
         "/svc/1.1/GET/web.example:80",
     ),
+    ("GET / HTTP/1.1|Host:||", ""),
+];
+
+/// Names of fields, requests, and what they are named by the field's value as one label.
+const BY_TOKEN: [(&str, &str, &str); 5] = [
+    ("Host", "GET / HTTP/1.1|Host: Web||", "/svc/web"),
     (
-        "token",
-        "Host",
-        "GET / HTTP/1.1\r\nHost: Web\r\n\r\n",
-        "/svc/web",
-    ),
-    (
-        "token",
         "hOST",
-        "GET http://Other/ HTTP/1.1\r\nHost: web\r\n\r\n",
+        "GET http://Other/ HTTP/1.1|Host: web||",
         "/svc/other",
     ),
     (
-        "token",
         "X-Name",
-        "GET / HTTP/1.1\r\nHost: x\r\nx-name: A/b\r\nX-NAME: c\r\n\r\n",
+        "GET / HTTP/1.1|Host: x|x-name: A/b|X-NAME: c||",
         "/svc/A\\x2fb",
     ),
+    ("Host", "GET / HTTP/1.0||", ""),
+    ("X-Name", "GET / HTTP/1.1|Host: x|X-Name:|X-Name: c||", ""),
+];
+
+/// Requests, and what they are named by the path in their field `l5d-name`.
+const BY_PATH_FIELD: [(&str, &str); 5] = [
     (
-        "path",
-        "l5d-name",
-        "GET / HTTP/1.1\r\nHost: x\r\nL5d-Name:  /a\\x2Fb \r\n\r\n",
+        "GET / HTTP/1.1|Host: x|L5d-Name:  /a\\x2Fb ||",
         "/svc/a\\x2fb",
     ),
     (
-        "path",
-        "l5d-name",
-        "GET / HTTP/1.1\r\nHost: x\r\nl5d-name: /a/b\r\nl5d-name: /c\r\n\r\n",
+        "GET / HTTP/1.1|Host: x|l5d-name: /a/b|l5d-name: /c||",
         "/svc/a/b",
     ),
-    (
-        "path",
-        "l5d-name",
-        "GET / HTTP/1.1\r\nHost: x\r\nl5d-name: /\r\n\r\n",
-        "/svc",
-    ),
-    ("static", "/x/y", "GET / HTTP/1.0\r\n\r\n", "/svc/x/y"),
-    ("segments", "2", "GET /a HTTP/1.1\r\nHost: x\r\n\r\n", ""),
-    (
-        "segments",
-        "1",
-        "GET http://web?/a HTTP/1.1\r\nHost: x\r\n\r\n",
-        "",
-    ),
-    ("segments", "1", "OPTIONS * HTTP/1.1\r\nHost: x\r\n\r\n", ""),
-    ("method", "", "GET / HTTP/1.1\r\nHost:\r\n\r\n", ""),
-    ("token", "Host", "GET / HTTP/1.0\r\n\r\n", ""),
-    (
-        "token",
-        "X-Name",
-        "GET / HTTP/1.1\r\nHost: x\r\nX-Name:\r\nX-Name: c\r\n\r\n",
-        "",
-    ),
-    (
-        "path",
-        "l5d-name",
-        "GET / HTTP/1.1\r\nHost: x\r\nl5d-name: /a/\r\nl5d-name: /c\r\n\r\n",
-        "",
-    ),
-    ("path", "l5d-name", "GET / HTTP/1.1\r\nHost: x\r\n\r\n", ""),
+    ("GET / HTTP/1.1|Host: x|l5d-name: /||", "/svc"),
+    ("GET / HTTP/1.1|Host: x|l5d-name: /a/|l5d-name: /c||", ""),
+    ("GET / HTTP/1.1|Host: x||", ""),
 ];
-
-/// The head that these bytes are.
-fn head_of(alloc: Global, bytes: &[u8]) -> Result<Head, Fail> {
-    let source = MemSource::of(
-        Vec::from_slice(alloc, bytes)?,
-        Vec::new(alloc),
-        Vec::new(alloc),
-    );
-    let sink = MemSink::of(alloc, Vec::new(alloc), Vec::new(alloc));
-    let mut peer = MemPeer::of(source, sink);
-    let mut rest = Rest::room(alloc)?;
-    match read_request_head(alloc, &mut peer, &mut rest) {
-        Ok(head) => Ok(head),
-        Err(_) => Err("no head".into()),
-    }
-}
 
 /// The path of this text.
 fn path_of(alloc: Global, text: &str) -> Result<Path, Fail> {
@@ -127,150 +69,224 @@ fn path_of(alloc: Global, text: &str) -> Result<Path, Fail> {
     }
 }
 
-/// The kind of a row.
-fn kind_of(alloc: Global, kind: &str, with: &str) -> Result<Kind, Fail> {
-    let name = FieldName::of(Vec::from_slice(alloc, with.as_bytes())?);
-    Ok(match kind {
-        "token" => Kind::Token(name),
-        "path" => Kind::PathField(name),
-        "static" => Kind::Static(path_of(alloc, with)?),
-        "method" => Kind::MethodAndHost,
-        _ => Kind::Segments(if with == "2" {
-            2
-        } else if with == "1" {
-            1
-        } else {
-            0
-        }),
-    })
+/// The name of a field.
+fn name_of(alloc: Global, name: &str) -> Mem<FieldName> {
+    Ok(FieldName::of(Vec::from_slice(alloc, name.as_bytes())?))
 }
 
-/// What a request is named by a rule of this kind with the prefix `/svc`, as text; nothing where it
-/// is not.
-fn named(alloc: Global, kind: Kind, request: &str) -> Result<Vec<u8>, Fail> {
-    let prefix = path_of(alloc, "/svc")?;
-    let head = head_of(alloc, request.as_bytes())?;
-    let target = match read_target(alloc, &head) {
-        Ok(target) => target,
-        Err(_) => return Err("no target".into()),
-    };
-    let host = match read_host(alloc, &head, &target) {
-        Ok(host) => host,
-        Err(_) => return Err("no host".into()),
-    };
-    let rule = Rule {
-        kind,
-        prefix,
-        clears_context: false,
-    };
-    match identify(alloc, &rule, &head, host.as_slice()) {
+/// A path as text; nothing where there is none.
+fn text_of(alloc: Global, named: Result<Path, IdentifyFault>) -> Result<Vec<u8>, Fail> {
+    match named {
         Ok(path) => Ok(write_path(alloc, &path)?),
         Err(IdentifyFault::Unidentified) => Ok(Vec::new(alloc)),
         Err(IdentifyFault::OutOfMemory) => Err("memory".into()),
     }
 }
 
+/// What a request is named by a rule, as text; nothing where it is not.
+fn named_by(alloc: Global, rule: &Rule, head: &Head) -> Result<Vec<u8>, Fail> {
+    let target = match read_target(alloc, head) {
+        Ok(target) => target,
+        Err(_) => return Err("no target".into()),
+    };
+    let host = match read_host(alloc, head, &target) {
+        Ok(host) => host,
+        Err(_) => return Err("no host".into()),
+    };
+    let named = identify(alloc, rule, head, host.as_slice());
+    drop(host);
+    drop(target);
+    text_of(alloc, named)
+}
+
+/// The same of a text, in which `|` is CR LF.
+fn named_with(alloc: Global, rule: &Rule, request: &str) -> Result<Vec<u8>, Fail> {
+    let head = head_of(alloc, request, "", 0)?;
+    let named = named_by(alloc, rule, &head);
+    drop(head);
+    named
+}
+
+/// The same by a rule of this kind.
+fn named(alloc: Global, kind: Kind, request: &str) -> Result<Vec<u8>, Fail> {
+    let rule = rule_of(alloc, kind, false)?;
+    let named = named_with(alloc, &rule, request);
+    drop(rule);
+    named
+}
+
+/// A rule of this kind with the prefix `/svc`.
+fn rule_of(alloc: Global, kind: Kind, clears_context: bool) -> Result<Rule, Fail> {
+    match path_of(alloc, "/svc") {
+        Ok(prefix) => Ok(Rule {
+            kind,
+            prefix,
+            clears_context,
+        }),
+        Err(fail) => {
+            drop(kind);
+            Err(fail)
+        }
+    }
+}
+
 #[test]
-fn requests_are_named_by_each_kind(rt: HostRuntime) -> Result<(), Fail> {
-    for (kind, with, request, name) in &NAMED {
-        let kind = kind_of(rt.alloc(), kind, with)?;
-        let named = named(rt.alloc(), kind, request)?;
+fn requests_are_named_by_their_target(rt: HostRuntime) -> Result<(), Fail> {
+    for (count, request, name) in &BY_TARGET {
+        let named = named(rt.alloc(), Kind::Segments(*count), request)?;
         assert!(rt; named.as_slice() == name.as_bytes(), "{request:?}");
     }
     Ok(())
 }
 
-/// A request's own table in words: how many entries it has, and its canonical text; or `bad`.
-fn local_text(alloc: Global, request: &[u8]) -> Result<(usize, Vec<u8>), Fail> {
-    let head = head_of(alloc, request)?;
-    match local_dtab(alloc, &head) {
-        Ok(dtab) => Ok((dtab.len(), write_dtab(alloc, &dtab)?)),
-        Err(LocalFault::BadDtab) => Ok((0, b"bad".to_vec(alloc)?)),
+#[test]
+fn requests_are_named_by_their_method_and_host(rt: HostRuntime) -> Result<(), Fail> {
+    for (request, name) in &BY_METHOD_AND_HOST {
+        let named = named(rt.alloc(), Kind::MethodAndHost, request)?;
+        assert!(rt; named.as_slice() == name.as_bytes(), "{request:?}");
+    }
+    Ok(())
+}
+
+#[test]
+fn requests_are_named_by_a_token(rt: HostRuntime) -> Result<(), Fail> {
+    for (field, request, name) in &BY_TOKEN {
+        let field = name_of(rt.alloc(), field)?;
+        let named = named(rt.alloc(), Kind::Token(field), request)?;
+        assert!(rt; named.as_slice() == name.as_bytes(), "{request:?}");
+    }
+    Ok(())
+}
+
+#[test]
+fn requests_are_named_by_a_path(rt: HostRuntime) -> Result<(), Fail> {
+    for (request, name) in &BY_PATH_FIELD {
+        let field = name_of(rt.alloc(), "l5d-name")?;
+        let named = named(rt.alloc(), Kind::PathField(field), request)?;
+        assert!(rt; named.as_slice() == name.as_bytes(), "{request:?}");
+    }
+    Ok(())
+}
+
+#[test]
+fn requests_are_named_alike(rt: HostRuntime) -> Result<(), Fail> {
+    let path = path_of(rt.alloc(), "/x/y")?;
+    let named = named(rt.alloc(), Kind::Static(path), "GET / HTTP/1.0||")?;
+    assert!(rt; named.as_slice() == b"/svc/x/y".as_slice());
+    Ok(())
+}
+
+/// A request's own table in words: its canonical text; or `bad`.
+fn table_text(alloc: Global, head: &Head) -> Result<Vec<u8>, Fail> {
+    match local_dtab(alloc, head) {
+        Ok(dtab) => Ok(write_dtab(alloc, &dtab)?),
+        Err(LocalFault::BadDtab) => Ok(b"bad".to_vec(alloc)?),
         Err(LocalFault::OutOfMemory) => Err("memory".into()),
     }
 }
 
-/// Fields of a request, and its own table.
-const TABLES: [(&str, &str); 5] = [
-    ("", ""),
-    ("l5d-dtab:\r\nl5d-ctx-dtab: ;\r\n", ""),
+/// The same of a text, in which `%` stands for so many entries.
+fn local_text(alloc: Global, request: &str, count: usize) -> Result<Vec<u8>, Fail> {
+    let head = head_of(alloc, request, ENTRY, count)?;
+    let text = table_text(alloc, &head);
+    drop(head);
+    text
+}
+
+/// An entry behind another.
+const ENTRY: &str = ";/a=>/b";
+
+/// Requests, for how many entries `%` stands, and their own tables. A table has at most 1,024
+/// entries.
+const TABLES: [(&str, usize, &str); 9] = [
+    ("GET / HTTP/1.0||", 0, ""),
+    ("GET / HTTP/1.0|l5d-dtab:|l5d-ctx-dtab: ;||", 0, ""),
     (
-        "l5d-dtab: /a => /b\r\nL5D-Ctx-Dtab: /c => /d\r\nx: y\r\nl5d-ctx-dtab: /e=>!;/c=>/f\r\nl5d-dtab: /a=>/g\r\n",
+        "GET / HTTP/1.0|l5d-dtab: /a => /b|L5D-Ctx-Dtab: /c => /d|x: y|l5d-ctx-dtab: /e=>!;/c=>/f|l5d-dtab: /a=>/g||",
+        0,
         "/c=>/d;/e=>!;/c=>/f;/a=>/b;/a=>/g",
     ),
-    ("l5d-dtab: /a\r\nl5d-ctx-dtab: /c=>/d\r\n", "bad"),
-    ("l5d-ctx-dtab: /c=>/d\r\nl5d-ctx-dtab: /a=>/*\r\n", "bad"),
+    (
+        "GET / HTTP/1.0|l5d-dtab: /a|l5d-ctx-dtab: /c=>/d||",
+        0,
+        "bad",
+    ),
+    (
+        "GET / HTTP/1.0|l5d-ctx-dtab: /c=>/d|l5d-ctx-dtab: /a=>/*||",
+        0,
+        "bad",
+    ),
+    (
+        "GET / HTTP/1.0|l5d-dtab: /a=>/b%|l5d-ctx-dtab: /c=>/d%||",
+        305,
+        "/c=>/d%;/a=>/b%",
+    ),
+    (
+        "GET / HTTP/1.0|l5d-dtab: /a=>/b%|l5d-ctx-dtab: /c=>/d||",
+        697,
+        "/c=>/d;/a=>/b%",
+    ),
+    (
+        "GET / HTTP/1.0|l5d-dtab: /a=>/b%|l5d-ctx-dtab: /c=>/d%||",
+        511,
+        "/c=>/d%;/a=>/b%",
+    ),
+    (
+        "GET / HTTP/1.0|l5d-dtab: /a=>/b%;/a=>/b|l5d-ctx-dtab: /c=>/d%||",
+        511,
+        "bad",
+    ),
 ];
 
 #[test]
 fn tables_are_joined_in_order(rt: HostRuntime) -> Result<(), Fail> {
-    for (fields, want) in &TABLES {
-        let request = format!(in rt.alloc(); "GET / HTTP/1.0\r\n{fields}\r\n")?;
-        let (_count, text) = local_text(rt.alloc(), request.as_bytes())?;
-        assert!(rt; text.as_slice() == want.as_bytes(), "{fields:?}");
+    for (request, count, want) in &TABLES {
+        let text = local_text(rt.alloc(), request, *count)?;
+        let want = spelled(rt.alloc(), want, ENTRY, *count)?;
+        assert!(rt; text == want, "{request:?} {count}");
     }
     Ok(())
 }
 
-/// A request whose own table has so many entries in one field, and 512 in another.
-fn request_with(alloc: Global, entries: usize) -> Result<Vec<u8>, AllocError> {
-    let mut request = Vec::from_slice(alloc, b"GET / HTTP/1.0\r\nl5d-dtab: ")?;
-    for _ in 0..entries {
-        request.extend_from_slice(b"/a=>/b;")?;
-    }
-    request.extend_from_slice(b"\r\nl5d-ctx-dtab: ")?;
-    for _ in 0..512 {
-        request.extend_from_slice(b"/c=>/d;")?;
-    }
-    request.extend_from_slice(b"\r\n\r\n")?;
-    Ok(request)
-}
-
-/// How many entries the table of such a request has, 0 where it is refused.
-fn count_of(alloc: Global, entries: usize) -> Result<usize, Fail> {
-    let request = request_with(alloc, entries)?;
-    let (count, _text) = local_text(alloc, request.as_slice())?;
-    Ok(count)
-}
-
-#[test]
-fn a_table_has_at_most_1024_entries(rt: HostRuntime) -> Result<(), Fail> {
-    for (entries, want) in [(100, 612), (187, 699), (512, 1_024), (513, 0)] {
-        assert!(rt; count_of(rt.alloc(), entries)? == want, "{entries}");
-    }
-    Ok(())
-}
-
-/// Whether the context of a request is cleared, its fields, and the names of those that are heard.
+/// Whether the context of a request is cleared, the request, and the names of those that are heard.
 const HEARD: [(bool, &str, &str); 3] = [
     (
         true,
-        "A: 1\r\nL5d-Dtab: /a=>/b\r\nl5d-CTX-dtab: /c=>/d\r\nl5d-ctx-: 3\r\nB: 2\r\n",
+        "GET / HTTP/1.1|Host: x|A: 1|L5d-Dtab: /a=>/b|l5d-CTX-dtab: /c=>/d|l5d-ctx-: 3|B: 2||",
         "Host A B ",
     ),
     (
         true,
-        "l5d-ctx: 1\r\nl5d-ctx-trace: 2\r\nl5d-dst-service: 3\r\nxl5d-ctx-a: 4\r\n",
+        "GET / HTTP/1.1|Host: x|l5d-ctx: 1|l5d-ctx-trace: 2|l5d-dst-service: 3|xl5d-ctx-a: 4||",
         "Host l5d-ctx l5d-dst-service xl5d-ctx-a ",
     ),
     (
         false,
-        "l5d-dtab: /a=>/b\r\nl5d-ctx-dtab: /c=>/d\r\n",
+        "GET / HTTP/1.1|Host: x|l5d-dtab: /a=>/b|l5d-ctx-dtab: /c=>/d||",
         "Host l5d-dtab l5d-ctx-dtab ",
     ),
 ];
 
 /// The names of the fields of a request that are heard, each with a space behind it.
-fn heard(alloc: Global, clears_context: bool, fields: &str) -> Result<Vec<u8>, Fail> {
-    let request = format!(in alloc; "GET / HTTP/1.1\r\nHost: x\r\n{fields}\r\n")?;
-    let rule = Rule {
-        kind: Kind::MethodAndHost,
-        prefix: path_of(alloc, "/svc")?,
-        clears_context,
-    };
-    let head = hear(&rule, head_of(alloc, request.as_bytes())?);
+fn heard(alloc: Global, clears_context: bool, request: &str) -> Result<Vec<u8>, Fail> {
+    let rule = rule_of(alloc, Kind::MethodAndHost, clears_context)?;
+    let names = heard_by(alloc, &rule, request);
+    drop(rule);
+    names
+}
+
+/// The same by this rule.
+fn heard_by(alloc: Global, rule: &Rule, request: &str) -> Result<Vec<u8>, Fail> {
+    let head = hear(rule, head_of(alloc, request, "", 0)?);
+    let names = names_of(alloc, head.fields.items());
+    drop(head);
+    names
+}
+
+/// The names of some fields, each with a space behind it.
+fn names_of(alloc: Global, fields: &[Field]) -> Result<Vec<u8>, Fail> {
     let mut names = Vec::new(alloc);
-    for field in head.fields.items() {
+    for field in fields {
         names.extend_from_slice(field.name.bytes())?;
         names.push(b' ')?;
     }
@@ -279,9 +295,9 @@ fn heard(alloc: Global, clears_context: bool, fields: &str) -> Result<Vec<u8>, F
 
 #[test]
 fn the_context_is_heard_or_cleared(rt: HostRuntime) -> Result<(), Fail> {
-    for (clears, fields, names) in &HEARD {
-        let heard = heard(rt.alloc(), *clears, fields)?;
-        assert!(rt; heard.as_slice() == names.as_bytes(), "{fields:?}");
+    for (clears, request, names) in &HEARD {
+        let heard = heard(rt.alloc(), *clears, request)?;
+        assert!(rt; heard.as_slice() == names.as_bytes(), "{request:?}");
     }
     Ok(())
 }

@@ -1,125 +1,79 @@
-//! Every reply, compared byte for byte with what is written out here.
+//! Every reply, compared byte for byte with what is put together here of its status, its word and
+//! its length.
 
 use own_reply::{OwnError, own_reply};
 use std::alloc::{AllocError, Global};
 use std::test::Fail;
 
-/// An error, its reply up to the Content-Length field, and its body.
+/// An error, the status of its reply, its word, and how long its body is.
 #[derive(Clone, Copy)]
-struct Row(OwnError, &'static str, &'static str);
+struct Row(OwnError, &'static str, &'static str, &'static str);
 
 const ROWS: [Row; 19] = [
     Row(
         OwnError::Version,
-        "HTTP/1.1 505 HTTP Version Not Supported\r\nContent-Type: text/plain\r\nl5d-err: version\r\nContent-Length: 8\r\n",
-        "version\n",
+        "505 HTTP Version Not Supported",
+        "version",
+        "8",
     ),
-    Row(
-        OwnError::BadHead,
-        "HTTP/1.1 400 Bad Request\r\nContent-Type: text/plain\r\nl5d-err: bad-head\r\nContent-Length: 9\r\n",
-        "bad-head\n",
-    ),
+    Row(OwnError::BadHead, "400 Bad Request", "bad-head", "9"),
     Row(
         OwnError::HeadTooLarge,
-        "HTTP/1.1 431 Request Header Fields Too Large\r\nContent-Type: text/plain\r\nl5d-err: head-too-large\r\nContent-Length: 15\r\n",
-        "head-too-large\n",
+        "431 Request Header Fields Too Large",
+        "head-too-large",
+        "15",
     ),
-    Row(
-        OwnError::Connect,
-        "HTTP/1.1 501 Not Implemented\r\nContent-Type: text/plain\r\nl5d-err: connect\r\nContent-Length: 8\r\n",
-        "connect\n",
-    ),
-    Row(
-        OwnError::Target,
-        "HTTP/1.1 400 Bad Request\r\nContent-Type: text/plain\r\nl5d-err: target\r\nContent-Length: 7\r\n",
-        "target\n",
-    ),
-    Row(
-        OwnError::Length,
-        "HTTP/1.1 400 Bad Request\r\nContent-Type: text/plain\r\nl5d-err: length\r\nContent-Length: 7\r\n",
-        "length\n",
-    ),
-    Row(
-        OwnError::Coding,
-        "HTTP/1.1 501 Not Implemented\r\nContent-Type: text/plain\r\nl5d-err: coding\r\nContent-Length: 7\r\n",
-        "coding\n",
-    ),
-    Row(
-        OwnError::TooLong,
-        "HTTP/1.1 413 Content Too Large\r\nContent-Type: text/plain\r\nl5d-err: too-long\r\nContent-Length: 9\r\n",
-        "too-long\n",
-    ),
-    Row(
-        OwnError::Host,
-        "HTTP/1.1 400 Bad Request\r\nContent-Type: text/plain\r\nl5d-err: host\r\nContent-Length: 5\r\n",
-        "host\n",
-    ),
+    Row(OwnError::Connect, "501 Not Implemented", "connect", "8"),
+    Row(OwnError::Target, "400 Bad Request", "target", "7"),
+    Row(OwnError::Length, "400 Bad Request", "length", "7"),
+    Row(OwnError::Coding, "501 Not Implemented", "coding", "7"),
+    Row(OwnError::TooLong, "413 Content Too Large", "too-long", "9"),
+    Row(OwnError::Host, "400 Bad Request", "host", "5"),
     Row(
         OwnError::Unidentified,
-        "HTTP/1.1 400 Bad Request\r\nContent-Type: text/plain\r\nl5d-err: unidentified\r\nContent-Length: 13\r\n",
-        "unidentified\n",
+        "400 Bad Request",
+        "unidentified",
+        "13",
     ),
-    Row(
-        OwnError::Dtab,
-        "HTTP/1.1 400 Bad Request\r\nContent-Type: text/plain\r\nl5d-err: dtab\r\nContent-Length: 5\r\n",
-        "dtab\n",
-    ),
-    Row(
-        OwnError::Body,
-        "HTTP/1.1 400 Bad Request\r\nContent-Type: text/plain\r\nl5d-err: body\r\nContent-Length: 5\r\n",
-        "body\n",
-    ),
-    Row(
-        OwnError::Negative,
-        "HTTP/1.1 502 Bad Gateway\r\nContent-Type: text/plain\r\nl5d-err: negative\r\nContent-Length: 9\r\n",
-        "negative\n",
-    ),
-    Row(
-        OwnError::Failing,
-        "HTTP/1.1 502 Bad Gateway\r\nContent-Type: text/plain\r\nl5d-err: failing\r\nContent-Length: 8\r\n",
-        "failing\n",
-    ),
-    Row(
-        OwnError::Empty,
-        "HTTP/1.1 502 Bad Gateway\r\nContent-Type: text/plain\r\nl5d-err: empty\r\nContent-Length: 6\r\n",
-        "empty\n",
-    ),
-    Row(
-        OwnError::TooDeep,
-        "HTTP/1.1 502 Bad Gateway\r\nContent-Type: text/plain\r\nl5d-err: too-deep\r\nContent-Length: 9\r\n",
-        "too-deep\n",
-    ),
-    Row(
-        OwnError::TooWide,
-        "HTTP/1.1 502 Bad Gateway\r\nContent-Type: text/plain\r\nl5d-err: too-wide\r\nContent-Length: 9\r\n",
-        "too-wide\n",
-    ),
-    Row(
-        OwnError::Dial,
-        "HTTP/1.1 502 Bad Gateway\r\nContent-Type: text/plain\r\nl5d-err: dial\r\nContent-Length: 5\r\n",
-        "dial\n",
-    ),
-    Row(
-        OwnError::Upstream,
-        "HTTP/1.1 502 Bad Gateway\r\nContent-Type: text/plain\r\nl5d-err: upstream\r\nContent-Length: 9\r\n",
-        "upstream\n",
-    ),
+    Row(OwnError::Dtab, "400 Bad Request", "dtab", "5"),
+    Row(OwnError::Body, "400 Bad Request", "body", "5"),
+    Row(OwnError::Negative, "502 Bad Gateway", "negative", "9"),
+    Row(OwnError::Failing, "502 Bad Gateway", "failing", "8"),
+    Row(OwnError::Empty, "502 Bad Gateway", "empty", "6"),
+    Row(OwnError::TooDeep, "502 Bad Gateway", "too-deep", "9"),
+    Row(OwnError::TooWide, "502 Bad Gateway", "too-wide", "9"),
+    Row(OwnError::Dial, "502 Bad Gateway", "dial", "5"),
+    Row(OwnError::Upstream, "502 Bad Gateway", "upstream", "9"),
 ];
+
+/// These texts, one behind the other.
+fn joined(alloc: Global, texts: &[&str]) -> Result<Vec<u8>, AllocError> {
+    let mut bytes = Vec::new(alloc);
+    for text in texts {
+        bytes.extend_from_slice(text.as_bytes())?;
+    }
+    Ok(bytes)
+}
 
 /// Whether the reply to an error is put together from these parts.
 fn is_written(alloc: Global, row: Row, closes: bool, has_body: bool) -> Result<bool, AllocError> {
-    let Row(err, front, body) = row;
-    let mut parts = Vec::from_slice(alloc, front.as_bytes())?;
-    let end = if closes {
-        "Connection: close\r\n\r\n"
-    } else {
-        "\r\n"
-    };
-    parts.extend_from_slice(end.as_bytes())?;
-    if has_body {
-        parts.extend_from_slice(body.as_bytes())?;
-    }
-    Ok(own_reply(alloc, err, closes, has_body)? == parts)
+    let Row(err, status, word, length) = row;
+    let close = if closes { "Connection: close\r\n" } else { "" };
+    let (body, end) = if has_body { (word, "\n") } else { ("", "") };
+    let parts = [
+        "HTTP/1.1 ",
+        status,
+        "\r\nContent-Type: text/plain\r\nl5d-err: ",
+        word,
+        "\r\nContent-Length: ",
+        length,
+        "\r\n",
+        close,
+        "\r\n",
+        body,
+        end,
+    ];
+    Ok(own_reply(alloc, err, closes, has_body)? == joined(alloc, &parts)?)
 }
 
 #[test]
@@ -127,7 +81,7 @@ fn every_reply_is_as_written_here(rt: HostRuntime) -> Result<(), Fail> {
     for row in &ROWS {
         for (closes, has_body) in [(true, true), (false, true), (true, false), (false, false)] {
             let is_written = is_written(rt.alloc(), *row, closes, has_body)?;
-            assert!(rt; is_written, "{}", row.1);
+            assert!(rt; is_written, "{}", row.2);
         }
     }
     Ok(())

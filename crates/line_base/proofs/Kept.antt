@@ -1,12 +1,9 @@
 -- Some members of a list, in their order; and one that is taken out.
-use Rattle.std.proofs.Common.{◌≡◌, ℕ, zero, suc, ◌<◌, Bool, true, List, [], ◌∷◌, ◌++◌, length}
-use Rattle.std.proofs.Common.{get_or, take, drop, map, refl, sym, subst, ap, ◌∙◌, inl, inr, Option}
-use Rattle.std.proofs.Common.{Some, arith}
+use Rattle.std.proofs.Common.{◌≡◌, ℕ, zero, suc, ◌<◌, true, List, [], ◌∷◌, ◌++◌, length, get_or}
+use Rattle.std.proofs.Common.{take, drop, map, refl, sym, subst, ap, ◌∙◌, inl, inr, arith}
 use Rattle.std.proofs.lemmas.List.{map-append}
 use Rattle.std.specs.List.{remove}
-use Rattle.line_base.specs.Dials.{AreSomeOf, PutsAside, TakesOut}
-use Rattle.line_base.specs.Memory.{WasTaken, address_of}
-use Rattle.line_base.specs.declared.memory.link.MemLink.{MemLink}
+use Rattle.line_base.specs.Dials.{AreSomeOf, TakesOut, WasTaken}
 
 module _ {X : Type 0} where
   -- all of them
@@ -115,28 +112,3 @@ takes_out_by address_in x ip port old new here at w =
       some_same (s.0 ++ address_in x ∷ s.1) (map address_in old) (sym s.2),
       s.3,
     )))
-
-pub takes_out : (link : MemLink) (ip port : ℕ) (old new : List MemLink) → link.ip ≡ ip
-    → link.port ≡ port → WasTaken link old new
-    → TakesOut true (ip, port) (map address_of old) (map address_of new)
-takes_out link ip port old new here at w = takes_out_by address_of link ip port old new here at w
-
--- one that was quiet is the quiet one to its address
-pub was_quiet : (link : MemLink) (ip port : ℕ) (old new : List MemLink) → link.ip ≡ ip
-    → link.port ≡ port → link.is_quiet ≡ true → WasTaken link old new
-    → WasTaken (record { ip = ip; port = port; is_quiet = true }) old new
-was_quiet link ip port old new here at quiet w =
-    subst (λ (q : Bool). WasTaken (record { ip = ip; port = port; is_quiet = q }) old new) quiet
-    (subst (λ (p : ℕ). WasTaken (record { ip = ip; port = p; is_quiet = link.is_quiet }) old new) at
-    (subst (λ (i : ℕ). WasTaken (record { ip = i; port = link.port; is_quiet = link.is_quiet })
-    old new) here w))
-
--- the open connection was put behind the others
-pub puts_aside : (open_to : Option (ℕ × ℕ)) (address : ℕ × ℕ) (quiet : Bool)
-    (old new : List MemLink) → open_to ≡ Some address
-    → new ≡ old ++ record { ip = address.0; port = address.1; is_quiet = quiet } ∷ []
-    → PutsAside open_to (map address_of old) (map address_of new)
-puts_aside open_to address quiet old new is put =
-    subst (λ (o : Option (ℕ × ℕ)). PutsAside o (map address_of old) (map address_of new)) (sym is)
-    (some_same (map address_of new) (map address_of old ++ address ∷ [])
-    (ap (map address_of) put ∙ map-append address_of old _))

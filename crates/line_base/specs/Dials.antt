@@ -100,6 +100,13 @@ AreSomeOf [] all = Unit {0}
 AreSomeOf (x ∷ xs) [] = ⊥
 AreSomeOf (x ∷ xs) (y ∷ ys) = ((x ≡ y) × AreSomeOf xs ys) ⊎ AreSomeOf (x ∷ xs) ys
 
+-- one member was taken out of a list
+pub record WasTaken {X : Type 0} (x : X) (old new : List X) : Type 0 where
+  pub before : List X
+  pub behind : List X
+  pub was : old ≡ before ++ x ∷ behind
+  pub is_now : new ≡ before ++ behind
+
 -- a resume that answers true took one of the kept connections that lead to its address. Others may
 -- have been ended, at any answer
 abbrev pub TakesOut : Bool → ℕ × ℕ → List (ℕ × ℕ) → List (ℕ × ℕ) → Type 0

@@ -4,6 +4,5 @@ pub mod Counts
 pub mod Dials
 pub mod Files
 pub mod Lines
-pub mod Memory
 pub mod Nets
 pub mod Streams

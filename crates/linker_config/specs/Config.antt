@@ -16,6 +16,7 @@ use Rattle.linker_config.specs.declared.config.Config.{Config}
 use Rattle.linker_config.specs.declared.config.FeedAt.{FeedAt}
 use Rattle.linker_config.specs.declared.config.Port.{Port}
 use Rattle.linker_config.specs.declared.fault.ConfigFault.TheVariants.{Bad}
+use Rattle.linker_config.specs.declared.reading.RunSettings.{RunSettings}
 use Rattle.linker_config.specs.Keys.{Told, and_then, keys_told, or_fault}
 use Rattle.linker_config.specs.Values.{if_there, number_at, or_default}
 use Rattle.linker_config.specs.Feed.{feed_told}
@@ -70,6 +71,14 @@ top_keys =
     ∷ codes "seed" ∷ codes "feed"
     -- these two say nothing
     ∷ codes "telemetry" ∷ codes "usage" ∷ []
+
+-- what the tree says of a whole run beside its routers: the last part of it
+unfoldable pub run_told : Data → Told RunSettings
+run_told d =
+    and_then (number_at [] (codes "workers") 16 1 256 d) (λ workers.
+    and_then (number_at [] (codes "seed") 0 0 (2 ^ 64 - 1) d) (λ seed.
+    and_then (if_there feed_told (get (codes "feed") d)) (λ feed.
+    Ok (record { workers = workers; seed = seed; feed = feed }))))
 
 -- the value of the tree, or its first fault. The place of the whole is the empty text
 unfoldable pub config_of : Data → Told Configured

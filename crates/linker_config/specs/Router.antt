@@ -14,6 +14,8 @@ use Rattle.line_base.specs.declared.dialer.ConnectionPool.{ConnectionPool}
 use Rattle.retry_budget.specs.declared.tries.Tries.{Tries}
 use Rattle.linker_config.specs.declared.config.Port.{Port}
 use Rattle.linker_config.specs.declared.routed.Routed as code
+use Rattle.linker_config.specs.declared.routed.NameRules as named
+use Rattle.linker_config.specs.declared.router_settings.RouterSettings.{RouterSettings}
 use Rattle.linker_config.specs.Keys.{Told, and_then, keys_told}
 use Rattle.linker_config.specs.Values.{element, exactly, if_there, needed_text, or_default}
 use Rattle.linker_config.specs.Values.{text_at}
@@ -58,6 +60,36 @@ router_keys =
     ∷ codes "client" ∷ codes "retries"
     -- a label says nothing, and so may the last one
     ∷ codes "label" ∷ codes "httpAccessLog" ∷ []
+
+-- how requests are named, and the router's own table: the first half of what a router says
+pub record NameRules : Type 0 where
+  pub base : List TableRule
+  pub prefix : Labels
+  pub kind : Kind
+
+abbrev pub name_rules_of : named.NameRules → NameRules
+name_rules_of r = record { base = rules_of r.base; prefix = r.prefix; kind = r.kind }
+
+unfoldable pub name_rules_told : Data → Told NameRules
+name_rules_told d =
+    and_then (text_at router_place (codes "dtab") [] table_of d) (λ base.
+    and_then (text_at router_place (codes "dstPrefix") (codes "svc" ∷ []) path_of d) (λ prefix.
+    and_then (or_default (Token (codes "Host")) identifier_told (get (codes "identifier") d))
+    (λ kind.
+    Ok (record { base = base; prefix = prefix; kind = kind }))))
+
+-- the other half
+unfoldable pub router_settings_told : Data → Told RouterSettings
+router_settings_told d =
+    and_then (or_default usual_server servers_told (get (codes "servers") d)) (λ server.
+    and_then (or_default usual_client client_told (get (codes "client") d)) (λ client.
+    and_then (if_there retries_told (get (codes "retries") d)) (λ retries.
+    Ok (record {
+      server = server;
+      client = client;
+      retries = retries;
+      access_log = log_of d;
+    }))))
 
 unfoldable pub router_told : Data → Told Routed
 router_told d =

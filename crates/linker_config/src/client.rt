@@ -33,7 +33,7 @@ pub(crate) const USUAL_LIMITS: Limits = Limits {
 };
 
 /// What the router does as a client of the replicas.
-#[derive(Clone, Copy, Debug)]
+#[derive(Clone, Copy)]
 pub(crate) struct ClientSettings {
     /// When a replica counts as dead.
     pub(crate) limits: Limits,

@@ -17,8 +17,8 @@
 //! of clearing the context of requests. [`load_folder`] gives the services of a folder in the order
 //! of their names, or the first refusal of a file, exactly as `services_told` of
 //! `specs/Folder.antt` says, where the folder tells its files; it fails for the folder only where
-//! the folder's count of faults rose. That
-//! memory is there is not proved.
+//! the folder's count of faults rose. That memory is there is not proved. Its tests are
+//! `http_tests`' module `configuration`.
 //!
 //! # Example
 //! ```
@@ -52,6 +52,7 @@ mod reading;
 mod retries;
 mod routed;
 mod router;
+mod router_settings;
 mod server;
 mod trusting;
 mod value;

@@ -32,7 +32,7 @@ pub(crate) fn admin(alloc: Global, value: &Value) -> Result<Port, ConfigFault>
 }
 
 /// Where the interface to the namespaces listens, and the namespace of the router.
-#[derive(Debug, Drop)]
+#[derive(Drop)]
 pub(crate) struct Named {
     pub(crate) port: Port,
     pub(crate) space: Name,

@@ -9,7 +9,7 @@ ghost use Rattle.linker_config.specs.Listening.{usual_admin, usual_named};
 ghost use Rattle.linker_config.specs.Feed.{feed_told};
 ghost use Rattle.linker_config.specs.Namers.{namers_told};
 ghost use Rattle.linker_config.specs.Router.{routed_of, routers_told};
-ghost use Rattle.linker_config.specs.Config.{config_of, said_of, top_keys};
+ghost use Rattle.linker_config.specs.Config.{config_of, run_told, said_of, top_keys};
 ghost use Rattle.linker_config.specs.Answers.{Reads, Says, SaysBy};
 
 use crate::config::{Config, FeedAt, Port, Text};
@@ -25,6 +25,17 @@ use identifier::Rule;
 use machine::Settings;
 use serde_json::Value;
 use std::alloc::Global;
+
+/// What is told of a whole run beside its routers.
+#[derive(Clone, Copy)]
+pub(crate) struct RunSettings {
+    /// How many connections are served at a time.
+    pub(crate) workers: u32,
+    /// What the random words of the router's choices begin with.
+    pub(crate) seed: u64,
+    /// Where the feed of the namespaces is served, if it is.
+    pub(crate) feed: Option<FeedAt>,
+}
 
 /// Reads a configuration from its JSON text, in UTF-8. `docs/CONFIGURATION.md` has the keys, with
 /// their ranges and defaults; they are those of a Linkerd 1 configuration, as far as this router
@@ -67,10 +78,16 @@ fn config(alloc: Global, tree: &Value) -> Result<Config, ConfigFault>
     let named = namerd_or_usual(alloc, tree)?;
     let root = root_or_none(alloc, tree)?;
     let routed = needed_routers(alloc, tree)?;
+    let run = match run_settings(alloc, tree) {
+        Ok(run) => run,
+        Err(fault) => {
+            drop(routed);
+            drop(root);
+            drop(named);
+            return Err(fault);
+        }
+    };
     let clears_context = routed.clear_context.unwrap_or(false);
-    let workers = number_at(alloc, "", tree, "workers", 16, 1, 256)?;
-    let seed = number_at(alloc, "", tree, "seed", 0, 0, u64::MAX)?;
-    let feed = feed_or_none(alloc, tree)?;
     Ok(Config {
         admin,
         namerd: named.port,
@@ -90,6 +107,22 @@ fn config(alloc: Global, tree: &Value) -> Result<Config, ConfigFault>
         pool: routed.pool,
         retries: routed.retries,
         access_log: routed.access_log,
+        workers: run.workers,
+        seed: run.seed,
+        feed: run.feed,
+    })
+}
+
+/// What is told of a whole run beside its routers.
+#[tactic(auto, unfolding(crate::specs::Config::run_told))]
+fn run_settings(alloc: Global, tree: &Value) -> Result<RunSettings, ConfigFault>
+    ensures told { Says (run_told (view tree.now)) result }
+    ensures workers { IfOk result (λ run. (1 ≤ run.workers) × (run.workers ≤ 256)) }
+{
+    let workers = number_at(alloc, "", tree, "workers", 16, 1, 256)?;
+    let seed = number_at(alloc, "", tree, "seed", 0, 0, u64::MAX)?;
+    let feed = feed_or_none(alloc, tree)?;
+    Ok(RunSettings {
         workers: workers as u32,
         seed,
         feed,

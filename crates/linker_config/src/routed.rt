@@ -14,8 +14,19 @@ use line_base::ConnectionPool;
 use name_tree::Path;
 use retry_budget::Tries;
 
+/// How a router names requests, and the table by which it binds the names.
+#[derive(Drop)]
+pub(crate) struct NameRules {
+    /// Its own table.
+    pub(crate) base: Dtab,
+    /// What each path begins with.
+    pub(crate) prefix: Path,
+    /// What requests are named by.
+    pub(crate) kind: Kind,
+}
+
 /// What a router is told.
-#[derive(Debug, Drop)]
+#[derive(Drop)]
 pub(crate) struct Routed {
     /// Its own table.
     pub(crate) base: Dtab,

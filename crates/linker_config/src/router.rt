@@ -1,5 +1,5 @@
 //! The router.
-ghost use Rattle.std.specs.Prelude.{◌≤◌, ◌∷◌, [], codes, Ok, IfOk};
+ghost use Rattle.std.specs.Prelude.{◌∷◌, [], codes, Ok, IfOk};
 ghost use Rattle.serde_json.specs.View.{view};
 ghost use Rattle.serde_json.specs.Find.{get};
 ghost use Rattle.name_tree.specs.Computed.{path_of};
@@ -7,31 +7,22 @@ ghost use Rattle.dtab_table.specs.Computed.{table_of};
 ghost use Rattle.dtab_table.specs.Dtab.{rules_of};
 ghost use Rattle.dtab_table.specs.TableCanon.{AreSoundRules};
 ghost use Rattle.linker_config.specs.Keys.{inside, keys_told, or_fault};
-ghost use Rattle.std.specs.Option.{ForSome};
-ghost use Rattle.retry_budget.specs.Budget.{AreAllowed};
-ghost use Rattle.linker_config.specs.Values.{if_there, or_default, text_at};
-ghost use Rattle.linker_config.specs.Server.{servers_told, usual_server};
-ghost use Rattle.linker_config.specs.Retries.{retries_told};
+ghost use Rattle.linker_config.specs.Values.{or_default, text_at};
 ghost use Rattle.linker_config.specs.Identifier.{identifier_told};
-ghost use Rattle.linker_config.specs.Client.{client_told, usual_client};
-ghost use Rattle.linker_config.specs.Router.{router_keys, router_place, router_told};
-ghost use Rattle.linker_config.specs.Router.{routers_told, routed_of};
+ghost use Rattle.linker_config.specs.Router.{name_rules_of, name_rules_told, router_keys};
+ghost use Rattle.linker_config.specs.Router.{router_place, router_told, routers_told, routed_of};
 ghost use Rattle.linker_config.specs.Answers.{Says, SaysBy};
 
-use crate::client::{ClientSettings, USUAL_CLIENT, client};
 use crate::fault::ConfigFault;
 use crate::keys::check_keys;
-use crate::logging::access_log;
 use crate::naming::identifier;
-use crate::retries::retries;
-use crate::routed::Routed;
-use crate::server::{ServerSettings, USUAL_SERVER, servers};
+use crate::routed::{NameRules, Routed};
+use crate::router_settings::router_settings;
 use crate::value::{bad, bad_key, needed_word, only_element};
 use dtab_table::{Dtab, DtabFault, read_dtab};
 use http_wire::FieldName;
 use identifier::Kind;
 use name_tree::{Path, TextFault, read_path};
-use retry_budget::Tries;
 use serde_json::Value;
 use std::alloc::Global;
 
@@ -56,24 +47,36 @@ fn router(alloc: Global, value: &Value) -> Result<Routed, ConfigFault>
 {
     check_router_keys(alloc, value)?;
     needed_word(alloc, PLACE, value, "protocol", "http")?;
+    let rules = name_rules(alloc, value)?;
+    match router_settings(alloc, value) {
+        Ok(settings) => Ok(Routed {
+            base: rules.base,
+            prefix: rules.prefix,
+            kind: rules.kind,
+            server: settings.server.port,
+            clear_context: settings.server.clear_context,
+            limits: settings.client.limits,
+            pool: settings.client.pool,
+            retries: settings.retries,
+            access_log: settings.access_log,
+        }),
+        Err(fault) => {
+            drop(rules);
+            Err(fault)
+        }
+    }
+}
+
+/// How requests are named, and the router's own table.
+#[tactic(auto, unfolding(crate::specs::Router::name_rules_told))]
+fn name_rules(alloc: Global, value: &Value) -> Result<NameRules, ConfigFault>
+    ensures sound { IfOk result (λ rules. AreSoundRules (rules_of rules.base)) }
+    ensures told { SaysBy name_rules_of (name_rules_told (view value.now)) result }
+{
     let base = table(alloc, value)?;
     let prefix = prefix(alloc, value)?;
     let kind = kind_or_usual(alloc, value)?;
-    let server = server_or_usual(alloc, value)?;
-    let client = client_or_usual(alloc, value)?;
-    let retries = retries_or_none(alloc, value)?;
-    let access_log = access_log(alloc, value)?;
-    Ok(Routed {
-        base,
-        prefix,
-        kind,
-        server: server.port,
-        clear_context: server.clear_context,
-        limits: client.limits,
-        pool: client.pool,
-        retries,
-        access_log,
-    })
+    Ok(NameRules { base, prefix, kind })
 }
 
 /// Checks the keys of a router.
@@ -168,39 +171,5 @@ fn kind_or_usual(alloc: Global, object: &Value) -> Result<Kind, ConfigFault>
     match object.get("identifier") {
         Some(value) => identifier(alloc, value),
         None => Ok(Kind::Token(FieldName::of(Vec::from_slice(alloc, b"Host")?))),
-    }
-}
-
-/// Where the router listens, and what it takes of its clients.
-fn server_or_usual(alloc: Global, object: &Value) -> Result<ServerSettings, ConfigFault>
-    ensures { Says (or_default usual_server servers_told
-        (get (codes "servers") (view object.now))) result }
-{
-    match object.get("servers") {
-        Some(value) => servers(alloc, value),
-        None => Ok(USUAL_SERVER),
-    }
-}
-
-/// What the router does as a client of the replicas.
-fn client_or_usual(alloc: Global, object: &Value) -> Result<ClientSettings, ConfigFault>
-    ensures failures { IfOk result (λ client. 1 ≤ client.limits.failures) }
-    ensures told { Says (or_default usual_client client_told
-        (get (codes "client") (view object.now))) result }
-{
-    match object.get("client") {
-        Some(value) => client(alloc, value),
-        None => Ok(USUAL_CLIENT),
-    }
-}
-
-/// How often a request may be tried again, if it may be.
-fn retries_or_none(alloc: Global, object: &Value) -> Result<Option<Tries>, ConfigFault>
-    ensures told { Says (if_there retries_told (get (codes "retries") (view object.now))) result }
-    ensures allowed { IfOk result (λ tries. ForSome tries (λ t. AreAllowed t)) }
-{
-    match object.get("retries") {
-        Some(value) => Ok(Some(retries(alloc, value)?)),
-        None => Ok(None),
     }
 }

@@ -18,7 +18,7 @@ use std::alloc::Global;
 const PLACE: &str = "routers[0].servers[0]";
 
 /// What the server of the router is told.
-#[derive(Clone, Copy, Debug)]
+#[derive(Clone, Copy)]
 pub(crate) struct ServerSettings {
     /// Where it listens.
     pub(crate) port: Port,

@@ -1,16 +1,14 @@
 //! Routers of which one listener breaks.
 ghost use Rattle.std.specs.Prelude.{◌≡◌, ◌≤◌, ◌↔◌, IsErr};
 ghost use Rattle.line_base.specs.Counts.{HasCause};
-ghost use Rattle.line_base.specs.Memory.{upstream_of};
+ghost use Rattle.line_doubles.specs.Memory.{upstream_of};
 ghost use Rattle.line_base.specs.Nets.{after_end, log_of};
 
 use crate::outside::{Answered, Left, folder_of, given, served_over, visits};
 use crate::paired::Paired;
 use crate::running::{sink, source};
-use line_base::{
-    BROKEN_RUN, ConnectionPool, Failed, Listeners, MemDialer, MemFolder, MemListener, MemNet,
-    MemPeer, MemStop, Net, NetFault, Peer, Stop,
-};
+use line_base::{BROKEN_RUN, ConnectionPool, Failed, Listeners, Net, NetFault, Peer, Stop};
+use line_doubles::{MemDialer, MemFolder, MemListener, MemNet, MemPeer, MemStop};
 use std::alloc::{AllocError, AllocGlobal, Global};
 use std::sync::Wait;
 use std::sync::atomic::{AtomicBool, Ordering};

@@ -1,6 +1,6 @@
 //! Configurations that are checked.
 use crate::running::{run_with, sink, source};
-use line_base::{MemFile, MemFolder};
+use line_doubles::{MemFile, MemFolder};
 use std::alloc::{AllocError, AllocGlobal, Global};
 use std::sync::Wait;
 use std::test::Fail;

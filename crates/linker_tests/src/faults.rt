@@ -1,6 +1,6 @@
 //! Reads and writes that fail, one after another.
 use crate::running::{SAMPLE, SAMPLE_OUT, run, sink, source};
-use line_base::{MemSink, MemSource};
+use line_doubles::{MemSink, MemSource};
 use std::alloc::AllocGlobal;
 use std::sync::Wait;
 use std::test::Fail;

@@ -1,6 +1,6 @@
 //! Leaders that are followed.
 use crate::running::{assert_answered, run_over, source};
-use line_base::{MemDials, MemFolder, MemNet, MemSink};
+use line_doubles::{MemDials, MemFolder, MemNet, MemSink};
 use std::alloc::AllocGlobal;
 use std::sync::Wait;
 use std::test::Fail;

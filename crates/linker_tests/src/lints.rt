@@ -1,7 +1,7 @@
 //! Tables of which it is told which entries are never asked.
 use crate::outside::file;
 use crate::running::{run_with, sink, source};
-use line_base::MemFolder;
+use line_doubles::MemFolder;
 use std::alloc::{AllocError, AllocGlobal, Global};
 use std::sync::Wait;
 use std::test::Fail;

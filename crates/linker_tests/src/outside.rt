@@ -1,9 +1,9 @@
 //! A folder and a net in memory, for a router that serves.
 use crate::paired::Paired;
 use crate::running::{append, run_words, sink, source, text_of};
-use line_base::{
-    DialEvent, Event, Listener, MemAddress, MemClock, MemDials, MemFile, MemFolder, MemNet,
-    MemPeer, MemVisits, Net, Peer,
+use line_base::{DialEvent, Event, Listener, Net, Peer};
+use line_doubles::{
+    MemAddress, MemClock, MemDials, MemFile, MemFolder, MemNet, MemPeer, MemVisits,
 };
 use line_log::MemJournals;
 use linker_commands::Outside;

@@ -1,7 +1,8 @@
 //! Clients that are to be served beside one another.
 ghost use Rattle.std.specs.Prelude.{None};
 
-use line_base::{Failed, MemPeer, Next, Peer, SocketAddress};
+use line_base::{Failed, Next, Peer, SocketAddress};
+use line_doubles::MemPeer;
 use std::sync::atomic::{AtomicBool, Ordering};
 use std::thread;
 

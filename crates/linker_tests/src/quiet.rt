@@ -2,7 +2,8 @@
 use crate::outside::{folder_of, served, told};
 use crate::paired::Paired;
 use crate::running::{sink, source};
-use line_base::{Event, MemNet, MemPeer};
+use line_base::Event;
+use line_doubles::{MemNet, MemPeer};
 use std::alloc::{AllocError, AllocGlobal, Global};
 use std::sync::Wait;
 use std::sync::atomic::AtomicBool;

@@ -2,7 +2,7 @@
 use crate::outside::{Outcome, file, folder_of, net_of, served, visits};
 use crate::paired::Paired;
 use crate::running::{sink, source};
-use line_base::{MemDials, MemFolder, MemNet, MemPeer};
+use line_doubles::{MemDials, MemFolder, MemNet, MemPeer};
 use std::alloc::{AllocError, AllocGlobal, Global};
 use std::sync::Wait;
 use std::sync::atomic::AtomicBool;

@@ -1,8 +1,6 @@
 //! Runs of the program over an outside in memory.
-use line_base::{
-    Clock, Folder, Listener, MemClock, MemFolder, MemNet, MemPeer, MemSink, MemSource, Net, Sink,
-    Source,
-};
+use line_base::{Clock, Folder, Listener, Net, Sink, Source};
+use line_doubles::{MemClock, MemFolder, MemNet, MemPeer, MemSink, MemSource};
 use line_log::{Journals, MemJournals};
 use linker_commands::{Outside, linker};
 use std::alloc::{AllocError, AllocGlobal, Global};

@@ -9,7 +9,7 @@ use crate::{Bytes, Mem};
 use itoa::Buffer;
 
 /// The type of a metric.
-#[derive(Clone, Copy, Debug, PartialEq, Eq)]
+#[derive(Clone, Copy)]
 pub(crate) enum Kind {
     /// A number that only grows.
     Counter,

@@ -14,7 +14,8 @@
 //! [`write_metrics`] gives exactly the bytes of `metrics_text` of `specs/Metrics.antt`, for all
 //! counts and services: the lines of the format are in `specs/Format.antt`, and no sum wraps. A
 //! reply counts to the class of its status's first digit, and a duration to the first bucket whose
-//! bound it does not pass (`specs/Classes.antt`). That memory is there is not proved.
+//! bound it does not pass (`specs/Classes.antt`). That memory is there is not proved. Its tests are
+//! `operator_tests`' modules `metrics` and `classes`.
 //!
 //! # Example
 //! ```

@@ -14,7 +14,7 @@ pub struct ServiceCounts<'a> {
 }
 
 /// One of the numbers of a service.
-#[derive(Clone, Copy, Debug, PartialEq, Eq)]
+#[derive(Clone, Copy)]
 pub(crate) enum Figure {
     /// Its addresses.
     Addresses,

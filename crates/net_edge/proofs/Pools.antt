@@ -3,8 +3,7 @@ use Rattle.std.proofs.Common.{◌≡◌, ℕ, ◌+◌, ◌<◌, ◌≤◌, Bool,
 use Rattle.std.proofs.Common.{ap, ◌∙◌, inl, inr}
 use Rattle.std.proofs.Common.{length, length-append, arith}
 use Rattle.std.proofs.lemmas.List.{length-map, map-append}
-use Rattle.line_base.specs.Dials.{AreSomeOf, TakesOut}
-use Rattle.line_base.specs.Memory.{WasTaken}
+use Rattle.line_base.specs.Dials.{AreSomeOf, TakesOut, WasTaken}
 use Rattle.net_edge.specs.Pools.{addresses, address_of}
 use Rattle.net_edge.specs.declared.sockets.idle.IdleUpstream.{IdleUpstream}
 use Rattle.line_base.proofs.Kept.{some_before, some_more, some_same, some_trans}

@@ -43,17 +43,8 @@ fn is_absent(kind: ErrorKind) -> bool {
     matches!(kind, ErrorKind::NotFound | ErrorKind::NotADirectory)
 }
 
-/// The name of a plain file among a folder's entries. A file that is gone by now is none, and one
-/// whose name is no UTF-8 is none that can be named.
-fn plain_name<R: Files + AllocGlobal + Drop>(
-    rt: &R,
-    entry: io::Result<DirEntry<R>>,
-) -> io::Result<Option<String>> {
-    let entry = match entry {
-        Ok(entry) => entry,
-        Err(error) if error.kind() == ErrorKind::InvalidFilename => return Ok(None),
-        Err(error) => return Err(error),
-    };
+/// The name of an entry of a folder, if it is a plain file. One that is gone by now is none.
+fn plain_name<R: Files + AllocGlobal>(rt: &R, entry: &DirEntry<R>) -> io::Result<Option<String>> {
     match fs::metadata(rt, entry.path()) {
         Ok(metadata) if metadata.is_file() => {
             let name = String::from_str(rt.alloc(), entry.file_name())?;
@@ -65,6 +56,26 @@ fn plain_name<R: Files + AllocGlobal + Drop>(
     }
 }
 
+/// Puts the name of a plain file among a folder's entries behind those before it. One whose name is
+/// no UTF-8 is none that can be named.
+fn add_name<R: Files + AllocGlobal + Drop>(
+    rt: &R,
+    names: &mut Vec<String>,
+    entry: io::Result<DirEntry<R>>,
+) -> io::Result<()> {
+    let entry = match entry {
+        Ok(entry) => entry,
+        Err(error) if error.kind() == ErrorKind::InvalidFilename => return Ok(()),
+        Err(error) => return Err(error),
+    };
+    let name = plain_name(rt, &entry);
+    drop(entry);
+    if let Some(name) = name? {
+        names.push(name)?;
+    }
+    Ok(())
+}
+
 /// The names of a folder's plain files, in the order of their bytes.
 fn plain_names<R: Files + AllocGlobal + Clone + Drop>(
     rt: &R,
@@ -72,9 +83,7 @@ fn plain_names<R: Files + AllocGlobal + Clone + Drop>(
 ) -> io::Result<NameList> {
     let mut names = Vec::new(rt.alloc());
     for entry in fs::read_dir(rt, folder)? {
-        if let Some(name) = plain_name(rt, entry)? {
-            names.push(name)?;
-        }
+        add_name(rt, &mut names, entry)?;
     }
     names.sort()?;
     Ok(NameList::of(names))
@@ -84,7 +93,7 @@ fn plain_names<R: Files + AllocGlobal + Clone + Drop>(
 const PIECE: usize = 65_536;
 
 /// The bytes of a file, if it has at most so many.
-fn read_within<F: Read + Drop>(alloc: Global, mut file: F, most: usize) -> io::Result<Found>
+fn read_within<F: Read>(alloc: Global, file: &mut F, most: usize) -> io::Result<Found>
     ensures { IfOk result (λ found. IsWithin found most) }
 {
     let mut all: Vec<u8> = Vec::new(alloc);
@@ -113,12 +122,14 @@ impl<R: Files + AllocGlobal + Clone + Drop> Folder for FileSystem<'_, R> {
     }
 
     fn read(&mut self, path: &str, most: usize) -> Result<Found, FolderFault> {
-        let file = match fs::open(self.rt, path) {
+        let mut file = match fs::open(self.rt, path) {
             Ok(file) => file,
             Err(error) if is_absent(error.kind()) => return Ok(Found::Absent),
             Err(error) => return self.fail(error.kind()),
         };
-        match read_within(self.rt.alloc(), file, most) {
+        let found = read_within(self.rt.alloc(), &mut file, most);
+        drop(file);
+        match found {
             Ok(found) => Ok(found),
             Err(error) => self.fail(error.kind()),
         }

@@ -23,16 +23,13 @@ use http_wire::FieldList;
 use name_tree::{MOST_BYTES, TextFault, Tree, read_tree};
 use serde_json::Value;
 use std::alloc::{AllocError, AllocFailed, Global};
-use thiserror::Error;
 
 /// Why a body was not read as a table.
-#[derive(Clone, Copy, Debug, PartialEq, Eq, Error)]
+#[derive(Clone, Copy)]
 pub(crate) enum TableFault {
     /// It is none.
-    #[error("the body is no table")]
     NoTable,
     /// There was no memory for it.
-    #[error("out of memory")]
     OutOfMemory,
 }
 
@@ -89,7 +86,11 @@ fn read_json(alloc: Global, text: &[u8]) -> Result<Dtab, TableFault>
         → option_and_then json_rules (json_of text.now) ≡ None) }
 {
     match json_value(alloc, text)? {
-        Some(tree) => table_of_tree(alloc, &tree),
+        Some(tree) => {
+            let read = table_of_tree(alloc, &tree);
+            drop(tree);
+            read
+        }
         None => Err(TableFault::NoTable),
     }
 }

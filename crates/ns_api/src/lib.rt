@@ -9,7 +9,7 @@
 //! What a request asks for is a function of its head, the target that goes on, and its body:
 //! `ns_demand` of `specs/Demand.antt`. The tests come in the order path, method, name, body. A body
 //! is read as a table exactly where it stands for one (`specs/JsonTable.antt`), and the tables that
-//! requests bring in are sound (`proofs/Sounds.antt`).
+//! requests bring in are sound (`proofs/Sounds.antt`). Its tests are `api_tests`' module `namerd`.
 //!
 //! # Example
 //! ```text

@@ -39,7 +39,8 @@ const GET: Option<RequestLine<'static>> = Some(RequestLine {
     version: 1,
 });
 
-const ROWS: [Row; 9] = [
+/// Exchanges that ended with a whole reply.
+const WHOLE: [Row; 4] = [
     // passed on whole
     Row {
         moment: 1_795_931_281_123,
@@ -53,20 +54,6 @@ const ROWS: [Row; 9] = [
         broken: None,
         line: "2026-11-29T05:48:01.123Z 10.0.0.7:51234 \"GET /a?b HTTP/1.1\" 200 5120 17 /svc/web \
             10.0.1.3:8080 -\n",
-    },
-    // the replica's reply was cut
-    Row {
-        moment: 951_782_400_000,
-        client: CLIENT,
-        request: GET,
-        answer: Answer::Passed { status: 404 },
-        bytes: 12,
-        milliseconds: 0,
-        name: "/svc/web",
-        replica: REPLICA,
-        broken: Some(Break::UpstreamCut),
-        line: "2000-02-29T00:00:00.000Z 10.0.0.7:51234 \"GET /a?b HTTP/1.1\" 404 12 0 /svc/web \
-            10.0.1.3:8080 upstream-cut\n",
     },
     // no replica answered
     Row {
@@ -111,6 +98,24 @@ const ROWS: [Row; 9] = [
         replica: None,
         broken: None,
         line: "2100-03-01T12:30:00.007Z 10.0.0.7:51234 \"-\" 400 9 0 - - bad-head\n",
+    },
+];
+
+/// Exchanges that were cut off.
+const CUT: [Row; 5] = [
+    // the replica's reply was cut
+    Row {
+        moment: 951_782_400_000,
+        client: CLIENT,
+        request: GET,
+        answer: Answer::Passed { status: 404 },
+        bytes: 12,
+        milliseconds: 0,
+        name: "/svc/web",
+        replica: REPLICA,
+        broken: Some(Break::UpstreamCut),
+        line: "2000-02-29T00:00:00.000Z 10.0.0.7:51234 \"GET /a?b HTTP/1.1\" 404 12 0 /svc/web \
+            10.0.1.3:8080 upstream-cut\n",
     },
     // the client ended in the middle of its head
     Row {
@@ -204,11 +209,27 @@ fn line_of(alloc: Global, row: &Row) -> Result<Vec<u8>, Fail> {
     Ok(line)
 }
 
-#[test]
-fn each_way_has_its_line(rt: HostRuntime) -> Result<(), Fail> {
-    for row in &ROWS {
-        let line = line_of(rt.alloc(), row)?;
-        assert!(rt; line.as_slice() == row.line.as_bytes(), "{}", row.line);
+/// The first line of some rows that is written in another way, if one is.
+fn wrong_line(alloc: Global, rows: &[Row]) -> Result<Option<&'static str>, Fail> {
+    for row in rows {
+        let line = line_of(alloc, row)?;
+        if line.as_slice() != row.line.as_bytes() {
+            return Ok(Some(row.line));
+        }
     }
+    Ok(None)
+}
+
+#[test]
+fn a_whole_exchange_has_its_line(rt: HostRuntime) -> Result<(), Fail> {
+    let wrong = wrong_line(rt.alloc(), &WHOLE)?;
+    assert!(rt; wrong.is_none(), "{wrong:?}");
+    Ok(())
+}
+
+#[test]
+fn an_exchange_that_was_cut_off_has_its_line(rt: HostRuntime) -> Result<(), Fail> {
+    let wrong = wrong_line(rt.alloc(), &CUT)?;
+    assert!(rt; wrong.is_none(), "{wrong:?}");
     Ok(())
 }

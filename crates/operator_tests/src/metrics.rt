@@ -71,131 +71,125 @@ const SERVICES: [ServiceCounts<'static>; 2] = [
     },
 ];
 
-/// The lines of their text.
-const LINES: [&str; 106] = [
-    "# HELP linker_changes_total Changes of tables, services and marks that were accepted.",
-    "# TYPE linker_changes_total counter",
-    "linker_changes_total 5",
-    "# HELP linker_tables_written_total Tables that were created or put.",
-    "# TYPE linker_tables_written_total counter",
-    "linker_tables_written_total 4",
-    "# HELP linker_marks Addresses with failures that count against them.",
-    "# TYPE linker_marks gauge",
-    "linker_marks 1",
-    "# HELP linker_namespaces Namespaces.",
-    "# TYPE linker_namespaces gauge",
-    "linker_namespaces 3",
-    "# HELP linker_services Services.",
-    "# TYPE linker_services gauge",
-    "linker_services 2",
-    "# HELP linker_requests_total Requests that ended, by the class of their reply's status.",
-    "# TYPE linker_requests_total counter",
-    "linker_requests_total{class=\"2xx\"} 10",
-    "linker_requests_total{class=\"3xx\"} 11",
-    "linker_requests_total{class=\"4xx\"} 12",
-    "linker_requests_total{class=\"5xx\"} 13",
-    "linker_requests_total{class=\"other\"} 14",
-    "linker_requests_total{class=\"none\"} 15",
-    "# HELP linker_own_replies_total Replies of the router's own, by their word.",
-    "# TYPE linker_own_replies_total counter",
-    "linker_own_replies_total{reason=\"version\"} 100",
-    "linker_own_replies_total{reason=\"bad-head\"} 101",
-    "linker_own_replies_total{reason=\"head-too-large\"} 102",
-    "linker_own_replies_total{reason=\"connect\"} 103",
-    "linker_own_replies_total{reason=\"target\"} 104",
-    "linker_own_replies_total{reason=\"length\"} 105",
-    "linker_own_replies_total{reason=\"coding\"} 106",
-    "linker_own_replies_total{reason=\"too-long\"} 107",
-    "linker_own_replies_total{reason=\"host\"} 108",
-    "linker_own_replies_total{reason=\"body\"} 109",
-    "linker_own_replies_total{reason=\"unidentified\"} 110",
-    "linker_own_replies_total{reason=\"dtab\"} 111",
-    "linker_own_replies_total{reason=\"negative\"} 112",
-    "linker_own_replies_total{reason=\"failing\"} 113",
-    "linker_own_replies_total{reason=\"empty\"} 114",
-    "linker_own_replies_total{reason=\"too-deep\"} 115",
-    "linker_own_replies_total{reason=\"too-wide\"} 116",
-    "linker_own_replies_total{reason=\"dial\"} 117",
-    "linker_own_replies_total{reason=\"upstream\"} 118",
-    "# HELP linker_tries_total Tries of replicas.",
-    "# TYPE linker_tries_total counter",
-    "linker_tries_total 20",
-    "# HELP linker_failures_reported_total Failures of replicas that were reported.",
-    "# TYPE linker_failures_reported_total counter",
-    "linker_failures_reported_total 21",
-    "# HELP linker_connections_accepted_total Connections of clients that were accepted.",
-    "# TYPE linker_connections_accepted_total counter",
-    "linker_connections_accepted_total 30",
-    "# HELP linker_connections_open Connections of clients that are open.",
-    "# TYPE linker_connections_open gauge",
-    "linker_connections_open 31",
-    "# HELP linker_connections_waiting Connections of clients that wait for their next request.",
-    "# TYPE linker_connections_waiting gauge",
-    "linker_connections_waiting 32",
-    "# HELP linker_request_body_bytes_total Bytes of requests' bodies that went on to replicas.",
-    "# TYPE linker_request_body_bytes_total counter",
-    "linker_request_body_bytes_total 40",
-    "# HELP linker_reply_body_bytes_total Bytes of replies' bodies that went back to clients.",
-    "# TYPE linker_reply_body_bytes_total counter",
-    "linker_reply_body_bytes_total 41",
-    "# HELP linker_delegation_hits_total Asks for which a delegation was kept.",
-    "# TYPE linker_delegation_hits_total counter",
-    "linker_delegation_hits_total 51",
-    "# HELP linker_delegation_misses_total Asks for which no delegation was kept.",
-    "# TYPE linker_delegation_misses_total counter",
-    "linker_delegation_misses_total 52",
-    "# HELP linker_delegations_kept Delegations that are kept.",
-    "# TYPE linker_delegations_kept gauge",
-    "linker_delegations_kept 53",
-    "# HELP linker_access_log_lines_total Lines that were written to the access log.",
-    "# TYPE linker_access_log_lines_total counter",
-    "linker_access_log_lines_total 60",
-    "# HELP linker_access_log_lost_lines_total Lines that could not be written to the access log.",
-    "# TYPE linker_access_log_lost_lines_total counter",
-    "linker_access_log_lost_lines_total 61",
-    "# HELP linker_request_duration_seconds How long requests took, until the end of their reply.",
-    "# TYPE linker_request_duration_seconds histogram",
-    "linker_request_duration_seconds_bucket{le=\"0.001\"} 1",
-    "linker_request_duration_seconds_bucket{le=\"0.002\"} 1",
-    "linker_request_duration_seconds_bucket{le=\"0.005\"} 3",
-    "linker_request_duration_seconds_bucket{le=\"0.01\"} 3",
-    "linker_request_duration_seconds_bucket{le=\"0.02\"} 3",
-    "linker_request_duration_seconds_bucket{le=\"0.05\"} 6",
-    "linker_request_duration_seconds_bucket{le=\"0.1\"} 6",
-    "linker_request_duration_seconds_bucket{le=\"0.2\"} 6",
-    "linker_request_duration_seconds_bucket{le=\"0.5\"} 6",
-    "linker_request_duration_seconds_bucket{le=\"1\"} 6",
-    "linker_request_duration_seconds_bucket{le=\"2\"} 6",
-    "linker_request_duration_seconds_bucket{le=\"5\"} 10",
-    "linker_request_duration_seconds_bucket{le=\"10\"} 10",
-    "linker_request_duration_seconds_bucket{le=\"+Inf\"} 15",
-    "linker_request_duration_seconds_sum 12.034",
-    "linker_request_duration_seconds_count 15",
-    "# HELP linker_service_addresses Addresses of a service.",
-    "# TYPE linker_service_addresses gauge",
-    "linker_service_addresses{service=\"web\"} 3",
-    "linker_service_addresses{service=\"a\\\"b\\\\c\\nd\"} 18446744073709551615",
-    "# HELP linker_service_live_addresses Addresses of a service that are alive.",
-    "# TYPE linker_service_live_addresses gauge",
-    "linker_service_live_addresses{service=\"web\"} 2",
-    "linker_service_live_addresses{service=\"a\\\"b\\\\c\\nd\"} 0",
-];
+/// Their text.
+const TEXT: &str = "\
+    # HELP linker_changes_total Changes of tables, services and marks that were accepted.\n\
+    # TYPE linker_changes_total counter\n\
+    linker_changes_total 5\n\
+    # HELP linker_tables_written_total Tables that were created or put.\n\
+    # TYPE linker_tables_written_total counter\n\
+    linker_tables_written_total 4\n\
+    # HELP linker_marks Addresses with failures that count against them.\n\
+    # TYPE linker_marks gauge\n\
+    linker_marks 1\n\
+    # HELP linker_namespaces Namespaces.\n\
+    # TYPE linker_namespaces gauge\n\
+    linker_namespaces 3\n\
+    # HELP linker_services Services.\n\
+    # TYPE linker_services gauge\n\
+    linker_services 2\n\
+    # HELP linker_requests_total Requests that ended, by the class of their reply's status.\n\
+    # TYPE linker_requests_total counter\n\
+    linker_requests_total{class=\"2xx\"} 10\n\
+    linker_requests_total{class=\"3xx\"} 11\n\
+    linker_requests_total{class=\"4xx\"} 12\n\
+    linker_requests_total{class=\"5xx\"} 13\n\
+    linker_requests_total{class=\"other\"} 14\n\
+    linker_requests_total{class=\"none\"} 15\n\
+    # HELP linker_own_replies_total Replies of the router's own, by their word.\n\
+    # TYPE linker_own_replies_total counter\n\
+    linker_own_replies_total{reason=\"version\"} 100\n\
+    linker_own_replies_total{reason=\"bad-head\"} 101\n\
+    linker_own_replies_total{reason=\"head-too-large\"} 102\n\
+    linker_own_replies_total{reason=\"connect\"} 103\n\
+    linker_own_replies_total{reason=\"target\"} 104\n\
+    linker_own_replies_total{reason=\"length\"} 105\n\
+    linker_own_replies_total{reason=\"coding\"} 106\n\
+    linker_own_replies_total{reason=\"too-long\"} 107\n\
+    linker_own_replies_total{reason=\"host\"} 108\n\
+    linker_own_replies_total{reason=\"body\"} 109\n\
+    linker_own_replies_total{reason=\"unidentified\"} 110\n\
+    linker_own_replies_total{reason=\"dtab\"} 111\n\
+    linker_own_replies_total{reason=\"negative\"} 112\n\
+    linker_own_replies_total{reason=\"failing\"} 113\n\
+    linker_own_replies_total{reason=\"empty\"} 114\n\
+    linker_own_replies_total{reason=\"too-deep\"} 115\n\
+    linker_own_replies_total{reason=\"too-wide\"} 116\n\
+    linker_own_replies_total{reason=\"dial\"} 117\n\
+    linker_own_replies_total{reason=\"upstream\"} 118\n\
+    # HELP linker_tries_total Tries of replicas.\n\
+    # TYPE linker_tries_total counter\n\
+    linker_tries_total 20\n\
+    # HELP linker_failures_reported_total Failures of replicas that were reported.\n\
+    # TYPE linker_failures_reported_total counter\n\
+    linker_failures_reported_total 21\n\
+    # HELP linker_connections_accepted_total Connections of clients that were accepted.\n\
+    # TYPE linker_connections_accepted_total counter\n\
+    linker_connections_accepted_total 30\n\
+    # HELP linker_connections_open Connections of clients that are open.\n\
+    # TYPE linker_connections_open gauge\n\
+    linker_connections_open 31\n\
+    # HELP linker_connections_waiting Connections of clients that wait for their next request.\n\
+    # TYPE linker_connections_waiting gauge\n\
+    linker_connections_waiting 32\n\
+    # HELP linker_request_body_bytes_total Bytes of requests' bodies that went on to replicas.\n\
+    # TYPE linker_request_body_bytes_total counter\n\
+    linker_request_body_bytes_total 40\n\
+    # HELP linker_reply_body_bytes_total Bytes of replies' bodies that went back to clients.\n\
+    # TYPE linker_reply_body_bytes_total counter\n\
+    linker_reply_body_bytes_total 41\n\
+    # HELP linker_delegation_hits_total Asks for which a delegation was kept.\n\
+    # TYPE linker_delegation_hits_total counter\n\
+    linker_delegation_hits_total 51\n\
+    # HELP linker_delegation_misses_total Asks for which no delegation was kept.\n\
+    # TYPE linker_delegation_misses_total counter\n\
+    linker_delegation_misses_total 52\n\
+    # HELP linker_delegations_kept Delegations that are kept.\n\
+    # TYPE linker_delegations_kept gauge\n\
+    linker_delegations_kept 53\n\
+    # HELP linker_access_log_lines_total Lines that were written to the access log.\n\
+    # TYPE linker_access_log_lines_total counter\n\
+    linker_access_log_lines_total 60\n\
+    # HELP linker_access_log_lost_lines_total Lines that could not be written to the access log.\n\
+    # TYPE linker_access_log_lost_lines_total counter\n\
+    linker_access_log_lost_lines_total 61\n\
+    # HELP linker_request_duration_seconds How long requests took, until the end of their reply.\n\
+    # TYPE linker_request_duration_seconds histogram\n\
+    linker_request_duration_seconds_bucket{le=\"0.001\"} 1\n\
+    linker_request_duration_seconds_bucket{le=\"0.002\"} 1\n\
+    linker_request_duration_seconds_bucket{le=\"0.005\"} 3\n\
+    linker_request_duration_seconds_bucket{le=\"0.01\"} 3\n\
+    linker_request_duration_seconds_bucket{le=\"0.02\"} 3\n\
+    linker_request_duration_seconds_bucket{le=\"0.05\"} 6\n\
+    linker_request_duration_seconds_bucket{le=\"0.1\"} 6\n\
+    linker_request_duration_seconds_bucket{le=\"0.2\"} 6\n\
+    linker_request_duration_seconds_bucket{le=\"0.5\"} 6\n\
+    linker_request_duration_seconds_bucket{le=\"1\"} 6\n\
+    linker_request_duration_seconds_bucket{le=\"2\"} 6\n\
+    linker_request_duration_seconds_bucket{le=\"5\"} 10\n\
+    linker_request_duration_seconds_bucket{le=\"10\"} 10\n\
+    linker_request_duration_seconds_bucket{le=\"+Inf\"} 15\n\
+    linker_request_duration_seconds_sum 12.034\n\
+    linker_request_duration_seconds_count 15\n\
+    # HELP linker_service_addresses Addresses of a service.\n\
+    # TYPE linker_service_addresses gauge\n\
+    linker_service_addresses{service=\"web\"} 3\n\
+    linker_service_addresses{service=\"a\\\"b\\\\c\\nd\"} 18446744073709551615\n\
+    # HELP linker_service_live_addresses Addresses of a service that are alive.\n\
+    # TYPE linker_service_live_addresses gauge\n\
+    linker_service_live_addresses{service=\"web\"} 2\n\
+    linker_service_live_addresses{service=\"a\\\"b\\\\c\\nd\"} 0\n";
 
-/// The lines, each with its line feed.
-fn text_of_lines(alloc: Global) -> Result<Vec<u8>, AllocError> {
-    let mut text = Vec::new(alloc);
-    for line in &LINES {
-        text.extend_from_slice(line.as_bytes())?;
-        text.push(b'\n')?;
-    }
+/// The text that is written of the counts, in a buffer that held something else.
+fn text_of(alloc: Global) -> Result<Vec<u8>, AllocError> {
+    let mut text = Vec::from_slice(alloc, b"earlier")?;
+    write_metrics(&COUNTS, &SERVICES, &mut text)?;
     Ok(text)
 }
 
 #[test]
 fn the_text_is_as_written_here(rt: HostRuntime) -> Result<(), Fail> {
-    let mut text = Vec::from_slice(rt.alloc(), b"earlier")?;
-    write_metrics(&COUNTS, &SERVICES, &mut text)?;
-    let lines = text_of_lines(rt.alloc())?;
-    assert!(rt; text == lines);
+    let text = text_of(rt.alloc())?;
+    assert!(rt; text.as_slice() == TEXT.as_bytes());
     Ok(())
 }

@@ -16,8 +16,8 @@ fn append<J: Journal>(journal: &mut J, lines: &[(u64, &str)]) {
 }
 
 /// Appends lines to a file, which is renamed after the second. The third comes within a second of
-/// the first, at which the file was opened, and the fourth does not. At the fifth the clock has gone
-/// back.
+/// the first, at which the file was opened, and the fourth does not. At the fifth the clock has
+/// gone back.
 fn rotated<R: Files + Sync>(rt: &R, alloc: Global) -> Result<LineCounts, Fail>
 where
     R::File: Send,

@@ -1,7 +1,7 @@
 //! Access logs of which writes fail, each in turn, or take a part of a line.
 
 use crate::cut_files::{CutFiles, taken};
-use line_log::Journal;
+use line_log::{Journal, LineCounts};
 use log_file::FileJournal;
 use std::rt::Files;
 use std::test::Fail;
@@ -71,18 +71,28 @@ const ROWS: [Row; 8] = [
     },
 ];
 
+/// Gives three lines to a log.
+fn append_three<J: Journal>(journal: &mut J) {
+    for line in ["one\n", "two\n", "three\n"] {
+        journal.append(line.as_bytes(), 0);
+    }
+}
+
+/// How many of three lines are written and lost.
+fn counted<R: Files>(rt: &R, path: String, takes: &'static [usize]) -> LineCounts {
+    let files = CutFiles { rt, takes };
+    let mut journal = FileJournal::at(&files, path);
+    append_three(&mut journal);
+    journal.counts()
+}
+
 /// What the file of a log holds that was given three lines, and how many were written and lost.
 fn logged<R: Files + AllocGlobal>(
     rt: &R,
     takes: &'static [usize],
 ) -> Result<(String, u64, u64), Fail> {
     let path = String::from_str(rt.alloc(), "torn.log")?;
-    let files = CutFiles { rt, takes };
-    let mut journal = FileJournal::at(&files, path);
-    for line in ["one\n", "two\n", "three\n"] {
-        journal.append(line.as_bytes(), 0);
-    }
-    let counts = journal.counts();
+    let counts = counted(rt, path, takes);
     let text = taken(rt, "torn.log")?;
     Ok((text, counts.written, counts.lost))
 }
@@ -91,10 +101,9 @@ fn logged<R: Files + AllocGlobal>(
 fn each_line_is_whole_or_lost(rt: HostRuntime) -> Result<(), Fail> {
     for row in &ROWS {
         let (text, written, lost) = logged(&rt, row.takes)?;
-        assert!(rt; text.as_str() == row.text, "{:?}: {text}", row.takes);
         assert!(rt;
-            written == row.written && lost == row.lost,
-            "{:?}",
+            text.as_str() == row.text && written == row.written && lost == row.lost,
+            "{:?}: {text}",
             row.takes
         );
     }

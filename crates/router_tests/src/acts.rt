@@ -1,6 +1,9 @@
 //! The calls of a scene.
 
-use crate::asked::{created, give, hold, looked, peeked, picked, put, reported, set, succeeded};
+use crate::asked::{
+    assignment, changed, creation, give, hold, looked, peeked, picked, replacement, report,
+    succeeded,
+};
 use crate::kept::{remember, remember_after_change, remember_twice};
 use router::{Naming, Pass, Router};
 use std::alloc::Global;
@@ -83,10 +86,16 @@ pub fn answer<J: Naming, L: Ledger, R: Wait>(
     steps: &mut Steps<L>,
 ) -> Option<String> {
     match act {
-        Act::Create(space, table) => created(rt, alloc, router, pass, space, table),
-        Act::Put(space, table) => put(rt, alloc, router, pass, space, table),
-        Act::Set(service, addrs) => set(rt, alloc, router, pass, service, addrs),
-        Act::Report(port, good) => reported(rt, alloc, router, pass, port, good),
+        Act::Create(space, table) => {
+            changed(rt, alloc, router, pass, creation(alloc, space, table))
+        }
+        Act::Put(space, table) => {
+            changed(rt, alloc, router, pass, replacement(alloc, space, table))
+        }
+        Act::Set(service, addrs) => {
+            changed(rt, alloc, router, pass, assignment(alloc, service, addrs))
+        }
+        Act::Report(port, good) => changed(rt, alloc, router, pass, Some(report(port, good))),
         Act::Succeed(port) => succeeded(alloc, router, pass, port),
         Act::Look => looked(alloc, router, pass, steps),
         Act::Pick => picked(alloc, router, pass, steps),

@@ -90,61 +90,29 @@ fn reply_text(alloc: Global, reply: &Reply) -> Option<String> {
     }
 }
 
-/// What comes of a change, as text.
-fn changed<J: Naming, R: Wait>(
+/// What comes of a change, as text; nothing where there is none.
+pub fn changed<J: Naming, R: Wait>(
     rt: &R,
     alloc: Global,
     router: &Router<J>,
     pass: &mut Pass<J>,
-    change: Change,
+    change: Option<Change>,
 ) -> Option<String>
-    requires { IsSoundChange (change_of change) }
+    requires { IfSome change (λ change. IsSoundChange (change_of change)) }
 {
-    let reply = router.change(rt, alloc, pass, change).ok()?;
-    reply_text(alloc, &reply)
-}
-
-/// What comes of the creation of a namespace with this table, as text.
-pub fn created<J: Naming, R: Wait>(
-    rt: &R,
-    alloc: Global,
-    router: &Router<J>,
-    pass: &mut Pass<J>,
-    space: &str,
-    table: &str,
-) -> Option<String> {
-    let change = creation(alloc, space, table)?;
-    changed(rt, alloc, router, pass, change)
-}
-
-/// What comes of a table that takes the place of a namespace's, whichever that was, as text.
-pub fn put<J: Naming, R: Wait>(
-    rt: &R,
-    alloc: Global,
-    router: &Router<J>,
-    pass: &mut Pass<J>,
-    space: &str,
-    table: &str,
-) -> Option<String> {
-    let change = replacement(alloc, space, table)?;
-    changed(rt, alloc, router, pass, change)
-}
-
-/// What comes of a service's new addresses, as text.
-pub fn set<J: Naming, R: Wait>(
-    rt: &R,
-    alloc: Global,
-    router: &Router<J>,
-    pass: &mut Pass<J>,
-    service: &str,
-    addrs: &str,
-) -> Option<String> {
-    let change = assignment(alloc, service, addrs)?;
-    changed(rt, alloc, router, pass, change)
+    let made = change?;
+    match router.change(rt, alloc, pass, made) {
+        Ok(reply) => {
+            let text = reply_text(alloc, &reply);
+            drop(reply);
+            text
+        }
+        Err(_) => None,
+    }
 }
 
 /// A report on 127.0.0.1 with this port.
-fn report(port: u16, good: bool) -> Change
+pub fn report(port: u16, good: bool) -> Change
     ensures { IsSoundChange (change_of result) }
 {
     Change::Report {
@@ -157,18 +125,6 @@ fn report(port: u16, good: bool) -> Change
     }
 }
 
-/// The answer to a report on 127.0.0.1 with this port.
-pub fn reported<J: Naming, R: Wait>(
-    rt: &R,
-    alloc: Global,
-    router: &Router<J>,
-    pass: &mut Pass<J>,
-    port: u16,
-    good: bool,
-) -> Option<String> {
-    changed(rt, alloc, router, pass, report(port, good))
-}
-
 /// The answer to a report of a success on 127.0.0.1 with this port, without the lock.
 pub fn succeeded<J: Naming>(
     alloc: Global,
@@ -176,8 +132,18 @@ pub fn succeeded<J: Naming>(
     pass: &mut Pass<J>,
     port: u16,
 ) -> Option<String> {
-    match router.report(pass, &report(port, true)) {
-        Some(reply) => reply_text(alloc, &reply),
+    let change = report(port, true);
+    let reply = router.report(pass, &change);
+    drop(change);
+    let text = report_text(alloc, reply.as_ref());
+    drop(reply);
+    text
+}
+
+/// The answer to a report, where it needed no lock.
+fn report_text(alloc: Global, reply: Option<&Reply>) -> Option<String> {
+    match reply {
+        Some(reply) => reply_text(alloc, reply),
         None => String::from_str(alloc, "left for the lock").ok(),
     }
 }
@@ -192,9 +158,23 @@ pub fn looked<J: Naming, L: Ledger>(
     let look = Look::Get {
         name: name(alloc, "default")?,
     };
-    match router.look(alloc, pass, &look, steps).ok()? {
+    let answer = router.look(alloc, pass, &look, steps);
+    drop(look);
+    match answer {
+        Ok(looked) => {
+            let text = looked_text(alloc, &looked);
+            drop(looked);
+            text
+        }
+        Err(_) => None,
+    }
+}
+
+/// The place of a look, its reply, and how many delegations were kept.
+fn looked_text(alloc: Global, looked: &Looked) -> Option<String> {
+    match looked {
         Looked::Said { place, reply, kept } => {
-            let said = reply_text(alloc, &reply)?;
+            let said = reply_text(alloc, reply)?;
             format!(in alloc; "at {place} {said}, kept {kept}").ok()
         }
         Looked::NoEntry => None,
@@ -221,8 +201,22 @@ pub fn picked<J: Naming, L: Ledger>(
     steps: &mut Steps<L>,
 ) -> Option<String> {
     let ask = ask(alloc)?;
-    match router.pick(alloc, pass, &ask, steps).ok()? {
-        Answer::Picked { choice, .. } => choice_text(alloc, &choice),
+    let answer = router.pick(alloc, pass, &ask, steps);
+    drop(ask);
+    match answer {
+        Ok(answer) => {
+            let text = picked_text(alloc, &answer);
+            drop(answer);
+            text
+        }
+        Err(_) => None,
+    }
+}
+
+/// The replica that was picked.
+fn picked_text(alloc: Global, answer: &Answer) -> Option<String> {
+    match answer {
+        Answer::Picked { choice, .. } => choice_text(alloc, choice),
         _ => None,
     }
 }
@@ -235,17 +229,27 @@ fn names_text(alloc: Global, names: &Names) -> Option<String> {
 
 /// What a pick by what is kept alone answers, and the names that it writes.
 pub fn peeked<J: Naming>(alloc: Global, router: &Router<J>, pass: &mut Pass<J>) -> Option<String> {
-    let ask = ask(alloc)?;
     let mut room = Names::room(alloc).ok()?;
-    match router.peek(pass, &ask, &mut room) {
-        Peek::Hit(choice) => {
-            let said = choice_text(alloc, &choice)?;
-            let names = names_text(alloc, &room)?;
-            format!(in alloc; "hit {said} {names}").ok()
-        }
+    let ask = ask(alloc)?;
+    let peek = router.peek(pass, &ask, &mut room);
+    drop(ask);
+    peek_text(alloc, &peek, &room)
+}
+
+/// A replica whose delegation is kept, with its names.
+fn hit_text(alloc: Global, choice: &Choice, names: &Names) -> Option<String> {
+    let said = choice_text(alloc, choice)?;
+    let names = names_text(alloc, names)?;
+    format!(in alloc; "hit {said} {names}").ok()
+}
+
+/// What was found by what is kept alone.
+fn peek_text(alloc: Global, peek: &Peek, names: &Names) -> Option<String> {
+    match peek {
+        Peek::Hit(choice) => hit_text(alloc, choice, names),
         Peek::HitNone { place, .. } => format!(in alloc; "none at {place}").ok(),
         Peek::Miss(place) => {
-            let length = room.client().len().max(room.residual().len());
+            let length = names.client().len().max(names.residual().len());
             format!(in alloc; "miss at {place} names {length}").ok()
         }
         Peek::NoEntry => None,

@@ -5,7 +5,7 @@ ghost use Rattle.bind_cache.specs.Stored.{kept_of};
 ghost use Rattle.router.specs.Changing.{WasWorkedOut};
 ghost use Rattle.router.specs.Passes.{seen_in};
 
-use crate::asked::{ask, created};
+use crate::asked::{ask, changed, creation};
 use bind_cache::Binding;
 use router::{Answer, Naming, Pass, Remembered, Router};
 use std::alloc::Global;
@@ -83,7 +83,10 @@ pub fn remember_after_change<J: Naming, L: Ledger, R: Wait>(
     steps: &mut Steps<L>,
 ) -> Option<String> {
     let binding = fresh(alloc, router, pass, steps)?;
-    let _version = created(rt, alloc, router, other, space, "/x => /y")?;
+    if changed(rt, alloc, router, other, creation(alloc, space, "/x => /y")).is_none() {
+        drop(binding);
+        return None;
+    }
     let said = remembered(rt, alloc, router, pass, binding)?;
     text(alloc, said)
 }
@@ -97,10 +100,21 @@ pub fn remember_twice<J: Naming, L: Ledger, R: Wait>(
     steps: &mut Steps<L>,
 ) -> Option<String> {
     let first = fresh(alloc, router, pass, steps)?;
-    let second = fresh(alloc, router, pass, steps)?;
-    let said = remembered(rt, alloc, router, pass, first)?;
-    let before = text(alloc, said)?;
-    let said = remembered(rt, alloc, router, pass, second)?;
-    let after = text(alloc, said)?;
+    let Some(second) = fresh(alloc, router, pass, steps) else {
+        drop(first);
+        return None;
+    };
+    let Some(said) = remembered(rt, alloc, router, pass, first) else {
+        drop(second);
+        return None;
+    };
+    let again = remembered(rt, alloc, router, pass, second)?;
+    texts(alloc, said, again)
+}
+
+/// What two delegations that are given back are answered.
+fn texts(alloc: Global, first: Remembered, second: Remembered) -> Option<String> {
+    let before = text(alloc, first)?;
+    let after = text(alloc, second)?;
     format!(in alloc; "{before}, {after}").ok()
 }

@@ -2,7 +2,7 @@
 ghost use Rattle.std.specs.Prelude.{◌≡◌, ◌<◌};
 ghost use Rattle.router.specs.Opening.{IsNamedBy, beginning_of};
 
-use crate::asked::{ask, created, picked, put, set, settings};
+use crate::asked::{ask, assignment, changed, creation, picked, replacement, settings};
 use crate::stage::ended;
 use machine::Ask;
 use router::{Answer, Naming, Opened, Pass, Router, open};
@@ -42,7 +42,8 @@ fn swap<J: Naming, R: Wait>(
 ) -> bool {
     for _turn in 0..turns {
         let table = table_at(pass.place().wrapping_add(1));
-        if put(rt, alloc, router, pass, "default", table).is_none() {
+        let change = replacement(alloc, "default", table);
+        if changed(rt, alloc, router, pass, change).is_none() {
             return false;
         }
     }
@@ -154,9 +155,12 @@ fn prepare<J: Naming, R: Wait>(
     passes: &mut [Pass<J>],
 ) -> Option<String> {
     let pass = passes.last_mut()?;
-    let _one = set(rt, alloc, router, pass, "one", "127.0.0.1 1")?;
-    let _two = set(rt, alloc, router, pass, "two", "127.0.0.1 2")?;
-    created(rt, alloc, router, pass, "default", table_at(3))
+    let one = assignment(alloc, "one", "127.0.0.1 1");
+    let _one = changed(rt, alloc, router, pass, one)?;
+    let two = assignment(alloc, "two", "127.0.0.1 2");
+    let _two = changed(rt, alloc, router, pass, two)?;
+    let table = creation(alloc, "default", table_at(3));
+    changed(rt, alloc, router, pass, table)
 }
 
 /// What a pick with the last table of the race answers, and one with the table after it.

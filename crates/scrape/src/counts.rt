@@ -23,8 +23,8 @@ pub struct State {
 }
 
 impl Sums {
-    /// All numbers of a router, with what its state tells. The words of a connection that ends while
-    /// they are read may show its end and not its beginning: such a one is not open.
+    /// All numbers of a router, with what its state tells. The words of a connection that ends
+    /// while they are read may show its end and not its beginning: such a one is not open.
     pub fn counts(&self, state: &State) -> Counts
         ensures { result ≡ counts_by (λ place. slice_index_or self.now.counts place 0) state.now }
     {

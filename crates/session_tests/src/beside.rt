@@ -10,7 +10,8 @@ use crate::texts::{GET, REPLY, WRITTEN};
 use dtab_table::Dtab;
 use exchange_record::NoRecorder;
 use identifier::Rule;
-use line_base::{Dialer, MemDialer, MemPeer};
+use line_base::Dialer;
+use line_doubles::{MemDialer, MemPeer};
 use machine::Ask;
 use name_tree::read_path;
 use proxy_session::{Connection, Context};
@@ -78,8 +79,23 @@ fn ask(alloc: Global) -> Option<Ask> {
 
 /// The loads of the replicas of `web`, as a pass sees them, where a delegation is kept for it.
 fn loads<J: Naming>(alloc: Global, router: &Router<J>, pass: &mut Pass<J>) -> Option<Loads> {
+    let ask = ask(alloc)?;
+    let loads = loads_for(alloc, router, pass, &ask);
+    drop(ask);
+    loads
+}
+
+/// The loads of the replicas that this asks for.
+fn loads_for<J: Naming>(
+    alloc: Global,
+    router: &Router<J>,
+    pass: &mut Pass<J>,
+    ask: &Ask,
+) -> Option<Loads> {
     let mut names = Names::room(alloc).ok()?;
-    match router.peek(pass, &ask(alloc)?, &mut names) {
+    let peek = router.peek(pass, ask, &mut names);
+    drop(names);
+    match peek {
         Peek::Hit(choice) => Some((choice.first, choice.second)),
         _ => None,
     }
@@ -125,6 +141,8 @@ fn serve_alone<J: Naming, R: Wait + Abort>(
     let dialer = dialer(context.rt, context.alloc, scene);
     let (pass, dialer, peer) = serve(context, pass, dialer, scene);
     let outcome = outcome_of(context.alloc, &peer, &dialer);
+    drop(peer);
+    drop(dialer);
     (pass, outcome.ok())
 }
 
@@ -142,6 +160,8 @@ fn serve_first<'a, J: Naming, R: Wait + Abort>(
     let (pass, meanwhile, peer) = serve(context, pass, meanwhile, scene);
     let Meanwhile { dialer, other } = meanwhile;
     let outcome = outcome_of(context.alloc, &peer, &dialer);
+    drop(peer);
+    drop(dialer);
     (pass, other, outcome.ok())
 }
 
@@ -204,8 +224,20 @@ fn serve_named<J: Naming, R: Wait + Abort>(
 /// What comes of two clients of a scene, over one router.
 fn meet<R: Wait + Abort>(rt: &R, alloc: Global, scene: &Scene<'_>) -> Result<Outcomes, Fail> {
     let rule = by_host(alloc)?;
+    let outcomes = meet_by(rt, alloc, &rule, scene);
+    drop(rule);
+    outcomes
+}
+
+/// The same, with requests named by this rule.
+fn meet_by<R: Wait + Abort>(
+    rt: &R,
+    alloc: Global,
+    rule: &Rule,
+    scene: &Scene<'_>,
+) -> Result<Outcomes, Fail> {
     let opened = begin(rt, alloc, scene)?;
-    Ok(serve_named::<Brand, R>(rt, alloc, opened, &rule, scene)?)
+    Ok(serve_named::<Brand, R>(rt, alloc, opened, rule, scene)?)
 }
 
 /// While the first client's replica is being dialled, its load is 1. So the second client's request

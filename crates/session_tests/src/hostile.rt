@@ -1,6 +1,9 @@
 //! Requests that try a router's framing.
 use crate::row::{PASSED, REFUSED, Row, play_rows};
-use crate::texts::{EMPTY, TWO};
+use crate::texts::{
+    BAD_REQUEST, CHUNKED, CLOSE, EMPTY, GET, GET_LINES, NOT_IMPLEMENTED, OK, ON, POST_LINES, TWO,
+    VIA,
+};
 use http_wire::Ended::Cut;
 use std::test::Fail;
 
@@ -20,48 +23,49 @@ const BAD_HEAD: &str = "HTTP/1.1 400 Bad Request|Content-Type: text/plain|l5d-er
 const BODY: &str = "HTTP/1.1 400 Bad Request|Content-Type: text/plain|l5d-err: body|\
     Content-Length: 5|Connection: close||body~";
 
-/// What goes on of a request with a body of three bytes.
-const SENT_THREE: &str = "<POST / HTTP/1.1|Host: web|Content-Length: 3|Via: 1.1 linkerd|\
-    l5d-dst-service: /svc/web|l5d-dst-client: /$/inet/127.0.0.1/9001|Connection: close||abc>";
-
 /// Lengths of a body.
 const LENGTHS: [Row; 6] = [
     Row {
         about: "two lengths alike",
-        gives: "POST / HTTP/1.1|Host: web|Content-Length: 3|Content-Length: 3||abc",
-        sent: SENT_THREE,
+        gives: &[POST_LINES, "Content-Length: 3|Content-Length: 3||abc"],
+        sent: &["<", POST_LINES, "Content-Length: 3|", ON, "abc>"],
         ..PASSED
     },
     Row {
         about: "a list of lengths alike",
-        gives: "POST / HTTP/1.1|Host: web|Content-Length: 3, 3||abc",
-        sent: SENT_THREE,
+        gives: &[POST_LINES, "Content-Length: 3, 3||abc"],
+        sent: &["<", POST_LINES, "Content-Length: 3|", ON, "abc>"],
         ..PASSED
     },
     Row {
         about: "two lengths that differ",
-        gives: "POST / HTTP/1.1|Host: web|Content-Length: 3|Content-Length: 4||",
-        written: LENGTH,
+        gives: &[POST_LINES, "Content-Length: 3|Content-Length: 4||"],
+        written: &[LENGTH],
         ..REFUSED
     },
     Row {
         about: "a length with a sign",
-        gives: "POST / HTTP/1.1|Host: web|Content-Length: +3||",
-        written: LENGTH,
+        gives: &[POST_LINES, "Content-Length: +3||"],
+        written: &[LENGTH],
         ..REFUSED
     },
     Row {
         about: "a length that is too great",
-        gives: "POST / HTTP/1.1|Host: web|Content-Length: 9223372036854775808||",
-        written: LENGTH,
+        gives: &[POST_LINES, "Content-Length: 9223372036854775808||"],
+        written: &[LENGTH],
         ..REFUSED
     },
     Row {
         about: "the greatest length, and no body",
-        gives: "POST / HTTP/1.1|Host: web|Content-Length: 9223372036854775807||",
+        gives: &[POST_LINES, "Content-Length: 9223372036854775807||"],
         replies: &[EMPTY],
-        sent: "<POST / HTTP/1.1|Host: web|Content-Length: 9223372036854775807|Via: 1.1 linkerd|\
-            l5d-dst-service: /svc/web|l5d-dst-client: /$/inet/127.0.0.1/9001|Connection: close||>",
+        sent: &[
+            "<",
+            POST_LINES,
+            "Content-Length: 9223372036854775807|",
+            ON,
+            ">",
+        ],
         ended: Cut,
         ..REFUSED
     },
@@ -71,28 +75,26 @@ const LENGTHS: [Row; 6] = [
 const CODINGS: [Row; 4] = [
     Row {
         about: "another coding before chunks",
-        gives: "POST / HTTP/1.1|Host: web|Transfer-Encoding: gzip, chunked||",
-        written: CODING,
+        gives: &[POST_LINES, "Transfer-Encoding: gzip, chunked||"],
+        written: &[CODING],
         ..REFUSED
     },
     Row {
         about: "chunks twice",
-        gives: "POST / HTTP/1.1|Host: web|Transfer-Encoding: chunked|Transfer-Encoding: chunked||",
-        written: CODING,
+        gives: &[POST_LINES, CHUNKED, CHUNKED, "|"],
+        written: &[CODING],
         ..REFUSED
     },
     Row {
         about: "chunks in HTTP/1.0",
-        gives: "POST / HTTP/1.0|Host: web|Transfer-Encoding: chunked||",
-        written: LENGTH,
+        gives: &["POST / HTTP/1.0|Host: web|", CHUNKED, "|"],
+        written: &[LENGTH],
         ..REFUSED
     },
     Row {
         about: "chunks in another case, with an extension",
-        gives: "POST / HTTP/1.1|Host: web|Transfer-Encoding: Chunked||5;a=b|hello|0||",
-        sent: "<POST / HTTP/1.1|Host: web|Transfer-Encoding: chunked|Via: 1.1 linkerd|\
-            l5d-dst-service: /svc/web|l5d-dst-client: /$/inet/127.0.0.1/9001|Connection: close||5|\
-            hello|0||>",
+        gives: &[POST_LINES, "Transfer-Encoding: Chunked||5;a=b|hello|0||"],
+        sent: &["<", POST_LINES, CHUNKED, ON, "5|hello|0||>"],
         ..PASSED
     },
 ];
@@ -101,62 +103,70 @@ const CODINGS: [Row; 4] = [
 const BYTES: [Row; 7] = [
     Row {
         about: "a blank before the colon",
-        gives: "POST / HTTP/1.1|Host: web|Transfer-Encoding : chunked||",
-        written: BAD_HEAD,
+        gives: &[POST_LINES, "Transfer-Encoding : chunked||"],
+        written: &[BAD_HEAD],
         ..REFUSED
     },
     Row {
         about: "a chunk line without a size",
-        gives: "POST / HTTP/1.1|Host: web|Transfer-Encoding: chunked||G|",
+        gives: &[POST_LINES, CHUNKED, "|G|"],
         replies: &[EMPTY],
-        written: BODY,
-        sent: "<POST / HTTP/1.1|Host: web|Transfer-Encoding: chunked|Via: 1.1 linkerd|\
-            l5d-dst-service: /svc/web|l5d-dst-client: /$/inet/127.0.0.1/9001|Connection: close||>",
+        written: &[BODY],
+        sent: &["<", POST_LINES, CHUNKED, ON, ">"],
         ..REFUSED
     },
     Row {
         about: "a chunk that goes on behind its size",
-        gives: "POST / HTTP/1.1|Host: web|Transfer-Encoding: chunked||5|helloX",
+        gives: &[POST_LINES, CHUNKED, "|5|helloX"],
         replies: &[EMPTY],
-        written: BODY,
-        sent: "<POST / HTTP/1.1|Host: web|Transfer-Encoding: chunked|Via: 1.1 linkerd|\
-            l5d-dst-service: /svc/web|l5d-dst-client: /$/inet/127.0.0.1/9001|Connection: close||5|\
-            hello>",
+        written: &[BODY],
+        sent: &["<", POST_LINES, CHUNKED, ON, "5|hello>"],
         ..REFUSED
     },
     Row {
         about: "a byte 0 in a value",
-        gives: "POST / HTTP/1.1|Host: web|X: a\0b||",
-        written: BAD_HEAD,
+        gives: &[POST_LINES, "X: a\0b||"],
+        written: &[BAD_HEAD],
         ..REFUSED
     },
     Row {
         about: "HTTP/1.0 without a host",
-        gives: "GET / HTTP/1.0||GET / HTTP/1.1|Host: web||",
-        written: "HTTP/1.1 400 Bad Request|Content-Type: text/plain|l5d-err: unidentified|\
-            Content-Length: 13|Connection: close||unidentified~",
+        gives: &["GET / HTTP/1.0||", GET],
+        written: &[
+            BAD_REQUEST,
+            "unidentified|Content-Length: 13|",
+            CLOSE,
+            "unidentified~",
+        ],
         ..REFUSED
     },
     Row {
         about: "two requests in one read",
-        gives: TWO,
+        gives: &[TWO],
         replies: &[
             "HTTP/1.1 200 OK|Content-Length: 1||a",
             "HTTP/1.1 404 Not Found|Content-Length: 1||b",
         ],
-        written: "HTTP/1.1 200 OK|Content-Length: 1|Via: 1.1 linkerd||aHTTP/1.1 404 Not Found|\
-            Content-Length: 1|Via: 1.1 linkerd||b",
-        sent: "<GET / HTTP/1.1|Host: web|Via: 1.1 linkerd|l5d-dst-service: /svc/web|\
-            l5d-dst-client: /$/inet/127.0.0.1/9001|Connection: close||><GET / HTTP/1.1|Host: web|\
-            Via: 1.1 linkerd|l5d-dst-service: /svc/web|l5d-dst-client: /$/inet/127.0.0.1/9001|\
-            Connection: close||>",
+        written: &[
+            OK,
+            "Content-Length: 1|",
+            VIA,
+            "aHTTP/1.1 404 Not Found|Content-Length: 1|",
+            VIA,
+            "b",
+        ],
+        sent: &["<", GET_LINES, ON, "><", GET_LINES, ON, ">"],
         ..PASSED
     },
     Row {
         about: "a tunnel",
-        gives: "CONNECT web:80 HTTP/1.1|Host: web||",
-        written: "HTTP/1.1 501 Not Implemented|Content-Type: text/plain|l5d-err: connect|\
-            Content-Length: 8|Connection: close||connect~",
+        gives: &["CONNECT web:80 HTTP/1.1|Host: web||"],
+        written: &[
+            NOT_IMPLEMENTED,
+            "connect|Content-Length: 8|",
+            CLOSE,
+            "connect~",
+        ],
         ..REFUSED
     },
 ];

@@ -1,8 +1,8 @@
 //! Connections to replicas that are kept: over which each request goes, and behind which replies
 //! they are kept.
 use crate::played::play;
-use crate::row::{FAILED, FAILED_SINCE, Failures, GOOD, joined, told};
-use crate::scene::{FIXED, Failing, Scene};
+use crate::row::{FAILED, FAILED_SINCE, Failures, GOOD, joined, text_of};
+use crate::scene::{FIXED, Failing, Mem, Scene};
 use crate::texts::{DIAL, GET, REPLY, UPSTREAM, WRITTEN};
 use http_wire::Ended::{self, Closed, PeerEnded, UpstreamCut};
 use std::alloc::Global;
@@ -282,6 +282,13 @@ const UNANSWERED: [Case; 4] = [
 impl Case {
     /// What comes of the session, and what is wanted.
     fn played<R: Wait + Abort>(&self, rt: &R, alloc: Global) -> Result<(String, String), Fail> {
+        let wanted = self.wanted(alloc)?;
+        let comes = self.comes(rt, alloc)?;
+        Ok((comes, wanted))
+    }
+
+    /// What comes of the session.
+    fn comes<R: Wait + Abort>(&self, rt: &R, alloc: Global) -> Result<String, Fail> {
         let gives = joined(alloc, self.gives)?;
         let scene = Scene {
             failing: Failing::Dials(self.failing),
@@ -290,19 +297,17 @@ impl Case {
             ..Scene::of(FIXED, gives.as_str(), self.replies)
         };
         let played = play(rt, alloc, &scene)?;
-        let (written, sent) = (played.written.as_str(), played.sent.as_str());
-        Ok((
-            told(alloc, written, sent, played.ended, played.failures)?,
-            self.wanted(alloc)?,
-        ))
+        let comes = played.text(alloc);
+        drop(played);
+        Ok(comes?)
     }
 
     /// What is wanted of the session.
-    fn wanted(&self, alloc: Global) -> Result<String, Fail> {
+    fn wanted(&self, alloc: Global) -> Mem<String> {
         let written = joined(alloc, self.written)?;
         let sent = joined(alloc, self.sent)?;
         let (written, sent) = (written.as_str(), sent.as_str());
-        Ok(told(alloc, written, sent, Some(self.ended), self.reported)?)
+        text_of(alloc, written, sent, Some(self.ended), self.reported)
     }
 }
 

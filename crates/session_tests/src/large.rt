@@ -1,15 +1,12 @@
 //! A request and its reply that are large: a hundred fields each, and a body of 1 MiB each.
 use crate::played::play;
 use crate::scene::{FIXED, Mem, Scene};
+use crate::texts::{CLOSE, TO_WEB};
 use http_wire::Ended::PeerEnded;
 use std::alloc::Global;
 use std::process::Abort;
 use std::sync::Wait;
 use std::test::Fail;
-
-/// What a request's head that goes on ends with.
-const SENT: &str =
-    "Via: 1.1 linkerd|l5d-dst-service: /svc/web|l5d-dst-client: /$/inet/127.0.0.1/9001|";
 
 /// A text, a hundred fields, and another text.
 fn among_fields(alloc: Global, before: &str, behind: &[&str]) -> Mem<String> {
@@ -61,7 +58,7 @@ fn a_hundred_fields_go_on_and_back(rt: HostRuntime) -> Result<(), Fail> {
     let gives = among_fields(alloc, request, &["|"])?;
     let reply = among_fields(alloc, "HTTP/1.1 200 OK|", &["Content-Length: 2||hi"])?;
     let begun = format!(in alloc; "<{request}")?;
-    let sent = among_fields(alloc, begun.as_str(), &[SENT, "Connection: close||>"])?;
+    let sent = among_fields(alloc, begun.as_str(), &[TO_WEB, CLOSE, ">"])?;
     let written = among_fields(
         alloc,
         "HTTP/1.1 200 OK|",
@@ -84,12 +81,7 @@ fn a_mebibyte_goes_on_and_back(rt: HostRuntime) -> Result<(), Fail> {
     let reply = "HTTP/1.1 200 OK|Content-Length: 1048576|";
     let gives = around_body(alloc, &[request, "|"], 'a', "")?;
     let replied = around_body(alloc, &[reply, "|"], 'b', "")?;
-    let sent = around_body(
-        alloc,
-        &["<", request, SENT, "Connection: close||"],
-        'a',
-        ">",
-    )?;
+    let sent = around_body(alloc, &["<", request, TO_WEB, CLOSE], 'a', ">")?;
     let written = around_body(alloc, &[reply, "Via: 1.1 linkerd||"], 'b', "")?;
     let passed = passes(
         &rt,

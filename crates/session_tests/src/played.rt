@@ -4,13 +4,15 @@ ghost use Rattle.router.specs.Opening.{IsNamedBy, beginning_of};
 ghost use Rattle.router.specs.Passes.{slot_in};
 
 use crate::recorded::Keeper;
+use crate::row::text_of;
 use crate::scene::{
     Bytes, Mem, Scene, addresses, by_host, client, clock, settings, spelling, upstreams,
 };
 use addr_book::Addr;
 use http_wire::{Ended, Paused};
 use identifier::Rule;
-use line_base::{DialEvent, Gate, MemClock, MemDialer, MemPeer};
+use line_base::{DialEvent, Gate};
+use line_doubles::{MemClock, MemDialer, MemPeer};
 use machine::{Change, Reply};
 use proxy_session::{Connection, Context, Parts, Room, Server};
 use rand_core::SeedableRng;
@@ -50,6 +52,14 @@ pub(crate) struct Played {
     pub(crate) told: String,
 }
 
+impl Played {
+    /// What came of the session, as one text.
+    pub(crate) fn text(&self, alloc: Global) -> Mem<String> {
+        let (written, sent) = (self.written.as_str(), self.sent.as_str());
+        text_of(alloc, written, sent, self.ended, self.failures)
+    }
+}
+
 /// Puts what the tries of a dialer sent behind the rest.
 pub(crate) fn put_sent(log: &[DialEvent], sent: &mut Bytes) -> Mem<()> {
     for event in log {
@@ -67,31 +77,50 @@ pub(crate) fn put_sent(log: &[DialEvent], sent: &mut Bytes) -> Mem<()> {
     Ok(())
 }
 
-/// What the outside was told of a session that ended so.
+/// What two dialers did, as text.
+fn sent_by(alloc: Global, first: &MemDialer, second: &MemDialer) -> Mem<String> {
+    let mut sent = Vec::new(alloc);
+    put_sent(first.log(), &mut sent)?;
+    put_sent(second.log(), &mut sent)?;
+    spelling(alloc, sent.as_slice())
+}
+
+/// A client that was served.
+#[derive(Drop)]
+struct ServedClient {
+    /// What it was given.
+    peer: MemPeer,
+    /// What was told of its exchanges.
+    keeper: Keeper,
+    /// How its connection ended; `None` where it waits.
+    ended: Option<Ended>,
+}
+
+/// What the outside was told of a session with this client over these dialers.
 fn told(
     alloc: Global,
-    peer: &MemPeer,
-    dialers: (&MemDialer, &MemDialer),
-    keeper: Keeper,
-    ended: Option<Ended>,
+    client: &ServedClient,
+    first: &MemDialer,
+    second: &MemDialer,
 ) -> Mem<Played> {
-    let mut sent = Vec::new(alloc);
-    put_sent(dialers.0.log(), &mut sent)?;
-    put_sent(dialers.1.log(), &mut sent)?;
+    let sent = sent_by(alloc, first, second)?;
+    let written = spelling(alloc, client.peer.sink().held())?;
+    let told = String::from_str(alloc, client.keeper.text())?;
     Ok(Played {
-        written: spelling(alloc, peer.sink().held())?,
-        sent: spelling(alloc, sent.as_slice())?,
-        failed: dialers.0.faults().saturating_add(dialers.1.faults()),
-        ended,
+        written,
+        sent,
+        failed: first.faults().saturating_add(second.faults()),
+        ended: client.ended,
         failures: 0,
-        told: keeper.into_text(),
+        told,
     })
 }
 
 /// The same, with how often the replica has failed then: once less than behind one more report.
 fn with_failures(played: Mem<Played>, count: Mem<u32>) -> Mem<Played> {
+    let failures = count?.saturating_sub(1);
     let mut played = played?;
-    played.failures = count?.saturating_sub(1);
+    played.failures = failures;
     Ok(played)
 }
 
@@ -144,9 +173,10 @@ pub(crate) fn parts_of<J: Naming, D>(server: Server<J, D, MemClock>) -> (Pass<J>
     let Parts {
         pass,
         dialer,
-        clock: _,
+        clock,
         words: _,
     } = server.into_parts();
+    drop(clock);
     (pass, dialer)
 }
 
@@ -183,6 +213,44 @@ fn serve_stays<J: Naming, R: Wait>(
     }
 }
 
+/// A server with a pass that holds no slot, and with the dialer of a scene.
+fn server_of<J: Naming, R: Wait + Abort>(
+    context: &Context<'_, J, R>,
+    pass: Pass<J>,
+    scene: &Scene<'_>,
+) -> Server<J, MemDialer, MemClock>
+    ensures { slot_in result.pass ≡ None }
+{
+    let None = pass.holds() else {
+        panic!(context.rt; "the pass holds a slot")
+    };
+    let dialer = dialer(context.rt, context.alloc, scene);
+    server(context.rt, context.alloc, pass, dialer)
+}
+
+/// Serves the client of a scene with two servers.
+fn serve_client<J: Naming, R: Wait + Abort>(
+    context: &Context<'_, J, R>,
+    first: &mut Server<J, MemDialer, MemClock>,
+    second: &mut Server<J, MemDialer, MemClock>,
+    scene: &Scene<'_>,
+) -> ServedClient
+    requires first { slot_in first.old.pass ≡ None }
+    requires second { slot_in second.old.pass ≡ None }
+{
+    let Ok(peer) = client(context.alloc, scene) else {
+        panic!(context.rt; "no memory for a client")
+    };
+    let mut connection = scene.connection(peer);
+    let mut keeper = Keeper::new(context.alloc);
+    let ended = serve_stays(context, first, second, &mut connection, &mut keeper);
+    ServedClient {
+        peer: connection.into_peer(),
+        keeper,
+        ended,
+    }
+}
+
 /// Serves the client of a scene with a server of each pass, and gives the passes back.
 fn serve<J: Naming, R: Wait + Abort>(
     context: &Context<'_, J, R>,
@@ -190,31 +258,15 @@ fn serve<J: Naming, R: Wait + Abort>(
     second: Pass<J>,
     scene: &Scene<'_>,
 ) -> (Pass<J>, Pass<J>, Mem<Played>) {
-    let Context { rt, alloc, .. } = *context;
-    let None = first.holds() else {
-        panic!(rt; "the first pass holds a slot")
-    };
-    let None = second.holds() else {
-        panic!(rt; "the second pass holds a slot")
-    };
-    let Ok(peer) = client(alloc, scene) else {
-        panic!(rt; "no memory for a client")
-    };
-    let mut connection = scene.connection(peer);
-    let mut keeper = Keeper::new(alloc);
-    let mut first = server(rt, alloc, first, dialer(rt, alloc, scene));
-    let mut second = server(rt, alloc, second, dialer(rt, alloc, scene));
-    let ended = serve_stays(
-        context,
-        &mut first,
-        &mut second,
-        &mut connection,
-        &mut keeper,
-    );
+    let mut first = server_of(context, first, scene);
+    let mut second = server_of(context, second, scene);
+    let client = serve_client(context, &mut first, &mut second, scene);
     let (first, dialer) = parts_of(first);
     let (second, other) = parts_of(second);
-    let peer = connection.into_peer();
-    let played = told(alloc, &peer, (&dialer, &other), keeper, ended);
+    let played = told(context.alloc, &client, &dialer, &other);
+    drop(client);
+    drop(dialer);
+    drop(other);
     (first, second, played)
 }
 
@@ -308,6 +360,18 @@ pub(crate) fn play<R: Wait + Abort>(
     scene: &Scene<'_>,
 ) -> Result<Played, Fail> {
     let rule = by_host(alloc)?;
+    let played = play_by(rt, alloc, &rule, scene);
+    drop(rule);
+    played
+}
+
+/// The same, with requests named by this rule.
+fn play_by<R: Wait + Abort>(
+    rt: &R,
+    alloc: Global,
+    rule: &Rule,
+    scene: &Scene<'_>,
+) -> Result<Played, Fail> {
     let opened = begin(rt, alloc, scene)?;
-    Ok(play_named::<Brand, R>(rt, alloc, opened, &rule, scene)?)
+    Ok(play_named::<Brand, R>(rt, alloc, opened, rule, scene)?)
 }

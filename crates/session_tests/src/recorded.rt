@@ -26,8 +26,8 @@ impl Keeper {
     }
 
     /// What it was told, each exchange behind the one before it.
-    pub(crate) fn into_text(self) -> String {
-        self.told
+    pub(crate) fn text(&self) -> &str {
+        self.told.as_str()
     }
 }
 

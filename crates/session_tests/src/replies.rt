@@ -1,7 +1,10 @@
 //! Replies of each framing, and the ways in which a try ends, with the report that each makes.
 use crate::row::{NOTHING, PASSED, REFUSED, Row, UNANSWERED, play_rows};
 use crate::scene::Failing::{Dial, Read, Write};
-use crate::texts::{EMPTY, REPLY, TWO};
+use crate::texts::{
+    BAD_GATEWAY, CHUNKED, CLOSE, EMPTY, GET, GET_LINES, OK, ON, POST_LINES, REPLY, TWO, UPSTREAM,
+    VIA, WRITTEN, WRITTEN_EMPTY,
+};
 use http_wire::Ended::{Closed, PeerEnded, ReadFault, UpstreamCut, WriteFault};
 use std::test::Fail;
 
@@ -9,49 +12,52 @@ use std::test::Fail;
 const FRAMINGS: [Row; 6] = [
     Row {
         about: "a reply to HEAD",
-        gives: "HEAD / HTTP/1.1|Host: web||",
+        gives: &["HEAD / HTTP/1.1|Host: web||"],
         replies: &["HTTP/1.1 200 OK|Content-Length: 5||"],
-        written: "HTTP/1.1 200 OK|Content-Length: 5|Via: 1.1 linkerd||",
-        sent: "<HEAD / HTTP/1.1|Host: web|Via: 1.1 linkerd|l5d-dst-service: /svc/web|\
-            l5d-dst-client: /$/inet/127.0.0.1/9001|Connection: close||>",
+        written: &[OK, "Content-Length: 5|", VIA],
+        sent: &["<HEAD / HTTP/1.1|Host: web|", ON, ">"],
         ..PASSED
     },
     Row {
         about: "a refusal of HEAD",
         table: "",
-        gives: "HEAD / HTTP/1.1|Host: web||",
-        written: "HTTP/1.1 502 Bad Gateway|Content-Type: text/plain|l5d-err: negative|\
-            Content-Length: 9||",
+        gives: &["HEAD / HTTP/1.1|Host: web||"],
+        written: &[BAD_GATEWAY, "negative|Content-Length: 9||"],
         ended: PeerEnded,
         ..REFUSED
     },
     Row {
         about: "a 304 with a length",
         replies: &["HTTP/1.1 304 Not Modified|Content-Length: 5||"],
-        written: "HTTP/1.1 304 Not Modified|Content-Length: 5|Via: 1.1 linkerd||",
+        written: &["HTTP/1.1 304 Not Modified|Content-Length: 5|", VIA],
         ..PASSED
     },
     Row {
         about: "chunks to HTTP/1.1",
         replies: &["HTTP/1.1 200 OK|Transfer-Encoding: chunked||05;x|hello|0|T: 1||"],
-        written: "HTTP/1.1 200 OK|Transfer-Encoding: chunked|Via: 1.1 linkerd||5|hello|0||",
+        written: &[OK, CHUNKED, VIA, "5|hello|0||"],
         ..PASSED
     },
     Row {
         about: "chunks to HTTP/1.0",
-        gives: "GET / HTTP/1.0|Host: web||",
+        gives: &["GET / HTTP/1.0|Host: web||"],
         replies: &["HTTP/1.1 200 OK|Transfer-Encoding: chunked||5|hello|0||"],
-        written: "HTTP/1.1 200 OK|Via: 1.1 linkerd|Connection: close||hello",
-        sent: "<GET / HTTP/1.1|Host: web|Via: 1.0 linkerd|l5d-dst-service: /svc/web|\
-            l5d-dst-client: /$/inet/127.0.0.1/9001|Connection: close||>",
+        written: &[OK, "Via: 1.1 linkerd|", CLOSE, "hello"],
+        sent: &[
+            "<",
+            GET_LINES,
+            "Via: 1.0 linkerd|l5d-dst-service: /svc/web|l5d-dst-client: /$/inet/127.0.0.1/9001|",
+            CLOSE,
+            ">",
+        ],
         ended: Closed,
         ..PASSED
     },
     Row {
         about: "a body up to the end",
-        gives: TWO,
+        gives: &[TWO],
         replies: &["HTTP/1.0 200 OK||hello"],
-        written: "HTTP/1.1 200 OK|Via: 1.0 linkerd|Connection: close||hello",
+        written: &[OK, "Via: 1.0 linkerd|", CLOSE, "hello"],
         ended: Closed,
         ..PASSED
     },
@@ -111,7 +117,7 @@ const BROKEN: [Row; 5] = [
     Row {
         about: "a reply in chunks that is cut",
         replies: &["HTTP/1.1 200 OK|Transfer-Encoding: chunked||5|hel"],
-        written: "HTTP/1.1 200 OK|Transfer-Encoding: chunked|Via: 1.1 linkerd||5|hel",
+        written: &[OK, CHUNKED, VIA, "5|hel"],
         ended: UpstreamCut,
         ..UNANSWERED
     },
@@ -123,7 +129,7 @@ const CALLS: [Row; 6] = [
         about: "a send that fails",
         replies: &[EMPTY],
         failing: Dial(1),
-        sent: "<>",
+        sent: &["<>"],
         ..UNANSWERED
     },
     Row {
@@ -134,29 +140,30 @@ const CALLS: [Row; 6] = [
     },
     Row {
         about: "a request's body that is too long",
-        gives: "POST / HTTP/1.1|Host: web|Transfer-Encoding: chunked||8000000000000000|",
+        gives: &[POST_LINES, CHUNKED, "|8000000000000000|"],
         replies: &[EMPTY],
-        written: "HTTP/1.1 413 Content Too Large|Content-Type: text/plain|l5d-err: too-long|\
-            Content-Length: 9|Connection: close||too-long~",
-        sent: "<POST / HTTP/1.1|Host: web|Transfer-Encoding: chunked|Via: 1.1 linkerd|\
-            l5d-dst-service: /svc/web|l5d-dst-client: /$/inet/127.0.0.1/9001|Connection: close||\
-            8000000000000000|>",
+        written: &[
+            "HTTP/1.1 413 Content Too Large|Content-Type: text/plain|l5d-err: too-long|\
+                Content-Length: 9|",
+            CLOSE,
+            "too-long~",
+        ],
+        sent: &["<", POST_LINES, CHUNKED, ON, "8000000000000000|>"],
         ..REFUSED
     },
     Row {
         about: "a request's body that can't be read",
-        gives: "POST / HTTP/1.1|Host: web|Content-Length: 3||a",
+        gives: &[POST_LINES, "Content-Length: 3||a"],
         replies: &[EMPTY],
         failing: Read(1),
-        sent: "<POST / HTTP/1.1|Host: web|Content-Length: 3|Via: 1.1 linkerd|\
-            l5d-dst-service: /svc/web|l5d-dst-client: /$/inet/127.0.0.1/9001|Connection: close||a>",
+        sent: &["<", POST_LINES, "Content-Length: 3|", ON, "a>"],
         ended: ReadFault,
         ..REFUSED
     },
     Row {
         about: "a reply that can't be written",
         failing: Write(0),
-        written: "",
+        written: &[],
         ended: WriteFault,
         reported: NOTHING,
         ..PASSED
@@ -164,7 +171,7 @@ const CALLS: [Row; 6] = [
     Row {
         about: "a refusal that can't be written",
         failing: Write(0),
-        written: "",
+        written: &[],
         ended: WriteFault,
         ..UNANSWERED
     },
@@ -176,7 +183,7 @@ const BEHIND: [Row; 5] = [
         about: "a reply of no content, told before the next receive",
         replies: &["HTTP/1.1 204 No Content||"],
         failing: Dial(3),
-        written: "HTTP/1.1 204 No Content|Via: 1.1 linkerd||",
+        written: &["HTTP/1.1 204 No Content|", VIA],
         ..PASSED
     },
     Row {
@@ -186,39 +193,49 @@ const BEHIND: [Row; 5] = [
     },
     Row {
         about: "a request of no content that is not sent, and one behind it",
-        gives: "POST / HTTP/1.1|Host: web|Content-Length: 0||GET / HTTP/1.1|Host: web||",
+        gives: &[POST_LINES, "Content-Length: 0||", GET],
         replies: &["", REPLY],
         failing: Dial(1),
-        written: "HTTP/1.1 502 Bad Gateway|Content-Type: text/plain|l5d-err: upstream|\
-            Content-Length: 9||upstream~HTTP/1.1 200 OK|Content-Length: 2|Via: 1.1 linkerd||hi",
-        sent: "<><GET / HTTP/1.1|Host: web|Via: 1.1 linkerd|l5d-dst-service: /svc/web|\
-            l5d-dst-client: /$/inet/127.0.0.1/9001|Connection: close||>",
+        written: &[UPSTREAM, WRITTEN],
+        sent: &["<><", GET_LINES, ON, ">"],
         ..PASSED
     },
     Row {
         about: "a body that is not sent, and a request behind it",
-        gives: "POST / HTTP/1.1|Host: web|Content-Length: 5||helloGET / HTTP/1.1|Host: web||",
+        gives: &[POST_LINES, "Content-Length: 5||hello", GET],
         replies: &["", REPLY],
         failing: Dial(1),
-        written: "HTTP/1.1 502 Bad Gateway|Content-Type: text/plain|l5d-err: upstream|\
-            Content-Length: 9|Connection: close||upstream~",
-        sent: "<>",
+        written: &[
+            BAD_GATEWAY,
+            "upstream|Content-Length: 9|",
+            CLOSE,
+            "upstream~",
+        ],
+        sent: &["<>"],
         ended: Closed,
         ..UNANSWERED
     },
     Row {
         about: "a long head, and a shorter one behind it",
-        gives: "GET /long?a=b HTTP/1.1|Host: web|X-Long: 0123456789||GET / HTTP/1.1|Host: web||",
+        gives: &["GET /long?a=b HTTP/1.1|Host: web|X-Long: 0123456789||", GET],
         replies: &[
             "HTTP/1.1 200 OK|Content-Length: 0|X-Long: 0123456789||",
             EMPTY,
         ],
-        written: "HTTP/1.1 200 OK|X-Long: 0123456789|Content-Length: 0|Via: 1.1 linkerd||\
-            HTTP/1.1 200 OK|Content-Length: 0|Via: 1.1 linkerd||",
-        sent: "<GET /long?a=b HTTP/1.1|Host: web|X-Long: 0123456789|Via: 1.1 linkerd|\
-            l5d-dst-service: /svc/web|l5d-dst-client: /$/inet/127.0.0.1/9001|Connection: close||\
-            ><GET / HTTP/1.1|Host: web|Via: 1.1 linkerd|l5d-dst-service: /svc/web|\
-            l5d-dst-client: /$/inet/127.0.0.1/9001|Connection: close||>",
+        written: &[
+            OK,
+            "X-Long: 0123456789|Content-Length: 0|",
+            VIA,
+            WRITTEN_EMPTY,
+        ],
+        sent: &[
+            "<GET /long?a=b HTTP/1.1|Host: web|X-Long: 0123456789|",
+            ON,
+            "><",
+            GET_LINES,
+            ON,
+            ">",
+        ],
         ..PASSED
     },
 ];

@@ -215,6 +215,14 @@ fn told(
 impl Case {
     /// What comes of the session, and what is wanted.
     fn played<R: Wait + Abort>(&self, rt: &R, alloc: Global) -> Result<(String, String), Fail> {
+        let wanted = joined(alloc, self.written)?;
+        let wanted = told(alloc, wanted.as_str(), self.dials, Some(self.ended))?;
+        let comes = self.comes(rt, alloc)?;
+        Ok((comes, wanted))
+    }
+
+    /// What comes of the session.
+    fn comes<R: Wait + Abort>(&self, rt: &R, alloc: Global) -> Result<String, Fail> {
         let scene = Scene {
             failing: Failing::Dials(self.failing),
             tries: Some(self.tries),
@@ -222,11 +230,9 @@ impl Case {
         };
         let played = play(rt, alloc, &scene)?;
         let dials = (played.failed, opened(played.sent.as_str(), b'<'));
-        let wanted = joined(alloc, self.written)?;
-        Ok((
-            told(alloc, played.written.as_str(), dials, played.ended)?,
-            told(alloc, wanted.as_str(), self.dials, Some(self.ended))?,
-        ))
+        let comes = told(alloc, played.written.as_str(), dials, played.ended);
+        drop(played);
+        comes
     }
 }
 

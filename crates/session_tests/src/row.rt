@@ -1,7 +1,7 @@
 //! Rows of tables: what goes into a session and what comes of it.
 use crate::played::play;
 use crate::scene::{FIXED, Failing, Mem, Scene};
-use crate::texts::{EMPTY, GET, UPSTREAM, WRITTEN_EMPTY};
+use crate::texts::{EMPTY, GET, GET_LINES, ON, UPSTREAM, WRITTEN_EMPTY};
 use http_wire::Ended;
 use std::alloc::Global;
 use std::process::Abort;
@@ -24,21 +24,22 @@ pub(crate) const FAILED: Failures = 2;
 /// It was reported to do well, and then to fail.
 pub(crate) const FAILED_SINCE: Failures = 1;
 
-/// What goes into a session, and what comes of it. In the texts `|` is CR LF and `~` is LF.
+/// What goes into a session, and what comes of it: texts, and others behind them. In them `|` is CR
+/// LF and `~` is LF.
 #[derive(Clone, Copy)]
 pub(crate) struct Row {
     pub(crate) about: &'static str,
     /// The router's table.
     pub(crate) table: &'static str,
     /// What the client gives.
-    pub(crate) gives: &'static str,
+    pub(crate) gives: &'static [&'static str],
     /// What the upstreams reply, in the order of the dials.
     pub(crate) replies: &'static [&'static str],
     pub(crate) failing: Failing,
     /// What the client is given.
-    pub(crate) written: &'static str,
+    pub(crate) written: &'static [&'static str],
     /// What the tries send, each between `<` and `>`.
-    pub(crate) sent: &'static str,
+    pub(crate) sent: &'static [&'static str],
     pub(crate) ended: Ended,
     pub(crate) reported: Failures,
 }
@@ -47,12 +48,11 @@ pub(crate) struct Row {
 pub(crate) const PASSED: Row = Row {
     about: "",
     table: FIXED,
-    gives: GET,
+    gives: &[GET],
     replies: &[EMPTY],
     failing: Failing::Nothing,
-    written: WRITTEN_EMPTY,
-    sent: "<GET / HTTP/1.1|Host: web|Via: 1.1 linkerd|l5d-dst-service: /svc/web|\
-        l5d-dst-client: /$/inet/127.0.0.1/9001|Connection: close||>",
+    written: &[WRITTEN_EMPTY],
+    sent: &["<", GET_LINES, ON, ">"],
     ended: Ended::PeerEnded,
     reported: GOOD,
 };
@@ -60,7 +60,7 @@ pub(crate) const PASSED: Row = Row {
 /// One that goes on, and gets no reply.
 pub(crate) const UNANSWERED: Row = Row {
     replies: &[""],
-    written: UPSTREAM,
+    written: &[UPSTREAM],
     reported: FAILED,
     ..PASSED
 };
@@ -68,8 +68,8 @@ pub(crate) const UNANSWERED: Row = Row {
 /// One that is refused before a replica is tried, behind which its connection closes.
 pub(crate) const REFUSED: Row = Row {
     replies: &[],
-    written: "",
-    sent: "",
+    written: &[],
+    sent: &[],
     ended: Ended::Closed,
     reported: NOTHING,
     ..PASSED
@@ -85,7 +85,7 @@ pub(crate) fn joined(alloc: Global, texts: &[&str]) -> Mem<String> {
 }
 
 /// What came of a session, as one text.
-pub(crate) fn told(
+pub(crate) fn text_of(
     alloc: Global,
     written: &str,
     sent: &str,
@@ -97,27 +97,31 @@ pub(crate) fn told(
 
 impl Row {
     /// What comes of the session, and what is wanted.
-    pub(crate) fn played<R: Wait + Abort>(
-        &self,
-        rt: &R,
-        alloc: Global,
-    ) -> Result<(String, String), Fail> {
+    fn played<R: Wait + Abort>(&self, rt: &R, alloc: Global) -> Result<(String, String), Fail> {
+        let wanted = self.wanted(alloc)?;
+        let comes = self.comes(rt, alloc)?;
+        Ok((comes, wanted))
+    }
+
+    /// What comes of the session.
+    fn comes<R: Wait + Abort>(&self, rt: &R, alloc: Global) -> Result<String, Fail> {
+        let gives = joined(alloc, self.gives)?;
         let scene = Scene {
             failing: self.failing,
-            ..Scene::of(self.table, self.gives, self.replies)
+            ..Scene::of(self.table, gives.as_str(), self.replies)
         };
         let played = play(rt, alloc, &scene)?;
-        let (written, sent) = (played.written.as_str(), played.sent.as_str());
-        Ok((
-            told(alloc, written, sent, played.ended, played.failures)?,
-            told(
-                alloc,
-                self.written,
-                self.sent,
-                Some(self.ended),
-                self.reported,
-            )?,
-        ))
+        let comes = played.text(alloc);
+        drop(played);
+        Ok(comes?)
+    }
+
+    /// What is wanted of the session.
+    fn wanted(&self, alloc: Global) -> Mem<String> {
+        let written = joined(alloc, self.written)?;
+        let sent = joined(alloc, self.sent)?;
+        let (written, sent) = (written.as_str(), sent.as_str());
+        text_of(alloc, written, sent, Some(self.ended), self.reported)
     }
 }
 

@@ -8,7 +8,8 @@ use choose_core::Limits;
 use dtab_table::read_dtab;
 use http_wire::FieldName;
 use identifier::{Kind, Rule};
-use line_base::{MemClock, MemDialer, MemPeer, MemSink, MemSource, Peer, SocketAddress};
+use line_base::{Peer, SocketAddress};
+use line_doubles::{MemClock, MemDialer, MemPeer, MemSink, MemSource};
 use machine::{Change, Settings};
 use name_tree::read_path;
 use proxy_session::Connection;
@@ -40,6 +41,24 @@ pub(crate) enum Failing {
     Write(u64),
     Dial(u64),
     Dials(&'static [u64]),
+}
+
+impl Failing {
+    /// The read of the client that fails, if one does.
+    fn read(self) -> Option<u64> {
+        match self {
+            Failing::Read(call) => Some(call),
+            _ => None,
+        }
+    }
+
+    /// The write to the client that fails, if one does.
+    fn write(self) -> Option<u64> {
+        match self {
+            Failing::Write(call) => Some(call),
+            _ => None,
+        }
+    }
 }
 
 /// What a session is played with. In the texts `|` is CR LF and `~` is LF.
@@ -209,41 +228,63 @@ const CLIENT: SocketAddress = SocketAddress {
     port: 4711,
 };
 
-/// The client of a scene.
-pub(crate) fn client(alloc: Global, scene: &Scene<'_>) -> Mem<MemPeer> {
-    let (read, write) = match scene.failing {
-        Failing::Read(call) => (Some(call), None),
-        Failing::Write(call) => (None, Some(call)),
-        _ => (None, None),
-    };
-    let source = MemSource::of(
-        given(alloc, scene)?,
-        scene.sizes(alloc, CALLS)?,
-        listed(alloc, read)?,
-    );
-    let sink = MemSink::of(alloc, scene.sizes(alloc, CALLS)?, listed(alloc, write)?);
-    let peer = match scene.closing {
-        Some(question) => MemPeer::closing(source, sink, question),
-        None => MemPeer::of(source, sink),
-    };
-    let peer = peer.at(CLIENT);
-    Ok(peer.quiet(Vec::from_slice(alloc, scene.quiet)?))
+/// The bytes that the client of a scene gives, in its calls.
+fn source(alloc: Global, scene: &Scene<'_>) -> Mem<MemSource> {
+    let failing = listed(alloc, scene.failing.read())?;
+    let sizes = scene.sizes(alloc, CALLS)?;
+    let bytes = given(alloc, scene)?;
+    Ok(MemSource::of(bytes, sizes, failing))
 }
 
-/// The upstreams of a scene.
-pub(crate) fn upstreams(alloc: Global, scene: &Scene<'_>) -> Mem<MemDialer> {
+/// What takes the bytes that it is given.
+fn sink(alloc: Global, scene: &Scene<'_>) -> Mem<MemSink> {
+    let failing = listed(alloc, scene.failing.write())?;
+    let sizes = scene.sizes(alloc, CALLS)?;
+    Ok(MemSink::of(alloc, sizes, failing))
+}
+
+/// The client of a scene.
+pub(crate) fn client(alloc: Global, scene: &Scene<'_>) -> Mem<MemPeer> {
+    let quiet = Vec::from_slice(alloc, scene.quiet)?;
+    let sink = sink(alloc, scene)?;
+    let source = source(alloc, scene)?;
+    let peer = peer_of(source, sink, scene.closing);
+    Ok(peer.at(CLIENT).quiet(quiet))
+}
+
+/// A peer of both, which says from this question on that its listeners are closing.
+fn peer_of(source: MemSource, sink: MemSink, closing: Option<u64>) -> MemPeer {
+    match closing {
+        Some(question) => MemPeer::closing(source, sink, question),
+        None => MemPeer::of(source, sink),
+    }
+}
+
+/// The replies of the upstreams of a scene.
+fn replies(alloc: Global, scene: &Scene<'_>) -> Mem<Vec<Bytes>> {
     let mut replies = Vec::new(alloc);
     for reply in scene.replies {
         replies.push(spelt(alloc, reply)?)?;
     }
-    let dialer = MemDialer::of(
-        alloc,
-        replies,
-        scene.sizes(alloc, CALLS)?,
-        dials(alloc, scene.failing)?,
-    );
-    Ok(match scene.keeping {
-        Some(waiting) => dialer.keeping(true, Vec::from_slice(alloc, waiting)?),
+    Ok(replies)
+}
+
+/// The calls of a scene's dialer that wait for too long, if it keeps connections.
+fn waiting(alloc: Global, scene: &Scene<'_>) -> Mem<Option<Vec<u64>>> {
+    match scene.keeping {
+        Some(waiting) => Ok(Some(Vec::from_slice(alloc, waiting)?)),
+        None => Ok(None),
+    }
+}
+
+/// The upstreams of a scene.
+pub(crate) fn upstreams(alloc: Global, scene: &Scene<'_>) -> Mem<MemDialer> {
+    let waiting = waiting(alloc, scene)?;
+    let failing = dials(alloc, scene.failing)?;
+    let sizes = scene.sizes(alloc, CALLS)?;
+    let dialer = MemDialer::of(alloc, replies(alloc, scene)?, sizes, failing);
+    Ok(match waiting {
+        Some(waiting) => dialer.keeping(true, waiting),
         None => dialer,
     })
 }

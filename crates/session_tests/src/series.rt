@@ -2,24 +2,14 @@
 use crate::played::play;
 use crate::scene::Failing::{self, Dial, Read, Write};
 use crate::scene::{Scene, spelt};
-use crate::texts::{DIAL, UPSTREAM};
+use crate::texts::{DIAL, FIELDS, SENT_FIELDS, UPSTREAM};
 use http_wire::Ended::{self, Cut, PeerEnded, ReadFault, UpstreamCut, WriteFault};
 use std::alloc::Global;
 use std::process::Abort;
 use std::sync::Wait;
 use std::test::Fail;
 
-/// A request.
-const REQUEST: &str = "GET /x?y=1 HTTP/1.1|Host: Web|User-Agent: curl/8.5.0|Accept: */*|\
-    l5d-dtab: /svc/web => /$/inet/127.0.0.1/9001|Connection: x-gone, keep-alive|X-Gone: 1|\
-    X-Kept: 2||";
-
-/// What goes on for it.
-const SENT: &str = "<GET /x?y=1 HTTP/1.1|Host: Web|User-Agent: curl/8.5.0|Accept: */*|\
-    X-Kept: 2|Via: 1.1 linkerd|l5d-ctx-dtab: /svc/web=>/$/inet/127.0.0.1/9001|\
-    l5d-dst-service: /svc/web|l5d-dst-client: /$/inet/127.0.0.1/9001|Connection: close||>";
-
-/// Its reply.
+/// The reply to the request.
 const REPLY: &str = "HTTP/1.1 200 OK|Content-Length: 50||\
     01234567890123456789012345678901234567890123456789";
 
@@ -40,7 +30,7 @@ fn served<R: Wait + Abort>(
         times,
         most: 40,
         failing,
-        ..Scene::of("", REQUEST, &replies)
+        ..Scene::of("", FIELDS, &replies)
     };
     let played = play(rt, alloc, &scene)?;
     Ok((played.ended, played.written, played.sent))
@@ -50,17 +40,17 @@ fn served<R: Wait + Abort>(
 fn a_request_that_is_cut_is_not_sent(rt: HostRuntime) -> Result<(), Fail> {
     let alloc = rt.alloc();
     let replies = [REPLY];
-    let length = spelt(alloc, REQUEST)?.len();
+    let length = spelt(alloc, FIELDS)?.len();
     for until in 0..length + 1 {
         let scene = Scene {
             until,
-            ..Scene::of("", REQUEST, &replies)
+            ..Scene::of("", FIELDS, &replies)
         };
         let played = play(&rt, alloc, &scene)?;
         let wanted = match until {
             0 => (PeerEnded, "", ""),
             _ if until < length => (Cut, "", ""),
-            _ => (PeerEnded, WRITTEN, SENT),
+            _ => (PeerEnded, WRITTEN, SENT_FIELDS),
         };
         let comes = (played.ended, played.written.as_str(), played.sent.as_str());
         let (ended, written, sent) = wanted;
@@ -90,7 +80,7 @@ fn each_call_of_the_client_fails(rt: HostRuntime) -> Result<(), Fail> {
         let (ended, written, sent) = served(&rt, alloc, Write(call), 1)?;
         assert_eq!(rt;
             (ended, sent.as_str()),
-            (Some(WriteFault), SENT),
+            (Some(WriteFault), SENT_FIELDS),
             "write {call}"
         );
         let begins = WRITTEN.starts_with(written.as_str());
@@ -98,7 +88,11 @@ fn each_call_of_the_client_fails(rt: HostRuntime) -> Result<(), Fail> {
     }
     let (ended, written, sent) = served(&rt, alloc, Write(4), 1)?;
     let comes = (ended, written.as_str(), sent.as_str());
-    assert_eq!(rt; comes, (Some(PeerEnded), WRITTEN, SENT), "no further write");
+    assert_eq!(rt;
+        comes,
+        (Some(PeerEnded), WRITTEN, SENT_FIELDS),
+        "no further write"
+    );
     Ok(())
 }
 

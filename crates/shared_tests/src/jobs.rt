@@ -1,7 +1,8 @@
 //! Jobs that need one another, and clients that are served by turns.
 ghost use Rattle.std.specs.Prelude.{◌≡◌};
 
-use line_base::{Event, Gate, MemListener, MemPeer, MemSink, MemSource, Next, Peer};
+use line_base::{Event, Gate, Next, Peer};
+use line_doubles::{MemListener, MemPeer, MemSink, MemSource};
 use std::alloc::{AllocError, Global};
 use std::marker::Brand;
 use std::sync::Wait;
@@ -158,9 +159,10 @@ enum Told {
     Tick(u64),
 }
 
-/// Who waits first is ended by a wait that fails, and the second in the place of the fourth. A stale
-/// number finds nobody; the third has one more turn, in which it ends, and the fourth is ended by a
-/// tick. One more waits until the listener is closed, and is served then what it has yet to say.
+/// Who waits first is ended by a wait that fails, and the second in the place of the fourth. A
+/// stale number finds nobody; the third has one more turn, in which it ends, and the fourth is
+/// ended by a tick. One more waits until the listener is closed, and is served then what it has
+/// yet to say.
 const TOLD: [Told; 8] = [
     Told::Client(b"one", 3),
     Told::Client(b"two", 3),
@@ -248,9 +250,11 @@ fn clients_are_served_by_turns(rt: HostRuntime) -> Result<(), Fail> {
         &mut listener,
         Blank::new(1),
         Blank::new(1),
-    )?;
-    let heard = heard_by(alloc, &listener)?;
-    assert!(rt; heard.as_slice() == b"onetwothreefourfive!".as_slice());
-    assert!(rt; served == (7, 0, Accepting::Closed) && listener.faults() == 1);
+    );
+    let heard = heard_by(alloc, &listener);
+    let faults = listener.faults();
+    drop(listener);
+    assert!(rt; heard?.as_slice() == b"onetwothreefourfive!".as_slice());
+    assert!(rt; served? == (7, 0, Accepting::Closed) && faults == 1);
     Ok(())
 }

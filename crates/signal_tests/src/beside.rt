@@ -1,5 +1,6 @@
 //! A watch beside what serves.
-use line_base::{MemFile, MemFolder, MemNet, MemPeer, MemStop, Net};
+use line_base::Net;
+use line_doubles::{MemFile, MemFolder, MemNet, MemPeer, MemStop};
 use signal_watch::{Pause, RemoteStop, StopCell, StoppableNet, Watched, watch};
 use std::alloc::Global;
 use std::sync::Arc;
@@ -42,21 +43,21 @@ fn quiet(alloc: Global) -> Result<MemFolder, Fail> {
 #[test]
 fn a_watch_ends_with_what_serves(rt: HostRuntime) -> Result<(), Fail> {
     let alloc = rt.alloc();
+    let is_over = Arc::new(alloc, AtomicBool::new(false))?;
+    let mut pause = Until {
+        is_over: Arc::try_clone(&is_over)?,
+        heard: 0,
+    };
+    let cell = StopCell::new(alloc)?;
+    let mut remote = RemoteStop::of(&rt, cell.share()?);
+    let mut folder = quiet(alloc)?;
     let below: MemNet<MemPeer> = MemNet::of(
         alloc,
         Vec::new(alloc),
         Vec::new(alloc),
         Vec::new(alloc),
     );
-    let cell = StopCell::new(alloc)?;
-    let mut remote = RemoteStop::of(&rt, cell.share()?);
     let mut net = StoppableNet::of(&rt, below, cell);
-    let mut folder = quiet(alloc)?;
-    let is_over = Arc::new(alloc, AtomicBool::new(false))?;
-    let mut pause = Until {
-        is_over: Arc::try_clone(&is_over)?,
-        heard: 0,
-    };
     let (watched, calls) = thread::join(
         &rt,
         || watch(&rt, &mut folder, &mut pause, &mut remote),
@@ -66,9 +67,9 @@ fn a_watch_ends_with_what_serves(rt: HostRuntime) -> Result<(), Fail> {
             calls
         },
     );
-    assert_eq!(rt;
-        (watched?, calls, net.net().stops()),
-        (Watched::Over, 0, (2, 0))
-    );
+    let stops = net.net().stops();
+    drop(net);
+    drop(folder);
+    assert_eq!(rt; (watched?, calls, stops), (Watched::Over, 0, (2, 0)));
     Ok(())
 }

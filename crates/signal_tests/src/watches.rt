@@ -1,5 +1,5 @@
 //! Watches over a folder in memory.
-use line_base::{MemFile, MemFolder, MemStop};
+use line_doubles::{MemFile, MemFolder, MemStop};
 use signal_watch::{Pause, Watched, is_watchable, watch};
 use std::alloc::{AllocGlobal, Global};
 use std::sync::Wait;
@@ -56,8 +56,9 @@ fn watched<R: AllocGlobal + Wait>(
     let mut folder = folder(rt.alloc(), status, failing)?;
     let mut pause = Counted { left: 1, heard: 0 };
     let mut stop = MemStop::new();
-    let watched = watch(rt, &mut folder, &mut pause, &mut stop)?;
-    Ok((watched, stop.calls()))
+    let watched = watch(rt, &mut folder, &mut pause, &mut stop);
+    drop(folder);
+    Ok((watched?, stop.calls()))
 }
 
 #[test]
@@ -79,7 +80,9 @@ const HELD: [(Option<&str>, &[u64], bool); 4] = [
 /// Whether a watch would see a signal.
 fn held(alloc: Global, status: Option<&str>, failing: &[u64]) -> Result<bool, Fail> {
     let mut folder = folder(alloc, status, failing)?;
-    Ok(is_watchable(&mut folder)?)
+    let held = is_watchable(&mut folder);
+    drop(folder);
+    Ok(held?)
 }
 
 #[test]

@@ -30,7 +30,7 @@ pub enum Watched {
 }
 
 /// What one look found.
-#[derive(Clone, Copy, Debug, PartialEq, Eq)]
+#[derive(Clone, Copy)]
 enum Seen {
     /// A signal that asks for an end waits.
     Asked,

@@ -319,6 +319,14 @@ fn counts_of(found: &Delegated) -> Counts {
     )
 }
 
+/// What a path comes to by a table.
+fn found_by(alloc: Global, table: &str, path: &str, wanted: Wanted) -> Result<Delegated, Fail> {
+    let given = read_given(alloc, table, "", "")?;
+    let found = told(alloc, &given, path, wanted);
+    drop(given);
+    Ok(found?)
+}
+
 /// What a path comes to by a table in words, with its counts.
 fn counted(
     alloc: Global,
@@ -326,10 +334,11 @@ fn counted(
     path: &str,
     wanted: Wanted,
 ) -> Result<(Vec<u8>, Counts), Fail> {
-    let given = read_given(alloc, table, "", "")?;
-    let found = told(alloc, &given, path, wanted)?;
-    let text = outcome_text(alloc, &found.outcome)?;
-    Ok((text, counts_of(&found)))
+    let found = found_by(alloc, table, path, wanted)?;
+    let text = outcome_text(alloc, &found.outcome);
+    let counts = counts_of(&found);
+    drop(found);
+    Ok((text?, counts))
 }
 
 #[test]
@@ -431,6 +440,20 @@ fn asked_text(alloc: Global, found: &Delegated) -> Mem<(Vec<u8>, Vec<u8>)> {
     Ok((text, paths_text(alloc, found.asked.items())?))
 }
 
+/// What a path comes to by three tables, with the paths that were looked up.
+fn found_in(
+    alloc: Global,
+    space: &str,
+    base: &str,
+    local: &str,
+    path: &str,
+) -> Result<Delegated, Fail> {
+    let given = read_given(alloc, space, base, local)?;
+    let found = told(alloc, &given, path, Wanted::Asked);
+    drop(given);
+    Ok(found?)
+}
+
 /// The same of a path by three tables, and whether the cost is the number of those paths.
 fn asked_by(
     alloc: Global,
@@ -439,10 +462,11 @@ fn asked_by(
     local: &str,
     path: &str,
 ) -> Result<(Vec<u8>, Vec<u8>, bool), Fail> {
-    let given = read_given(alloc, space, base, local)?;
-    let found = told(alloc, &given, path, Wanted::Asked)?;
-    let (text, asked) = asked_text(alloc, &found)?;
+    let found = found_in(alloc, space, base, local, path)?;
+    let texts = asked_text(alloc, &found);
     let (cost, count, traced) = counts_of(&found);
+    drop(found);
+    let (text, asked) = texts?;
     Ok((text, asked, cost as usize == count && traced == 0))
 }
 
@@ -507,10 +531,11 @@ const TRACES: [(&str, &str, usize, &str); 8] = [
 
 /// The first four lookups of a path by a table in words, with the counts.
 fn traced_text(alloc: Global, table: &str, path: &str) -> Result<(Vec<u8>, Counts), Fail> {
-    let given = read_given(alloc, table, "", "")?;
-    let found = told(alloc, &given, path, Wanted::Trace)?;
-    let text = trace_text(alloc, found.trace.items())?;
-    Ok((text, counts_of(&found)))
+    let found = found_by(alloc, table, path, Wanted::Trace)?;
+    let text = trace_text(alloc, found.trace.items());
+    let counts = counts_of(&found);
+    drop(found);
+    Ok((text?, counts))
 }
 
 #[test]

@@ -36,7 +36,10 @@ fn change_in(said: Line) -> Result<Change, Fail>
 {
     match said {
         Line::Change(change) => Ok(change),
-        _ => Err("no change".into()),
+        other => {
+            drop(other);
+            Err("no change".into())
+        }
     }
 }
 
@@ -60,8 +63,19 @@ pub(crate) fn look(alloc: Global, line: &str) -> Result<Look, Fail> {
         return addresses(alloc);
     }
     match read_line(alloc, line.as_bytes()) {
-        Ok(Line::Look(look)) => Ok(look),
-        _ => Err("no question".into()),
+        Ok(said) => look_in(said),
+        Err(_) => Err("no line".into()),
+    }
+}
+
+/// The question of what a line says.
+fn look_in(said: Line) -> Result<Look, Fail> {
+    match said {
+        Line::Look(look) => Ok(look),
+        other => {
+            drop(other);
+            Err("no question".into())
+        }
     }
 }
 
@@ -73,7 +87,18 @@ fn addresses(alloc: Global) -> Result<Look, Fail> {
 /// The pick of a line.
 pub(crate) fn ask(alloc: Global, line: &str) -> Result<Ask, Fail> {
     match read_line(alloc, line.as_bytes()) {
-        Ok(Line::Ask(ask)) => Ok(ask),
-        _ => Err("no pick".into()),
+        Ok(said) => ask_in(said),
+        Err(_) => Err("no line".into()),
+    }
+}
+
+/// The pick of what a line says.
+fn ask_in(said: Line) -> Result<Ask, Fail> {
+    match said {
+        Line::Ask(ask) => Ok(ask),
+        other => {
+            drop(other);
+            Err("no pick".into())
+        }
     }
 }

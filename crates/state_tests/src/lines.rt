@@ -1,20 +1,32 @@
 //! Lines at their limits, and replies.
 use crate::given::{path, table};
+use crate::state::answer_text;
 use addr_book::{Addr, Name};
 use choose_core::Mark;
 use machine::{Change, Chosen, NameList, Reply, Why};
-use script::{Bytes, Line, LineFault, Mem, Said, read_line, reply_text, script_settings, storm};
+use script::{Bytes, Line, LineFault, Mem, Said, read_line, script_settings, storm};
 use std::alloc::Global;
 use std::test::Fail;
+
+/// What kind of line this is.
+fn kind_of(line: &Line) -> &'static str {
+    match line {
+        Line::Blank => "blank",
+        Line::Table(_) => "table",
+        Line::Change(_) => "change",
+        Line::Look(_) => "look",
+        Line::Ask(_) => "ask",
+    }
+}
 
 /// What kind of line a text is.
 fn kind(alloc: Global, line: &[u8]) -> &'static str {
     match read_line(alloc, line) {
-        Ok(Line::Blank) => "blank",
-        Ok(Line::Table(_)) => "table",
-        Ok(Line::Change(_)) => "change",
-        Ok(Line::Look(_)) => "look",
-        Ok(Line::Ask(_)) => "ask",
+        Ok(line) => {
+            let kind = kind_of(&line);
+            drop(line);
+            kind
+        }
         Err(LineFault::BadLine) => "bad",
         Err(LineFault::OutOfMemory) => "memory",
     }
@@ -97,14 +109,31 @@ fn addrs_line(alloc: Global, count: usize) -> Mem<Bytes> {
     Ok(line)
 }
 
+/// How many addresses a service gets by a line.
+fn addrs_in(line: &Line) -> Result<Option<usize>, Fail> {
+    match line {
+        Line::Change(Change::SetAddrs { list, .. }) => Ok(Some(list.items().len())),
+        _ => Err("another line".into()),
+    }
+}
+
+/// The same by a text; nothing where it is none that is good.
+fn addrs_by(alloc: Global, text: &[u8]) -> Result<Option<usize>, Fail> {
+    match read_line(alloc, text) {
+        Ok(line) => {
+            let addrs = addrs_in(&line);
+            drop(line);
+            addrs
+        }
+        Err(LineFault::BadLine) => Ok(None),
+        Err(LineFault::OutOfMemory) => Err("out of memory".into()),
+    }
+}
+
 /// How many addresses a service gets by a line with so many, where it is none that is bad.
 fn count_of(alloc: Global, count: usize) -> Result<Option<usize>, Fail> {
     let line = addrs_line(alloc, count)?;
-    match read_line(alloc, line.as_slice()) {
-        Ok(Line::Change(Change::SetAddrs { list, .. })) => Ok(Some(list.items().len())),
-        Err(LineFault::BadLine) => Ok(None),
-        _ => Err("another line".into()),
-    }
+    addrs_by(alloc, line.as_slice())
 }
 
 #[test]
@@ -177,7 +206,7 @@ fn said_of(alloc: Global, answer: Answer) -> Result<Said, Fail> {
 /// The text of an answer of a kind.
 fn text_of(alloc: Global, answer: Answer) -> Result<Bytes, Fail> {
     let said = said_of(alloc, answer)?;
-    Ok(reply_text(alloc, &said)?)
+    Ok(answer_text(alloc, said)?)
 }
 
 /// A mark of five failures.

@@ -82,7 +82,8 @@ fn run_steps<L: Ledger>(
 fn told(alloc: Global, rows: &[Row<'_>]) -> Result<ToldList, Fail> {
     let steps = steps(alloc, rows)?;
     let settings = script_settings(alloc)?;
-    let (_world, told) = run_steps::<Brand>(alloc, settings, steps.as_slice(), Blank::new(1))?;
+    let (world, told) = run_steps::<Brand>(alloc, settings, steps.as_slice(), Blank::new(1))?;
+    drop(world);
     Ok(told)
 }
 

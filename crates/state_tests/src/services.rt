@@ -55,12 +55,28 @@ fn words(alloc: Global, reply: &Reply) -> Result<String, AllocError> {
     Ok(words)
 }
 
-/// What a look at a moment tells of the services of a state.
-fn looked(alloc: Global, state: &State, moment: u64) -> Result<String, Fail> {
+/// The reply to a look at the services at a moment.
+fn reply_at(alloc: Global, state: &State, moment: u64) -> Result<Reply, AllocError> {
     let settings = script_settings(alloc)?;
-    let look = Look::Services { moment }.copied(alloc)?;
-    let reply = reply_to(alloc, &settings, state, &look)?;
-    Ok(words(alloc, &reply)?)
+    let look = Look::Services { moment };
+    let Ok(copy) = look.copied(alloc) else {
+        drop(look);
+        drop(settings);
+        return Err(AllocError);
+    };
+    drop(look);
+    let reply = reply_to(alloc, &settings, state, &copy);
+    drop(copy);
+    drop(settings);
+    reply
+}
+
+/// What a look at a moment tells of the services of a state.
+fn looked(alloc: Global, state: &State, moment: u64) -> Result<String, AllocError> {
+    let reply = reply_at(alloc, state, moment)?;
+    let text = words(alloc, &reply);
+    drop(reply);
+    text
 }
 
 /// What is told at a moment.

@@ -1,9 +1,11 @@
 //! Changes, looks and picks on small states.
 ghost use Rattle.std.specs.Prelude.{◌≡◌, ◌<◌};
+ghost use Rattle.machine.specs.Code.{change_of};
+ghost use Rattle.machine.specs.State.{IsSoundChange};
 
 use crate::given::{ask, change, look};
 use bind_core::Wanted;
-use machine::{Ask, Chosen, Look, Reply, Settings, State, Taken};
+use machine::{Ask, Change, Chosen, Look, Reply, Settings, State, Taken};
 use script::{Said, reply_text, script_settings};
 use std::alloc::{AllocError, Global};
 use std::marker::Brand;
@@ -34,8 +36,22 @@ fn applied(
     state: &mut State,
     line: &str,
 ) -> Result<Said, Fail> {
-    let change = change(alloc, line)?.copied(alloc)?;
-    Ok(Said::Reply(state.apply(alloc, settings, &change)?))
+    let change = change(alloc, line)?;
+    Ok(Said::Reply(apply_copy(alloc, settings, state, change)?))
+}
+
+/// Applies a copy of a change.
+fn apply_copy(alloc: Global, settings: &Settings, state: &mut State, change: Change) -> Mem<Reply>
+    requires { IsSoundChange (change_of change) }
+{
+    let Ok(copy) = change.copied(alloc) else {
+        drop(change);
+        return Err(AllocError);
+    };
+    drop(change);
+    let applied = state.apply(alloc, settings, &copy);
+    drop(copy);
+    applied
 }
 
 /// Prepares the change of a line, and absorbs it where it is accepted.
@@ -46,11 +62,28 @@ fn absorbed(
     line: &str,
 ) -> Result<Said, Fail> {
     let change = change(alloc, line)?;
-    let (reply, ready) = state.prepare(alloc, settings, &change)?;
-    if let Some(ready) = ready {
-        state.absorb(&ready)?;
+    let absorbed = absorb(alloc, settings, state, &change);
+    drop(change);
+    Ok(Said::Reply(absorbed?))
+}
+
+/// Prepares a change, and absorbs it where it is accepted.
+fn absorb(alloc: Global, settings: &Settings, state: &mut State, change: &Change) -> Mem<Reply>
+    requires { IsSoundChange (change_of change.now) }
+{
+    let (reply, ready) = state.prepare(alloc, settings, change)?;
+    let Some(ready) = ready else {
+        return Ok(reply);
+    };
+    let absorbed = state.absorb(&ready);
+    drop(ready);
+    match absorbed {
+        Ok(()) => Ok(reply),
+        Err(want) => {
+            drop(reply);
+            Err(want)
+        }
     }
-    Ok(Said::Reply(reply))
 }
 
 fn answer<L: Ledger>(
@@ -79,8 +112,13 @@ pub(crate) fn reply_to(
 
 /// The answer to a copy of the question of a line.
 fn answered(alloc: Global, settings: &Settings, state: &State, line: &str) -> Result<Said, Fail> {
-    let look = look(alloc, line)?.copied(alloc)?;
-    Ok(Said::Reply(reply_to(alloc, settings, state, &look)?))
+    let look = look(alloc, line)?;
+    let copied = look.copied(alloc);
+    drop(look);
+    let copy = copied?;
+    let reply = reply_to(alloc, settings, state, &copy);
+    drop(copy);
+    Ok(Said::Reply(reply?))
 }
 
 fn choose<L: Ledger>(
@@ -120,10 +158,25 @@ fn said(
     }
 }
 
+/// What a line is answered, with the settings of scripts.
+fn said_by(alloc: Global, state: &mut State, by: By, line: &str) -> Result<Said, Fail> {
+    let settings = script_settings(alloc)?;
+    let said = said(alloc, &settings, state, by, line);
+    drop(settings);
+    said
+}
+
 /// The text of what a line is answered.
 pub(crate) fn told(alloc: Global, state: &mut State, by: By, line: &str) -> Result<Vec<u8>, Fail> {
-    let settings = script_settings(alloc)?;
-    Ok(reply_text(alloc, &said(alloc, &settings, state, by, line)?)?)
+    let said = said_by(alloc, state, by, line)?;
+    Ok(answer_text(alloc, said)?)
+}
+
+/// The text of an answer, which is let go of then.
+pub(crate) fn answer_text(alloc: Global, said: Said) -> Mem<Vec<u8>> {
+    let text = reply_text(alloc, &said);
+    drop(said);
+    text
 }
 
 /// Lines that are carried out on one state, and their answers.
@@ -243,10 +296,12 @@ fn taken<L: Ledger>(
         Wanted::Neither,
         &mut steps,
     )?;
-    match state.candidates_of(settings, &delegated.outcome, ask) {
-        Ok(candidates) => Ok(Some(candidates.taken(loads.0, loads.1))),
-        Err(_) => Ok(None),
-    }
+    let taken = match state.candidates_of(settings, &delegated.outcome, ask) {
+        Ok(candidates) => Some(candidates.taken(loads.0, loads.1)),
+        Err(_) => None,
+    };
+    drop(delegated);
+    Ok(taken)
 }
 
 /// The port and the slot of the replica that is taken for `/svc/web`, with this third word; the

@@ -8,6 +8,7 @@ use addr_book::{
 use name_tree::{append_path, read_path};
 use std::alloc::Global;
 use std::test::Fail;
+use text_parts::append_number;
 
 /// Texts, and whether they are names.
 const NAMES: [(&str, &str); 12] = [
@@ -41,14 +42,22 @@ fn kind(alloc: Global, text: &[u8]) -> &'static str {
 }
 
 #[test]
-fn names(rt: HostRuntime) -> Result<(), Fail> {
+fn names(rt: HostRuntime) {
     for (text, want) in &NAMES {
-        assert_eq!(rt; kind(rt.alloc(), text.as_bytes()), *want, "{text:?}");
+        assert!(rt; kind(rt.alloc(), text.as_bytes()) == *want, "{text:?}");
     }
-    for (count, want) in [(255, "name"), (256, "none")] {
-        let text = Vec::from_elem(rt.alloc(), b'a', count)?;
-        assert_eq!(rt; kind(rt.alloc(), text.as_slice()), want, "{count}");
-    }
+}
+
+/// Whether so many letters are a name.
+fn long_kind(alloc: Global, count: usize) -> Mem<&'static str> {
+    let text = Vec::from_elem(alloc, b'a', count)?;
+    Ok(kind(alloc, text.as_slice()))
+}
+
+#[test]
+fn names_have_255_bytes(rt: HostRuntime) -> Result<(), Fail> {
+    assert!(rt; long_kind(rt.alloc(), 255)? == "name");
+    assert!(rt; long_kind(rt.alloc(), 256)? == "none");
     Ok(())
 }
 
@@ -60,16 +69,18 @@ fn compared(alloc: Global, one: &str, other: &str) -> Result<(bool, bool, bool),
     Ok((one < other, one == other, copy == one))
 }
 
+/// Two names, and what they are as against each other.
+const COMPARED: [(&str, &str, (bool, bool, bool)); 4] = [
+    ("web", "web", (false, true, true)),
+    ("Web", "web", (true, false, true)),
+    ("web", "web-1", (true, false, true)),
+    ("web", "we", (false, false, true)),
+];
+
 #[test]
 fn names_are_ordered_by_their_bytes(rt: HostRuntime) -> Result<(), Fail> {
-    let rows = [
-        ("web", "web", (false, true, true)),
-        ("Web", "web", (true, false, true)),
-        ("web", "web-1", (true, false, true)),
-        ("web", "we", (false, false, true)),
-    ];
-    for (one, other, want) in rows {
-        assert!(rt; compared(rt.alloc(), one, other)? == want, "{one} {other}");
+    for (one, other, want) in &COMPARED {
+        assert!(rt; compared(rt.alloc(), one, other)? == *want, "{one} {other}");
     }
     Ok(())
 }
@@ -132,16 +143,22 @@ const FILES: [(&str, &str); 41] = [
     ),
 ];
 
-/// Addresses in words: each with `*` and its weight in millionths, unless that is one whole, and a
-/// space.
+/// Puts an address behind a text, with `*` and its weight in millionths, unless that is one whole,
+/// and a space.
+fn put_item(item: &Weighted, text: &mut Vec<u8>) -> Mem<()> {
+    append_addr(item.addr, text)?;
+    if item.weight != ONE_WEIGHT {
+        text.push(b'*')?;
+        append_number(item.weight, text)?;
+    }
+    Ok(text.push(b' ')?)
+}
+
+/// Addresses in words.
 fn list_text(alloc: Global, items: &[Weighted]) -> Mem<Vec<u8>> {
     let mut text = Vec::new(alloc);
     for item in items {
-        append_addr(item.addr, &mut text)?;
-        if item.weight != ONE_WEIGHT {
-            text.extend_from_slice(format!(in alloc; "*{}", item.weight)?.as_bytes())?;
-        }
-        text.push(b' ')?;
+        put_item(item, &mut text)?;
     }
     Ok(text)
 }
@@ -191,50 +208,65 @@ fn count_text(alloc: Global, text: &[u8]) -> Mem<Vec<u8>> {
     }
 }
 
+/// The same of 1,024 lines and an end.
+fn full_text(alloc: Global, end: &str) -> Mem<Vec<u8>> {
+    let text = lines(alloc, "127.0.0.1", 1, 1_024, end)?;
+    count_text(alloc, text.as_bytes())
+}
+
+/// What stands behind 1,024 lines, and what is read of them.
+const ENDS: [(&str, &str); 3] = [
+    ("", "1024"),
+    ("127.0.0.1 1\n", "too many 1025"),
+    ("127.0.0.1 1\n127.0.0.1\n", "bad 1026"),
+];
+
 #[test]
 fn reads_1024_addresses(rt: HostRuntime) -> Result<(), Fail> {
-    let rows = [
-        ("", "1024"),
-        ("127.0.0.1 1\n", "too many 1025"),
-        ("127.0.0.1 1\n127.0.0.1\n", "bad 1026"),
-    ];
-    for (end, want) in rows {
-        let text = lines(rt.alloc(), "127.0.0.1", 1, 1_024, end)?;
-        let read = count_text(rt.alloc(), text.as_bytes())?;
+    for (end, want) in &ENDS {
+        let read = full_text(rt.alloc(), end)?;
         assert!(rt; read.as_slice() == want.as_bytes(), "{end:?}");
     }
     Ok(())
 }
 
+/// Texts of hosts, and their addresses.
+const HOSTS: [(&str, Option<u32>); 10] = [
+    ("localhost", Some(0x7f00_0001)),
+    ("Localhost", None),
+    ("255.1.0.10", Some(0xff01_000a)),
+    ("256.1.0.10", None),
+    ("255.01.0.10", None),
+    ("255.1.00.10", None),
+    ("255..0.10", None),
+    ("255.1.0", None),
+    ("255.1.0.10.2", None),
+    ("", None),
+];
+
 #[test]
-fn hosts_and_ports(rt: HostRuntime) {
-    let hosts = [
-        ("localhost", Some(0x7f00_0001)),
-        ("Localhost", None),
-        ("255.1.0.10", Some(0xff01_000a)),
-        ("256.1.0.10", None),
-        ("255.01.0.10", None),
-        ("255.1.00.10", None),
-        ("255..0.10", None),
-        ("255.1.0", None),
-        ("255.1.0.10.2", None),
-        ("", None),
-    ];
-    for (text, host) in hosts {
-        assert!(rt; read_ip(text.as_bytes()) == host, "{text}");
+fn hosts(rt: HostRuntime) {
+    for (text, host) in &HOSTS {
+        assert!(rt; read_ip(text.as_bytes()) == *host, "{text}");
     }
-    let ports = [
-        ("0", None),
-        ("1", Some(1)),
-        ("080", None),
-        ("65535", Some(65_535)),
-        ("65536", None),
-        ("4294967297", None),
-        ("8o", None),
-        ("", None),
-    ];
-    for (text, port) in ports {
-        assert!(rt; read_port(text.as_bytes()) == port, "{text}");
+}
+
+/// Texts of ports, and their numbers.
+const PORTS: [(&str, Option<u16>); 8] = [
+    ("0", None),
+    ("1", Some(1)),
+    ("080", None),
+    ("65535", Some(65_535)),
+    ("65536", None),
+    ("4294967297", None),
+    ("8o", None),
+    ("", None),
+];
+
+#[test]
+fn ports(rt: HostRuntime) {
+    for (text, port) in &PORTS {
+        assert!(rt; read_port(text.as_bytes()) == *port, "{text}");
     }
 }
 
@@ -296,21 +328,29 @@ fn at_port(port: u16) -> Addr {
     }
 }
 
-/// The slots of the ports 10, 20 and so on of 127.0.0.1, up to 70, each with a space; `-` where
-/// there is none.
-fn slots(alloc: Global, book: &Book) -> Mem<String> {
-    let mut text = String::new(alloc);
-    for port in [10, 20, 30, 40, 50, 60, 70] {
-        match book.slot(at_port(port)) {
-            Some(slot) => text.push_str(format!(in alloc; "{slot} ")?.as_str())?,
-            None => text.push_str("- ")?,
-        }
+/// Puts a slot and a space behind a text; `-` where there is none.
+fn put_slot(slot: Option<u32>, text: &mut Vec<u8>) -> Mem<()> {
+    match slot {
+        Some(slot) => append_number(u64::from(slot), text)?,
+        None => text.push(b'-')?,
+    }
+    Ok(text.push(b' ')?)
+}
+
+/// Ports of 127.0.0.1.
+const SEATED: [u16; 7] = [10, 20, 30, 40, 50, 60, 70];
+
+/// Their slots.
+fn slots(alloc: Global, book: &Book) -> Mem<Vec<u8>> {
+    let mut text = Vec::new(alloc);
+    for port in &SEATED {
+        put_slot(book.slot(at_port(*port)), &mut text)?;
     }
     Ok(text)
 }
 
 /// Ports of 127.0.0.1, as an address file.
-fn ports(alloc: Global, ports: &[u16]) -> Mem<String> {
+fn file_of(alloc: Global, ports: &[u16]) -> Mem<String> {
     let mut text = String::new(alloc);
     for port in ports {
         text.push_str(format!(in alloc; "127.0.0.1 {port}\n")?.as_str())?;
@@ -318,21 +358,30 @@ fn ports(alloc: Global, ports: &[u16]) -> Mem<String> {
     Ok(text)
 }
 
-/// Sets a service's ports, or drops it; the slots behind that.
+/// Sets a service's ports, or drops it.
+fn changed(
+    alloc: Global,
+    book: &mut Book,
+    service: &str,
+    ports: Option<&[u16]>,
+) -> Result<Option<BookFault>, Fail> {
+    match ports {
+        Some(ports) => set(alloc, book, service, file_of(alloc, ports)?.as_str()),
+        None => drop_service(alloc, book, service),
+    }
+}
+
+/// The same, and the slots behind that.
 fn slots_after(
     alloc: Global,
     book: &mut Book,
     service: &str,
-    set_ports: Option<&[u16]>,
-) -> Result<String, Fail> {
-    let fault = match set_ports {
-        Some(set_ports) => set(alloc, book, service, ports(alloc, set_ports)?.as_str())?,
-        None => drop_service(alloc, book, service)?,
-    };
-    match fault {
+    ports: Option<&[u16]>,
+) -> Result<Vec<u8>, Fail> {
+    match changed(alloc, book, service, ports)? {
         None => Ok(slots(alloc, book)?),
-        Some(BookFault::Missing) => Ok(String::from_str(alloc, "missing")?),
-        Some(_) => Ok(String::from_str(alloc, "refused")?),
+        Some(BookFault::Missing) => Ok(b"missing".to_vec(alloc)?),
+        Some(_) => Ok(b"refused".to_vec(alloc)?),
     }
 }
 
@@ -355,7 +404,7 @@ fn keeps_slots_and_frees_them(rt: HostRuntime) -> Result<(), Fail> {
     let mut book = Book::start(rt.alloc())?;
     for (service, ports, want) in &CHANGES {
         let slots = slots_after(rt.alloc(), &mut book, service, *ports)?;
-        assert_eq!(rt; slots.as_str(), *want, "{service}");
+        assert!(rt; slots.as_slice() == want.as_bytes(), "{service}");
     }
     assert_eq!(rt; book.count(), 2);
     Ok(())
@@ -414,13 +463,18 @@ fn books_absorb_what_was_prepared(rt: HostRuntime) -> Result<(), Fail> {
     Ok(())
 }
 
+/// Puts the address or the service of a leaf behind a text.
+fn put_cluster(cluster: &Cluster, text: &mut Vec<u8>) -> Mem<()> {
+    match cluster {
+        Cluster::Inet(addr) => append_addr(*addr, text),
+        Cluster::Fs(service) => text.extend_from_slice(service.text()),
+    }
+}
+
 /// What a path names in words: the address or the service, the client path and the residual.
 fn leaf_text(alloc: Global, leaf: &Leaf) -> Mem<Vec<u8>> {
     let mut text = Vec::new(alloc);
-    match &leaf.cluster {
-        Cluster::Inet(addr) => append_addr(*addr, &mut text)?,
-        Cluster::Fs(service) => text.extend_from_slice(service.text())?,
-    }
+    put_cluster(&leaf.cluster, &mut text)?;
     text.push(b' ')?;
     append_path(&leaf.client, &mut text)?;
     text.push(b' ')?;
@@ -428,13 +482,21 @@ fn leaf_text(alloc: Global, leaf: &Leaf) -> Mem<Vec<u8>> {
     Ok(text)
 }
 
+/// The same, where a path names something.
+fn answer_text(alloc: Global, answer: &Option<Leaf>) -> Mem<Vec<u8>> {
+    match answer {
+        Some(leaf) => leaf_text(alloc, leaf),
+        None => b"nothing".to_vec(alloc),
+    }
+}
+
 /// What a path names in a book, in words.
 fn named(alloc: Global, book: &Book, path: &str) -> Result<Vec<u8>, Fail> {
     let path = read_path(alloc, path.as_bytes())?;
-    match name_answer(alloc, book, &path)? {
-        Some(leaf) => Ok(leaf_text(alloc, &leaf)?),
-        None => Ok(b"nothing".to_vec(alloc)?),
-    }
+    let answer = name_answer(alloc, book, &path)?;
+    let text = answer_text(alloc, &answer);
+    drop(answer);
+    Ok(text?)
 }
 
 /// Paths, and what they name in a book with the service `web`, which has no address.
@@ -511,23 +573,35 @@ fn first_wrong(alloc: Global, book: &mut Book, rows: &[Row]) -> Result<Option<us
     Ok(None)
 }
 
+const FULL: Option<BookFault> = Some(BookFault::BookFull(8_193));
+
+const MANY: Option<BookFault> = Some(BookFault::TooManyServices);
+
+const ADDRESSES: [Row; 5] = [
+    ("extra", "127.0.0.1", 1, 1, FULL),
+    ("extra", "10.0.0.1", 1, 1_024, None),
+    ("s1", "127.0.0.1", 1, 1, FULL),
+    ("extra", "10.0.0.1", 1, 0, None),
+    ("s1", "127.0.0.1", 1, 1, None),
+];
+
 /// 8,192 addresses are there. One more is too many, and an old one in place of another is not.
 #[test]
 fn a_book_has_8192_addresses(rt: HostRuntime) -> Result<(), Fail> {
     let mut book = Book::start(rt.alloc())?;
     set_full(rt.alloc(), &mut book, 8)?;
-    let full = Some(BookFault::BookFull(8_193));
-    let rows = [
-        ("extra", "127.0.0.1", 1, 1, full),
-        ("extra", "10.0.0.1", 1, 1_024, None),
-        ("s1", "127.0.0.1", 1, 1, full),
-        ("extra", "10.0.0.1", 1, 0, None),
-        ("s1", "127.0.0.1", 1, 1, None),
-    ];
-    assert_eq!(rt; first_wrong(rt.alloc(), &mut book, &rows)?, None);
+    assert_eq!(rt; first_wrong(rt.alloc(), &mut book, &ADDRESSES)?, None);
     assert_eq!(rt; book.slot(at_port(1)), Some(0));
     Ok(())
 }
+
+const SERVICES: [Row; 5] = [
+    ("t4088", "10.0.0.1", 1, 1_023, None),
+    ("last", "127.0.0.1", 1, 0, MANY),
+    ("last", "127.0.0.1", 2, 1, MANY),
+    ("t1", "127.0.0.1", 2, 1, FULL),
+    ("t1", "10.0.0.2", 1, 1, None),
+];
 
 /// 4,096 services are there, and 8,192 addresses. Where an address is too many besides, the service
 /// is told.
@@ -537,16 +611,7 @@ fn a_book_has_4096_services(rt: HostRuntime) -> Result<(), Fail> {
     set_full(rt.alloc(), &mut book, 8)?;
     set_empty(rt.alloc(), &mut book, 4_087)?;
     assert_eq!(rt; book.count(), 4_095);
-    let full = Some(BookFault::BookFull(8_193));
-    let many = Some(BookFault::TooManyServices);
-    let rows = [
-        ("t4088", "10.0.0.1", 1, 1_023, None),
-        ("last", "127.0.0.1", 1, 0, many),
-        ("last", "127.0.0.1", 2, 1, many),
-        ("t1", "127.0.0.1", 2, 1, full),
-        ("t1", "10.0.0.2", 1, 1, None),
-    ];
-    assert_eq!(rt; first_wrong(rt.alloc(), &mut book, &rows)?, None);
+    assert_eq!(rt; first_wrong(rt.alloc(), &mut book, &SERVICES)?, None);
     assert_eq!(rt; book.count(), 4_096);
     Ok(())
 }

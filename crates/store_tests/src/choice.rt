@@ -110,7 +110,8 @@ fn keeps_the_marks_of_the_book(rt: HostRuntime) -> Result<(), Fail> {
     fail(&mut marks, 1, 1);
     assert!(rt; counts_of(&marks) == (2, 1, 2));
     for (addrs, want) in &KEPT {
-        marks.keep(&book_with(rt.alloc(), addrs.as_bytes())?);
+        let book = book_with(rt.alloc(), addrs.as_bytes())?;
+        marks.keep(&book);
         assert!(rt; counts_of(&marks) == *want);
     }
     Ok(())
@@ -241,6 +242,18 @@ fn port_of(bound: &Bound, book: &Book, word: u64) -> Option<u16>
     }
 }
 
+/// The first of some words that chooses another port than the one beside it.
+fn first_wrong(bound: &Bound, book: &Book, rows: &[(u64, u16)]) -> Option<u64>
+    requires { IsGood bound.now }
+{
+    for (word, port) in rows {
+        if port_of(bound, book, *word) != Some(*port) {
+            return Some(*word);
+        }
+    }
+    None
+}
+
 /// A union of the port 1, of weight 0.3, and the port 2, of weight 0.7.
 fn two_ports(alloc: Global) -> Result<Bound, Fail>
     ensures { IfOk result IsGood }
@@ -260,8 +273,8 @@ fn beside_gone(alloc: Global) -> Result<Bound, Fail>
 }
 
 /// Words, and the ports that they choose. The weight of the branch of which nothing is left does
-/// not count. The other one, of weight 2, uses up its part of the
-/// word: twice the word, without what is above 2^64, goes on to the union below.
+/// not count. The other one, of weight 2, uses up its part of the word: twice the word, without
+/// what is above 2^64, goes on to the union below.
 const LEFT: [(u64, u16); 5] = [
     (0, 1),
     (2_767_011_611_056_432_742, 1),
@@ -272,11 +285,11 @@ const LEFT: [(u64, u16); 5] = [
 
 #[test]
 fn chooses_a_branch_of_those_that_are_left(rt: HostRuntime) -> Result<(), Fail> {
-    let bound = beside_gone(rt.alloc())?;
     let book = Book::start(rt.alloc())?;
-    for (word, port) in &LEFT {
-        assert!(rt; port_of(&bound, &book, *word) == Some(*port), "of {word}");
-    }
+    let bound = beside_gone(rt.alloc())?;
+    let wrong = first_wrong(&bound, &book, &LEFT);
+    drop(bound);
+    assert_eq!(rt; wrong, None);
     Ok(())
 }
 
@@ -301,10 +314,10 @@ const BELOW: [(u64, u16); 6] = [
 
 #[test]
 fn chooses_in_the_union_below_with_what_is_left_of_the_word(rt: HostRuntime) -> Result<(), Fail> {
-    let bound = beside_three(rt.alloc())?;
     let book = Book::start(rt.alloc())?;
-    for (word, port) in &BELOW {
-        assert!(rt; port_of(&bound, &book, *word) == Some(*port), "of {word}");
-    }
+    let bound = beside_three(rt.alloc())?;
+    let wrong = first_wrong(&bound, &book, &BELOW);
+    drop(bound);
+    assert_eq!(rt; wrong, None);
     Ok(())
 }

@@ -56,6 +56,19 @@ fn told(alloc: Global, store: &mut Store, name: &str, step: Step) -> Result<Told
     Ok(carry_out(alloc, store, &name, step))
 }
 
+/// A change of a name, and what it is told.
+type Row = (&'static str, Step, Told);
+
+/// The first of some changes, carried out one after the other, that is told something else.
+fn first_wrong(alloc: Global, store: &mut Store, rows: &[Row]) -> Result<Option<usize>, Fail> {
+    for (at, (name, step, want)) in rows.iter().enumerate() {
+        if told(alloc, store, name, *step)? != *want {
+            return Ok(Some(at));
+        }
+    }
+    Ok(None)
+}
+
 /// What a name has, its version and its table, as one text; `-` where it has nothing.
 fn held(alloc: Global, store: &Store, name: &str) -> Result<Vec<u8>, Fail> {
     match store.get(&Name::of(alloc, name.as_bytes())?) {
@@ -68,29 +81,33 @@ fn held(alloc: Global, store: &Store, name: &str) -> Result<Vec<u8>, Fail> {
     }
 }
 
-/// Changes of `web` one after the other, and what each is told.
-const VERSIONS: [(Step, Told); 8] = [
-    (Step::Create("/svc => /a"), Ok(Some(1))),
-    (Step::Create(""), Err(StoreFault::Exists(1))),
-    (Step::Put(Some(7), "/svc => /b"), Err(StoreFault::Stale(1))),
-    (Step::Put(Some(1), "/svc => /b"), Ok(Some(2))),
-    (Step::Delete(Some(1)), Err(StoreFault::Stale(2))),
-    (Step::Delete(None), Ok(None)),
-    (Step::Put(None, "/x => /y"), Err(StoreFault::Missing)),
-    (Step::Create("/svc => /c"), Ok(Some(3))),
+/// Whether a name has this.
+fn holds(alloc: Global, store: &Store, name: &str, want: &[u8]) -> Result<bool, Fail> {
+    Ok(held(alloc, store, name)?.as_slice() == want)
+}
+
+const VERSIONS: [Row; 8] = [
+    ("web", Step::Create("/svc => /a"), Ok(Some(1))),
+    ("web", Step::Create(""), Err(StoreFault::Exists(1))),
+    (
+        "web",
+        Step::Put(Some(7), "/svc => /b"),
+        Err(StoreFault::Stale(1)),
+    ),
+    ("web", Step::Put(Some(1), "/svc => /b"), Ok(Some(2))),
+    ("web", Step::Delete(Some(1)), Err(StoreFault::Stale(2))),
+    ("web", Step::Delete(None), Ok(None)),
+    ("web", Step::Put(None, "/x => /y"), Err(StoreFault::Missing)),
+    ("web", Step::Create("/svc => /c"), Ok(Some(3))),
 ];
 
 #[test]
 fn gives_each_table_a_version_of_its_own(rt: HostRuntime) -> Result<(), Fail> {
     let mut store = Store::start(rt.alloc())?;
-    for (step, want) in &VERSIONS {
-        assert!(rt; told(rt.alloc(), &mut store, "web", *step)? == *want);
-    }
-    assert!(rt; store.count() == 1 && store.name(0).text() == b"web".as_slice());
-    for (name, want) in [("web", "3 /svc=>/c"), ("x", "-")] {
-        let held = held(rt.alloc(), &store, name)?;
-        assert!(rt; held.as_slice() == want.as_bytes(), "{name}");
-    }
+    assert_eq!(rt; first_wrong(rt.alloc(), &mut store, &VERSIONS)?, None);
+    assert!(rt; store.count() == 1 && has_at(&store, 0, b"web"));
+    assert!(rt; holds(rt.alloc(), &store, "web", b"3 /svc=>/c")?);
+    assert!(rt; holds(rt.alloc(), &store, "x", b"-")?);
     Ok(())
 }
 
@@ -118,8 +135,18 @@ fn has_at(store: &Store, at: usize, text: &[u8]) -> bool {
     at < store.count() && store.name(at).text() == text
 }
 
-/// Changes of a full store one after the other, and what each is told.
-const FULL: [(&str, Step, Told); 5] = [
+/// The first of the 256 numbers whose name is not at its place.
+fn first_misplaced(store: &Store) -> Option<u8> {
+    for number in 0..=255u8 {
+        if !has_at(store, usize::from(number), &letters(number)) {
+            return Some(number);
+        }
+    }
+    None
+}
+
+/// Changes of a full store.
+const FULL: [Row; 5] = [
     ("web", Step::Create(""), Err(StoreFault::TooManyNames)),
     ("AA", Step::Create(""), Err(StoreFault::Exists(1))),
     ("AA", Step::Put(Some(1), "/a => /c"), Ok(Some(257))),
@@ -131,12 +158,8 @@ const FULL: [(&str, Step, Told); 5] = [
 fn holds_256_namespaces_in_byte_order(rt: HostRuntime) -> Result<(), Fail> {
     let mut store = Store::start(rt.alloc())?;
     assert!(rt; fill(rt.alloc(), &mut store)? == None && store.count() == 256);
-    for number in 0..=255u8 {
-        assert!(rt; has_at(&store, usize::from(number), &letters(number)));
-    }
-    for (name, step, want) in &FULL {
-        assert!(rt; told(rt.alloc(), &mut store, name, *step)? == *want);
-    }
+    assert_eq!(rt; first_misplaced(&store), None);
+    assert_eq!(rt; first_wrong(rt.alloc(), &mut store, &FULL)?, None);
     assert!(rt; store.count() == 256);
     Ok(())
 }
@@ -144,8 +167,8 @@ fn holds_256_namespaces_in_byte_order(rt: HostRuntime) -> Result<(), Fail> {
 /// The last version that is given.
 const LAST: u64 = u64::MAX - 1;
 
-/// Changes one after the other from there on, and what each is told.
-const SPENT: [(&str, Step, Told); 8] = [
+/// Changes from there on.
+const SPENT: [Row; 8] = [
     ("web", Step::Create("/a => /b"), Ok(Some(LAST))),
     ("mail", Step::Create(""), Err(StoreFault::VersionsSpent)),
     ("web", Step::Create(""), Err(StoreFault::Exists(LAST))),
@@ -163,9 +186,7 @@ const SPENT: [(&str, Step, Told); 8] = [
 #[test]
 fn stops_at_the_last_version(rt: HostRuntime) -> Result<(), Fail> {
     let mut store = Store::with_next(rt.alloc(), LAST)?;
-    for (name, step, want) in &SPENT {
-        assert!(rt; told(rt.alloc(), &mut store, name, *step)? == *want);
-    }
+    assert_eq!(rt; first_wrong(rt.alloc(), &mut store, &SPENT)?, None);
     Ok(())
 }
 
@@ -177,17 +198,11 @@ fn absorbed_twice(alloc: Global, first: &mut Store, second: &mut Store) -> Resul
     Ok(second.absorb(&ready)?)
 }
 
-/// Whether a name has this in both stores.
-fn both_hold(
-    alloc: Global,
-    first: &Store,
-    second: &Store,
-    name: &str,
-    want: &str,
-) -> Result<bool, Fail> {
-    let one = held(alloc, first, name)?;
-    let other = held(alloc, second, name)?;
-    Ok(one.as_slice() == want.as_bytes() && other.as_slice() == want.as_bytes())
+/// Whether a store has that namespace, and no other.
+fn holds_web(alloc: Global, store: &Store) -> Result<bool, Fail> {
+    let has_web = holds(alloc, store, "web", b"1 /a=>/b")?;
+    let has_no_mail = holds(alloc, store, "mail", b"-")?;
+    Ok(store.count() == 1 && has_web && has_no_mail)
 }
 
 #[test]
@@ -197,12 +212,6 @@ fn absorbs_what_another_store_prepared(rt: HostRuntime) -> Result<(), Fail> {
     let mail = told(rt.alloc(), &mut second, "mail", Step::Create("/m => /n"))?;
     assert!(rt; mail == Ok(Some(1)));
     absorbed_twice(rt.alloc(), &mut first, &mut second)?;
-    assert!(rt; first.count() == 1 && second.count() == 1);
-    for (name, want) in [("web", "1 /a=>/b"), ("mail", "-")] {
-        assert!(rt;
-            both_hold(rt.alloc(), &first, &second, name, want)?,
-            "{name}"
-        );
-    }
+    assert!(rt; holds_web(rt.alloc(), &first)? && holds_web(rt.alloc(), &second)?);
     Ok(())
 }

@@ -40,9 +40,9 @@ fn tick_of(mark: u8) -> u64 {
     }
 }
 
-/// What one step of a script answers. A capital letter leaves a connection of that name, a small one
-/// leaves one that can't be watched; a digit takes the one with this number, `<` the oldest, and
-/// `.`, `,`, `!` and `?` the oldest that has waited long enough at tick 1, 59, 60 and 61.
+/// What one step of a script answers. A capital letter leaves a connection of that name, a small
+/// one leaves one that can't be watched; a digit takes the one with this number, `<` the oldest,
+/// and `.`, `,`, `!` and `?` the oldest that has waited long enough at tick 1, 59, 60 and 61.
 fn answered<A: Ledger, B: Ledger, R: Wait>(
     rt: &R,
     lot: &Lot<u8, A, B>,

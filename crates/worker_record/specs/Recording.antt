@@ -62,8 +62,9 @@ AreLinesOf (Some log) lines = counts_in log ≡ lines
 
 -- ---- the record of a worker
 
--- the moments to come of its clock, when the exchange began that it was told of last, its counts of
--- exchanges, its log, if it has one, its counts of connections, and what it has published, by places
+-- the moments to come of its clock, when the exchange began that it was told of last, its counts
+-- of exchanges, its log, if it has one, its counts of connections, and what it has published, by
+-- places
 pub record RecordValue : Type 0 where
   pub moments : Option (List ℕ)
   pub begun : ℕ

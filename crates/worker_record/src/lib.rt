@@ -5,9 +5,9 @@
 //! of its own, so that the moments of an exchange are drawn only where they are recorded. An
 //! exchange that has ended is added to the worker's [`Tally`](exchange_tally::Tally), and each
 //! count that it raised is published at once, by one atomic store, for whoever scrapes them. Where
-//! there is an access log, its line is appended to the worker's journal. What becomes of connections
-//! is counted and published too. None of it waits for another thread, takes a lock or fails its
-//! caller.
+//! there is an access log, its line is appended to the worker's journal. What becomes of
+//! connections is counted and published too. None of it waits for another thread, takes a lock or
+//! fails its caller.
 //!
 //! # What is proved
 //! What is published is what the worker has counted, between any two calls: each figure of its
@@ -18,6 +18,7 @@
 //! worth, with the moments that the clock gave, and has one line in the log, or is counted as lost
 //! there (`Ends` of `specs/Recording.antt`). Each step of a connection raises its count by one.
 //! [`records_add_up`] is the law over many exchanges: each is added to the tally once, in order.
+//! Its tests are `operator_tests`' module `recorded`.
 //!
 //! # Example
 //! ```

@@ -15,7 +15,7 @@
 //! that they began with and took back those that they ended with; and its hand at the lot counts
 //! those that they left and took. So the peers that came to a worker and the connections that it
 //! took are as many as those that it gave back and left ([`each_turn_has_one_connection`]). That
-//! threads really run beside one another is tested.
+//! threads really run beside one another is tested. The tests are `shared_tests`' module `jobs`.
 //!
 //! # Example
 //! ```

@@ -1,5 +1,5 @@
 //! Connections that are dialed.
-ghost use Rattle.std.specs.Prelude.{◌≡◌, [], nat_lt, None, option_map};
+ghost use Rattle.std.specs.Prelude.{◌≡◌, [], nat_lt, None, IfSome, option_map};
 ghost use Rattle.net_edge.specs.Pools.{addresses};
 
 use super::dial_socket::DialSocket;
@@ -56,7 +56,20 @@ impl<'a, R> SocketDialer<'a, R> {
 fn hold(next: &mut Option<DialSocket>, socket: Option<DialSocket>) {
     if next.is_none() {
         *next = socket;
+    } else {
+        drop(socket);
     }
+}
+
+/// A new connection to an address, over the socket that is held for it, or else over another.
+fn dial_from<R: Net>(rt: &R, next: &mut Option<DialSocket>, ip: u32, port: u16) -> Option<Upstream>
+    ensures { IfSome result (λ u. (u.ip ≡ ip) × (u.port ≡ port)) }
+{
+    let socket = match next.take() {
+        Some(socket) => socket,
+        None => DialSocket::open(rt).ok()?,
+    };
+    Upstream::dial(socket, ip, port)
 }
 
 /// Whether a call failed because it waited for as long as it may.
@@ -85,15 +98,7 @@ impl<R: Net + Clock> Dialer for SocketDialer<'_, R> {
 
     fn dial(&mut self, ip: u32, port: u16) -> Result<(), Failed> {
         self.hang();
-        let socket = match self.next.take() {
-            Some(socket) => Some(socket),
-            None => DialSocket::open(self.rt).ok(),
-        };
-        let dialed = match socket {
-            Some(socket) => Upstream::dial(socket, ip, port),
-            None => None,
-        };
-        match dialed {
+        match dial_from(self.rt, &mut self.next, ip, port) {
             Some(upstream) => {
                 self.current = Some(upstream);
                 Ok(())

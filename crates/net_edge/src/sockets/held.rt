@@ -106,6 +106,14 @@ impl HeldSockets {
         let queue = Arc::new(self.alloc, Queue::open(rt, address)?)?;
         let queues = with_queue(self.alloc, &self.queues, &queue)?;
         let listeners = copies_of(rt, self.alloc, &queue, &self.closing, copies)?;
+        self.promise(rt, &queue, copies, kept)?;
+        self.queues = queues;
+        Ok(listeners)
+    }
+
+    /// Makes sure of the descriptors that so many listeners of a queue want beside it, each with a
+    /// dialer that may keep so many connections.
+    fn promise<R: Net>(&mut self, rt: &R, queue: &Queue, copies: u32, kept: u32) -> io::Result<()> {
         for _ in 0..copies {
             self.for_dialers.push(DialSocket::open(rt)?)?;
         }
@@ -114,8 +122,7 @@ impl HeldSockets {
         queue.make_sure(self.alloc, clients.saturating_add(kept))?;
         self.listeners = clients;
         self.kept = kept;
-        self.queues = queues;
-        Ok(listeners)
+        Ok(())
     }
 
     /// The socket of the next dialer, where one was made for it.

@@ -1,5 +1,7 @@
 //! Listeners of an address, each of which tells what comes there.
 ghost use Rattle.std.specs.Prelude.{◌≡◌, ◌≤◌, ◌↔◌, nat_lt, IsTrue};
+ghost use Rattle.line_base.specs.Accepts.{after_event};
+ghost use Rattle.line_base.specs.Counts.{HasCause};
 ghost use Rattle.net_edge.specs.Sockets.{IsFresh, listening};
 
 use super::peer::SocketPeer;
@@ -42,6 +44,15 @@ fn next_client(queue: &Arc<Queue>, closing: &Closing) -> io::Result<Option<Socke
     Ok(Some(peer))
 }
 
+/// The next client of a queue, if one waits to be accepted. Where one can't be let in since the
+/// address is closing by now, there is none.
+fn next_while_open(queue: &Arc<Queue>, closing: &Closing) -> io::Result<Option<SocketPeer>> {
+    match next_client(queue, closing) {
+        Err(_) if closing.is_closed() => Ok(None),
+        client => client,
+    }
+}
+
 /// What the sockets of an open address tell next.
 fn next_told<R: rt::Clock>(
     rt: &R,
@@ -57,23 +68,39 @@ fn next_told<R: rt::Clock>(
         }
         match queue.wait()? {
             Found::Ready(number) => return Ok(Event::Ready(number)),
-            Found::Client => match next_client(queue, closing) {
-                Ok(Some(peer)) => return Ok(Event::Came(peer)),
-                Ok(None) => {}
-                Err(_) if closing.is_closed() => {}
-                Err(error) => return Err(error),
-            },
+            Found::Client => {
+                if let Some(peer) = next_while_open(queue, closing)? {
+                    return Ok(Event::Came(peer));
+                }
+            }
             Found::Nobody => {}
         }
     }
     Ok(Event::Closed)
 }
 
+/// The same; where the wait for it fails, once a moment has passed.
+fn told_or_paused<R: rt::Clock>(
+    rt: &R,
+    queue: &Arc<Queue>,
+    closing: &Closing,
+) -> Result<Event<SocketPeer>, Failed> {
+    match next_told(rt, queue, closing) {
+        Ok(event) => Ok(event),
+        Err(_) => {
+            thread::sleep(rt, Duration::from_millis(PAUSE_MILLISECONDS));
+            // The client that could not be accepted may be there still.
+            queue.listen_on();
+            Err(Failed)
+        }
+    }
+}
+
 /// What the sockets of an address that is closing tell next: a client that came before that, one
 /// that waited and has its next request under way, and in the end that the address is closed.
 fn last_told<R: rt::Clock>(rt: &R, queue: &Arc<Queue>, closing: &Closing) -> Event<SocketPeer> {
     for _ in 0..u64::MAX {
-        if let Ok(Some(peer)) = next_client(queue, closing) {
+        if let Some(peer) = next_client(queue, closing).unwrap_or(None) {
             return Event::Came(peer);
         }
         if !queue.is_in_grace(rt) {
@@ -137,6 +164,37 @@ impl<'a, R> SocketListener<'a, R> {
     }
 }
 
+impl<R: rt::Clock> SocketListener<'_, R> {
+    /// Counts what it tells. A client that came once the listeners were closed is late.
+    fn count(&mut self, told: &Result<Event<SocketPeer>, Failed>, is_late: bool)
+        ensures state { listening self.new ≡ after_event (listening self.old) told.now }
+        ensures cause { HasCause self.old.faults self.new.faults told.now }
+    {
+        match told {
+            Ok(Event::Came(_)) => {
+                self.late = self.late.saturating_add(u32::from(is_late));
+                self.accepted = self.accepted.saturating_add(1);
+                self.run = 0;
+            }
+            Ok(Event::Ready(_)) => {
+                self.queue.stamp(self.rt);
+                self.run = 0;
+            }
+            Ok(Event::Tick(_)) => {
+                self.run = 0;
+            }
+            Ok(Event::Closed) => {
+                self.closes = self.closes.saturating_add(1);
+                self.run = 0;
+            }
+            Err(Failed) => {
+                self.run = self.run.saturating_add(1);
+                self.faults = self.faults.saturating_add(1);
+            }
+        }
+    }
+}
+
 impl<R: rt::Clock> Listener for SocketListener<'_, R> {
     type P = SocketPeer;
 
@@ -152,38 +210,9 @@ impl<R: rt::Clock> Listener for SocketListener<'_, R> {
             self.run = 0;
             return Ok(Event::Closed);
         }
-        match next_told(self.rt, &self.queue, &self.closing) {
-            Ok(Event::Came(peer)) => {
-                if is_late {
-                    self.late += 1;
-                }
-                self.accepted = self.accepted.saturating_add(1);
-                self.run = 0;
-                Ok(Event::Came(peer))
-            }
-            Ok(Event::Ready(number)) => {
-                self.queue.stamp(self.rt);
-                self.run = 0;
-                Ok(Event::Ready(number))
-            }
-            Ok(Event::Tick(seconds)) => {
-                self.run = 0;
-                Ok(Event::Tick(seconds))
-            }
-            Ok(Event::Closed) => {
-                self.closes = self.closes.saturating_add(1);
-                self.run = 0;
-                Ok(Event::Closed)
-            }
-            Err(_) => {
-                thread::sleep(self.rt, Duration::from_millis(PAUSE_MILLISECONDS));
-                // The client that could not be accepted may be there still.
-                self.queue.listen_on();
-                self.run = self.run.saturating_add(1);
-                self.faults = self.faults.saturating_add(1);
-                Err(Failed)
-            }
-        }
+        let told = told_or_paused(self.rt, &self.queue, &self.closing);
+        self.count(&told, is_late);
+        told
     }
 
     fn watch(&self, peer: &SocketPeer, number: u64) -> bool {

@@ -1,6 +1,6 @@
 //! What makes listeners, dialers and stops over sockets.
-ghost use Rattle.std.specs.Prelude.{◌≡◌, ◌≤◌, ◌↔◌, IfOk, IsErr, None};
-ghost use Rattle.line_base.specs.Counts.{HasCause};
+ghost use Rattle.std.specs.Prelude.{◌≡◌, ◌≤◌, ◌↔◌, IfOk, IsErr, None, if◌then◌else◌};
+ghost use Rattle.line_base.specs.Counts.{HasCause, raised};
 ghost use Rattle.line_base.specs.Nets.{after_end};
 ghost use Rattle.net_edge.specs.Sockets.{listening, networking};
 
@@ -57,6 +57,17 @@ impl<R> SocketNet<'_, R> {
     /// Why it could not listen on the last address that it refused, if there was one.
     pub fn refused(&self) -> Option<&Refusal> {
         self.refused.as_ref()
+    }
+}
+
+/// How many listeners came back clean, with one more that did or did not.
+fn count_clean(clean: u64, is_clean: bool) -> u64
+    ensures { result ≡ (if is_clean then raised clean else clean) }
+{
+    if is_clean {
+        clean.saturating_add(1)
+    } else {
+        clean
     }
 }
 
@@ -119,14 +130,14 @@ impl<'a, R: net::Net<Listener = TcpListener, Stream = TcpStream> + rt::Clock + S
         ensures broken { IsErr result ↔ (BROKEN_RUN ≤ listener.entry.run) }
         ensures cause { HasCause self.old.faults self.new.faults result }
     {
-        if listener.is_clean() {
-            self.clean = self.clean.saturating_add(1);
-        }
+        self.clean = count_clean(self.clean, listener.is_clean());
         self.accepted = self.accepted.saturating_add(listener.accepted());
         self.finished = self.finished.saturating_add(listener.finished());
         self.stops_returned = self.stops_returned.saturating_add(1);
         let is_broken = listener.is_broken();
-        drop((listener, dialer, stop));
+        drop(listener);
+        drop(dialer);
+        drop(stop);
         if is_broken {
             self.faults = self.faults.saturating_add(1);
             return Err(Failed);

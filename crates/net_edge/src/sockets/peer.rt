@@ -87,7 +87,7 @@ impl SocketPeer {
         let SocketPeer {
             flow,
             address: _,
-            closing: _,
+            closing,
             queue,
             pace,
             read_faults: _,
@@ -96,19 +96,22 @@ impl SocketPeer {
             closings: _,
             quiets: _,
         } = self;
+        drop(closing);
         queue.count_ended();
-        let stream = flow.stream;
+        let mut stream = flow.stream;
         let silence = Duration::from_millis(SILENCE_MILLISECONDS);
         let is_told = stream.shutdown(Shutdown::Write).is_ok();
         let may_say_more = pace.heard() != Heard::Quiet && ends == 0;
         if is_told && may_say_more && stream.set_read_timeout(Some(silence)).is_ok() {
-            drain(rt, stream);
+            drain(rt, &mut stream);
         }
+        drop(stream);
+        drop(queue);
     }
 }
 
 /// Reads and drops what comes, for a bounded time.
-fn drain<R: rt::Clock>(rt: &R, mut stream: TcpStream) {
+fn drain<R: rt::Clock>(rt: &R, stream: &mut TcpStream) {
     let Ok(begin) = Instant::now(rt) else {
         return;
     };

@@ -1,8 +1,7 @@
 //! The connections that a dialer keeps.
 ghost use Rattle.std.specs.Prelude.{◌≡◌, ◌≤◌, ◌<◌, ◌+◌, [], length, nat_lt, IfSome, IfNone, Some};
 ghost use Rattle.std.specs.Prelude.{true};
-ghost use Rattle.line_base.specs.Dials.{AreSomeOf, PutsAside, TakesOut};
-ghost use Rattle.line_base.specs.Memory.{WasTaken};
+ghost use Rattle.line_base.specs.Dials.{AreSomeOf, PutsAside, TakesOut, WasTaken};
 ghost use Rattle.net_edge.specs.Pools.{addresses};
 
 use super::dial_socket::DialSocket;
@@ -96,7 +95,7 @@ fn put_last<R: Clock>(kept: &mut Vec<IdleUpstream>, rt: &R, upstream: Upstream)
         Ok(since) => {
             let _ = kept.push(IdleUpstream { upstream, since });
         }
-        Err(_) => {}
+        Err(_) => drop(upstream),
     }
 }
 
@@ -136,7 +135,7 @@ fn end_idle<R: Clock>(kept: &mut Vec<IdleUpstream>, rt: &R, idle_ms: u32)
             Some(first) if first.is_idle(rt, idle_ms) => {}
             _ => return,
         }
-        let _ = end_first(kept);
+        drop(end_first(kept));
     }
 }
 

@@ -28,8 +28,8 @@ const WAIT_MILLISECONDS: i32 = 1_000;
 /// request that was sent just then gets its reply.
 const GRACE_MILLISECONDS: u64 = 1_000;
 
-/// How many milliseconds one wait lasts at most meanwhile: who has been served by then may have been
-/// the last.
+/// How many milliseconds one wait lasts at most meanwhile: who has been served by then may have
+/// been the last.
 const GRACE_WAIT_MILLISECONDS: i32 = 50;
 
 /// What a wait for the sockets of an address found.
@@ -58,8 +58,8 @@ pub(crate) struct Queue {
     moment: AtomicU64,
     /// How many connections of its clients are open.
     open: AtomicU64,
-    /// How many milliseconds after `begin` those who wait are heard no more; 0 as long as no listener
-    /// has seen that the address is closing.
+    /// How many milliseconds after `begin` those who wait are heard no more; 0 as long as no
+    /// listener has seen that the address is closing.
     grace_end: AtomicU64,
     /// Whether those who wait are heard no more: 1 where it is so.
     is_over: AtomicU64,
@@ -71,23 +71,34 @@ fn is_gone(kind: ErrorKind) -> bool {
     matches!(kind, ErrorKind::WouldBlock | ErrorKind::ConnectionAborted)
 }
 
+/// A socket that listens on an address, with a queue of [`QUEUE_LENGTH`], and waits for nobody.
+fn listening<R: Net<Listener = TcpListener, Stream = TcpStream>>(
+    rt: &R,
+    address: SocketAddr,
+) -> io::Result<TcpListener> {
+    let socket = TcpListener::bind(rt, address)?;
+    // The library's queue is short. A second call lengthens it.
+    if net::listen(socket.as_raw_fd(), QUEUE_LENGTH as i32) < 0 {
+        return Err(io::Error::from_raw_os_error(os::errno()));
+    }
+    socket.set_nonblocking(true)?;
+    Ok(socket)
+}
+
 impl Queue {
     /// The queue of an address, with nobody in it.
     pub(crate) fn open<R: Net<Listener = TcpListener, Stream = TcpStream> + rt::Clock>(
         rt: &R,
         address: SocketAddr,
     ) -> io::Result<Queue> {
-        let socket = TcpListener::bind(rt, address)?;
-        // The library's queue is short. A second call lengthens it.
-        if net::listen(socket.as_raw_fd(), QUEUE_LENGTH as i32) < 0 {
-            return Err(io::Error::from_raw_os_error(os::errno()));
-        }
-        socket.set_nonblocking(true)?;
+        let socket = listening(rt, address)?;
+        let watched = Watched::none()?;
+        let begin = Instant::now(rt)?;
         let queue = Queue {
             socket,
-            watched: Watched::none()?,
+            watched,
             waiting: AtomicU64::new(0),
-            begin: Instant::now(rt)?,
+            begin,
             ticks: AtomicU64::new(0),
             moment: AtomicU64::new(0),
             open: AtomicU64::new(0),
@@ -95,7 +106,9 @@ impl Queue {
             is_over: AtomicU64::new(0),
         };
         if !queue.listen_on() {
-            return Err(io::Error::from_raw_os_error(os::errno()));
+            let error = io::Error::from_raw_os_error(os::errno());
+            drop(queue);
+            return Err(error);
         }
         Ok(queue)
     }

@@ -40,6 +40,7 @@ impl Upstream {
     {
         let mut socket = socket;
         if !socket.connect(ip, port) {
+            drop(socket);
             return None;
         }
         Some(Upstream {
@@ -102,11 +103,12 @@ impl Upstream {
     /// Ends the connection at once, and gives its socket for the next one where it can be connected
     /// again. All requests that it carried were answered.
     pub(crate) fn dissolve(self) -> Option<DialSocket> {
-        if self.socket.dissolve() {
-            Some(self.socket)
-        } else {
-            None
+        let socket = self.socket;
+        if socket.dissolve() {
+            return Some(socket);
         }
+        drop(socket);
+        None
     }
 
     /// Ends the connection, and gives its socket for the next one where it can be connected again.
@@ -117,6 +119,7 @@ impl Upstream {
     /// sent has arrived, or is not wanted.
     pub(crate) fn hang(self) -> Option<DialSocket> {
         if self.is_heard && self.sent == Sent::Long {
+            drop(self);
             return None;
         }
         self.dissolve()

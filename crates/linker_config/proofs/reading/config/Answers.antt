@@ -1,6 +1,10 @@
+use Rattle.std.proofs.Common.{Ok}
 use Rattle.serde_json.specs.View.{view}
 use Rattle.linker_config.specs.Config.{config_of, said_of}
+use Rattle.linker_config.specs.Listening.{named_of}
+use Rattle.linker_config.specs.Router.{routed_of}
 use Rattle.linker_config.proofs.Chains.{told_on_by}
+use Rattle.linker_config.proofs.Halves.{config_by, run_last}
 use Rattle.linker_config.proofs.reading.config.Goals as goal
 
 pub returns-in_err-check_top_keys-clause-told : goal.returns-in_err-check_top_keys-clause-told
@@ -57,53 +61,21 @@ returns-in_err-routed-clause-told c =
       c.in_err-routed.ensures.1 some,
     ))
 
-pub returns-in_err-workers-clause-told : goal.returns-in_err-workers-clause-told
+pub returns-in-Err-clause-told : goal.returns-in-Err-clause-told
 unfolding config_of
-returns-in_err-workers-clause-told c =
-    told_on_by said_of (config_of (view c.args.tree.now)) c.in_err-workers.field-0.0
-    c.from_residual-in_err-workers.result c.from_residual-in_err-workers.ensures.1
-    c.in_err-workers.ensures.number.0
-    (λ some. rw (
-      c.in_ok-check_top_keys.ensures,
-      c.in_ok-admin.ensures,
-      c.in_ok-named.ensures,
-      c.in_ok-root.ensures,
-      c.in_ok-routed.ensures,
-      c.in_err-workers.ensures.number.1 some,
-    ))
-
-pub returns-in_err-seed-clause-told : goal.returns-in_err-seed-clause-told
-unfolding config_of
-returns-in_err-seed-clause-told c =
-    told_on_by said_of (config_of (view c.args.tree.now)) c.in_err-seed.field-0.0
-    c.from_residual-in_err-seed.result c.from_residual-in_err-seed.ensures.1
-    c.in_err-seed.ensures.number.0
-    (λ some. rw (
-      c.in_ok-check_top_keys.ensures,
-      c.in_ok-admin.ensures,
-      c.in_ok-named.ensures,
-      c.in_ok-root.ensures,
-      c.in_ok-routed.ensures,
-      c.in_ok-workers.ensures.number,
-      c.in_err-seed.ensures.number.1 some,
-    ))
-
-pub returns-in_err-feed-clause-told : goal.returns-in_err-feed-clause-told
-unfolding config_of
-returns-in_err-feed-clause-told c =
-    told_on_by said_of (config_of (view c.args.tree.now)) c.in_err-feed.field-0.0
-    c.from_residual-in_err-feed.result c.from_residual-in_err-feed.ensures.1
-    c.in_err-feed.ensures.0
-    (λ some. rw (
-      c.in_ok-check_top_keys.ensures,
-      c.in_ok-admin.ensures,
-      c.in_ok-named.ensures,
-      c.in_ok-root.ensures,
-      c.in_ok-routed.ensures,
-      c.in_ok-workers.ensures.number,
-      c.in_ok-seed.ensures.number,
-      c.in_err-feed.ensures.1 some,
-    ))
+returns-in-Err-clause-told c = (
+  c.in-Err.ensures.told.0,
+  λ some. rw (
+    c.in_ok-check_top_keys.ensures,
+    c.in_ok-admin.ensures,
+    c.in_ok-named.ensures,
+    c.in_ok-root.ensures,
+    c.in_ok-routed.ensures,
+    run_last (view c.args.tree.now) (λ run. Ok (config_by c.in_ok-admin.admin
+        (named_of c.in_ok-named.named) c.in_ok-root.root (routed_of c.in_ok-routed.routed) run)),
+    c.in-Err.ensures.told.1 some,
+  ),
+)
 
 pub returns-clause-told : goal.returns-clause-told
 unfolding config_of
@@ -114,8 +86,8 @@ returns-clause-told c =
       c.in_ok-named.ensures,
       c.in_ok-root.ensures,
       c.in_ok-routed.ensures,
-      c.in_ok-workers.ensures.number,
-      c.in_ok-seed.ensures.number,
-      c.in_ok-feed.ensures,
+      run_last (view c.args.tree.now) (λ run. Ok (config_by c.in_ok-admin.admin
+          (named_of c.in_ok-named.named) c.in_ok-root.root (routed_of c.in_ok-routed.routed) run)),
+      c.in-Ok.ensures.told,
       c.unwrap_or-clears_context.ensures,
     )

@@ -1,9 +1,0 @@
-use Rattle.std.proofs.Common.{refl}
-use Rattle.admin_api.proofs.metrics.metrics_response.Goals as goal
-
-pub returns : goal.returns
-returns c = record {
-  text = c.in_ok-body.body.items;
-  body = c.in_ok-body.ensures;
-  is = c.of.ensures;
-}
