@@ -30,8 +30,9 @@
 //! # What is proved
 //! [`write_line`] gives exactly the bytes of `line_text` of `specs/Line.antt`, for every entry. The
 //! date of a moment is that of `date_of` of `specs/Calendar.antt`: 1970-01-01, and from there on
-//! each day the date after that of the day before. That memory is there is not proved. Its tests are
-//! `operator_tests`' modules `lines` and `classes`.
+//! each day the date after that of the day before. That memory is there is not proved.
+//!
+//! Its tests are `operator_tests`' modules `lines` and `classes`.
 //!
 //! # Example
 //! ```

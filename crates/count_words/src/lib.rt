@@ -12,6 +12,8 @@
 //! keep. So what a reader finds was the owner's count at some moment, and is never below what the
 //! same reader found before. No other call changes what contracts know of a seat.
 //!
+//! Its tests are `operator_tests`' modules `published` and `recorded`.
+//!
 //! # Example
 //! ```text
 //! let (counts, mut writers, mut reader) = start(alloc, 2)?;

@@ -20,6 +20,8 @@
 //! // 1, 0 for `/svc/web/x`, and 1 for `/other`
 //! let places = index.matching(alloc, &path)?;
 //! ```
+//!
+//! Its tests are `grammar_tests`' module `index`.
 #![tactic(auto)]
 
 use std::alloc::AllocError;

@@ -11,6 +11,8 @@
 //! journal in memory ([`MemJournal`]) loses the lines whose numbers are listed, and those for which
 //! there is no memory.
 //!
+//! Its tests are `operator_tests`' modules `torn` and `rotated`, over the journals of `log_file`.
+//!
 //! # Example
 //! ```
 //! let mut journals = MemJournals::of(alloc, Vec::new(alloc));

@@ -18,6 +18,8 @@
 //! call changes them, and they take no memory when the program runs. A number read is at most the
 //! number of seats, and at least 1 where the reading seat holds that slot.
 //!
+//! Its tests are `shared_tests`' module `loads`.
+//!
 //! # Example
 //! ```text
 //! let (loads, mut seats) = start(alloc, 2)?;

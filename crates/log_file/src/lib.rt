@@ -20,6 +20,8 @@
 //! # What is proved
 //! Every line is counted, as written or as lost. What the machine's file holds is not told: that a
 //! line which is counted as written stands there is as true as the system's answer.
+//!
+//! Its tests are `operator_tests`' modules `torn` and `rotated`.
 #![tactic(auto)]
 
 mod file;

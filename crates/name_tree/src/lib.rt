@@ -24,6 +24,8 @@
 //! memory takes an allocator and answers an error where there is none; what it then leaves is said
 //! at the call.
 //!
+//! Its tests are `grammar_tests`' modules `names` and `long_paths`.
+//!
 //! # Example
 //! ```
 //! let tree = read_tree(alloc, b"/a|/b&.50*(~)")?;

@@ -27,6 +27,8 @@
 //! that nothing was published twice or by nobody. [`callers_stay_in_order`]: a caller's items stay
 //! in order while others publish, and with one more call at the end.
 //!
+//! It has no tests of its own: what it says of threads is shown by `router_tests`.
+//!
 //! # Example
 //! A caller with the number 0 that made a change, looked, and made another one, while caller 1 made
 //! one between:

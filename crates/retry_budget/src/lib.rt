@@ -16,6 +16,8 @@
 //! [`retries_are_bounded`] is the law that over any list of requests and spends the retries that
 //! are granted are at most `reserve + percent * requests / 100`.
 //!
+//! It is tested with what asks it, in `session_tests`' module `retries`.
+//!
 //! # Example
 //! ```
 //! let mut budget = Budget::start(Tries { percent: 20, reserve: 1, most: 3 });

@@ -102,8 +102,8 @@ fn end<R: Wait>(rt: &R, writer: Writer<Sum, Add>, readers: Vec<Reader<Sum, Add, 
     }
 }
 
-/// Publishes for the second reader's caller, and gives what that reader sees then; none where it was
-/// not published.
+/// Publishes for the second reader's caller, and gives what that reader sees then; none where it
+/// was not published.
 fn publish_for_second<R: Wait>(
     rt: &R,
     writer: &mut Writer<Sum, Add>,

@@ -24,6 +24,8 @@
 //! is at its place again. Writers, readers and notes may go to other threads wherever the value and
 //! its operations may (`proofs/Crossing.antt`).
 //!
+//! Its tests are `shared_tests`' module `cell`.
+//!
 //! # Example
 //! ```text
 //! let (mut writer, mut readers) = start(&rt, alloc, Sum(0), Sum(0), 2)?;

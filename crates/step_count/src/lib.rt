@@ -10,6 +10,8 @@
 //! # What is proved
 //! [`Steps::tick`] adds one, and nothing else moves the count.
 //!
+//! It has no tests: nothing of it runs.
+//!
 //! # Example
 //! ```
 //! let mut steps = Steps::<L>::start(blank);

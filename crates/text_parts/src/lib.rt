@@ -24,6 +24,8 @@
 //! [`numbers_are_exact`] that a text is read as a number exactly where it is the one that is
 //! written for it.
 //!
+//! Its tests are `grammar_tests`' module `texts`.
+//!
 //! # Example
 //! ```
 //! let text = b"web 127.0.0.1:9001\r\n";

@@ -24,6 +24,8 @@
 //! it took, and at the end as many were left as were taken, and those that the end hands out
 //! ([`Lot::close`]).
 //!
+//! Its tests are the crate `waiting_tests`.
+//!
 //! # Example
 //! ```text
 //! let (lot, mut hands) = Lot::open(alloc, 10_000, 60, blank, blank, 2)?;
