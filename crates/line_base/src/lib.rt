@@ -18,8 +18,9 @@
 //! module `outside`.
 //!
 //! # What is proved
-//! Little runs here: a [`Piece`], a [`NameList`] and [`Listeners`] hold what they were made of. The
-//! rest are the traits' contracts, which whatever meets a trait is proved to keep.
+//! Little runs here: a [`Piece`], a [`NameList`] and [`Listeners`] hold what they were made of, and
+//! [`count_clean`] counts as the nets say. The rest are the traits' contracts, which whatever meets
+//! a trait is proved to keep.
 //!
 //! # Example
 //! ```
@@ -50,7 +51,7 @@ pub use dialer::{ConnectionPool, DialEvent, Dialer};
 pub use event::Event;
 pub use folder::{Folder, FolderFault, Found, NameList};
 pub use listener::{Endpoint, Listener, Listeners};
-pub use net::{BROKEN_RUN, Net, NetFault};
+pub use net::{BROKEN_RUN, Net, NetFault, count_clean};
 pub use outside::{Failed, Next, Peer, Sink, Source};
 pub use piece::Piece;
 pub use signals::{Gate, Stop};

@@ -1,6 +1,7 @@
 //! What makes listeners, dialers and stops, and takes them back.
 ghost use Rattle.std.specs.Prelude.{◌≡◌, ◌≤◌, ◌↔◌, ℕ, [], nat_lt, length, None, IsErr, IfOk};
-ghost use Rattle.line_base.specs.Counts.{HasCause};
+ghost use Rattle.std.specs.Prelude.{if◌then◌else◌};
+ghost use Rattle.line_base.specs.Counts.{HasCause, raised};
 
 use crate::dialer::{ConnectionPool, Dialer};
 use crate::listener::{Listener, Listeners};
@@ -18,6 +19,19 @@ pub enum NetFault {
 
 /// How many waits for an event in a row have failed when a listener counts as broken.
 pub const BROKEN_RUN: u64 = 100;
+
+/// How many listeners have come back clean, behind one more that was or was not: what a net counts
+/// where it takes a listener back ([`Net::end`]). The count stands still at the last value of a
+/// `u64`.
+pub fn count_clean(clean: u64, is_clean: bool) -> u64
+    ensures { result ≡ (if is_clean then raised clean else clean) }
+{
+    if is_clean {
+        clean.saturating_add(1)
+    } else {
+        clean
+    }
+}
 
 /// What makes listeners for addresses, dialers, and stops that close the listeners; and takes them
 /// back.

@@ -176,15 +176,19 @@ impl<P: Peer + Drop> Listener for MemListener<P> {
             return Err(Failed);
         }
         self.run = 0;
-        match self.coming.next() {
-            Some(Event::Came(peer)) => {
+        let Some(event) = self.coming.next() else {
+            self.closes = self.closes.saturating_add(1);
+            return Ok(Event::Closed);
+        };
+        match event {
+            Event::Came(peer) => {
                 self.handed.push_reserved(Snapshot::of(&peer));
                 self.accepted = self.accepted.saturating_add(1);
                 Ok(Event::Came(peer))
             }
-            Some(Event::Ready(number)) => Ok(Event::Ready(number)),
-            Some(Event::Tick(count)) => Ok(Event::Tick(count)),
-            Some(Event::Closed) | None => {
+            Event::Ready(number) => Ok(Event::Ready(number)),
+            Event::Tick(count) => Ok(Event::Tick(count)),
+            Event::Closed => {
                 self.closes = self.closes.saturating_add(1);
                 Ok(Event::Closed)
             }

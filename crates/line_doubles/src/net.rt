@@ -1,8 +1,8 @@
 //! A net in memory.
 ghost use Rattle.std.specs.Prelude.{◌≡◌, ◌≤◌, ◌<◌, ◌↔◌, ℕ, [], nat_lt, length, None, Some, Err};
-ghost use Rattle.std.specs.Prelude.{IsErr, IfOk, IfSome, slice_index_or, if◌then◌else◌};
+ghost use Rattle.std.specs.Prelude.{IsErr, IfOk, IfSome, slice_index_or};
 ghost use Rattle.line_base.specs.Accepts.{new_listening};
-ghost use Rattle.line_base.specs.Counts.{HasCause, raised};
+ghost use Rattle.line_base.specs.Counts.{HasCause};
 ghost use Rattle.line_doubles.specs.Memory.{FailsNext, called, upstream_of};
 ghost use Rattle.line_base.specs.Nets.{AreNew, HasNetCause, after_end, after_listen, after_stopper};
 ghost use Rattle.line_base.specs.Nets.{log_of};
@@ -13,6 +13,7 @@ use crate::plan::CallPlan;
 use crate::stop::MemStop;
 use line_base::{
     BROKEN_RUN, ConnectionPool, Endpoint, Event, Failed, Listeners, Net, NetFault, Peer,
+    count_clean,
 };
 use std::alloc::Global;
 use std::marker::Model;
@@ -214,17 +215,6 @@ impl<P: Peer + Drop> MemNet<P> {
         ensures { result ≡ self.now.faults }
     {
         self.faults
-    }
-}
-
-/// How many listeners came back clean, with one more that did or did not.
-fn count_clean(clean: u64, is_clean: bool) -> u64
-    ensures { result ≡ (if is_clean then raised clean else clean) }
-{
-    if is_clean {
-        clean.saturating_add(1)
-    } else {
-        clean
     }
 }
 

@@ -1,6 +1,6 @@
 //! What makes listeners, dialers and stops over sockets.
-ghost use Rattle.std.specs.Prelude.{◌≡◌, ◌≤◌, ◌↔◌, IfOk, IsErr, None, if◌then◌else◌};
-ghost use Rattle.line_base.specs.Counts.{HasCause, raised};
+ghost use Rattle.std.specs.Prelude.{◌≡◌, ◌≤◌, ◌↔◌, IfOk, IsErr, None};
+ghost use Rattle.line_base.specs.Counts.{HasCause};
 ghost use Rattle.line_base.specs.Nets.{after_end};
 ghost use Rattle.net_edge.specs.Sockets.{listening, networking};
 
@@ -10,7 +10,7 @@ use super::held::HeldSockets;
 use super::listener::SocketListener;
 use super::refusal::Refusal;
 use super::stop::SocketStop;
-use line_base::{BROKEN_RUN, ConnectionPool, Failed, Listeners, Net, NetFault};
+use line_base::{BROKEN_RUN, ConnectionPool, Failed, Listeners, Net, NetFault, count_clean};
 use std::alloc::{AllocError, AllocGlobal};
 use std::io::ErrorKind;
 use std::net::{self, TcpListener, TcpStream};
@@ -57,17 +57,6 @@ impl<R> SocketNet<'_, R> {
     /// Why it could not listen on the last address that it refused, if there was one.
     pub fn refused(&self) -> Option<&Refusal> {
         self.refused.as_ref()
-    }
-}
-
-/// How many listeners came back clean, with one more that did or did not.
-fn count_clean(clean: u64, is_clean: bool) -> u64
-    ensures { result ≡ (if is_clean then raised clean else clean) }
-{
-    if is_clean {
-        clean.saturating_add(1)
-    } else {
-        clean
     }
 }
 
