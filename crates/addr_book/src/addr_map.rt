@@ -28,9 +28,16 @@ type Shards = Vec<Option<Arc<AddrShard>>>;
 /// ports in a row. A look-up finds the shard, and in its `n` addresses takes about `log n`
 /// comparisons. A copy shares the shards, and a change copies its shard where another map shares
 /// it.
-#[derive(Debug, Drop)]
+#[derive(Debug)]
 pub(crate) struct AddrMap {
     shards: Shards,
+}
+
+impl Drop for AddrMap {
+    fn drop(self) {
+        let AddrMap { shards } = self;
+        drop(shards);
+    }
 }
 
 impl Model for AddrMap {
@@ -76,7 +83,7 @@ impl AddrMap {
     pub(crate) fn with(self, addr: Addr, number: u32) -> Mem<AddrMap>
         ensures { IfOk result (λ numbers. numbers ≡ map.insert self addr number) }
     {
-        let mut shards = self.shards;
+        let AddrMap { mut shards } = self;
         insert_at(&mut shards, place_of(addr), addr, number)?;
         Ok(AddrMap { shards })
     }
@@ -85,7 +92,7 @@ impl AddrMap {
     pub(crate) fn without(self, addr: Addr) -> Mem<AddrMap>
         ensures { IfOk result (λ numbers. numbers ≡ map.remove self addr) }
     {
-        let mut shards = self.shards;
+        let AddrMap { mut shards } = self;
         remove_at(&mut shards, place_of(addr), addr)?;
         Ok(AddrMap { shards })
     }

@@ -25,9 +25,16 @@ struct Numbered {
 ///
 /// They lie in the order of the addresses. A look-up takes about `log n` comparisons; a new
 /// address, and one that goes, moves those behind it; a copy takes one piece of memory.
-#[derive(Debug, Drop)]
+#[derive(Debug)]
 pub(crate) struct AddrShard {
     items: Vec<Numbered>,
+}
+
+impl Drop for AddrShard {
+    fn drop(self) {
+        let AddrShard { items } = self;
+        drop(items);
+    }
 }
 
 impl Model for AddrShard {

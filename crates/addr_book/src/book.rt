@@ -26,9 +26,16 @@ use std::sync::Arc;
 /// A change is prepared first, which copies what it needs and may be refused, and is then made by
 /// [`absorb`](Book::absorb), which copies nothing. An address keeps its slot for as long as some
 /// service has it; a new one takes the lowest slot that is free.
-#[derive(Debug, Drop)]
+#[derive(Debug)]
 pub struct Book {
     parts: Arc<Parts>,
+}
+
+impl Drop for Book {
+    fn drop(self) {
+        let Book { parts } = self;
+        drop(parts);
+    }
 }
 
 impl Model for Book {
@@ -47,9 +54,16 @@ impl Model for Book {
 }
 
 /// A book with a change made, prepared for [`Book::absorb`]. Contracts see what that book has.
-#[derive(Debug, Drop)]
+#[derive(Debug)]
 pub struct ReadyBook {
     next: Book,
+}
+
+impl Drop for ReadyBook {
+    fn drop(self) {
+        let ReadyBook { next } = self;
+        drop(next);
+    }
 }
 
 impl Model for ReadyBook {

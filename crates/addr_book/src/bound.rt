@@ -15,7 +15,7 @@ pub enum Bound {
 
 /// A bound branch of a union.
 #[cycle(bound)]
-#[derive(Debug, Drop)]
+#[derive(Debug)]
 pub struct BoundItem {
     /// Its weight, in millionths.
     pub weight: u64,
@@ -23,11 +23,27 @@ pub struct BoundItem {
     pub bound: Bound,
 }
 
+impl Drop for BoundItem {
+    #[cycle(bound)]
+    fn drop(self) {
+        let BoundItem { weight: _, bound } = self;
+        drop(bound);
+    }
+}
+
 /// Some bound branches, in order.
 #[cycle(bound)]
-#[derive(Debug, Drop)]
+#[derive(Debug)]
 pub struct BoundList {
     items: Vec<BoundItem>,
+}
+
+impl Drop for BoundList {
+    #[cycle(bound)]
+    fn drop(self) {
+        let BoundList { items } = self;
+        drop(items);
+    }
 }
 
 impl BoundList {

@@ -1,4 +1,6 @@
 //! Leaves: where a path's replicas are, and how the path was split.
+ghost use Rattle.std.specs.Prelude.{◌≡◌};
+
 use crate::addr::Addr;
 use crate::name::Name;
 use name_tree::Path;
@@ -13,7 +15,7 @@ pub enum Cluster {
 }
 
 /// A bound leaf: its replicas, and how its path was split.
-#[derive(Debug, Drop)]
+#[derive(Debug)]
 pub struct Leaf {
     /// Where the replicas are.
     pub cluster: Cluster,
@@ -21,4 +23,33 @@ pub struct Leaf {
     pub client: Path,
     /// The labels behind those, which name nothing here and are passed on.
     pub residual: Path,
+}
+
+impl Drop for Leaf {
+    fn drop(self) {
+        let Leaf {
+            cluster,
+            client,
+            residual,
+        } = self;
+        drop(cluster);
+        drop(client);
+        drop(residual);
+    }
+}
+
+impl Leaf {
+    /// The two parts of its path: the labels that named the replicas, and those behind them.
+    pub fn into_paths(self) -> (Path, Path)
+        ensures client { result.0 ≡ self.client }
+        ensures residual { result.1 ≡ self.residual }
+    {
+        let Leaf {
+            cluster,
+            client,
+            residual,
+        } = self;
+        drop(cluster);
+        (client, residual)
+    }
 }

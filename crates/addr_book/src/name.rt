@@ -22,9 +22,16 @@ pub const MOST_NAME_BYTES: usize = 255;
 /// A name of a service or of a namespace: 1 to 255 bytes, each an ASCII letter, a digit, or one of
 /// `_ : . -`. Contracts see the list of its bytes. Names are equal and ordered by their bytes,
 /// upper case apart from lower case. A clone shares the bytes, and takes no memory.
-#[derive(Debug, Drop)]
+#[derive(Debug)]
 pub struct Name {
     bytes: ArcSlice<u8>,
+}
+
+impl Drop for Name {
+    fn drop(self) {
+        let Name { bytes } = self;
+        drop(bytes);
+    }
 }
 
 impl Model for Name {

@@ -23,10 +23,18 @@ pub const MOST_SERVICES: usize = 4096;
 pub const MOST_SLOTS: usize = 8192;
 
 /// The parts of a book, which its copies share.
-#[derive(Debug, Drop)]
+#[derive(Debug)]
 pub(crate) struct Parts {
     pub(crate) services: Services,
     pub(crate) seats: Seats,
+}
+
+impl Drop for Parts {
+    fn drop(self) {
+        let Parts { services, seats } = self;
+        drop(services);
+        drop(seats);
+    }
 }
 
 impl Parts {

@@ -16,10 +16,18 @@ use crate::slots::{count_in, count_out, release};
 use std::alloc::Global;
 
 /// The slot of each address, and the number of services that have it.
-#[derive(Debug, Drop)]
+#[derive(Debug)]
 pub(crate) struct Seats {
     pub(crate) slots: SlotMap,
     pub(crate) uses: AddrMap,
+}
+
+impl Drop for Seats {
+    fn drop(self) {
+        let Seats { slots, uses } = self;
+        drop(slots);
+        drop(uses);
+    }
 }
 
 impl Seats {

@@ -18,10 +18,18 @@ use std::sync::Arc;
 const SPARE: usize = 2;
 
 /// A service and its addresses.
-#[derive(Debug, Drop)]
+#[derive(Debug)]
 struct Service {
     name: Name,
     list: Arc<AddrList>,
+}
+
+impl Drop for Service {
+    fn drop(self) {
+        let Service { name, list } = self;
+        drop(name);
+        drop(list);
+    }
 }
 
 /// Some services, each with its addresses: one shard of [`Services`](crate::services::Services).
@@ -29,9 +37,16 @@ struct Service {
 ///
 /// They lie in the order of the names. A look-up takes about `log n` comparisons of names; a new
 /// service, and one that goes, moves those behind it.
-#[derive(Debug, Drop)]
+#[derive(Debug)]
 pub(crate) struct ServiceShard {
     items: Vec<Service>,
+}
+
+impl Drop for ServiceShard {
+    fn drop(self) {
+        let ServiceShard { items } = self;
+        drop(items);
+    }
 }
 
 impl Model for ServiceShard {

@@ -13,11 +13,23 @@ use std::alloc::Global;
 use std::marker::Model;
 
 /// A slot below 8,192 for each of some addresses, no two the same. Contracts see a finite map.
-#[derive(Debug, Drop)]
+#[derive(Debug)]
 pub(crate) struct SlotMap {
     slots: AddrMap,
     taken: SlotSet,
     count: usize,
+}
+
+impl Drop for SlotMap {
+    fn drop(self) {
+        let SlotMap {
+            slots,
+            taken,
+            count: _,
+        } = self;
+        drop(slots);
+        drop(taken);
+    }
 }
 
 impl Model for SlotMap {

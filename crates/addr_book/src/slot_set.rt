@@ -15,9 +15,16 @@ const WORD_SLOTS: usize = 64;
 const WORDS: usize = 128;
 
 /// Some slots below 8,192, as bits. Contracts see the words. A copy takes a kilobyte.
-#[derive(Debug, Drop)]
+#[derive(Debug)]
 pub(crate) struct SlotSet {
     words: Vec<u64>,
+}
+
+impl Drop for SlotSet {
+    fn drop(self) {
+        let SlotSet { words } = self;
+        drop(words);
+    }
 }
 
 impl Model for SlotSet {

@@ -14,10 +14,17 @@ use own_reply::{OwnError, Refusal, test_request};
 use std::alloc::Global;
 
 /// A whole request.
-#[derive(Drop)]
 pub(crate) struct WholeRequest {
     pub(crate) head: Head,
     pub(crate) body: Bytes,
+}
+
+impl Drop for WholeRequest {
+    fn drop(self) {
+        let WholeRequest { head, body } = self;
+        drop(head);
+        drop(body);
+    }
 }
 
 /// Why there is no request to answer.

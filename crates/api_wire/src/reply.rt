@@ -9,12 +9,19 @@ use crate::{Bytes, Mem};
 use std::alloc::Global;
 
 /// What is written to the client, and whether the program is to stop then.
-#[derive(Debug, Drop)]
+#[derive(Debug)]
 pub struct ApiReply {
     /// The whole reply.
     pub bytes: Bytes,
     /// Whether it answers a request to stop.
     pub stops: bool,
+}
+
+impl Drop for ApiReply {
+    fn drop(self) {
+        let ApiReply { bytes, stops: _ } = self;
+        drop(bytes);
+    }
 }
 
 /// The reply with the bytes of a response, as they go out.

@@ -42,7 +42,7 @@ impl Media {
 }
 
 /// A body and what it is.
-#[derive(Debug, Drop)]
+#[derive(Debug)]
 pub struct Content {
     /// Its media type.
     pub media: Media,
@@ -50,8 +50,15 @@ pub struct Content {
     pub body: Bytes,
 }
 
+impl Drop for Content {
+    fn drop(self) {
+        let Content { media: _, body } = self;
+        drop(body);
+    }
+}
+
 /// What a request is answered. `response_value` is how contracts see it.
-#[derive(Debug, Drop)]
+#[derive(Debug)]
 pub struct Response {
     /// The status.
     pub status: StatusCode,
@@ -61,6 +68,18 @@ pub struct Response {
     pub allow: Option<Methods>,
     /// The body, if there is one.
     pub content: Option<Content>,
+}
+
+impl Drop for Response {
+    fn drop(self) {
+        let Response {
+            status: _,
+            version: _,
+            allow: _,
+            content,
+        } = self;
+        drop(content);
+    }
 }
 
 impl Response {

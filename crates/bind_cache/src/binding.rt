@@ -21,7 +21,7 @@ use std::alloc::Global;
 /// What a path came to in the proxy's tables and its book, with a request's own table behind them.
 ///
 /// Contracts see it as `kept_of binding`.
-#[derive(Debug, Drop)]
+#[derive(Debug)]
 pub struct Binding {
     path: Path,
     local: Dtab,
@@ -32,6 +32,25 @@ pub struct Binding {
     place: u64,
     hash: u64,
     ghost filed: { hash ≡ key_hash path (rules_of local) },
+}
+
+impl Drop for Binding {
+    fn drop(self) {
+        let Binding {
+            path,
+            local,
+            outcome,
+            asked,
+            cost: _,
+            bytes: _,
+            place: _,
+            hash: _,
+        } = self;
+        drop(path);
+        drop(local);
+        drop(outcome);
+        drop(asked);
+    }
 }
 
 impl Binding {
@@ -72,12 +91,8 @@ impl Binding {
                 return Err(want);
             }
         };
-        let Delegated {
-            outcome,
-            cost,
-            asked,
-            trace,
-        } = found;
+        let cost = found.cost;
+        let (outcome, asked, trace) = found.into_parts();
         drop(trace);
         Ok(Binding {
             path: own_path,

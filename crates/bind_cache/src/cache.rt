@@ -37,13 +37,21 @@ pub const MOST_COST: u32 = 256;
 ///
 /// Contracts see them as `bindings_of cache`, a list, the oldest first. Beside them it keeps chains
 /// of their hashes, so that a look-up compares those of one hash alone.
-#[derive(Debug, Drop)]
+#[derive(Debug)]
 pub struct Cache {
     bindings: HeapCircularBuffer<Arc<Binding>>,
     chains: Chains,
     ghost room: { bindings.capacity ≡ 1024 },
     ghost linked: { chains.hashes ≡ map hash_in bindings.items },
     ghost cache: { IsCache (all_kept bindings.items) },
+}
+
+impl Drop for Cache {
+    fn drop(self) {
+        let Cache { bindings, chains } = self;
+        drop(bindings);
+        drop(chains);
+    }
 }
 
 impl Cache {

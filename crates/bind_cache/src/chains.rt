@@ -26,11 +26,23 @@ pub(crate) struct Link {
 ///
 /// Each number stays as it is while others come and go, and a number below the first says that
 /// nothing is left of a chain. So the first hash goes without a look at the chains.
-#[derive(Debug, Drop)]
+#[derive(Debug)]
 pub(crate) struct Chains {
     newest: Vec<u64>,
     links: HeapCircularBuffer<Link>,
     first: u64,
+}
+
+impl Drop for Chains {
+    fn drop(self) {
+        let Chains {
+            newest,
+            links,
+            first: _,
+        } = self;
+        drop(newest);
+        drop(links);
+    }
 }
 
 impl Model for Chains {

@@ -107,9 +107,7 @@ pub fn bind<L: Ledger>(
     let mut work = Work::new(alloc, most_kept(wanted));
     let outcome = evaluate(alloc, &scene, &mut work, path, MOST_DEEP, steps)?;
     let cost = work.count;
-    let Work { stack, visits, .. } = work;
-    drop(stack);
-    let Ok(lists) = told_lists(alloc, wanted, visits) else {
+    let Ok(lists) = told_lists(alloc, wanted, work.into_visits()) else {
         drop(outcome);
         return Err(AllocError);
     };
@@ -225,16 +223,8 @@ fn next_tree<'a>(work: &mut Work<'a>, mut choice: FirstOf<'a>, told: Outcome) ->
     };
     drop(told);
     let Some((tree, from)) = choice.trees.next() else {
-        let FirstOf {
-            trees,
-            path,
-            named,
-            visit,
-            ..
-        } = choice;
-        drop(trees);
-        drop(path);
-        let named = named_outcome(named);
+        let visit = choice.visit;
+        let named = named_outcome(choice.into_named());
         work.visits.end(visit, &named);
         return Ok(Task::Tell(named));
     };
@@ -264,9 +254,7 @@ fn next_branch<'a>(work: &mut Work<'a>, mut union: Union<'a>, told: Outcome) -> 
     let told_of = union.weight;
     union.gathered.add(told_of, told)?;
     let Some((weight, tree)) = next_weighted(&mut union.branches) else {
-        let Union { path, gathered, .. } = union;
-        drop(path);
-        return Ok(Task::Tell(gathered.into_outcome()));
+        return Ok(Task::Tell(union.into_gathered().into_outcome()));
     };
     union.weight = weight;
     let Ok(path) = union.path.share() else {

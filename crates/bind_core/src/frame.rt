@@ -24,7 +24,6 @@ pub(crate) enum Frame<'a> {
 
 /// What is left of a lookup or of an alternation, where all that was tried of it came to nothing:
 /// it comes to what the first of its trees does that comes to something.
-#[derive(Drop)]
 pub(crate) struct FirstOf<'a> {
     /// The trees that are left, which are tried in order.
     pub(crate) trees: TreesLeft<'a>,
@@ -39,13 +38,36 @@ pub(crate) struct FirstOf<'a> {
     pub(crate) left: u32,
 }
 
+impl Drop for FirstOf<'_> {
+    fn drop(self) {
+        let FirstOf {
+            trees,
+            path,
+            named,
+            visit: _,
+            left: _,
+        } = self;
+        drop(trees);
+        drop(path);
+        drop(named);
+    }
+}
+
 /// Trees of the tables that are left to try. They are lent.
-#[derive(Drop)]
 pub(crate) enum TreesLeft<'a> {
     /// Those of the entries that match the path that was looked up.
     Entries(IntoIter<LeanTree<'a>, Global>),
     /// Alternatives of one tree.
     Alternatives(Alternatives<'a>),
+}
+
+impl Drop for TreesLeft<'_> {
+    fn drop(self) {
+        match self {
+            TreesLeft::Entries(entries) => drop(entries),
+            TreesLeft::Alternatives(left) => drop(left),
+        }
+    }
 }
 
 /// Alternatives of a tree of the tables that are left to try.
@@ -58,7 +80,6 @@ pub(crate) struct Alternatives<'a> {
 }
 
 /// What is left of a union.
-#[derive(Drop)]
 pub(crate) struct Union<'a> {
     /// The branches that are left, which are evaluated in order where their weight isn't 0. They
     /// are lent.
@@ -73,6 +94,63 @@ pub(crate) struct Union<'a> {
     pub(crate) gathered: Gathered,
     /// How many lookups are left in the chain for the leaves of the branches.
     pub(crate) left: u32,
+}
+
+impl Drop for Union<'_> {
+    fn drop(self) {
+        let Union {
+            branches,
+            path,
+            from: _,
+            weight: _,
+            gathered,
+            left: _,
+        } = self;
+        drop(branches);
+        drop(path);
+        drop(gathered);
+    }
+}
+
+impl<'a> FirstOf<'a> {
+    ghost use Rattle.std.specs.Prelude.{◌≡◌};
+
+    /// What the path names by itself.
+    pub(crate) fn into_named(self) -> Option<Leaf>
+        ensures { result ≡ self.entry.named }
+    {
+        let FirstOf {
+            trees,
+            path,
+            named,
+            visit: _,
+            left: _,
+        } = self;
+        drop(trees);
+        drop(path);
+        named
+    }
+}
+
+impl<'a> Union<'a> {
+    ghost use Rattle.std.specs.Prelude.{◌≡◌};
+
+    /// What the branches that were evaluated came to.
+    pub(crate) fn into_gathered(self) -> Gathered
+        ensures { result ≡ self.entry.gathered }
+    {
+        let Union {
+            branches,
+            path,
+            from: _,
+            weight: _,
+            gathered,
+            left: _,
+        } = self;
+        drop(branches);
+        drop(path);
+        gathered
+    }
 }
 
 impl<'a> TreesLeft<'a> {

@@ -7,7 +7,6 @@ use addr_book::{Bound, BoundItem, BoundList};
 use std::alloc::Global;
 
 /// What the branches of a union came to that were evaluated. Negative ones leave nothing here.
-#[derive(Drop)]
 pub(crate) struct Gathered {
     /// The bound ones, in order.
     found: Vec<BoundItem>,
@@ -15,6 +14,17 @@ pub(crate) struct Gathered {
     failing: bool,
     /// Whether one has no replica.
     empty: bool,
+}
+
+impl Drop for Gathered {
+    fn drop(self) {
+        let Gathered {
+            found,
+            failing: _,
+            empty: _,
+        } = self;
+        drop(found);
+    }
 }
 
 impl Gathered {
@@ -51,13 +61,19 @@ impl Gathered {
     pub(crate) fn into_outcome(self) -> Outcome
         ensures { ending_of result ≡ kept_ending (kept_of self) }
     {
-        if !self.found.is_empty() {
-            return Outcome::Bound(Bound::Many(BoundList::of(self.found)));
+        let Gathered {
+            found,
+            failing,
+            empty,
+        } = self;
+        if !found.is_empty() {
+            return Outcome::Bound(Bound::Many(BoundList::of(found)));
         }
-        if self.failing {
+        drop(found);
+        if failing {
             return Outcome::Fail;
         }
-        if self.empty {
+        if empty {
             return Outcome::Empty;
         }
         Outcome::Neg

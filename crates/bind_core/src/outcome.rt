@@ -34,7 +34,7 @@ pub enum Wanted {
 }
 
 /// An outcome, and what it took.
-#[derive(Debug, Drop)]
+#[derive(Debug)]
 pub struct Delegated {
     /// What the path comes to.
     pub outcome: Outcome,
@@ -46,6 +46,37 @@ pub struct Delegated {
     /// Where it was wanted and the outcome isn't too wide: each lookup, in the order in which they
     /// began.
     pub trace: Trace,
+}
+
+impl Drop for Delegated {
+    fn drop(self) {
+        let Delegated {
+            outcome,
+            cost: _,
+            asked,
+            trace,
+        } = self;
+        drop(outcome);
+        drop(asked);
+        drop(trace);
+    }
+}
+
+impl Delegated {
+    /// Its outcome, the paths that were looked up, and the lookups.
+    pub fn into_parts(self) -> (Outcome, PathList, Trace)
+        ensures outcome { result.0 ≡ self.outcome }
+        ensures asked { result.1 ≡ self.asked }
+        ensures trace { result.2 ≡ self.trace }
+    {
+        let Delegated {
+            outcome,
+            cost: _,
+            asked,
+            trace,
+        } = self;
+        (outcome, asked, trace)
+    }
 }
 
 impl Outcome {

@@ -13,12 +13,20 @@ use std::rc::Rc;
 pub(crate) const MOST_PATH_BYTES: usize = 2_048;
 
 /// A path that is looked up, which all that is left to try of its lookup holds.
-#[derive(Drop)]
 pub(crate) enum HeldPath<'a> {
     /// It is lent by the caller, or by a leaf of a table.
     Lent(&'a Path),
     /// It was joined of a leaf and the rest of another path.
     Shared(Rc<Path>),
+}
+
+impl Drop for HeldPath<'_> {
+    fn drop(self) {
+        match self {
+            HeldPath::Lent(_) => {}
+            HeldPath::Shared(path) => drop(path),
+        }
+    }
 }
 
 /// What a path is rewritten to: a tree of a table, with the labels of the path from a place on,

@@ -38,7 +38,7 @@ impl LookupEnd {
 }
 
 /// A lookup that a delegation made.
-#[derive(Debug, Drop)]
+#[derive(Debug)]
 pub struct TraceItem {
     /// How many lookups came before it in its chain: 0 for the path that was asked for.
     pub depth: u32,
@@ -48,10 +48,42 @@ pub struct TraceItem {
     pub ended: LookupEnd,
 }
 
+impl Drop for TraceItem {
+    fn drop(self) {
+        let TraceItem {
+            depth: _,
+            path,
+            ended: _,
+        } = self;
+        drop(path);
+    }
+}
+
+impl TraceItem {
+    /// The path that was looked up.
+    pub(crate) fn into_path(self) -> Path
+        ensures { result ≡ self.path }
+    {
+        let TraceItem {
+            depth: _,
+            path,
+            ended: _,
+        } = self;
+        path
+    }
+}
+
 /// The lookups of a delegation, in the order in which they began. Contracts see the list of them.
-#[derive(Debug, Drop)]
+#[derive(Debug)]
 pub struct Trace {
     items: Vec<TraceItem>,
+}
+
+impl Drop for Trace {
+    fn drop(self) {
+        let Trace { items } = self;
+        drop(items);
+    }
 }
 
 impl Model for Trace {
@@ -80,9 +112,16 @@ impl Trace {
 }
 
 /// Some paths, in order. Contracts see the list of them.
-#[derive(Debug, Drop)]
+#[derive(Debug)]
 pub struct PathList {
     items: Vec<Path>,
+}
+
+impl Drop for PathList {
+    fn drop(self) {
+        let PathList { items } = self;
+        drop(items);
+    }
 }
 
 impl Model for PathList {

@@ -9,10 +9,16 @@ use std::alloc::Global;
 
 /// The lookups that were made, in the order in which they began, while there are no more than so
 /// many; none of them otherwise.
-#[derive(Drop)]
 pub(crate) struct Visits {
     items: Vec<TraceItem>,
     most: u32,
+}
+
+impl Drop for Visits {
+    fn drop(self) {
+        let Visits { items, most: _ } = self;
+        drop(items);
+    }
 }
 
 impl Visits {
@@ -87,16 +93,18 @@ impl Visits {
     pub(crate) fn into_trace(self) -> Trace
         ensures { result ≡ self.items.items }
     {
-        Trace::of(self.items)
+        let Visits { items, most: _ } = self;
+        Trace::of(items)
     }
 
     /// Their paths.
     pub(crate) fn into_paths(self) -> Mem<PathList>
         ensures { IfOk result (λ paths. paths ≡ map (λ i. i.path) self.items.items) }
     {
-        let mut paths = Vec::with_capacity(*self.items.allocator(), self.items.len())?;
-        for item in self.items {
-            paths.push(item.path)?;
+        let Visits { items, most: _ } = self;
+        let mut paths = Vec::with_capacity(*items.allocator(), items.len())?;
+        for item in items {
+            paths.push(item.into_path())?;
         }
         Ok(PathList::of(paths))
     }

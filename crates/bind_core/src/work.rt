@@ -19,7 +19,6 @@ pub(crate) struct Scene<'a> {
 }
 
 /// What a delegation has done, and what it has left for later.
-#[derive(Drop)]
 pub(crate) struct Work<'a> {
     /// What is left of lookups, alternations and unions that have not ended, the innermost last.
     pub(crate) stack: Vec<Frame<'a>>,
@@ -27,6 +26,18 @@ pub(crate) struct Work<'a> {
     pub(crate) count: u32,
     /// Those lookups, as far as they are kept.
     pub(crate) visits: Visits,
+}
+
+impl Drop for Work<'_> {
+    fn drop(self) {
+        let Work {
+            stack,
+            count: _,
+            visits,
+        } = self;
+        drop(stack);
+        drop(visits);
+    }
 }
 
 impl<'a> Work<'a> {
@@ -42,6 +53,19 @@ impl<'a> Work<'a> {
             count: 0,
             visits: Visits::new(alloc, most),
         }
+    }
+
+    /// The lookups that were kept. What was left for later goes.
+    pub(crate) fn into_visits(self) -> Visits
+        ensures { result ≡ self.entry.visits }
+    {
+        let Work {
+            stack,
+            count: _,
+            visits,
+        } = self;
+        drop(stack);
+        visits
     }
 }
 

@@ -6,7 +6,6 @@ use atomic_table::{Seat, Table};
 use std::alloc::Global;
 
 /// The words, 64 for each worker. Threads share them by reference.
-#[derive(Drop)]
 pub struct Counts {
     pub(crate) table: Table<(), Knowledge, u32, Owned, Global>,
     ghost size: { table.shared.table_id.words ≡ table.shared.key },
@@ -14,8 +13,14 @@ pub struct Counts {
     ghost some: { 1 ≤ table.shared.key },
 }
 
+impl Drop for Counts {
+    fn drop(self) {
+        let Counts { table } = self;
+        drop(table);
+    }
+}
+
 /// The right to write the 64 words of a worker. It may go to another thread, and can't be copied.
-#[derive(Drop)]
 pub struct CountWriter {
     pub(crate) seat: Seat<(), Knowledge>,
     pub(crate) first: u32,
@@ -24,9 +29,22 @@ pub struct CountWriter {
     ghost bare: { seat.me.1 ≡ [] },
 }
 
+impl Drop for CountWriter {
+    fn drop(self) {
+        let CountWriter { seat, first: _ } = self;
+        drop(seat);
+    }
+}
+
 /// The right to read all words. It may go to another thread, and can't be copied.
-#[derive(Drop)]
 pub struct CountReader {
     pub(crate) seat: Seat<(), Knowledge>,
     ghost bare: { seat.me.1 ≡ [] },
+}
+
+impl Drop for CountReader {
+    fn drop(self) {
+        let CountReader { seat } = self;
+        drop(seat);
+    }
 }

@@ -12,11 +12,17 @@ use std::alloc::Global;
 use text_parts::fnv_hash;
 
 /// The text of an entry, with its hash, which tells most texts apart that differ.
-#[derive(Drop)]
 pub(crate) struct EntryText {
     pub(crate) bytes: Vec<u8>,
     hash: u64,
     ghost hashed: { hash ≡ text_hash bytes.items },
+}
+
+impl Drop for EntryText {
+    fn drop(self) {
+        let EntryText { bytes, hash: _ } = self;
+        drop(bytes);
+    }
 }
 
 impl EntryText {

@@ -12,9 +12,16 @@ pub struct Hidden {
 }
 
 /// The entries of a table that are never asked, in the table's order.
-#[derive(Debug, Drop)]
+#[derive(Debug)]
 pub struct HiddenList {
     items: Vec<Hidden>,
+}
+
+impl Drop for HiddenList {
+    fn drop(self) {
+        let HiddenList { items } = self;
+        drop(items);
+    }
 }
 
 impl Model for HiddenList {

@@ -19,13 +19,24 @@ use std::alloc::Global;
 /// Entries with the same prefix match the same paths. So a prefix stands in the index once, for the
 /// first entry that has it, and what matches a path is found by one look-up for each of its labels,
 /// however many entries there are.
-#[derive(Drop)]
 pub(crate) struct IndexedEntries<'a> {
     entries: &'a [Entry],
     /// The prefixes, each at the position of the first entry that has it.
     index: Index,
     /// For each entry, the position at which its prefix stands in the index.
     first: Vec<usize>,
+}
+
+impl Drop for IndexedEntries<'_> {
+    fn drop(self) {
+        let IndexedEntries {
+            entries: _,
+            index,
+            first,
+        } = self;
+        drop(index);
+        drop(first);
+    }
 }
 
 impl<'a> IndexedEntries<'a> {

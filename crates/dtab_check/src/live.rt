@@ -13,12 +13,18 @@ use std::alloc::Global;
 
 /// What a tree is sure by: any of its leaves and marks that can be asked. A branch of weight 0 is
 /// never asked.
-#[derive(Drop)]
 pub(crate) struct Live<'a> {
     /// Whether a mark other than `~` is among them, or a leaf that names an address.
     pub(crate) stops: bool,
     /// The leaves, in order.
     pub(crate) leaves: Vec<&'a Path>,
+}
+
+impl Drop for Live<'_> {
+    fn drop(self) {
+        let Live { stops: _, leaves } = self;
+        drop(leaves);
+    }
 }
 
 /// What a tree is sure by.

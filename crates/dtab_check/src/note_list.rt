@@ -23,9 +23,16 @@ pub struct Note {
 }
 
 /// The notes on a table, in the order of its entries.
-#[derive(Debug, Drop)]
+#[derive(Debug)]
 pub struct NoteList {
     items: Vec<Note>,
+}
+
+impl Drop for NoteList {
+    fn drop(self) {
+        let NoteList { items } = self;
+        drop(items);
+    }
 }
 
 impl Model for NoteList {

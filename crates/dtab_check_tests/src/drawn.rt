@@ -50,13 +50,29 @@ const PATHS: [&str; 7] = ["/a", "/a/b", "/a/c", "/b/c/a/b", "/c/b/a", "/a/c/d", 
 const ADDRS: [&str; 2] = ["", "127.0.0.1 9001"];
 
 /// What a path is delegated by.
-#[derive(Drop)]
 struct Drawn {
     space: Dtab,
     base: Dtab,
     local: Dtab,
     book: Book,
     path: Path,
+}
+
+impl Drop for Drawn {
+    fn drop(self) {
+        let Drawn {
+            space,
+            base,
+            local,
+            book,
+            path,
+        } = self;
+        drop(space);
+        drop(base);
+        drop(local);
+        drop(book);
+        drop(path);
+    }
 }
 
 /// One of some texts, by the generator's next word.

@@ -16,7 +16,7 @@ use std::collections::HashMap;
 pub(crate) type Rows = HashMap<Vec<u8>, Bits>;
 
 /// Of one position of labels, which prefixes have which label there. Prefixes go by their places.
-#[derive(Debug, Drop)]
+#[derive(Debug)]
 pub(crate) struct Column {
     /// The prefixes that have a label here, or `*`.
     pub(crate) reached: Bits,
@@ -24,6 +24,17 @@ pub(crate) struct Column {
     pub(crate) named: Bits,
     /// The prefixes that have a label here, by the label.
     pub(crate) rows: Rows,
+}
+
+impl Drop for Column {
+    fn drop(self) {
+        let Column {
+            reached: _,
+            named: _,
+            rows,
+        } = self;
+        drop(rows);
+    }
 }
 
 impl Column {

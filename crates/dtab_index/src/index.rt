@@ -9,9 +9,16 @@ use std::marker::Model;
 
 /// Some prefixes of paths, each with its position, which contracts see as the list of what was
 /// added.
-#[derive(Debug, Drop)]
+#[derive(Debug)]
 pub struct Index {
     parts: Vec<Part>,
+}
+
+impl Drop for Index {
+    fn drop(self) {
+        let Index { parts } = self;
+        drop(parts);
+    }
 }
 
 impl Model for Index {

@@ -21,10 +21,16 @@ use std::snapshot::Snapshot;
 
 /// A prefix and its position. The labels of the prefix stand in the columns alone, and contracts
 /// see them here.
-#[derive(Drop)]
 pub(crate) struct Entry {
     pub(crate) prefix: Snapshot<Vec<Option<Vec<u8>>>>,
     pub(crate) at: u32,
+}
+
+impl Drop for Entry {
+    fn drop(self) {
+        let Entry { prefix, at: _ } = self;
+        drop(prefix);
+    }
 }
 
 impl Debug for Entry {
@@ -35,11 +41,19 @@ impl Debug for Entry {
 
 /// Some prefixes, at most 1,024. The place of the first that was added is 1,023, and of each later
 /// one it is one less, so that the lowest place is that of the last.
-#[derive(Debug, Drop)]
+#[derive(Debug)]
 pub(crate) struct Part {
     /// `None` stands for a prefix for which there was no memory.
     pub(crate) entries: Vec<Option<Entry>>,
     pub(crate) columns: Vec<Column>,
+}
+
+impl Drop for Part {
+    fn drop(self) {
+        let Part { entries, columns } = self;
+        drop(entries);
+        drop(columns);
+    }
 }
 
 impl Part {

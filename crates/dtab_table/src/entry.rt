@@ -9,12 +9,20 @@ use std::marker::Model;
 
 /// An entry of a table: a path that begins with the prefix is rewritten to the tree, with its rest
 /// behind every leaf.
-#[derive(Debug, Drop)]
+#[derive(Debug)]
 pub struct Entry {
     /// What a path must begin with.
     pub prefix: Prefix,
     /// What it is rewritten to.
     pub tree: Tree,
+}
+
+impl Drop for Entry {
+    fn drop(self) {
+        let Entry { prefix, tree } = self;
+        drop(prefix);
+        drop(tree);
+    }
 }
 
 impl Entry {
@@ -39,9 +47,16 @@ impl Entry {
 
 /// Some entries, in order, which contracts see as their list. It is made from a `Vec` and gives it
 /// back without taking memory.
-#[derive(Debug, Drop)]
+#[derive(Debug)]
 pub struct EntryList {
     items: Vec<Entry>,
+}
+
+impl Drop for EntryList {
+    fn drop(self) {
+        let EntryList { items } = self;
+        drop(items);
+    }
 }
 
 impl Model for EntryList {
@@ -76,6 +91,7 @@ impl EntryList {
     pub fn into_items(self) -> Vec<Entry>
         ensures { result.items ≡ self }
     {
-        self.items
+        let EntryList { items } = self;
+        items
     }
 }

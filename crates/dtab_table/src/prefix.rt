@@ -22,9 +22,16 @@ pub enum PrefixLabel {
 ///
 /// Contracts see the list of its labels, where `None` is `*`. It is made from a `Vec` and lends its
 /// labels without taking memory.
-#[derive(Debug, Drop)]
+#[derive(Debug)]
 pub struct Prefix {
     labels: Vec<PrefixLabel>,
+}
+
+impl Drop for Prefix {
+    fn drop(self) {
+        let Prefix { labels } = self;
+        drop(labels);
+    }
 }
 
 impl Model for Prefix {

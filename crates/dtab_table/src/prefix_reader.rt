@@ -8,11 +8,22 @@ use std::alloc::Global;
 use std::mem::replace;
 
 /// A prefix that was read in part, from behind its first `/` on.
-#[derive(Drop)]
 pub(crate) struct PrefixReader {
     prefix: Prefix,
     label: LabelReader,
     is_star: bool,
+}
+
+impl Drop for PrefixReader {
+    fn drop(self) {
+        let PrefixReader {
+            prefix,
+            label,
+            is_star: _,
+        } = self;
+        drop(prefix);
+        drop(label);
+    }
 }
 
 impl PrefixReader {
@@ -77,12 +88,26 @@ impl PrefixReader {
         ensures { Ends (λ prefix. prefix) (end_walk (walk_of self)) result }
     {
         if self.prefix.is_empty() && !self.is_star && self.label.is_new() {
-            return Ok(self.prefix);
+            return Ok(self.into_prefix());
         }
         let Some(label) = self.end_label(alloc) else {
             return Err(TakeError::Byte);
         };
-        self.prefix.push(label)?;
-        Ok(self.prefix)
+        let mut prefix = self.into_prefix();
+        prefix.push(label)?;
+        Ok(prefix)
+    }
+
+    /// The labels before the one that is read.
+    fn into_prefix(self) -> Prefix
+        ensures { result ≡ self.prefix }
+    {
+        let PrefixReader {
+            prefix,
+            label,
+            is_star: _,
+        } = self;
+        drop(label);
+        prefix
     }
 }

@@ -21,11 +21,22 @@ pub(crate) enum PrefixPlace {
 }
 
 /// A prefix's text that was read in part.
-#[derive(Drop)]
 pub(crate) struct PrefixTextReader {
     place: PrefixPlace,
     reader: PrefixReader,
     prefix: Prefix,
+}
+
+impl Drop for PrefixTextReader {
+    fn drop(self) {
+        let PrefixTextReader {
+            place: _,
+            reader,
+            prefix,
+        } = self;
+        drop(reader);
+        drop(prefix);
+    }
 }
 
 /// Whether the byte may stand in a prefix.
@@ -90,13 +101,25 @@ impl PrefixTextReader {
     pub(crate) fn end(self, alloc: Global) -> Result<Prefix, TakeError>
         ensures { Ends (λ prefix. prefix) (end_prefix (prefix_at_of self)) result }
     {
-        match self.place {
+        let PrefixTextReader {
+            place,
+            reader,
+            prefix,
+        } = self;
+        match place {
             PrefixPlace::Before => {
-                drop(self);
+                drop(reader);
+                drop(prefix);
                 Err(TakeError::Byte)
             }
-            PrefixPlace::Inside => self.reader.end(alloc),
-            PrefixPlace::Behind => Ok(self.prefix),
+            PrefixPlace::Inside => {
+                drop(prefix);
+                reader.end(alloc)
+            }
+            PrefixPlace::Behind => {
+                drop(reader);
+                Ok(prefix)
+            }
         }
     }
 }

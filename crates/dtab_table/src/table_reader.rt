@@ -33,13 +33,28 @@ pub(crate) enum Mode {
 }
 
 /// A table's text that was read in part.
-#[derive(Drop)]
 pub(crate) struct TableReader {
     entries: Vec<Entry>,
     mode: Mode,
     walk: PrefixReader,
     prefix: Prefix,
     tree: TreeReader,
+}
+
+impl Drop for TableReader {
+    fn drop(self) {
+        let TableReader {
+            entries,
+            mode: _,
+            walk,
+            prefix,
+            tree,
+        } = self;
+        drop(entries);
+        drop(walk);
+        drop(prefix);
+        drop(tree);
+    }
 }
 
 impl TableReader {

@@ -6,9 +6,16 @@ use std::marker::Model;
 
 /// Some trees, in order, which contracts see as their list. It is made from a `Vec` and gives it
 /// back without taking memory.
-#[derive(Debug, Drop)]
+#[derive(Debug)]
 pub struct TreeList {
     items: Vec<Tree>,
+}
+
+impl Drop for TreeList {
+    fn drop(self) {
+        let TreeList { items } = self;
+        drop(items);
+    }
 }
 
 impl Model for TreeList {
@@ -43,6 +50,7 @@ impl TreeList {
     pub fn into_items(self) -> Vec<Tree>
         ensures { result.items ≡ self }
     {
-        self.items
+        let TreeList { items } = self;
+        items
     }
 }

@@ -5,3 +5,4 @@ pub mod Latest
 pub mod Members
 pub mod Progressing
 pub mod Replying
+pub mod Showing

@@ -18,9 +18,16 @@ pub enum Taken {
 /// Holds the latest of the feeds that it takes, in whatever order they come: the one with the
 /// greatest run and, within that, the greatest place. `held_in` is how contracts see it: the feed
 /// that is held, if one is.
-#[derive(Debug, Drop)]
+#[derive(Debug)]
 pub struct Follower {
     held: Option<Feed>,
+}
+
+impl Drop for Follower {
+    fn drop(self) {
+        let Follower { held } = self;
+        drop(held);
+    }
 }
 
 impl Follower {

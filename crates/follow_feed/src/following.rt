@@ -35,11 +35,21 @@ pub enum FollowEnd {
 }
 
 /// What some polls came to: what is held, how many gave a later feed, and how many gave none.
-#[derive(Drop)]
 pub(crate) struct Following {
     follower: Follower,
     newer: u32,
     lost: u32,
+}
+
+impl Drop for Following {
+    fn drop(self) {
+        let Following {
+            follower,
+            newer: _,
+            lost: _,
+        } = self;
+        drop(follower);
+    }
 }
 
 impl Following {

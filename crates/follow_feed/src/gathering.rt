@@ -6,11 +6,21 @@ use std::alloc::Global;
 
 /// Gathers the bytes that are written to it, and gives none: the peer behind a reply that is read
 /// rather than passed on. A write fails where there is no memory for it.
-#[derive(Drop)]
 pub(crate) struct Gathered {
     pub(crate) bytes: Vec<u8>,
     faults: u64,
     ends: u64,
+}
+
+impl Drop for Gathered {
+    fn drop(self) {
+        let Gathered {
+            bytes,
+            faults: _,
+            ends: _,
+        } = self;
+        drop(bytes);
+    }
 }
 
 impl Gathered {

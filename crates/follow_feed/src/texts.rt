@@ -38,13 +38,9 @@ pub fn told_feed(alloc: Global, run: u64, place: u64, said: Reply) -> Mem<Respon
 fn shown(said: Reply) -> Option<Versioned>
     ensures { option_map space_of result ≡ space_in (reply_value said) }
 {
-    match said {
-        Reply::Table { version, dtab } => Some(Versioned { version, dtab }),
-        Reply::Version(_) | Reply::Exists(_) | Reply::TooManyNames | Reply::VersionsSpent => None,
-        Reply::Missing | Reply::Stale(_) | Reply::Deleted | Reply::Set(_) => None,
-        Reply::BookFull(_) | Reply::TooManyServices | Reply::Dropped | Reply::Marked(_) => None,
-        Reply::NotKept | Reply::HistorySpent | Reply::Names(_) | Reply::Addrs(_) => None,
-        Reply::Counts { .. } | Reply::Services { .. } | Reply::Viewed { .. } => None,
+    match said.into_table() {
+        Some((version, dtab)) => Some(Versioned { version, dtab }),
+        None => None,
     }
 }
 

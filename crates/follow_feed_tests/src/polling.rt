@@ -74,7 +74,11 @@ fn told(alloc: Global, dialer: &mut MemDialer) -> Result<String, Fail> {
     };
     let space = Name::of(alloc, b"default")?;
     match poll(alloc, dialer, leader, &space) {
-        Ok(feed) => said(alloc, feed),
+        Ok(feed) => {
+            let words = said(alloc, &feed);
+            drop(feed);
+            words
+        }
         Err(PollEnd::Lost) => faults(alloc, dialer.faults()),
         Err(PollEnd::Strange) => Ok(String::from_str(alloc, "strange")?),
         Err(PollEnd::OutOfMemory) => Ok(String::from_str(alloc, "memory")?),
@@ -87,10 +91,10 @@ fn faults(alloc: Global, faults: u64) -> Result<String, Fail> {
 }
 
 /// What a feed says.
-fn said(alloc: Global, feed: Feed) -> Result<String, Fail> {
+fn said(alloc: Global, feed: &Feed) -> Result<String, Fail> {
     let run = feed.run;
     let place = feed.place;
-    match feed.table {
+    match &feed.table {
         Some(table) => {
             let version = table.version;
             Ok(format!(in alloc; "run {run} place {place} version {version}")?)

@@ -13,10 +13,16 @@ use std::alloc::Global;
 
 /// The names that the Connection fields of a head list, in lower case and in order. So each field's
 /// name is looked up in the steps of a binary search, however many names a client lists.
-#[derive(Drop)]
 pub(crate) struct Listed {
     names: Vec<Bytes>,
     ghost sorted: { IsSorted text_order names.items },
+}
+
+impl Drop for Listed {
+    fn drop(self) {
+        let Listed { names } = self;
+        drop(names);
+    }
 }
 
 impl Listed {

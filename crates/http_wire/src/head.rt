@@ -8,7 +8,7 @@ use http::Method;
 use std::marker::Model;
 
 /// A field of a head: its name and its value, without the blanks around the value.
-#[derive(Debug, Drop)]
+#[derive(Debug)]
 pub struct Field {
     /// The name, as received.
     pub name: FieldName,
@@ -16,10 +16,25 @@ pub struct Field {
     pub value: Text,
 }
 
+impl Drop for Field {
+    fn drop(self) {
+        let Field { name, value } = self;
+        drop(name);
+        drop(value);
+    }
+}
+
 /// Fields, in the order in which they were received. Contracts see it as the list of them.
-#[derive(Debug, Drop)]
+#[derive(Debug)]
 pub struct FieldList {
     fields: Vec<Field>,
+}
+
+impl Drop for FieldList {
+    fn drop(self) {
+        let FieldList { fields } = self;
+        drop(fields);
+    }
 }
 
 impl Model for FieldList {
@@ -101,7 +116,7 @@ fn find_named<'a>(fields: &'a [Field], name: &[u8]) -> Option<&'a Field>
 }
 
 /// The head of a request (RFC 9112 sections 2 to 5).
-#[derive(Debug, Drop)]
+#[derive(Debug)]
 pub struct Head {
     /// The method.
     pub method: Method,
@@ -113,8 +128,37 @@ pub struct Head {
     pub fields: FieldList,
 }
 
+impl Drop for Head {
+    fn drop(self) {
+        let Head {
+            method,
+            target,
+            version: _,
+            fields,
+        } = self;
+        drop(method);
+        drop(target);
+        drop(fields);
+    }
+}
+
+impl Head {
+    /// Its method, its target, its version and its fields.
+    pub fn into_parts(self) -> (Method, Text, u8, FieldList)
+        ensures { result ≡ (self.method, self.target, self.version, self.fields) }
+    {
+        let Head {
+            method,
+            target,
+            version,
+            fields,
+        } = self;
+        (method, target, version, fields)
+    }
+}
+
 /// The head of a reply (RFC 9112 sections 2, 4 and 5).
-#[derive(Debug, Drop)]
+#[derive(Debug)]
 pub struct ReplyHead {
     /// 0 for HTTP/1.0 and 1 for HTTP/1.1.
     pub version: u8,
@@ -124,4 +168,17 @@ pub struct ReplyHead {
     pub reason: Text,
     /// The fields, in order.
     pub fields: FieldList,
+}
+
+impl Drop for ReplyHead {
+    fn drop(self) {
+        let ReplyHead {
+            version: _,
+            status: _,
+            reason,
+            fields,
+        } = self;
+        drop(reason);
+        drop(fields);
+    }
 }

@@ -20,13 +20,24 @@ pub(crate) const MOST_ROOM: usize = 69632;
 
 /// Bytes in a room: those from `at` to `end` are held, and reads go behind them. Nothing is moved
 /// but to make room.
-#[derive(Debug, Drop)]
+#[derive(Debug)]
 pub(crate) struct Room {
     bytes: Vec<u8>,
     at: usize,
     end: usize,
     ghost within: { (at ≤ end) × (end ≤ vec_len bytes) × (16384 ≤ vec_len bytes)
         × (vec_len bytes ≤ 69632) },
+}
+
+impl Drop for Room {
+    fn drop(self) {
+        let Room {
+            bytes,
+            at: _,
+            end: _,
+        } = self;
+        drop(bytes);
+    }
 }
 
 impl Room {

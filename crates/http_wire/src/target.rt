@@ -15,12 +15,20 @@ use std::alloc::Global;
 use thiserror::Error;
 
 /// A request target that is served (RFC 9112 section 3.2).
-#[derive(Debug, Drop)]
+#[derive(Debug)]
 pub struct Target {
     /// What stands in the request line that goes on: a path with its query, or `*`.
     pub line: Bytes,
     /// The authority, where the target is an absolute one.
     pub authority: Option<Bytes>,
+}
+
+impl Drop for Target {
+    fn drop(self) {
+        let Target { line, authority } = self;
+        drop(line);
+        drop(authority);
+    }
 }
 
 /// Why a request target is refused.

@@ -6,9 +6,16 @@ use crate::Bytes;
 use std::marker::Model;
 
 /// The bytes of a target or of a field's value. Contracts see it as the list of them.
-#[derive(Debug, Drop)]
+#[derive(Debug)]
 pub struct Text {
     bytes: Vec<u8>,
+}
+
+impl Drop for Text {
+    fn drop(self) {
+        let Text { bytes } = self;
+        drop(bytes);
+    }
 }
 
 impl Model for Text {
@@ -37,9 +44,16 @@ impl Text {
 
 /// The name of a field, as received: names are compared without case (RFC 9110 section 5.1).
 /// Contracts see it as the list of its bytes.
-#[derive(Debug, Drop)]
+#[derive(Debug)]
 pub struct FieldName {
     bytes: Vec<u8>,
+}
+
+impl Drop for FieldName {
+    fn drop(self) {
+        let FieldName { bytes } = self;
+        drop(bytes);
+    }
 }
 
 impl Model for FieldName {

@@ -30,12 +30,7 @@ pub fn hear(rule: &Rule, head: Head) -> Head
 fn without_context(head: Head) -> Head
     ensures { result ≡ without_context head }
 {
-    let Head {
-        method,
-        target,
-        version,
-        fields,
-    } = head;
+    let (method, target, version, fields) = head.into_parts();
     Head {
         method,
         target,

@@ -28,7 +28,7 @@ pub enum Kind {
 }
 
 /// How a router names its requests, and whether it hears what they say of their context.
-#[derive(Debug, Drop)]
+#[derive(Debug)]
 pub struct Rule {
     /// What stands behind the prefix.
     pub kind: Kind,
@@ -38,4 +38,16 @@ pub struct Rule {
     /// anything else is looked at, as for clients that are not trusted: by them a request says how
     /// it is to be routed.
     pub clears_context: bool,
+}
+
+impl Drop for Rule {
+    fn drop(self) {
+        let Rule {
+            kind,
+            prefix,
+            clears_context: _,
+        } = self;
+        drop(kind);
+        drop(prefix);
+    }
 }

@@ -6,9 +6,16 @@ use crate::Bytes;
 use std::marker::Model;
 
 /// Names of files. Contracts see the list of them, each as its bytes.
-#[derive(Debug, Drop)]
+#[derive(Debug)]
 pub struct NameList {
     items: Vec<String>,
+}
+
+impl Drop for NameList {
+    fn drop(self) {
+        let NameList { items } = self;
+        drop(items);
+    }
 }
 
 impl Model for NameList {

@@ -18,9 +18,15 @@ pub struct Endpoint {
 }
 
 /// Listeners for one address, which share its peers. Contracts see the list of them.
-#[derive(Drop)]
 pub struct Listeners<L> {
     items: Vec<L>,
+}
+
+impl<L: Drop> Drop for Listeners<L> {
+    fn drop(self) {
+        let Listeners { items } = self;
+        drop(items);
+    }
 }
 
 impl<L> Model for Listeners<L> {

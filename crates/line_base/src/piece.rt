@@ -4,9 +4,16 @@ ghost use Rattle.std.specs.Prelude.{◌≡◌};
 use std::marker::Model;
 
 /// The bytes that one call moved. Contracts see it as the list of them.
-#[derive(Debug, Drop)]
+#[derive(Debug)]
 pub struct Piece {
     bytes: Vec<u8>,
+}
+
+impl Drop for Piece {
+    fn drop(self) {
+        let Piece { bytes } = self;
+        drop(bytes);
+    }
 }
 
 impl Model for Piece {

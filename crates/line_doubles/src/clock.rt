@@ -10,10 +10,16 @@ use std::sync::Arc;
 /// list has none.
 ///
 /// Its forks share the list. Of more than 2^63 of them the further ones give 0 and tell nothing.
-#[derive(Drop)]
 pub struct MemClock {
     moments: Option<Arc<Vec<u64>>>,
     at: usize,
+}
+
+impl Drop for MemClock {
+    fn drop(self) {
+        let MemClock { moments, at: _ } = self;
+        drop(moments);
+    }
 }
 
 impl Model for MemClock {

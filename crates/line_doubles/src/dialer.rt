@@ -31,7 +31,6 @@ use std::vec::IntoIter;
 /// resumed. A kept one is unfit where bytes are left of what its other end gave, and where the
 /// resume is one of the calls that are listed to fail: so an end or a reset of it is played, at
 /// which the resume is no fault but finds nothing.
-#[derive(Drop)]
 pub struct MemDialer {
     log: Vec<DialEvent>,
     open_to: Option<(u32, u16)>,
@@ -43,6 +42,29 @@ pub struct MemDialer {
     waiting: Vec<u64>,
     late: bool,
     faults: u64,
+}
+
+impl Drop for MemDialer {
+    fn drop(self) {
+        let MemDialer {
+            log,
+            open_to: _,
+            unread,
+            kept,
+            keeps: _,
+            replies,
+            plan,
+            waiting,
+            late: _,
+            faults: _,
+        } = self;
+        drop(log);
+        drop(unread);
+        drop(kept);
+        drop(replies);
+        drop(plan);
+        drop(waiting);
+    }
 }
 
 impl Model for MemDialer {

@@ -11,11 +11,23 @@ use std::alloc::Global;
 use std::marker::Model;
 
 /// A plain file: the folder that it is in, its name there, and its bytes.
-#[derive(Drop)]
 pub struct MemFile {
     folder: String,
     name: String,
     bytes: Vec<u8>,
+}
+
+impl Drop for MemFile {
+    fn drop(self) {
+        let MemFile {
+            folder,
+            name,
+            bytes,
+        } = self;
+        drop(folder);
+        drop(name);
+        drop(bytes);
+    }
 }
 
 impl Model for MemFile {
@@ -59,11 +71,22 @@ impl MemFile {
 }
 
 /// Folders in memory. Calls are counted from 0.
-#[derive(Drop)]
 pub struct MemFolder {
     files: Vec<MemFile>,
     plan: CallPlan,
     faults: u64,
+}
+
+impl Drop for MemFolder {
+    fn drop(self) {
+        let MemFolder {
+            files,
+            plan,
+            faults: _,
+        } = self;
+        drop(files);
+        drop(plan);
+    }
 }
 
 impl Model for MemFolder {

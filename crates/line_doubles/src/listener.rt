@@ -18,7 +18,6 @@ use std::vec::IntoIter;
 /// asked to watch.
 ///
 /// Calls of `next_event` are counted from 0, as long as it is not closed.
-#[derive(Drop)]
 pub struct MemListener<P: Peer + Drop> {
     endpoint: Option<Endpoint>,
     coming: IntoIter<Event<P>>,
@@ -31,6 +30,28 @@ pub struct MemListener<P: Peer + Drop> {
     run: u64,
     plan: CallPlan,
     faults: u64,
+}
+
+impl<P: Peer + Drop> Drop for MemListener<P> {
+    fn drop(self) {
+        let MemListener {
+            endpoint: _,
+            coming,
+            handed,
+            returned,
+            room: _,
+            closes: _,
+            accepted: _,
+            finished: _,
+            run: _,
+            plan,
+            faults: _,
+        } = self;
+        drop(coming);
+        drop(handed);
+        drop(returned);
+        drop(plan);
+    }
 }
 
 impl<P: Peer + Drop> Model for MemListener<P> {

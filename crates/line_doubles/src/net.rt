@@ -26,11 +26,21 @@ pub struct MemVisits<P> {
 }
 
 /// What is to come to an address, for each of its listeners by its place.
-#[derive(Drop)]
 pub struct MemAddress<P> {
     pub ip: u32,
     pub port: u16,
     pub visits: Vec<MemVisits<P>>,
+}
+
+impl<P: Drop> Drop for MemAddress<P> {
+    fn drop(self) {
+        let MemAddress {
+            ip: _,
+            port: _,
+            visits,
+        } = self;
+        drop(visits);
+    }
 }
 
 /// What a dialer's other ends give, as [`MemDialer::of`] takes it.
@@ -42,11 +52,23 @@ pub struct MemDials {
 }
 
 /// What came back to a net together. Contracts see what a net tells of it.
-#[derive(Drop)]
 pub struct MemEnded<P: Peer + Drop> {
     listener: MemListener<P>,
     dialer: Option<MemDialer>,
     stop: MemStop,
+}
+
+impl<P: Peer + Drop> Drop for MemEnded<P> {
+    fn drop(self) {
+        let MemEnded {
+            listener,
+            dialer,
+            stop,
+        } = self;
+        drop(listener);
+        drop(dialer);
+        drop(stop);
+    }
 }
 
 impl<P: Peer + Drop> Model for MemEnded<P> {
@@ -89,7 +111,6 @@ impl<P: Peer + Drop> MemEnded<P> {
 /// A net of listeners, dialers and stops in memory, which keeps what comes back.
 ///
 /// Its calls of `listen` are counted from 0.
-#[derive(Drop)]
 pub struct MemNet<P: Peer + Drop> {
     addresses: Vec<MemAddress<P>>,
     dials: Vec<MemDials>,
@@ -102,6 +123,28 @@ pub struct MemNet<P: Peer + Drop> {
     stops_returned: u64,
     plan: CallPlan,
     faults: u64,
+}
+
+impl<P: Peer + Drop> Drop for MemNet<P> {
+    fn drop(self) {
+        let MemNet {
+            addresses,
+            dials,
+            ended,
+            room: _,
+            clean: _,
+            accepted: _,
+            finished: _,
+            stops_given: _,
+            stops_returned: _,
+            plan,
+            faults: _,
+        } = self;
+        drop(addresses);
+        drop(dials);
+        drop(ended);
+        drop(plan);
+    }
 }
 
 impl<P: Peer + Drop> Model for MemNet<P> {

@@ -6,13 +6,25 @@ use std::marker::Model;
 
 /// When a connection says that its listeners are closing, from the question of a number on, and at
 /// which questions it says that nothing came. Questions are numbered from 0.
-#[derive(Drop)]
 pub(crate) struct Notice {
     from: Option<u64>,
     quiet: Vec<u64>,
     asked: u64,
     told: u64,
     quiets: u64,
+}
+
+impl Drop for Notice {
+    fn drop(self) {
+        let Notice {
+            from: _,
+            quiet,
+            asked: _,
+            told: _,
+            quiets: _,
+        } = self;
+        drop(quiet);
+    }
 }
 
 impl Model for Notice {

@@ -6,11 +6,22 @@ use line_base::Failed;
 use std::marker::Model;
 
 /// The calls that are to fail, by their numbers from 0, and the most bytes of each.
-#[derive(Drop)]
 pub(crate) struct CallPlan {
     sizes: Vec<usize>,
     failing: Vec<u64>,
     calls: u64,
+}
+
+impl Drop for CallPlan {
+    fn drop(self) {
+        let CallPlan {
+            sizes,
+            failing,
+            calls: _,
+        } = self;
+        drop(sizes);
+        drop(failing);
+    }
 }
 
 impl Model for CallPlan {

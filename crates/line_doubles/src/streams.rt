@@ -18,12 +18,24 @@ use std::marker::Model;
 
 /// Bytes in memory, given in pieces of stated sizes. Calls are counted from 0; a read into no room
 /// is no call.
-#[derive(Drop)]
 pub struct MemSource {
     unread: Unread,
     plan: CallPlan,
     faults: u64,
     ends: u64,
+}
+
+impl Drop for MemSource {
+    fn drop(self) {
+        let MemSource {
+            unread,
+            plan,
+            faults: _,
+            ends: _,
+        } = self;
+        drop(unread);
+        drop(plan);
+    }
 }
 
 impl Model for MemSource {
@@ -111,11 +123,22 @@ impl Source for MemSource {
 
 /// A list in memory that takes bytes in pieces of stated sizes. Calls are counted from 0; a write
 /// of nothing is no call.
-#[derive(Drop)]
 pub struct MemSink {
     held: Vec<u8>,
     plan: CallPlan,
     faults: u64,
+}
+
+impl Drop for MemSink {
+    fn drop(self) {
+        let MemSink {
+            held,
+            plan,
+            faults: _,
+        } = self;
+        drop(held);
+        drop(plan);
+    }
 }
 
 impl Model for MemSink {
@@ -201,12 +224,25 @@ impl Sink for MemSink {
 /// and at which questions it says that nothing came: calls of `read_next` and `is_closing` are its
 /// questions, and are counted together from 0. It tells where its other end is only where it was
 /// told that.
-#[derive(Drop)]
 pub struct MemPeer {
     source: MemSource,
     sink: MemSink,
     notice: Notice,
     address: Option<SocketAddress>,
+}
+
+impl Drop for MemPeer {
+    fn drop(self) {
+        let MemPeer {
+            source,
+            sink,
+            notice,
+            address: _,
+        } = self;
+        drop(source);
+        drop(sink);
+        drop(notice);
+    }
 }
 
 impl Model for MemPeer {

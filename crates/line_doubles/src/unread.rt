@@ -4,10 +4,16 @@ ghost use Rattle.std.specs.Prelude.{◌≡◌, ◌≤◌, length, take, drop, mi
 use std::marker::Model;
 
 /// Bytes that are given away from the front. Contracts see those that are left.
-#[derive(Drop)]
 pub(crate) struct Unread {
     bytes: Vec<u8>,
     at: usize,
+}
+
+impl Drop for Unread {
+    fn drop(self) {
+        let Unread { bytes, at: _ } = self;
+        drop(bytes);
+    }
 }
 
 impl Model for Unread {

@@ -9,13 +9,27 @@ use std::alloc::Global;
 
 /// A journal in memory, which loses the lines whose numbers are listed, counted from 0 over all
 /// that it was given.
-#[derive(Debug, Drop)]
+#[derive(Debug)]
 pub struct MemJournal {
     alloc: Global,
     lines: Vec<Vec<u8>>,
     losing: Vec<u64>,
     given: u64,
     counts: LineCounts,
+}
+
+impl Drop for MemJournal {
+    fn drop(self) {
+        let MemJournal {
+            alloc: _,
+            lines,
+            losing,
+            given: _,
+            counts: _,
+        } = self;
+        drop(lines);
+        drop(losing);
+    }
 }
 
 impl MemJournal {
@@ -83,10 +97,18 @@ impl Journal for MemJournal {
 
 /// Makes journals in memory, and keeps those that it is given back. Each loses the lines of the
 /// same numbers, whatever its path.
-#[derive(Debug, Drop)]
+#[derive(Debug)]
 pub struct MemJournals {
     losing: Vec<u64>,
     closed: Vec<MemJournal>,
+}
+
+impl Drop for MemJournals {
+    fn drop(self) {
+        let MemJournals { losing, closed } = self;
+        drop(losing);
+        drop(closed);
+    }
 }
 
 impl MemJournals {

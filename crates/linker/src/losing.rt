@@ -60,11 +60,21 @@ impl<R: Eprint, J: Journal> Journal for WarningJournal<'_, R, J> {
 
 /// What makes such journals of others. That lines are lost is told once, until all journals write
 /// theirs again.
-#[derive(Drop)]
 pub struct WarningJournals<'a, R, O> {
     rt: &'a R,
     journals: O,
     losing: &'a AtomicU64,
+}
+
+impl<R, O: Drop> Drop for WarningJournals<'_, R, O> {
+    fn drop(self) {
+        let WarningJournals {
+            rt: _,
+            journals,
+            losing: _,
+        } = self;
+        drop(journals);
+    }
 }
 
 impl<'a, R, O> WarningJournals<'a, R, O> {

@@ -10,9 +10,15 @@ use std::time::Duration;
 const PAUSE_MILLISECONDS: u64 = 250;
 
 /// Whether the program has served to its end. A pause that waits meanwhile ends at once.
-#[derive(Drop)]
 pub struct Finish {
     state: Arc<FinishState>,
+}
+
+impl Drop for Finish {
+    fn drop(self) {
+        let Finish { state } = self;
+        drop(state);
+    }
 }
 
 /// What the holders of a finish share.
@@ -55,11 +61,21 @@ impl Finish {
 }
 
 /// A pause of the machine, which ends at the program's finish.
-#[derive(Drop)]
 pub struct SystemPause<'a, R> {
     rt: &'a R,
     finish: Finish,
     heard: u64,
+}
+
+impl<R> Drop for SystemPause<'_, R> {
+    fn drop(self) {
+        let SystemPause {
+            rt: _,
+            finish,
+            heard: _,
+        } = self;
+        drop(finish);
+    }
 }
 
 impl<'a, R> SystemPause<'a, R> {

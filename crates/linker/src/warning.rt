@@ -25,12 +25,22 @@ pub enum Expected {
 
 /// A folder that tells what people should know of the first file when that is read. It is the
 /// folder that it stands before in all that contracts say, and each file is read once.
-#[derive(Drop)]
 pub struct WarningFolder<'a, R, F> {
     rt: &'a R,
     folder: F,
     /// What the file is that is read next, if there may be something to tell of it.
     expected: Option<Expected>,
+}
+
+impl<R, F: Drop> Drop for WarningFolder<'_, R, F> {
+    fn drop(self) {
+        let WarningFolder {
+            rt: _,
+            folder,
+            expected: _,
+        } = self;
+        drop(folder);
+    }
 }
 
 /// Warns of a right configuration whose table covers the prefix of requests' paths, and of one by

@@ -7,10 +7,17 @@ use std::rt::Files;
 use std::sync::Wait;
 
 /// A watch that is to run in a thread of its own.
-#[derive(Drop)]
 pub struct Watch<S> {
     stops: StopCell<S>,
     finish: Finish,
+}
+
+impl<S: Drop> Drop for Watch<S> {
+    fn drop(self) {
+        let Watch { stops, finish } = self;
+        drop(stops);
+        drop(finish);
+    }
 }
 
 impl<S: Stop + Drop> Watch<S> {

@@ -26,12 +26,19 @@ pub enum ConfigEnd {
 }
 
 /// What is told of a configuration.
-#[derive(Debug, Drop)]
+#[derive(Debug)]
 pub struct Verdict {
     /// Whether it is right.
     pub is_right: bool,
     /// The line that tells so, or tells of its first fault, with its line feed.
     pub line: Bytes,
+}
+
+impl Drop for Verdict {
+    fn drop(self) {
+        let Verdict { is_right: _, line } = self;
+        drop(line);
+    }
 }
 
 /// Why nothing is told of a configuration.

@@ -28,12 +28,19 @@ use std::thread::Threads;
 use worker_record::WorkerRecord;
 
 /// Where a router serves, and its access log.
-#[derive(Drop)]
 pub(crate) struct LoggedSite {
     /// Where it serves.
     pub(crate) site: Site,
     /// The path of its access log, if there is to be one.
     pub(crate) log: Option<Text>,
+}
+
+impl Drop for LoggedSite {
+    fn drop(self) {
+        let LoggedSite { site, log } = self;
+        drop(site);
+        drop(log);
+    }
 }
 
 /// What the instruments of a router's workers are made from.

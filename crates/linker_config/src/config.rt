@@ -19,9 +19,16 @@ pub struct Port {
 }
 
 /// A text of a configuration. Contracts see the list of its bytes.
-#[derive(Debug, Drop)]
+#[derive(Debug)]
 pub struct Text {
     text: String,
+}
+
+impl Drop for Text {
+    fn drop(self) {
+        let Text { text } = self;
+        drop(text);
+    }
 }
 
 impl Model for Text {

@@ -9,9 +9,16 @@ use thiserror::Error;
 
 /// A key of a configuration, from the top, as `routers[0].servers[0].port`; `top` is the whole.
 /// Contracts see the list of its bytes.
-#[derive(Debug, Drop)]
+#[derive(Debug)]
 pub struct Key {
     bytes: Bytes,
+}
+
+impl Drop for Key {
+    fn drop(self) {
+        let Key { bytes } = self;
+        drop(bytes);
+    }
 }
 
 impl Model for Key {

@@ -16,9 +16,16 @@ pub struct LoadedItem {
 }
 
 /// Services with their addresses. Contracts see the list of them.
-#[derive(Debug, Drop)]
+#[derive(Debug)]
 pub struct Loaded {
     items: Vec<LoadedItem>,
+}
+
+impl Drop for Loaded {
+    fn drop(self) {
+        let Loaded { items } = self;
+        drop(items);
+    }
 }
 
 impl Model for Loaded {

@@ -42,10 +42,24 @@ impl Stop for FlagStop<'_> {
 }
 
 /// A net in memory whose stops raise a flag, for clients that ask nothing before.
-#[derive(Drop)]
 struct FlagNet<'a, P: Peer + Drop> {
     flag: &'a AtomicBool,
     net: MemNet<P>,
+}
+
+impl<P: Peer + Drop> Drop for FlagNet<'_, P> {
+    fn drop(self) {
+        let FlagNet { flag: _, net } = self;
+        drop(net);
+    }
+}
+
+impl<P: Peer + Drop> FlagNet<'_, P> {
+    /// The net in memory.
+    fn into_net(self) -> MemNet<P> {
+        let FlagNet { flag: _, net } = self;
+        net
+    }
 }
 
 impl<'a, P: Peer + Drop + Send> Net for FlagNet<'a, P> {
@@ -137,8 +151,7 @@ fn flagged_over<R: AllocGlobal + Threads + Wait + Sync, P: Peer + Drop + Send>(
         net,
         journals: _,
     } = served_over(rt, folder, FlagNet { flag, net })?;
-    let FlagNet { flag: _, net } = net;
-    Ok((written, status, net))
+    Ok((written, status, net.into_net()))
 }
 
 /// The same, and what the clients were given in place of the net.

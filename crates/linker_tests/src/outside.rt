@@ -221,16 +221,10 @@ where
         journals,
     };
     let status = run_words(rt, &["serve", "conf/c.json"], &mut outside)?;
-    let Outside {
-        folder: _,
-        net,
-        clock: _,
-        input: _,
-        out,
-        journals,
-    } = outside;
+    let written = text_of(alloc, outside.out.held())?;
+    let (net, journals) = outside.into_net_and_journals();
     Ok(Left {
-        written: text_of(alloc, out.held())?,
+        written,
         status,
         net,
         journals,

@@ -16,7 +16,6 @@ const LOOKS_A_YIELD: u32 = 16;
 /// reads fail. It may have nothing to say at first.
 ///
 /// It tells no content.
-#[derive(Drop)]
 pub(crate) struct Paired<'a> {
     /// Raised at its first read.
     here: &'a AtomicBool,
@@ -28,6 +27,20 @@ pub(crate) struct Paired<'a> {
     pauses: bool,
     read_faults: u64,
     quiets: u64,
+}
+
+impl Drop for Paired<'_> {
+    fn drop(self) {
+        let Paired {
+            here: _,
+            there: _,
+            client,
+            pauses: _,
+            read_faults: _,
+            quiets: _,
+        } = self;
+        drop(client);
+    }
 }
 
 impl<'a> Paired<'a> {

@@ -27,6 +27,11 @@ abbrev pub table_reply : Option Space → ReplyValue
 table_reply None = missing
 table_reply (Some space) = table space.version space.rules
 
+-- the namespace that a reply tells, if it tells one
+abbrev pub space_told : ReplyValue → Option Space
+space_told (table n rules) = Some (record { version = n; rules = rules })
+space_told _ = None
+
 abbrev pub addrs_reply : Option (List Weighted) → ReplyValue
 addrs_reply None = missing
 addrs_reply (Some list) = addrs list

@@ -79,12 +79,8 @@ impl State {
             Look::Counts => Ok(self.counts()),
             Look::Services { moment } => self.services(alloc, settings.limits, *moment),
             Look::View { path, local } => {
-                let Delegated {
-                    outcome,
-                    asked,
-                    trace,
-                    ..
-                } = self.delegate(alloc, settings, path, local, Wanted::Trace, steps)?;
+                let delegated = self.delegate(alloc, settings, path, local, Wanted::Trace, steps)?;
+                let (outcome, asked, trace) = delegated.into_parts();
                 drop(asked);
                 Ok(Reply::Viewed { outcome, trace })
             }

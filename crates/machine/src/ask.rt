@@ -9,7 +9,7 @@ use name_tree::Path;
 use std::alloc::Global;
 
 /// A path to pick a replica for. Its own table is sound, as every table that is read from text.
-#[derive(Debug, Drop)]
+#[derive(Debug)]
 pub struct Ask {
     /// The path.
     pub path: Path,
@@ -23,9 +23,36 @@ pub struct Ask {
     ghost sound: { AreSoundRules (rules_of local) } by { AreSoundRules-prop (rules_of local) },
 }
 
+impl Drop for Ask {
+    fn drop(self) {
+        let Ask {
+            path,
+            local,
+            moment: _,
+            words: _,
+        } = self;
+        drop(path);
+        drop(local);
+    }
+}
+
 impl Ask {
     ghost use Rattle.std.specs.Prelude.{◌≡◌, IfOk};
     ghost use Rattle.machine.specs.Code.{ask_of};
+
+    /// The path to pick a replica for.
+    pub fn into_path(self) -> Path
+        ensures { result ≡ self.path }
+    {
+        let Ask {
+            path,
+            local,
+            moment: _,
+            words: _,
+        } = self;
+        drop(local);
+        path
+    }
 
     /// An equal ask. It copies the path and the table.
     pub fn copied(&self, alloc: Global) -> Mem<Ask>

@@ -9,7 +9,7 @@ use std::alloc::Global;
 
 /// A change that is asked of a state, which accepts it or refuses it with a
 /// [`Reply`](crate::Reply).
-#[derive(Debug, Drop)]
+#[derive(Debug)]
 pub enum Change {
     /// A new namespace with this table.
     Create {
@@ -55,6 +55,36 @@ pub enum Change {
         /// The moment of the report, in milliseconds.
         moment: u64,
     },
+}
+
+impl Drop for Change {
+    fn drop(self) {
+        match self {
+            Change::Create { name, dtab } => {
+                drop(name);
+                drop(dtab);
+            }
+            Change::Put {
+                name,
+                version: _,
+                dtab,
+            } => {
+                drop(name);
+                drop(dtab);
+            }
+            Change::Delete { name, version: _ } => drop(name),
+            Change::SetAddrs { service, list } => {
+                drop(service);
+                drop(list);
+            }
+            Change::DropService { service } => drop(service),
+            Change::Report {
+                addr: _,
+                good: _,
+                moment: _,
+            } => {}
+        }
+    }
 }
 
 impl Change {

@@ -3,7 +3,7 @@ use addr_book::Addr;
 use name_tree::Path;
 
 /// The answer to a pick.
-#[derive(Debug, Drop)]
+#[derive(Debug)]
 pub enum Chosen {
     /// A replica.
     Picked {
@@ -16,6 +16,22 @@ pub enum Chosen {
     },
     /// There is none.
     None(Why),
+}
+
+impl Drop for Chosen {
+    fn drop(self) {
+        match self {
+            Chosen::Picked {
+                addr: _,
+                client,
+                residual,
+            } => {
+                drop(client);
+                drop(residual);
+            }
+            Chosen::None(_) => {}
+        }
+    }
 }
 
 /// Why there is no replica for a path.

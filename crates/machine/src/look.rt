@@ -9,7 +9,7 @@ use name_tree::Path;
 use std::alloc::Global;
 
 /// A question that alters nothing.
-#[derive(Debug, Drop)]
+#[derive(Debug)]
 pub enum Look {
     /// The version and the table of a namespace.
     Get {
@@ -41,6 +41,20 @@ pub enum Look {
         /// The request's own table, which comes behind the others.
         local: Dtab,
     },
+}
+
+impl Drop for Look {
+    fn drop(self) {
+        match self {
+            Look::Get { name } => drop(name),
+            Look::Addrs { service } => drop(service),
+            Look::View { path, local } => {
+                drop(path);
+                drop(local);
+            }
+            Look::List | Look::Counts | Look::Services { moment: _ } => {}
+        }
+    }
 }
 
 impl Look {

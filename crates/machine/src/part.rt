@@ -4,7 +4,7 @@ use choose_core::Limits;
 use ns_store::ReadyStore;
 
 /// What is prepared of a change.
-#[derive(Debug, Drop)]
+#[derive(Debug)]
 pub(crate) enum Part {
     /// The namespaces after it.
     Store(ReadyStore),
@@ -12,6 +12,16 @@ pub(crate) enum Part {
     Book(ReadyBook),
     /// A report, which is made when it is absorbed.
     Report(Report),
+}
+
+impl Drop for Part {
+    fn drop(self) {
+        match self {
+            Part::Store(ready) => drop(ready),
+            Part::Book(ready) => drop(ready),
+            Part::Report(_) => {}
+        }
+    }
 }
 
 /// A report on an address, and the limits that it is judged by.

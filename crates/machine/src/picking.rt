@@ -25,7 +25,7 @@ use crate::chosen::{Chosen, Why};
 use crate::settings::Settings;
 use crate::state::State;
 use addr_book::{Addr, Bound, Cluster, Leaf, Name, ONE_WEIGHT, Weighted};
-use bind_core::{Delegated, Outcome, Wanted};
+use bind_core::{Outcome, Wanted};
 use choose_core::{Limits, branch, is_open, pair_addrs};
 use std::alloc::Global;
 use std::sync::ledger::Ledger;
@@ -115,12 +115,7 @@ impl State {
             Wanted::Neither,
             steps,
         )?;
-        let Delegated {
-            outcome,
-            asked,
-            trace,
-            ..
-        } = delegated;
+        let (outcome, asked, trace) = delegated.into_parts();
         drop(asked);
         drop(trace);
         self.choose_from(alloc, settings, outcome, ask)
@@ -167,12 +162,7 @@ impl State {
             return Chosen::None(Why::Empty);
         }
         let addr = self.between(&leaf, ask, settings.limits).taken(0, 0).addr;
-        let Leaf {
-            cluster,
-            client,
-            residual,
-        } = leaf;
-        drop(cluster);
+        let (client, residual) = leaf.into_paths();
         Chosen::Picked {
             addr,
             client,

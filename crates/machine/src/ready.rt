@@ -7,10 +7,17 @@ use crate::part::Part;
 /// see it as `ready_of ready`.
 ///
 /// It shares what was prepared with each state that absorbs it.
-#[derive(Debug, Drop)]
+#[derive(Debug)]
 pub struct Ready {
     pub(crate) part: Part,
     /// The place after the change.
     pub(crate) place: u64,
     ghost sound: { IsSoundPart (part_value part) } by { IsSoundPart-prop (part_value part) },
+}
+
+impl Drop for Ready {
+    fn drop(self) {
+        let Ready { part, place: _ } = self;
+        drop(part);
+    }
 }

@@ -8,7 +8,7 @@ use dtab_table::Dtab;
 use std::marker::Model;
 
 /// The answer to a change or a look.
-#[derive(Debug, Drop)]
+#[derive(Debug)]
 pub enum Reply {
     /// A namespace was created or its table replaced: its version.
     Version(u64),
@@ -84,8 +84,64 @@ pub enum Reply {
     },
 }
 
+impl Drop for Reply {
+    fn drop(self) {
+        match self {
+            Reply::Table { version: _, dtab } => drop(dtab),
+            Reply::Names(names) => drop(names),
+            Reply::Addrs(list) => drop(list),
+            Reply::Services {
+                changes: _,
+                marks: _,
+                namespaces: _,
+                tables_written: _,
+                services,
+            } => drop(services),
+            Reply::Viewed { outcome, trace } => {
+                drop(outcome);
+                drop(trace);
+            }
+            Reply::Version(_) | Reply::Exists(_) | Reply::Stale(_) | Reply::Missing => {}
+            Reply::TooManyNames | Reply::VersionsSpent | Reply::Deleted | Reply::Set(_) => {}
+            Reply::BookFull(_) | Reply::TooManyServices | Reply::Dropped => {}
+            Reply::Marked(_) | Reply::NotKept | Reply::HistorySpent => {}
+            Reply::Counts {
+                changes: _,
+                marks: _,
+                namespaces: _,
+                services: _,
+            } => {}
+        }
+    }
+}
+
+impl Reply {
+    ghost use Rattle.std.specs.Prelude.{IfSome, None};
+    ghost use Rattle.dtab_table.specs.Dtab.{rules_of};
+    ghost use Rattle.machine.specs.Code.{reply_value};
+    ghost use Rattle.machine.specs.Values.{table};
+    ghost use Rattle.machine.specs.Looking.{space_told};
+
+    /// The version and the table that it tells, if it tells a table.
+    pub fn into_table(self) -> Option<(u64, Dtab)>
+        ensures table { IfSome result
+            (λ told. reply_value self ≡ table told.0 (rules_of told.1)) }
+        ensures none { result ≡ None → space_told (reply_value self) ≡ None }
+    {
+        match self {
+            Reply::Table { version, dtab } => Some((version, dtab)),
+            Reply::Version(_) | Reply::Exists(_) | Reply::Stale(_) | Reply::Missing => None,
+            Reply::TooManyNames | Reply::VersionsSpent | Reply::Deleted | Reply::Set(_) => None,
+            Reply::BookFull(_) | Reply::TooManyServices | Reply::Dropped => None,
+            Reply::Marked(_) | Reply::NotKept | Reply::HistorySpent => None,
+            Reply::Names(..) | Reply::Addrs(..) | Reply::Counts { .. } => None,
+            Reply::Services { .. } | Reply::Viewed { .. } => None,
+        }
+    }
+}
+
 /// How many addresses a service has at a moment.
-#[derive(Debug, Drop)]
+#[derive(Debug)]
 pub struct ServiceState {
     /// The service.
     pub name: Name,
@@ -96,10 +152,28 @@ pub struct ServiceState {
     pub alive: u32,
 }
 
+impl Drop for ServiceState {
+    fn drop(self) {
+        let ServiceState {
+            name,
+            addresses: _,
+            alive: _,
+        } = self;
+        drop(name);
+    }
+}
+
 /// Some names, in order. Contracts see the list of their bytes.
-#[derive(Debug, Drop)]
+#[derive(Debug)]
 pub struct NameList {
     items: Vec<Name>,
+}
+
+impl Drop for NameList {
+    fn drop(self) {
+        let NameList { items } = self;
+        drop(items);
+    }
 }
 
 impl Model for NameList {

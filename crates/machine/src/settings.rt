@@ -12,7 +12,7 @@ use dtab_table::Dtab;
 ///
 /// Its table is sound, as every table that is read from text, and its limits count at least one
 /// failure.
-#[derive(Debug, Drop)]
+#[derive(Debug)]
 pub struct Settings {
     /// The namespace whose table comes first in each request's table.
     pub space: Name,
@@ -23,4 +23,16 @@ pub struct Settings {
     pub limits: Limits,
     ghost sound: { AreSoundRules (rules_of base) } by { AreSoundRules-prop (rules_of base) },
     ghost failures: { 1 ≤ limits.failures },
+}
+
+impl Drop for Settings {
+    fn drop(self) {
+        let Settings {
+            space,
+            base,
+            limits: _,
+        } = self;
+        drop(space);
+        drop(base);
+    }
 }

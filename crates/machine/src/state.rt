@@ -16,7 +16,7 @@ use std::alloc::Global;
 /// their addresses, and how many changes it has accepted. Contracts see it as `state_of state`.
 ///
 /// The table of each namespace is sound, and each marked address is one of a service.
-#[derive(Debug, Drop)]
+#[derive(Debug)]
 pub struct State {
     pub(crate) store: Store,
     pub(crate) book: Book,
@@ -25,6 +25,20 @@ pub struct State {
     ghost sound: { AreSoundSpaces (contents_of store).spaces } by { AreSoundSpaces-prop _ },
     ghost known: { (addr : Addr) → fin.contains_key marks addr ≡ true
         → is_used book.services addr ≡ true },
+}
+
+impl Drop for State {
+    fn drop(self) {
+        let State {
+            store,
+            book,
+            marks,
+            place: _,
+        } = self;
+        drop(store);
+        drop(book);
+        drop(marks);
+    }
 }
 
 impl State {

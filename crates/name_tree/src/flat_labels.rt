@@ -12,11 +12,19 @@ use std::marker::Model;
 ///
 /// Contracts see the list. The bytes of the labels stand in one buffer, and their ends in another,
 /// so that a copy takes two pieces of memory, however many labels there are.
-#[derive(Debug, Drop)]
+#[derive(Debug)]
 pub(crate) struct FlatLabels {
     bytes: Vec<u8>,
     /// How many bytes there are up to the end of each label.
     ends: LabelEnds,
+}
+
+impl Drop for FlatLabels {
+    fn drop(self) {
+        let FlatLabels { bytes, ends } = self;
+        drop(bytes);
+        drop(ends);
+    }
 }
 
 impl Model for FlatLabels {

@@ -95,10 +95,17 @@ pub(crate) enum InLabel {
 }
 
 /// A label that was read in part.
-#[derive(Debug, Drop)]
+#[derive(Debug)]
 pub struct LabelReader {
     bytes: Vec<u8>,
     place: InLabel,
+}
+
+impl Drop for LabelReader {
+    fn drop(self) {
+        let LabelReader { bytes, place: _ } = self;
+        drop(bytes);
+    }
 }
 
 impl LabelReader {
@@ -169,8 +176,9 @@ impl LabelReader {
         ensures label { option_map (λ label. label.items) result ≡ end_spelling (spelling_of self) }
         ensures filled { IfSome result (λ label. 0 < length label.items) }
     {
-        match self.place {
-            InLabel::Bytes if !self.bytes.is_empty() => Some(self.bytes),
+        let LabelReader { bytes, place } = self;
+        match place {
+            InLabel::Bytes if !bytes.is_empty() => Some(bytes),
             _ => None,
         }
     }

@@ -13,12 +13,20 @@ use std::marker::Model;
 /// more. Labels may be as short as a byte, and then their ends take most of the memory of a path;
 /// a path of more than 65,535 bytes is rare, and has the ends of its first labels in two bytes all
 /// the same.
-#[derive(Debug, Drop)]
+#[derive(Debug)]
 pub(crate) struct LabelEnds {
     /// The ends before the first that two bytes do not hold.
     narrow: Vec<u16>,
     /// That one, and all behind it.
     wide: Vec<u32>,
+}
+
+impl Drop for LabelEnds {
+    fn drop(self) {
+        let LabelEnds { narrow, wide } = self;
+        drop(narrow);
+        drop(wide);
+    }
 }
 
 impl Model for LabelEnds {

@@ -16,12 +16,19 @@ use std::marker::Model;
 /// share, so that what is left behind a prefix, and a copy of a whole path, take no memory: a
 /// router makes many of these, and a path that somebody else wrote may be long. What shares them
 /// keeps all of the labels.
-#[derive(Debug, Drop)]
+#[derive(Debug)]
 pub struct Path {
     /// Its labels are the last of these.
     labels: SharedLabels,
     /// How many labels it has.
     len: usize,
+}
+
+impl Drop for Path {
+    fn drop(self) {
+        let Path { labels, len: _ } = self;
+        drop(labels);
+    }
 }
 
 impl Model for Path {

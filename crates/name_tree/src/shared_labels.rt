@@ -13,10 +13,17 @@ use std::sync::Arc;
 ///
 /// Contracts see the list of the labels. They never change for one who holds them because another
 /// one puts a label behind its own: that one gets a copy first.
-#[derive(Debug, Drop)]
+#[derive(Debug)]
 pub(crate) struct SharedLabels {
     /// `None` stands for no label.
     labels: Option<Arc<FlatLabels>>,
+}
+
+impl Drop for SharedLabels {
+    fn drop(self) {
+        let SharedLabels { labels } = self;
+        drop(labels);
+    }
 }
 
 impl Model for SharedLabels {

@@ -53,13 +53,29 @@ pub(crate) enum Mode {
 }
 
 /// A tree's text that was read in part.
-#[derive(Debug, Drop)]
+#[derive(Debug)]
 pub struct TreeReader {
     outer: Vec<Frame>,
     alts: Vec<Tree>,
     parts: Vec<WrittenBranch>,
     mode: Mode,
     path: PathReader,
+}
+
+impl Drop for TreeReader {
+    fn drop(self) {
+        let TreeReader {
+            outer,
+            alts,
+            parts,
+            mode: _,
+            path,
+        } = self;
+        drop(outer);
+        drop(alts);
+        drop(parts);
+        drop(path);
+    }
 }
 
 impl TreeReader {

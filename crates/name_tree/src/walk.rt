@@ -8,10 +8,18 @@ use std::alloc::Global;
 use std::mem::replace;
 
 /// A path that was read in part, from behind its first `/` on.
-#[derive(Debug, Drop)]
+#[derive(Debug)]
 pub(crate) struct PathReader {
     path: Path,
     label: LabelReader,
+}
+
+impl Drop for PathReader {
+    fn drop(self) {
+        let PathReader { path, label } = self;
+        drop(path);
+        drop(label);
+    }
 }
 
 impl PathReader {

@@ -5,11 +5,21 @@ use line_base::{Failed, Sink, Source};
 use std::io::{Read, Write};
 
 /// A reader of std's as a source.
-#[derive(Drop)]
 pub struct ReaderSource<R> {
     inner: R,
     faults: u64,
     ends: u64,
+}
+
+impl<R: Drop> Drop for ReaderSource<R> {
+    fn drop(self) {
+        let ReaderSource {
+            inner,
+            faults: _,
+            ends: _,
+        } = self;
+        drop(inner);
+    }
 }
 
 impl<R> ReaderSource<R> {
@@ -48,10 +58,16 @@ impl<R: Read> Source for ReaderSource<R> {
 }
 
 /// A writer of std's as a sink.
-#[derive(Drop)]
 pub struct WriterSink<W> {
     inner: W,
     faults: u64,
+}
+
+impl<W: Drop> Drop for WriterSink<W> {
+    fn drop(self) {
+        let WriterSink { inner, faults: _ } = self;
+        drop(inner);
+    }
 }
 
 impl<W> WriterSink<W> {

@@ -4,7 +4,7 @@ use dtab_table::Dtab;
 use std::sync::Arc;
 
 /// A namespace. Stores share its table.
-#[derive(Debug, Drop)]
+#[derive(Debug)]
 pub(crate) struct Namespace {
     /// Its name.
     pub(crate) name: Name,
@@ -12,4 +12,16 @@ pub(crate) struct Namespace {
     pub(crate) version: u64,
     /// Its table.
     pub(crate) dtab: Arc<Dtab>,
+}
+
+impl Drop for Namespace {
+    fn drop(self) {
+        let Namespace {
+            name,
+            version: _,
+            dtab,
+        } = self;
+        drop(name);
+        drop(dtab);
+    }
 }

@@ -14,10 +14,17 @@ use std::sync::Arc;
 
 /// Some namespaces, no two with one name, in the byte order of their names. Contracts see them as
 /// the finite map `spaces_of`.
-#[derive(Debug, Drop)]
+#[derive(Debug)]
 pub(crate) struct Spaces {
     items: Vec<Namespace>,
     ghost sorted: { IsTrue (is_sorted (slice_cmp nat_cmp) (map entry_of items.items)) },
+}
+
+impl Drop for Spaces {
+    fn drop(self) {
+        let Spaces { items } = self;
+        drop(items);
+    }
 }
 
 impl Spaces {

@@ -23,18 +23,32 @@ pub const MOST_NAMES: usize = 256;
 /// A change is prepared first, which may be refused, and is then made by [`absorb`](Store::absorb).
 /// Preparing copies the list of namespaces, for each two counts that go up by one, and no table but
 /// the change's own: stores share the tables, and the list too once one absorbs the other.
-#[derive(Debug, Drop)]
+#[derive(Debug)]
 pub struct Store {
     spaces: Arc<Spaces>,
     next: u64,
     ghost few: { fin.len (spaces_of (arc_value spaces)) ≤ 256 },
 }
 
+impl Drop for Store {
+    fn drop(self) {
+        let Store { spaces, next: _ } = self;
+        drop(spaces);
+    }
+}
+
 /// A store with a change made, prepared for [`Store::absorb`]. Contracts see what that store has as
 /// `prepared_of ready`.
-#[derive(Debug, Drop)]
+#[derive(Debug)]
 pub struct ReadyStore {
     next: Store,
+}
+
+impl Drop for ReadyStore {
+    fn drop(self) {
+        let ReadyStore { next } = self;
+        drop(next);
+    }
 }
 
 impl Store {

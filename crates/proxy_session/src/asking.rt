@@ -60,12 +60,18 @@ pub(crate) enum ReplicaPick {
 }
 
 /// An ask that was answered.
-#[derive(Drop)]
 pub(crate) struct AnsweredAsk {
     /// Its answer.
     pub(crate) pick: ReplicaPick,
     /// Whether a delegation was kept for it.
     pub(crate) hit: bool,
+}
+
+impl Drop for AnsweredAsk {
+    fn drop(self) {
+        let AnsweredAsk { pick, hit: _ } = self;
+        drop(pick);
+    }
 }
 
 /// The answer to a second ask, of a pass that was let in.

@@ -7,12 +7,24 @@ use retry_budget::{Budget, Tries};
 
 /// What a connection has between two requests: the client at its other end and where that is, if it
 /// tells, how many requests it has carried, and its budget of retries, if it has one.
-#[derive(Drop)]
 pub struct Connection<P> {
     pub(crate) peer: P,
     pub(crate) client: Option<SocketAddress>,
     pub(crate) served: u32,
     pub(crate) budget: Option<Budget>,
+}
+
+impl<P: Drop> Drop for Connection<P> {
+    fn drop(self) {
+        let Connection {
+            peer,
+            client: _,
+            served: _,
+            budget,
+        } = self;
+        drop(peer);
+        drop(budget);
+    }
 }
 
 impl<P: Peer> Connection<P> {

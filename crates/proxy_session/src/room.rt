@@ -8,7 +8,6 @@ use router::Names;
 use std::alloc::Global;
 
 /// The room of a server, which it uses again for each request of each connection.
-#[derive(Drop)]
 pub struct Room {
     /// For the bytes that a client gives.
     pub(crate) rest: Rest,
@@ -16,6 +15,15 @@ pub struct Room {
     pub(crate) names: Names,
     /// For the bytes of a try.
     pub(crate) way: WayRoom,
+}
+
+impl Drop for Room {
+    fn drop(self) {
+        let Room { rest, names, way } = self;
+        drop(rest);
+        drop(names);
+        drop(way);
+    }
 }
 
 impl Room {
@@ -26,5 +34,11 @@ impl Room {
             names: Names::room(alloc)?,
             way: WayRoom::new(alloc)?,
         })
+    }
+
+    /// What it is made of.
+    pub(crate) fn into_parts(self) -> (Rest, Names, WayRoom) {
+        let Room { rest, names, way } = self;
+        (rest, names, way)
     }
 }

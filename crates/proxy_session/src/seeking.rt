@@ -11,7 +11,6 @@ use own_reply::{OwnError, Refusal, Tested, test_request};
 use std::alloc::Global;
 
 /// A request for which a replica is sought.
-#[derive(Drop)]
 pub(crate) struct SoughtRequest {
     /// How its body is framed.
     pub(crate) framing: Framing,
@@ -22,6 +21,20 @@ pub(crate) struct SoughtRequest {
     /// What is asked for it: the path that it names, and the table that it brings along. Each
     /// attempt draws the moment and the words anew.
     pub(crate) ask: Ask,
+}
+
+impl Drop for SoughtRequest {
+    fn drop(self) {
+        let SoughtRequest {
+            framing: _,
+            target,
+            host,
+            ask,
+        } = self;
+        drop(target);
+        drop(host);
+        drop(ask);
+    }
 }
 
 impl SoughtRequest {
@@ -37,14 +50,7 @@ impl SoughtRequest {
         } = self;
         drop(target);
         drop(host);
-        let Ask {
-            path,
-            local,
-            moment: _,
-            words: _,
-        } = ask;
-        drop(local);
-        path
+        ask.into_path()
     }
 }
 

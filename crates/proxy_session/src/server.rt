@@ -13,7 +13,6 @@ use router::{Names, Naming, Pass, Ticket};
 /// A request is one call of [`Server::proxy_once`], and a stay of a connection one of
 /// [`Server::serve_stay`]. What does not change in these calls is lent to them as a
 /// [`Context`](crate::Context).
-#[derive(Drop)]
 pub struct Server<J: Naming, D, C> {
     pub(crate) pass: Pass<J>,
     pub(crate) way: Way<D>,
@@ -21,6 +20,25 @@ pub struct Server<J: Naming, D, C> {
     pub(crate) words: Pcg64,
     pub(crate) rest: Rest,
     pub(crate) names: Names,
+}
+
+impl<J: Naming, D: Drop, C: Drop> Drop for Server<J, D, C> {
+    fn drop(self) {
+        let Server {
+            pass,
+            way,
+            clock,
+            words,
+            rest,
+            names,
+        } = self;
+        drop(pass);
+        drop(way);
+        drop(clock);
+        drop(words);
+        drop(rest);
+        drop(names);
+    }
 }
 
 /// What a server was made of, but for its room.
@@ -49,7 +67,7 @@ impl<J: Naming, D, C> Server<J, D, C> {
         ensures clock { result.clock ≡ parts.clock }
         ensures words { result.words ≡ parts.words }
     {
-        let Room { rest, names, way } = room;
+        let (rest, names, way) = room.into_parts();
         let Parts {
             pass,
             dialer,

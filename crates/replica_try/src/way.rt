@@ -10,7 +10,6 @@ use std::mem;
 ///
 /// One way serves all tries of a worker, one after another. The head that goes on is put into `out`
 /// before each try.
-#[derive(Drop)]
 pub struct Way<D> {
     /// What opens connections to them.
     pub dialer: D,
@@ -22,8 +21,22 @@ pub struct Way<D> {
     pub(crate) again: Bytes,
 }
 
+impl<D: Drop> Drop for Way<D> {
+    fn drop(self) {
+        let Way {
+            dialer,
+            out,
+            back,
+            again,
+        } = self;
+        drop(dialer);
+        drop(out);
+        drop(back);
+        drop(again);
+    }
+}
+
 /// The room of a way, which is used again for each try.
-#[derive(Drop)]
 pub struct WayRoom {
     /// For the head that goes on to a replica, and then for the one that goes back to the client.
     out: Bytes,
@@ -31,6 +44,15 @@ pub struct WayRoom {
     back: Rest,
     /// For a copy of the head that goes on.
     again: Bytes,
+}
+
+impl Drop for WayRoom {
+    fn drop(self) {
+        let WayRoom { out, back, again } = self;
+        drop(out);
+        drop(back);
+        drop(again);
+    }
 }
 
 /// How many bytes a head has room for from the start. It grows where it needs more.
@@ -45,6 +67,19 @@ impl WayRoom {
             again: Vec::new(alloc),
         })
     }
+
+    /// The way by this dialer, with this room.
+    fn into_way<D>(self, dialer: D) -> Way<D>
+        ensures { result.dialer ≡ dialer }
+    {
+        let WayRoom { out, back, again } = self;
+        Way {
+            dialer,
+            out,
+            back,
+            again,
+        }
+    }
 }
 
 impl<D> Way<D> {
@@ -52,13 +87,7 @@ impl<D> Way<D> {
     pub fn of(dialer: D, room: WayRoom) -> Way<D>
         ensures { result.dialer ≡ dialer }
     {
-        let WayRoom { out, back, again } = room;
-        Way {
-            dialer,
-            out,
-            back,
-            again,
-        }
+        room.into_way(dialer)
     }
 
     /// Its dialer, as its tries left it.
@@ -67,10 +96,13 @@ impl<D> Way<D> {
     {
         let Way {
             dialer,
-            out: _,
-            back: _,
-            again: _,
+            out,
+            back,
+            again,
         } = self;
+        drop(out);
+        drop(back);
+        drop(again);
         dialer
     }
 

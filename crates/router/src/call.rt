@@ -5,7 +5,6 @@ use std::snapshot::Snapshot;
 
 /// A call as a pass's items tell it. It exists in contracts alone, and has no bytes as a
 /// `Snapshot`.
-#[derive(Drop)]
 pub enum Call {
     /// A replica was asked for.
     Asked(Snapshot<Ask>),
@@ -15,4 +14,15 @@ pub enum Call {
     Changing(Snapshot<Change>),
     /// A delegation was to be kept.
     Keeping(Snapshot<Binding>),
+}
+
+impl Drop for Call {
+    fn drop(self) {
+        match self {
+            Call::Asked(ask) => drop(ask),
+            Call::Looked(look) => drop(look),
+            Call::Changing(change) => drop(change),
+            Call::Keeping(binding) => drop(binding),
+        }
+    }
 }

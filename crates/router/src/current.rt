@@ -37,7 +37,6 @@ use std::sync::Arc;
 /// One copy of the value. It is what the updates that it took in come to, from nothing.
 ///
 /// It has no allocator: what takes memory is given one.
-#[derive(Drop)]
 pub struct Current {
     pub(crate) settings: Arc<Settings>,
     // The table of a namespace that is not there.
@@ -48,6 +47,23 @@ pub struct Current {
     ghost told: { record { state = state_of state; cache = bindings_of cache }
         ≡ taken_in (settings_of (arc_value settings)) (updates_in past.value) } by { Coded-set coded_value _ _ },
     ghost no_rules: { rules_of none ≡ [] } by { Coded-set coded_rules _ _ },
+}
+
+impl Drop for Current {
+    fn drop(self) {
+        let Current {
+            settings,
+            none,
+            state,
+            cache,
+            past,
+        } = self;
+        drop(settings);
+        drop(none);
+        drop(state);
+        drop(cache);
+        drop(past);
+    }
 }
 
 impl Current {

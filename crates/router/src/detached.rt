@@ -26,10 +26,17 @@ use std::sync::ledger::Ledger;
 use step_count::Steps;
 
 /// The settings and the state of a value.
-#[derive(Drop)]
 pub(crate) struct Detached {
     pub(crate) settings: Arc<Settings>,
     pub(crate) state: State,
+}
+
+impl Drop for Detached {
+    fn drop(self) {
+        let Detached { settings, state } = self;
+        drop(settings);
+        drop(state);
+    }
 }
 
 impl Detached {

@@ -33,14 +33,7 @@ fn gather<J: Naming>(
     ensures amount { result.1.amount ≡ sum_by (λ p. p.made + p.kept) passes.items }
 {
     for pass in passes {
-        let Pass {
-            reader,
-            mut seat,
-            share,
-            made: _,
-            kept: _,
-            place: _,
-        } = pass;
+        let (reader, mut seat, share) = pass.into_parts();
         if seat.holds().is_some() {
             loads.give(&mut seat);
         }

@@ -16,11 +16,18 @@ const ROOM: usize = 2_048;
 
 /// Room for the names of a replica, so that [`Router::peek`](crate::Router::peek) takes no memory.
 /// Contracts see the two texts (`client_text`, `residual_text`).
-#[derive(Drop)]
 pub struct Names {
     client: Bytes,
     residual: Bytes,
     ghost room: { (2048 ≤ vec_capacity client) × (2048 ≤ vec_capacity residual) },
+}
+
+impl Drop for Names {
+    fn drop(self) {
+        let Names { client, residual } = self;
+        drop(client);
+        drop(residual);
+    }
 }
 
 impl Names {

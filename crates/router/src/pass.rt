@@ -22,7 +22,6 @@ use std::sync::ledger::Share;
 ///
 /// The lists exist in proofs alone. What runs is a place in the cell, a seat at the load words, and
 /// a few numbers.
-#[derive(Drop)]
 pub struct Pass<J: Naming> {
     pub(crate) reader: Reader<Current, Update, Call>,
     pub(crate) seat: LoadSeat,
@@ -41,11 +40,42 @@ pub struct Pass<J: Naming> {
     ghost one_part: { share.parts ≡ 1 },
 }
 
+impl<J: Naming> Drop for Pass<J> {
+    fn drop(self) {
+        let Pass {
+            reader,
+            seat,
+            share,
+            made: _,
+            kept: _,
+            place: _,
+        } = self;
+        drop(reader);
+        drop(seat);
+        drop(share);
+    }
+}
+
 impl<J: Naming> Pass<J> {
     ghost use Rattle.std.specs.Prelude.{◌<◌, IfSome};
     ghost use Rattle.router_log.specs.Operation.{place_of};
     ghost use Rattle.router.specs.Passes.{number_in, seen_in, made_in, kept_in, refusals_in};
     ghost use Rattle.router.specs.Passes.{slot_in};
+
+    /// What it is made of, but for its counts.
+    pub(crate) fn into_parts(self) -> (Reader<Current, Update, Call>, LoadSeat, Share<J>)
+        ensures { (result.0 ≡ self.reader) × (result.1 ≡ self.seat) × (result.2 ≡ self.share) }
+    {
+        let Pass {
+            reader,
+            seat,
+            share,
+            made: _,
+            kept: _,
+            place: _,
+        } = self;
+        (reader, seat, share)
+    }
 
     /// Its number among the passes of its router, from 0. No call changes it.
     pub fn number(&self) -> u32

@@ -10,7 +10,6 @@ use std::sync::Arc;
 
 /// One step of the router's value: an accepted change, or a delegation that is kept. Contracts see
 /// it as `operation_of update`, a plain value.
-#[derive(Drop)]
 pub enum Update {
     /// An accepted change, with the parts that were prepared of it. Both copies of the value share
     /// them.
@@ -35,6 +34,27 @@ pub enum Update {
     },
 }
 
+impl Drop for Update {
+    fn drop(self) {
+        match self {
+            Update::Changed {
+                by: _,
+                serial: _,
+                change,
+                ready,
+            } => {
+                drop(change);
+                drop(ready);
+            }
+            Update::Kept {
+                by: _,
+                serial: _,
+                binding,
+            } => drop(binding),
+        }
+    }
+}
+
 impl Operation for Update {
     ghost caller = { λ u. caller_of (operation_of u) };
 
@@ -43,10 +63,21 @@ impl Operation for Update {
 
 /// The updates that a copy of the value took in. It exists in proofs alone: as a `Snapshot` it has
 /// no bytes.
-#[derive(Drop)]
 pub enum Past {
     /// None.
     Nothing,
     /// Some, and one more.
     Then(Snapshot<Past>, Snapshot<Update>),
+}
+
+impl Drop for Past {
+    fn drop(self) {
+        match self {
+            Past::Nothing => {}
+            Past::Then(past, update) => {
+                drop(past);
+                drop(update);
+            }
+        }
+    }
 }

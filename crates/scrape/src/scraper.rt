@@ -23,7 +23,6 @@ pub trait Scrape {
 }
 
 /// Scrapes the words of so many workers. Each thread that scrapes has one of its own.
-#[derive(Drop)]
 pub struct Scraper<'a, C> {
     clock: C,
     counts: &'a Counts,
@@ -32,6 +31,19 @@ pub struct Scraper<'a, C> {
     ghost seat: { Reads counts.now reader },
     ghost size: { size_of counts.now ≡ 64 * workers },
     ghost few: { workers ≤ 1024 },
+}
+
+impl<'a, C: Drop> Drop for Scraper<'a, C> {
+    fn drop(self) {
+        let Scraper {
+            clock,
+            counts: _,
+            reader,
+            workers: _,
+        } = self;
+        drop(clock);
+        drop(reader);
+    }
 }
 
 impl<'a, C> Scraper<'a, C> {
@@ -72,9 +84,15 @@ impl<C: Clock> Scrape for Scraper<'_, C> {
 }
 
 /// Scrapes where there are no words: its sums are all 0.
-#[derive(Drop)]
 pub struct NoWords<C> {
     clock: C,
+}
+
+impl<C: Drop> Drop for NoWords<C> {
+    fn drop(self) {
+        let NoWords { clock } = self;
+        drop(clock);
+    }
 }
 
 impl<C> NoWords<C> {

@@ -128,7 +128,7 @@ fn said_of_table(reply: Reply) -> Said
     ensures { said_of result ≡ table_said (reply_value reply) }
 {
     match reply {
-        Reply::Version(_) => {
+        Reply::Version(..) => {
             drop(reply);
             Said::Ok
         }

@@ -25,7 +25,7 @@ use text_parts::append_spaced;
 const ROOM: usize = 128;
 
 /// What a line is answered.
-#[derive(Debug, Drop)]
+#[derive(Debug)]
 pub enum Said {
     /// A table was set.
     Ok,
@@ -33,6 +33,16 @@ pub enum Said {
     Reply(Reply),
     /// The answer to a pick.
     Chosen(Chosen),
+}
+
+impl Drop for Said {
+    fn drop(self) {
+        match self {
+            Said::Ok => {}
+            Said::Reply(reply) => drop(reply),
+            Said::Chosen(chosen) => drop(chosen),
+        }
+    }
 }
 
 /// The text of an answer, without a line feed: `ok`; a reply in a word and its numbers; or the

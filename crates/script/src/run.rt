@@ -19,7 +19,7 @@ use step_count::Steps;
 use turn_parts::first_change;
 
 /// How a run stands.
-#[derive(Debug, Drop)]
+#[derive(Debug)]
 struct Run {
     state: State,
     /// How many changes were refused.
@@ -30,6 +30,19 @@ struct Run {
     lacking: u64,
     /// The sum of the ports of the picked replicas.
     ports: u64,
+}
+
+impl Drop for Run {
+    fn drop(self) {
+        let Run {
+            state,
+            refused: _,
+            picked: _,
+            lacking: _,
+            ports: _,
+        } = self;
+        drop(state);
+    }
 }
 
 /// Takes so many generated turns on a new state, each a change or a pick by the words of the
@@ -188,7 +201,7 @@ impl Run {
                 self.picked += 1;
                 self.ports += u64::from(addr.port);
             }
-            Chosen::None(_) => self.lacking += 1,
+            Chosen::None(..) => self.lacking += 1,
         }
         Ok(())
     }

@@ -31,7 +31,7 @@ fn was_set(reply: Reply) -> bool
     ensures refused { result ≡ false → (count : ℕ) → reply ≡ Reply.Set count → ⊥ }
 {
     match reply {
-        Reply::Set(_count) => true,
+        Reply::Set(_count, ..) => true,
         _refused => false,
     }
 }

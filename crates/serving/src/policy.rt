@@ -7,7 +7,7 @@ use line_base::ConnectionPool;
 use retry_budget::Tries;
 
 /// How requests are handled, whatever connection they come on.
-#[derive(Debug, Drop)]
+#[derive(Debug)]
 pub struct Policy {
     /// How they are named.
     pub rule: Rule,
@@ -16,4 +16,15 @@ pub struct Policy {
     /// Which connections to replicas each worker keeps, if it keeps any.
     pub pool: Option<ConnectionPool>,
     ghost allowed: { ForSome retries (λ tries. AreAllowed tries) },
+}
+
+impl Drop for Policy {
+    fn drop(self) {
+        let Policy {
+            rule,
+            retries: _,
+            pool: _,
+        } = self;
+        drop(rule);
+    }
 }

@@ -23,7 +23,7 @@ pub struct Feeding {
 
 /// Where a router and its interfaces listen, how requests are handled, how many connections are
 /// served at a time, and what the random words begin with.
-#[derive(Debug, Drop)]
+#[derive(Debug)]
 pub struct Site {
     /// Where the router listens.
     pub server: Port,
@@ -39,6 +39,21 @@ pub struct Site {
     pub seed: u64,
     /// Where the feed of the namespaces is served, if it is.
     pub feed: Option<Feeding>,
+}
+
+impl Drop for Site {
+    fn drop(self) {
+        let Site {
+            server: _,
+            namerd: _,
+            admin: _,
+            policy,
+            workers: _,
+            seed: _,
+            feed: _,
+        } = self;
+        drop(policy);
+    }
 }
 
 impl Site {

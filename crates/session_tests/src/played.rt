@@ -86,7 +86,6 @@ fn sent_by(alloc: Global, first: &MemDialer, second: &MemDialer) -> Mem<String> 
 }
 
 /// A client that was served.
-#[derive(Drop)]
 struct ServedClient {
     /// What it was given.
     peer: MemPeer,
@@ -94,6 +93,18 @@ struct ServedClient {
     keeper: Keeper,
     /// How its connection ended; `None` where it waits.
     ended: Option<Ended>,
+}
+
+impl Drop for ServedClient {
+    fn drop(self) {
+        let ServedClient {
+            peer,
+            keeper,
+            ended: _,
+        } = self;
+        drop(peer);
+        drop(keeper);
+    }
 }
 
 /// What the outside was told of a session with this client over these dialers.
@@ -139,7 +150,7 @@ fn fail<J: Naming, R: Wait>(context: &Context<'_, J, R>, pass: &mut Pass<J>) -> 
         .router
         .change(context.rt, context.alloc, pass, change)?
     {
-        Reply::Marked(mark) => Ok(mark.count),
+        Reply::Marked(mark, ..) => Ok(mark.count),
         _ => Ok(0),
     }
 }

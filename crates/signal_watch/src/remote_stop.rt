@@ -6,11 +6,21 @@ use line_base::Stop;
 use std::sync::Wait;
 
 /// Closes the listeners of the net that leaves its stops in a cell, those that it makes later too.
-#[derive(Drop)]
 pub struct RemoteStop<'a, R, S> {
     rt: &'a R,
     cell: StopCell<S>,
     calls: u64,
+}
+
+impl<R, S: Drop> Drop for RemoteStop<'_, R, S> {
+    fn drop(self) {
+        let RemoteStop {
+            rt: _,
+            cell,
+            calls: _,
+        } = self;
+        drop(cell);
+    }
 }
 
 impl<'a, R, S> RemoteStop<'a, R, S> {

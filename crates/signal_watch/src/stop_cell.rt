@@ -11,18 +11,30 @@ use std::sync::{Arc, Mutex, Wait};
 /// leaves a stop here instead ([`StoppableNet`](crate::StoppableNet)), and the watch calls what it
 /// finds ([`RemoteStop`](crate::RemoteStop)). Listeners that are made once an end was asked for are
 /// closed as soon as they serve.
-#[derive(Drop)]
 pub struct StopCell<S> {
     state: Arc<Mutex<StopState<S>>>,
 }
 
+impl<S: Drop> Drop for StopCell<S> {
+    fn drop(self) {
+        let StopCell { state } = self;
+        drop(state);
+    }
+}
+
 /// What stands in the cell.
-#[derive(Drop)]
 struct StopState<S> {
     /// Whether an end was asked for.
     is_asked: bool,
     /// What closes the listeners, once they are there.
     stop: Option<S>,
+}
+
+impl<S: Drop> Drop for StopState<S> {
+    fn drop(self) {
+        let StopState { is_asked: _, stop } = self;
+        drop(stop);
+    }
 }
 
 impl<S: Stop + Drop> StopCell<S> {

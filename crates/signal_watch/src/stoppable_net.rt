@@ -11,12 +11,24 @@ use std::sync::Wait;
 /// A net that leaves a stop of all its listeners in a cell, beside each that it hands out. It is
 /// the net that it stands before in all that contracts say, but that the stops in the cell are not
 /// counted, since they don't come back.
-#[derive(Drop)]
 pub struct StoppableNet<'a, R, N, S> {
     rt: &'a R,
     net: N,
     cell: StopCell<S>,
     stops_given: u64,
+}
+
+impl<R, N: Drop, S: Drop> Drop for StoppableNet<'_, R, N, S> {
+    fn drop(self) {
+        let StoppableNet {
+            rt: _,
+            net,
+            cell,
+            stops_given: _,
+        } = self;
+        drop(net);
+        drop(cell);
+    }
 }
 
 impl<'a, R, N, S> StoppableNet<'a, R, N, S> {

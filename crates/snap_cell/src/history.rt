@@ -59,11 +59,17 @@ impl<O> Plain<O, O, ()> for Add {
 pub(crate) type Head<O> = Word<O, (), Law>;
 
 /// A beginning of the list of published operations. It runs as its length.
-#[derive(Drop)]
 pub struct Prefix<O> {
     pub(crate) count: u64,
     pub(crate) seen: Seen<O, (), Law>,
     ghost counted: { count ≡ length seen.log },
+}
+
+impl<O> Drop for Prefix<O> {
+    fn drop(self) {
+        let Prefix { count: _, seen } = self;
+        drop(seen);
+    }
 }
 
 impl<O> Prefix<O> {

@@ -11,11 +11,22 @@ use std::alloc::AllocError;
 use std::snapshot::Snapshot;
 
 /// What two copies, a writer, its readers and its notes have in common.
-#[derive(Drop)]
 pub struct Origin<V, O> {
     pub(crate) opening: Snapshot<V>,
     pub(crate) readers: u32,
     pub(crate) empty: Seen<O, (), Law>,
+}
+
+impl<V, O> Drop for Origin<V, O> {
+    fn drop(self) {
+        let Origin {
+            opening,
+            readers: _,
+            empty,
+        } = self;
+        drop(opening);
+        drop(empty);
+    }
 }
 
 impl<V, O> Origin<V, O> {
@@ -32,18 +43,37 @@ impl<V, O> Origin<V, O> {
 }
 
 /// One copy of the value, with the operations that it has.
-#[derive(Drop)]
 pub struct Kept<V, O> {
     pub(crate) value: V,
     pub(crate) origin: Origin<V, O>,
     pub(crate) known: Prefix<O>,
 }
 
+impl<V: Drop, O> Drop for Kept<V, O> {
+    fn drop(self) {
+        let Kept {
+            value,
+            origin,
+            known,
+        } = self;
+        drop(value);
+        drop(origin);
+        drop(known);
+    }
+}
+
 /// An operation on its way into both copies, with the list that ends with it.
-#[derive(Drop)]
 pub struct Entry<O> {
     pub(crate) operation: Option<O>,
     pub(crate) known: Prefix<O>,
+}
+
+impl<O: Drop> Drop for Entry<O> {
+    fn drop(self) {
+        let Entry { operation, known } = self;
+        drop(operation);
+        drop(known);
+    }
 }
 
 impl<V: Published<O>, O: Operation> Absorb<Entry<O>> for Kept<V, O> {

@@ -21,7 +21,6 @@ pub use enter::Entered;
 /// its number and the number of its refusals.
 ///
 /// The lists exist in proofs alone. What runs is a place in the cell and three numbers.
-#[derive(Drop)]
 pub struct Reader<V: Published<O>, O: Operation, Q> {
     // Away while a guard has it.
     pub(crate) door: Option<Door<V, O>>,
@@ -34,4 +33,21 @@ pub struct Reader<V: Published<O>, O: Operation, Q> {
     ghost one_list: { known.seen.book ≡ origin.empty.book },
     ghost below: { number < origin.readers },
     ghost in_order: { InOrder (items_in items.value) (length known.seen.log) },
+}
+
+impl<V: Published<O>, O: Operation, Q> Drop for Reader<V, O, Q> {
+    fn drop(self) {
+        let Reader {
+            door,
+            origin,
+            known,
+            items,
+            number: _,
+            refused: _,
+        } = self;
+        drop(door);
+        drop(origin);
+        drop(known);
+        drop(items);
+    }
 }

@@ -51,9 +51,15 @@ impl<V, O> Join<View<V, O>> for Names {
 }
 
 /// A reader's place, outside.
-#[derive(Drop)]
 pub struct Door<V: Published<O>, O: Operation> {
     pub(crate) reader: reader::Reader<Kept<V, O>, View<V, O>, OneList>,
+}
+
+impl<V: Published<O>, O: Operation> Drop for Door<V, O> {
+    fn drop(self) {
+        let Door { reader } = self;
+        drop(reader);
+    }
 }
 
 /// A reader's place, with the copy that it reads. It is not `Drop`: end it by `leave`.

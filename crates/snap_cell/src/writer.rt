@@ -42,7 +42,13 @@ where
 }
 
 /// All operations that were published when the writer told of them. It runs as their number.
-#[derive(Drop)]
 pub struct Note<O> {
     pub(crate) known: Prefix<O>,
+}
+
+impl<O> Drop for Note<O> {
+    fn drop(self) {
+        let Note { known } = self;
+        drop(known);
+    }
 }

@@ -13,12 +13,26 @@ use std::test::Fail;
 use step_count::Steps;
 
 /// What paths are delegated by.
-#[derive(Drop)]
 struct Given {
     space: Dtab,
     base: Dtab,
     local: Dtab,
     book: Book,
+}
+
+impl Drop for Given {
+    fn drop(self) {
+        let Given {
+            space,
+            base,
+            local,
+            book,
+        } = self;
+        drop(space);
+        drop(base);
+        drop(local);
+        drop(book);
+    }
 }
 
 /// Sets the addresses of a service.

@@ -25,10 +25,17 @@ use std::marker::Model;
 use std::sync::ledger::{Blank, Book, Ledger, Share};
 
 /// How many steps were taken. It takes no bytes and no time, and only [`Steps::tick`] changes it.
-#[derive(Drop)]
 pub struct Steps<L: Ledger> {
     book: Book<L>,
     share: Share<L>,
+}
+
+impl<L: Ledger> Drop for Steps<L> {
+    fn drop(self) {
+        let Steps { book, share } = self;
+        drop(book);
+        drop(share);
+    }
 }
 
 impl<L: Ledger> Model for Steps<L> {

@@ -67,10 +67,7 @@ fn gather<A: Ledger, B: Ledger>(
     ensures taken_amount { result.1.amount ≡ sum_by taken_by hands.items }
 {
     for hand in hands {
-        let Hand {
-            left: more_left,
-            taken: more_taken,
-        } = hand;
+        let (more_left, more_taken) = hand.into_shares();
         left.merge(more_left);
         taken.merge(more_taken);
     }

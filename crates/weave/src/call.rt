@@ -6,7 +6,6 @@ use std::snapshot::Snapshot;
 use std::sync::Arc;
 
 /// What a pass called.
-#[derive(Drop)]
 pub(crate) enum Call {
     /// It asked something.
     Asked(Snapshot<Asked>),
@@ -16,15 +15,30 @@ pub(crate) enum Call {
     Keeping(Snapshot<Arc<Binding>>),
 }
 
+impl Drop for Call {
+    fn drop(self) {
+        match self {
+            Call::Asked(asked) => drop(asked),
+            Call::Changing(change) => drop(change),
+            Call::Keeping(binding) => drop(binding),
+        }
+    }
+}
+
 /// A call with its point: how many operations stood before it.
-#[derive(Drop)]
 pub(crate) struct Item {
     pub(crate) call: Call,
     pub(crate) at: usize,
 }
 
+impl Drop for Item {
+    fn drop(self) {
+        let Item { call, at: _ } = self;
+        drop(call);
+    }
+}
+
 /// What was published.
-#[derive(Drop)]
 pub(crate) enum Operation {
     /// A change that the state accepted.
     Changed {
@@ -40,8 +54,24 @@ pub(crate) enum Operation {
     },
 }
 
+impl Drop for Operation {
+    fn drop(self) {
+        match self {
+            Operation::Changed {
+                by: _,
+                serial: _,
+                change,
+            } => drop(change),
+            Operation::Kept {
+                by: _,
+                serial: _,
+                binding,
+            } => drop(binding),
+        }
+    }
+}
+
 /// The calls of a pass. A `Snapshot` has no bytes, so none of them is kept.
-#[derive(Drop)]
 pub(crate) enum Calls {
     /// None.
     NoCalls,
@@ -49,11 +79,34 @@ pub(crate) enum Calls {
     Called(Snapshot<Calls>, Snapshot<Item>),
 }
 
+impl Drop for Calls {
+    fn drop(self) {
+        match self {
+            Calls::NoCalls => {}
+            Calls::Called(calls, item) => {
+                drop(calls);
+                drop(item);
+            }
+        }
+    }
+}
+
 /// The operations of a world. A `Snapshot` has no bytes, so none of them is kept.
-#[derive(Drop)]
 pub(crate) enum Operations {
     /// None.
     NoOperations,
     /// Some, and one more.
     Published(Snapshot<Operations>, Snapshot<Operation>),
+}
+
+impl Drop for Operations {
+    fn drop(self) {
+        match self {
+            Operations::NoOperations => {}
+            Operations::Published(operations, operation) => {
+                drop(operations);
+                drop(operation);
+            }
+        }
+    }
 }

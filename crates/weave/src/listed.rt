@@ -7,11 +7,17 @@ use std::mem;
 use std::snapshot::Snapshot;
 
 /// The calls of a pass: their number, and the list as proofs see it.
-#[derive(Drop)]
 pub(crate) struct CallList {
     pub(crate) len: usize,
     pub(crate) list: Snapshot<Calls>,
     ghost counted: { len ≡ length (calls_in list.value) },
+}
+
+impl Drop for CallList {
+    fn drop(self) {
+        let CallList { len: _, list } = self;
+        drop(list);
+    }
 }
 
 impl CallList {
@@ -50,11 +56,17 @@ impl CallList {
 }
 
 /// The operations of a world: their number, and the list as proofs see it.
-#[derive(Drop)]
 pub(crate) struct OperationList {
     pub(crate) len: usize,
     pub(crate) list: Snapshot<Operations>,
     ghost counted: { len ≡ length (operations_in list.value) },
+}
+
+impl Drop for OperationList {
+    fn drop(self) {
+        let OperationList { len: _, list } = self;
+        drop(list);
+    }
 }
 
 impl OperationList {

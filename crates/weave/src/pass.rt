@@ -19,7 +19,6 @@ pub(crate) struct Flight {
 /// A pass: how many operations it has seen, its calls, the question that waits, and the delegation
 /// that it worked out last. Beside these it counts the changes and the delegations that it
 /// published.
-#[derive(Drop)]
 pub(crate) struct Pass {
     pub(crate) seen: usize,
     pub(crate) items: CallList,
@@ -27,6 +26,22 @@ pub(crate) struct Pass {
     pub(crate) fresh: Option<Arc<Binding>>,
     pub(crate) changes: u64,
     pub(crate) keeps: u64,
+}
+
+impl Drop for Pass {
+    fn drop(self) {
+        let Pass {
+            seen: _,
+            items,
+            flight,
+            fresh,
+            changes: _,
+            keeps: _,
+        } = self;
+        drop(items);
+        drop(flight);
+        drop(fresh);
+    }
 }
 
 impl Pass {

@@ -2,7 +2,7 @@
 use machine::{Ask, Change, Chosen, Look, Reply};
 
 /// What a pass asks without changing anything.
-#[derive(Debug, Drop)]
+#[derive(Debug)]
 pub enum Asked {
     /// For a replica.
     Pick(Ask),
@@ -10,8 +10,17 @@ pub enum Asked {
     Look(Look),
 }
 
+impl Drop for Asked {
+    fn drop(self) {
+        match self {
+            Asked::Pick(ask) => drop(ask),
+            Asked::Look(look) => drop(look),
+        }
+    }
+}
+
 /// A step of one pass, or a meeting of two. Passes go by their numbers, from 0 on.
-#[derive(Debug, Drop)]
+#[derive(Debug)]
 pub enum Step {
     /// A pass asks for a change, which is published where the state accepts it.
     Publish(u32, Change),
@@ -26,8 +35,20 @@ pub enum Step {
     Meet(u32, u32),
 }
 
+impl Drop for Step {
+    fn drop(self) {
+        match self {
+            Step::Publish(_, change) => drop(change),
+            Step::Enter(_, asked) => drop(asked),
+            Step::Answer(_) => {}
+            Step::Remember(_) => {}
+            Step::Meet(_, _) => {}
+        }
+    }
+}
+
 /// What a step tells.
-#[derive(Debug, Drop)]
+#[derive(Debug)]
 pub enum Told {
     /// The answer to a change or a look, with how many changes stood before it.
     Reply(u64, Reply),
@@ -42,10 +63,29 @@ pub enum Told {
     Nothing,
 }
 
+impl Drop for Told {
+    fn drop(self) {
+        match self {
+            Told::Reply(_, reply) => drop(reply),
+            Told::Chosen(_, chosen) => drop(chosen),
+            Told::Kept => {}
+            Told::NotKept => {}
+            Told::Nothing => {}
+        }
+    }
+}
+
 /// What steps told, in their order. Contracts see it as `told_list list`.
-#[derive(Debug, Drop)]
+#[derive(Debug)]
 pub struct ToldList {
     items: Vec<Told>,
+}
+
+impl Drop for ToldList {
+    fn drop(self) {
+        let ToldList { items } = self;
+        drop(items);
+    }
 }
 
 impl ToldList {

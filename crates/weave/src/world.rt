@@ -20,7 +20,6 @@ use std::alloc::{AllocError, Global};
 ///
 /// What was published, and what the passes called, are only counted: the lists exist in proofs
 /// alone, as snapshots without bytes. So a world takes no more memory the longer its history is.
-#[derive(Drop)]
 pub struct World {
     pub(crate) alloc: Global,
     pub(crate) settings: Settings,
@@ -29,6 +28,25 @@ pub struct World {
     pub(crate) operations: OperationList,
     pub(crate) keeps: u64,
     pub(crate) passes: Vec<Pass>,
+}
+
+impl Drop for World {
+    fn drop(self) {
+        let World {
+            alloc: _,
+            settings,
+            state,
+            cache,
+            operations,
+            keeps: _,
+            passes,
+        } = self;
+        drop(settings);
+        drop(state);
+        drop(cache);
+        drop(operations);
+        drop(passes);
+    }
 }
 
 impl World {

@@ -13,10 +13,17 @@ use line_log::Journal;
 use std::alloc::Global;
 
 /// An access log, as one worker writes it: its journal, and room for a line.
-#[derive(Drop)]
 pub(crate) struct AccessLog<L> {
     pub(crate) journal: L,
     line: Bytes,
+}
+
+impl<L: Drop> Drop for AccessLog<L> {
+    fn drop(self) {
+        let AccessLog { journal, line } = self;
+        drop(journal);
+        drop(line);
+    }
 }
 
 impl<L: Journal> AccessLog<L> {

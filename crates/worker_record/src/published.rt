@@ -25,7 +25,6 @@ const WRITTEN: u32 = 46;
 const LOST: u32 = 47;
 
 /// The counts of a worker, each of which other threads can read as soon as it is raised.
-#[derive(Drop)]
 pub(crate) struct Published<'a> {
     counts: &'a Counts,
     pub(crate) writer: CountWriter,
@@ -37,6 +36,19 @@ pub(crate) struct Published<'a> {
     ghost figures: { ArePublished tally (counts_of writer) },
     ghost logged: { AreLines lines (counts_of writer) },
     ghost steps: { AreSteps connections (counts_of writer) },
+}
+
+impl Drop for Published<'_> {
+    fn drop(self) {
+        let Published {
+            counts: _,
+            writer,
+            tally: _,
+            lines: _,
+            connections: _,
+        } = self;
+        drop(writer);
+    }
 }
 
 impl<'a> Published<'a> {

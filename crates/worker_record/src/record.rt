@@ -26,12 +26,25 @@ use std::marker::Model;
 ///
 /// Contracts see the moments to come of its clock, the moment at which an exchange began last, its
 /// counts, what its journal tells, and what it has published.
-#[derive(Drop)]
 pub struct WorkerRecord<'a, C: Clock, L: Journal> {
     clock: C,
     begun: u64,
     published: Published<'a>,
     log: Option<AccessLog<L>>,
+}
+
+impl<'a, C: Clock + Drop, L: Journal + Drop> Drop for WorkerRecord<'a, C, L> {
+    fn drop(self) {
+        let WorkerRecord {
+            clock,
+            begun: _,
+            published,
+            log,
+        } = self;
+        drop(clock);
+        drop(published);
+        drop(log);
+    }
 }
 
 impl<'a, C: Clock, L: Journal> Model for WorkerRecord<'a, C, L> {

@@ -18,7 +18,6 @@ use std::rt::Clock;
 /// opens another, in a descriptor that became free or that the pool is granted.
 ///
 /// What is kept is ended by a reset, as what is dialed is: all that was sent over it was answered.
-#[derive(Drop)]
 pub struct SocketDialer<'a, R> {
     rt: &'a R,
     current: Option<Upstream>,
@@ -27,6 +26,22 @@ pub struct SocketDialer<'a, R> {
     /// Whether the last send or receive failed because it waited for too long.
     is_late: bool,
     faults: u64,
+}
+
+impl<R> Drop for SocketDialer<'_, R> {
+    fn drop(self) {
+        let SocketDialer {
+            rt: _,
+            current,
+            next,
+            pool,
+            is_late: _,
+            faults: _,
+        } = self;
+        drop(current);
+        drop(next);
+        drop(pool);
+    }
 }
 
 impl<'a, R> SocketDialer<'a, R> {

@@ -35,7 +35,6 @@ const LISTENER_DESCRIPTORS: u32 = 3;
 /// the next. Clients that wait have descriptors beside those, as many as `waiting_room` saw, and
 /// [`SPARE_DESCRIPTORS`] are left, and two for the file of each job. So where a process opens no
 /// more than those after that, no accept and no dial ever lacks a descriptor.
-#[derive(Drop)]
 pub(crate) struct HeldSockets {
     pub(crate) alloc: Global,
     closing: Closing,
@@ -45,6 +44,22 @@ pub(crate) struct HeldSockets {
     listeners: u32,
     /// How many connections their dialers may keep.
     kept: u32,
+}
+
+impl Drop for HeldSockets {
+    fn drop(self) {
+        let HeldSockets {
+            alloc: _,
+            closing,
+            queues,
+            for_dialers,
+            listeners: _,
+            kept: _,
+        } = self;
+        drop(closing);
+        drop(queues);
+        drop(for_dialers);
+    }
 }
 
 /// These queues, and one more.

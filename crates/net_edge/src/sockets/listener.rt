@@ -21,7 +21,6 @@ const PAUSE_MILLISECONDS: u64 = 50;
 /// Once its net is stopped, it hands out those who wait in the queue to be accepted, at most
 /// [`QUEUE_LENGTH`], and tells for a second of those who waited and have sent a request. Then it
 /// answers that it is closed; at once where no connection is open.
-#[derive(Drop)]
 pub struct SocketListener<'a, R> {
     rt: &'a R,
     queue: Arc<Queue>,
@@ -32,6 +31,24 @@ pub struct SocketListener<'a, R> {
     finished: u64,
     run: u64,
     faults: u64,
+}
+
+impl<R> Drop for SocketListener<'_, R> {
+    fn drop(self) {
+        let SocketListener {
+            rt: _,
+            queue,
+            closing,
+            late: _,
+            closes: _,
+            accepted: _,
+            finished: _,
+            run: _,
+            faults: _,
+        } = self;
+        drop(queue);
+        drop(closing);
+    }
 }
 
 /// The next client of a queue, if one waits to be accepted.

@@ -20,7 +20,6 @@ use std::rt;
 ///
 /// `listen` opens what its listeners and as many dialers will want, and fails where the process
 /// may not open so much: so a lack of descriptors is known before anybody is served.
-#[derive(Drop)]
 pub struct SocketNet<'a, R> {
     rt: &'a R,
     held: HeldSockets,
@@ -31,6 +30,24 @@ pub struct SocketNet<'a, R> {
     finished: u64,
     stops_given: u64,
     stops_returned: u64,
+}
+
+impl<R> Drop for SocketNet<'_, R> {
+    fn drop(self) {
+        let SocketNet {
+            rt: _,
+            held,
+            refused,
+            faults: _,
+            clean: _,
+            accepted: _,
+            finished: _,
+            stops_given: _,
+            stops_returned: _,
+        } = self;
+        drop(held);
+        drop(refused);
+    }
 }
 
 impl<'a, R: AllocGlobal> SocketNet<'a, R> {

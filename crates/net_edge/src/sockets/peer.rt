@@ -26,7 +26,6 @@ const LINGER_READS: u32 = 65_536;
 const LINGER_PIECE: usize = 16_384;
 
 /// A connection that was accepted. It tells no content, and where the client is.
-#[derive(Drop)]
 pub struct SocketPeer {
     flow: Flow,
     /// Where the client is, as accept(2) told it.
@@ -39,6 +38,27 @@ pub struct SocketPeer {
     ends: u64,
     closings: u64,
     quiets: u64,
+}
+
+impl Drop for SocketPeer {
+    fn drop(self) {
+        let SocketPeer {
+            flow,
+            address: _,
+            closing,
+            queue,
+            pace,
+            read_faults: _,
+            write_faults: _,
+            ends: _,
+            closings: _,
+            quiets: _,
+        } = self;
+        drop(flow);
+        drop(closing);
+        drop(queue);
+        drop(pace);
+    }
 }
 
 impl SocketPeer {

@@ -44,7 +44,6 @@ pub(crate) enum Found {
 
 /// The socket that listens on an address, and all sockets of the address that are watched. The
 /// listeners of the address share it, and so do the stops: it takes two descriptors.
-#[derive(Drop)]
 pub(crate) struct Queue {
     socket: TcpListener,
     watched: Watched,
@@ -63,6 +62,30 @@ pub(crate) struct Queue {
     grace_end: AtomicU64,
     /// Whether those who wait are heard no more: 1 where it is so.
     is_over: AtomicU64,
+}
+
+impl Drop for Queue {
+    fn drop(self) {
+        let Queue {
+            socket,
+            watched,
+            waiting,
+            begin: _,
+            ticks,
+            moment,
+            open,
+            grace_end,
+            is_over,
+        } = self;
+        drop(socket);
+        drop(watched);
+        drop(waiting);
+        drop(ticks);
+        drop(moment);
+        drop(open);
+        drop(grace_end);
+        drop(is_over);
+    }
 }
 
 /// Whether an accept failed since nobody is in the queue, or since the client that was has reset

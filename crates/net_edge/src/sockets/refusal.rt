@@ -4,11 +4,21 @@ use std::io;
 use std::net::SocketAddr;
 
 /// Why an address can't be listened on, as operators are told.
-#[derive(Drop)]
 pub struct Refusal {
     address: SocketAddr,
     error: io::Error,
     wanted: Option<u64>,
+}
+
+impl Drop for Refusal {
+    fn drop(self) {
+        let Refusal {
+            address: _,
+            error,
+            wanted: _,
+        } = self;
+        drop(error);
+    }
 }
 
 impl Refusal {

@@ -44,11 +44,22 @@ pub(crate) type Queues = Arc<Vec<Arc<Queue>>>;
 
 /// What closes the listeners. Those who wait in their queues are handed out still. Then each
 /// listener answers that it is closed, those that wait for a peer at once, and from then on always.
-#[derive(Drop)]
 pub struct SocketStop {
     closing: Option<Closing>,
     queues: Option<Queues>,
     calls: u64,
+}
+
+impl Drop for SocketStop {
+    fn drop(self) {
+        let SocketStop {
+            closing,
+            queues,
+            calls: _,
+        } = self;
+        drop(closing);
+        drop(queues);
+    }
 }
 
 impl SocketStop {

@@ -1,4 +1,6 @@
-use Rattle.std.proofs.Common.{refl, ◌∙◌}
+use Rattle.std.proofs.Common.{refl, ap, ◌∙◌}
+use Rattle.bind_core.specs.declared.visits.Visits.{Visits}
+use Rattle.bind_core.specs.Outcome.{paths_for, items_for}
 use Rattle.bind_core.specs.Tables.{rules_in}
 use Rattle.addr_book.specs.Namer.{named_in}
 use Rattle.bind_core.proofs.Bounded.{bounded_outcome}
@@ -12,7 +14,10 @@ returns-clause-delegated g c =
     delegated (rules_in c.args.tables.now) (named_in c.args.book.now) c.args.path.now c.args.wanted
     _ c.evaluate.new.work _ (c.new-work.ensures.fits.most_is ∙ c.most_kept.ensures)
     c.in_ok-outcome.ensures.answer refl
-    c.in-Ok.ensures.asked c.in-Ok.ensures.trace
+    (c.in-Ok.ensures.asked
+    ∙ ap (λ (v : Visits). paths_for c.args.wanted v.items.items) c.into_visits.ensures)
+    (c.in-Ok.ensures.trace
+    ∙ ap (λ (v : Visits). items_for c.args.wanted v.items.items) c.into_visits.ensures)
 
 pub returns-clause-width : goal.returns-clause-width
 returns-clause-width g c = width (rules_in c.args.tables.now) (named_in c.args.book.now) 100

@@ -1,7 +1,8 @@
-use Rattle.std.proofs.Common.{inr, drop, refl, ap}
+use Rattle.std.proofs.Common.{inr, drop, refl, ap, ◌∙◌}
 use Rattle.std.specs.Slice.Iter.{iter_rest}
 use Rattle.name_tree.specs.Tree.{value_of, listed}
-use Rattle.bind_core.specs.Kept.{kept_of}
+use Rattle.bind_core.specs.declared.gathered.Gathered.{Gathered}
+use Rattle.bind_core.specs.Kept.{kept_of, kept_ending}
 use Rattle.bind_core.specs.Outcome.{ending_of}
 use Rattle.bind_core.specs.Rewritten.{labels_of}
 use Rattle.bind_core.proofs.Trees.{no_branch_left, next_branch_is}
@@ -15,7 +16,7 @@ returns-in_default-clause-step c =
     c.requires.few c.requires.goes_on c.in_ok-add.ensures _
     (no_branch_left (listed (iter_rest c.args.union.branches))
     (drop c.args.union.from (labels_of c.args.union.path)) c.in_default.ensures)
-    c.into_outcome.ensures
+    (c.into_outcome.ensures ∙ ap (λ (g : Gathered). kept_ending (kept_of g)) c.into_gathered.ensures)
 
 pub returns-in_default-clause-moves : goal.returns-in_default-clause-moves
 returns-in_default-clause-moves c =
@@ -24,7 +25,7 @@ returns-in_default-clause-moves c =
     c.into_outcome.result
     (no_branch_left (listed (iter_rest c.args.union.branches))
     (drop c.args.union.from (labels_of c.args.union.path)) c.in_default.ensures)
-    c.into_outcome.ensures
+    (c.into_outcome.ensures ∙ ap (λ (g : Gathered). kept_ending (kept_of g)) c.into_gathered.ensures)
 
 pub returns-clause-moves : goal.returns-clause-moves
 returns-clause-moves c = inr (record {

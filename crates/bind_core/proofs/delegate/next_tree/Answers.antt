@@ -2,6 +2,7 @@ use Rattle.std.proofs.Common.{◌∷◌, inr, drop, refl, sym, ap, ◌∙◌}
 use Rattle.name_tree.specs.Path.{Labels}
 use Rattle.name_tree.specs.Tree.{value_of}
 use Rattle.name_tree.specs.Value.{append_rest}
+use Rattle.bind_core.specs.Delegation.{named_ending}
 use Rattle.bind_core.specs.Rewritten.{labels_of}
 use Rattle.bind_core.specs.Stack.{trees_left}
 use Rattle.bind_core.specs.Outcome.{ending_of}
@@ -21,7 +22,7 @@ returns-in_default c = record {
 pub returns-in_default-next-clause-step : goal.returns-in_default-next-clause-step
 returns-in_default-next-clause-step c =
     λ rules names. emptied rules names _ c.args.choice _ _ c.requires.few c.args.told _ c.in-Neg.is
-    (c.in_default-next.ensures (labels_of c.args.choice.path)) c.named_outcome-named.ensures
+    (c.in_default-next.ensures (labels_of c.args.choice.path)) (c.named_outcome-named.ensures ∙ ap named_ending c.into_named.ensures)
     refl refl
     c.end-in_default-next.ensures.most c.end-in_default-next.ensures.items
 
@@ -29,7 +30,7 @@ pub returns-in_default-next-clause-moves : goal.returns-in_default-next-clause-m
 returns-in_default-next-clause-moves c =
     emptied_on c.args.work.now.stack.items c.args.choice _ c.args.choice.named
     c.named_outcome-named.result (c.in_default-next.ensures (labels_of c.args.choice.path))
-    c.named_outcome-named.ensures
+    (c.named_outcome-named.ensures ∙ ap named_ending c.into_named.ensures)
 
 pub returns-clause-moves : goal.returns-clause-moves
 returns-clause-moves c = inr (record {
