@@ -4,6 +4,7 @@ use Rattle.http_wire.specs.declared.head.Head.{Head}
 use Rattle.http_wire.specs.Target.{Form, IsServed}
 use Rattle.machine.specs.Code.{reply_value}
 use Rattle.machine.specs.declared.reply.Reply.{Reply}
+use Rattle.machine.specs.Looking.{space_told}
 use Rattle.machine.specs.Values.{ChangeValue, LookValue, get_table, services_at}
 use Rattle.router_log.specs.Call.{looked}
 use Rattle.router_log.specs.Operation.{place_of}
@@ -21,7 +22,7 @@ use Rattle.api_wire.specs.Demand.{DemandValue, answer, stop, alter, ask}
 use Rattle.api_wire.specs.Telling.{response_to}
 use Rattle.admin_api.specs.Metrics.{IsMetricsBody, metrics_response}
 use Rattle.follow_feed.specs.Feeds.{feed_of, run_of}
-use Rattle.follow_feed.specs.Texts.{feed_response, space_in}
+use Rattle.follow_feed.specs.Texts.{feed_response}
 use Rattle.api_sessions.specs.declared.looking.Told.{Told}
 use Rattle.api_sessions.specs.declared.which.Which.{Which}
 use Rattle.api_sessions.specs.Asked.{AskedValue, asked_of, demand, metrics, feed}
@@ -52,7 +53,7 @@ TellsFeed run told delivery reply =
     (feed_response (record {
       run = run;
       place = told.place;
-      table = space_in (reply_value told.reply);
+      table = space_told (reply_value told.reply);
     })) delivery false reply
 
 -- it was refused entry some times, one after the other, and nothing else was done

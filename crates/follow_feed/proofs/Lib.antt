@@ -5,4 +5,3 @@ pub mod Latest
 pub mod Members
 pub mod Progressing
 pub mod Replying
-pub mod Showing

@@ -5,8 +5,6 @@ use Rattle.std.specs.Fmt.{decimal}
 use Rattle.text_parts.specs.Json.{json_string}
 use Rattle.name_tree.specs.Faults.{most_bytes}
 use Rattle.dtab_table.specs.TableCanon.{canon_table}
-use Rattle.machine.specs.Values as replies
-use Rattle.machine.specs.Values.{ReplyValue}
 use Rattle.ns_store.specs.Contents.{Space}
 use Rattle.api_wire.specs.Response.{ResponseValue, filled, plain}
 use Rattle.api_wire.specs.declared.response.Media.TheVariants as media
@@ -40,8 +38,3 @@ space_response run place (Some space) =
 -- the response that tells a feed
 abbrev pub feed_response : FeedValue → ResponseValue
 feed_response f = space_response f.run f.place f.table
-
--- the namespace that a reply shows, if it shows one
-abbrev pub space_in : ReplyValue → Option Space
-space_in (replies.table n rules) = Some (record { version = n; rules = rules })
-space_in _ = None

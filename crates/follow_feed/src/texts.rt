@@ -1,10 +1,11 @@
 //! Feeds as JSON, and what a look at a namespace tells as one.
 ghost use Rattle.std.specs.Prelude.{◌≡◌, ◌++◌, IfOk, OnOk, Some, option_map};
 ghost use Rattle.machine.specs.Code.{reply_value};
+ghost use Rattle.machine.specs.Looking.{space_told};
 ghost use Rattle.api_wire.specs.Response.{response_value};
 ghost use Rattle.follow_feed.specs.Feeds.{feed_value, space_of};
 ghost use Rattle.follow_feed.specs.Texts.{bare_text, feed_response, full_text, numbers_text};
-ghost use Rattle.follow_feed.specs.Texts.{space_in, space_response, table_response};
+ghost use Rattle.follow_feed.specs.Texts.{space_response, table_response};
 
 use crate::feed::{Feed, Versioned};
 use crate::numbers::put_number;
@@ -23,7 +24,7 @@ pub fn told_feed(alloc: Global, run: u64, place: u64, said: Reply) -> Mem<Respon
     ensures { IfOk result (λ response. response_value response ≡ feed_response (record {
       run = run;
       place = place;
-      table = space_in (reply_value said);
+      table = space_told (reply_value said);
     })) }
 {
     let feed = Feed {
@@ -36,7 +37,7 @@ pub fn told_feed(alloc: Global, run: u64, place: u64, said: Reply) -> Mem<Respon
 
 /// The namespace that a reply shows, if it shows one.
 fn shown(said: Reply) -> Option<Versioned>
-    ensures { option_map space_of result ≡ space_in (reply_value said) }
+    ensures { option_map space_of result ≡ space_told (reply_value said) }
 {
     match said.into_table() {
         Some((version, dtab)) => Some(Versioned { version, dtab }),

@@ -56,7 +56,9 @@ impl<P: Peer + Drop> Drop for FlagNet<'_, P> {
 
 impl<P: Peer + Drop> FlagNet<'_, P> {
     /// The net in memory.
-    fn into_net(self) -> MemNet<P> {
+    fn into_net(self) -> MemNet<P>
+        ensures { result ≡ self.entry.net }
+    {
         let FlagNet { flag: _, net } = self;
         net
     }

@@ -222,12 +222,11 @@ where
     };
     let status = run_words(rt, &["serve", "conf/c.json"], &mut outside)?;
     let written = text_of(alloc, outside.out.held())?;
-    let (net, journals) = outside.into_net_and_journals();
     Ok(Left {
         written,
         status,
-        net,
-        journals,
+        net: outside.net,
+        journals: outside.journals,
     })
 }
 

@@ -37,7 +37,9 @@ impl Room {
     }
 
     /// What it is made of.
-    pub(crate) fn into_parts(self) -> (Rest, Names, WayRoom) {
+    pub(crate) fn into_parts(self) -> (Rest, Names, WayRoom)
+        ensures { (result.0 ≡ self.rest) × (result.1 ≡ self.names) × (result.2 ≡ self.way) }
+    {
         let Room { rest, names, way } = self;
         (rest, names, way)
     }
