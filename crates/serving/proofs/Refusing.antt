@@ -1,6 +1,6 @@
 -- A service for which the book has no room when a router begins.
 use Rattle.std.proofs.Common.{◌≡◌, ℕ, suc, ◌+◌, ◌<◌, ◌≤◌, ◌^◌, ◌==◌, ◌&&◌, not, Bool, true, false, List, [], ◌∷◌, ◌++◌, length, length-append, map, ap, arith, sym, subst, ◌∙◌, refl, inl, inr, Option, Some, None, slice_get}
-use Rattle.std.specs.Prelude.{◌⊎◌, All, fold, filter, if◌then◌else◌, is_none, option_map, sum_by, IsSome}
+use Rattle.std.specs.Prelude.{◌⊎◌, All, fold, filter, if◌then◌else◌, is_none, option_map, sum_by, IsOk, IsSome, OnOk, Result, Ok, Err}
 use Rattle.std.specs.List.{AllByRecursion}
 use Rattle.std.specs.Option.{option_to_list}
 use Rattle.std.proofs.lemmas.Bool.Decides.{nat_tests}
@@ -31,6 +31,11 @@ use Rattle.router_log.specs.Value.{Value, AllFit, applied, opening_value, value_
 use Rattle.router_log.proofs.Places.{fit_front, place_is}
 use Rattle.serving.specs.Services.{AreAccepted, BookRefuses, HasNoRoom, IsTurnedAway, StandIn, StopsAmong, StopsAt, setting, state_behind}
 use Rattle.serving.proofs.Services.{AreSet, fewer_before, made_where, prefix_trans, stand_count, stands_later}
+
+-- what holds of a success holds, where there was one
+pub holds_if_ok : {T E : Type 0} (done : Result T E) (P : Type 0) → IsOk done → OnOk done P → P
+holds_if_ok (Ok x) P is holds = holds
+holds_if_ok (Err e) P is holds = cc is
 
 -- ---- one service
 set_only : (reply : Reply) (n : ℕ) → reply_value reply ≡ set_to n → reply ≡ replies.Set n

@@ -8,6 +8,7 @@ ghost use Rattle.serving.specs.LeftOver.{LeftOver, WasCaller, WasClient};
 ghost use Rattle.serving.specs.Parts.{ended_by};
 ghost use Rattle.serving.specs.Returning.{all_ended, all_finished, is_broken, with_left_over};
 
+use crate::next::take_next;
 use crate::parts::Part;
 use api_sessions::IdleCaller;
 use client_stays::{Handling, IdleClient};
@@ -105,9 +106,7 @@ pub(crate) fn end_all<J: Handling, N: Net>(
 {
     let StillWaiting { clients, callers } = still;
     let mut parts = parts.into_iter();
-    let Some(mut first) = parts.next() else {
-        unreachable!()
-    };
+    let mut first = take_next(&mut parts);
     finish_clients(&mut first.listener, clients);
     finish_callers(&mut first.listener, callers);
     let failed = end(net, first);

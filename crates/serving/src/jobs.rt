@@ -20,6 +20,7 @@ use crate::instruments::Instruments;
 use crate::interface::ApiServer;
 use crate::job::{ApiJob, ProxyJob, ServingJob};
 use crate::lots::{Hands, Lots};
+use crate::next::take_next;
 use crate::pool::pool_by;
 use crate::proxy::ProxyServer;
 use crate::site::Site;
@@ -165,18 +166,10 @@ fn add_proxy_jobs<
     let mut hands = hands.into_iter();
     let mut number = 0u32;
     for listener in listeners {
-        let Some(pass) = passes.next() else {
-            unreachable!()
-        };
-        let Some(room) = rooms.next() else {
-            unreachable!()
-        };
-        let Some(recorder) = recorders.next() else {
-            unreachable!()
-        };
-        let Some(hand) = hands.next() else {
-            unreachable!()
-        };
+        let pass = take_next(passes);
+        let room = take_next(&mut rooms);
+        let recorder = take_next(&mut recorders);
+        let hand = take_next(&mut hands);
         let parts = Parts {
             pass,
             dialer: net.dialer(pool_by(site.policy.pool)),
@@ -259,24 +252,19 @@ fn add_api_jobs<
 {
     let Interface { which, listeners } = interface;
     for listener in listeners {
-        let Some(pass) = passes.next() else {
-            unreachable!()
-        };
-        let Some(hand) = hands.next() else {
-            unreachable!()
-        };
-        let Some(scraper) = scrapers.next() else {
-            unreachable!()
+        let pass = take_next(passes);
+        let scraper = take_next(scrapers);
+        let hand = take_next(hands);
+        let worker = ApiWorker {
+            pass,
+            stop: net.stopper(),
+            scraper,
         };
         let server = ApiServer {
             alloc: setup.alloc,
             router: setup.router,
             which,
-            worker: ApiWorker {
-                pass,
-                stop: net.stopper(),
-                scraper,
-            },
+            worker,
             lacked_memory: false,
         };
         jobs.push_reserved(ServingJob::Api(ApiJob {

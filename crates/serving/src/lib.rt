@@ -64,6 +64,7 @@ mod job;
 mod jobs;
 mod loading;
 mod lots;
+mod next;
 mod parts;
 mod policy;
 mod pool;

@@ -17,7 +17,7 @@ use std::alloc::Global;
 use std::sync::Wait;
 
 /// Why the services were not all set.
-#[derive(Clone, Copy, Debug, PartialEq, Eq)]
+#[derive(Clone, Copy)]
 pub(crate) enum SetFault {
     /// The book has no room for one of them.
     Book,

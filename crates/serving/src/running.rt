@@ -1,7 +1,7 @@
 //! From a router that was opened to its end.
 ghost use Rattle.std.specs.Prelude.{◌≡◌, ℕ, ◌+◌, ◌≤◌, ◌<◌, ◌++◌, List, Err, true, false};
 ghost use Rattle.std.specs.Prelude.{[], length};
-ghost use Rattle.std.specs.Prelude.{IfOk, vec_len, vec_capacity};
+ghost use Rattle.std.specs.Prelude.{IfOk, IsOk, OnOk, vec_len, vec_capacity};
 ghost use Rattle.line_base.specs.Counts.{Rose};
 ghost use Rattle.linker_config.specs.declared.loaded.LoadedItem.{LoadedItem};
 ghost use Rattle.one_history.specs.Order.{Distinct};
@@ -97,6 +97,33 @@ fn close<J: Naming, R: Wait>(rt: &R, router: Router<J>, passes: Vec<Pass<J>>) ->
     }
 }
 
+/// Listens on the addresses of a router whose services were set, or were not.
+fn listen_behind<N: Net>(
+    set: Result<(), SetFault>,
+    alloc: Global,
+    net: &mut N,
+    site: &Site,
+) -> Result<Bound<N::L>, StartFault>
+    ensures set { OnOk result (IsOk set) }
+    ensures listens { IfOk result (λ b. Listens N.L.state (N.state net.new).told site.now b) }
+    ensures net { OnOk result (N.state net.new ≡ listened (jobs_of site.now) (N.state net.old)) }
+    ensures refused { result ≡ Err StartFault.Book → (set ≡ Err SetFault.Book)
+        × (N.state net.new ≡ N.state net.old) }
+    ensures broken { result ≡ Err StartFault.Net → Rose (N.faults net.old) (N.faults net.new) }
+    ensures kept { (result ≡ Err StartFault.Net → ⊥) → N.faults net.new ≡ N.faults net.old }
+{
+    match set {
+        Ok(()) => {}
+        Err(SetFault::Book) => return Err(StartFault::Book),
+        Err(SetFault::OutOfMemory) => return Err(StartFault::OutOfMemory),
+    }
+    match bind(alloc, net, site) {
+        Ok(bound) => Ok(bound),
+        Err(NetFault::Failed) => Err(StartFault::Net),
+        Err(NetFault::OutOfMemory) => Err(StartFault::OutOfMemory),
+    }
+}
+
 /// Gives a router its services, and listens on its addresses.
 pub fn start<J: Naming, R: Wait, N: Net>(
     rt: &R,
@@ -128,31 +155,15 @@ pub fn start<J: Naming, R: Wait, N: Net>(
         return Err(StartFault::OutOfMemory);
     };
     let set = set_services(rt, alloc, &router, passes, loaded.into_items(), &mut met);
-    let passes = met;
-    match set {
-        Ok(()) => {}
-        Err(SetFault::Book) => {
-            close(rt, router, passes);
-            return Err(StartFault::Book);
-        }
-        Err(SetFault::OutOfMemory) => {
-            close(rt, router, passes);
-            return Err(StartFault::OutOfMemory);
-        }
-    }
-    match bind(alloc, net, site) {
+    match listen_behind(set, alloc, net, site) {
         Ok(bound) => Ok(Serving {
             router,
-            passes,
+            passes: met,
             bound,
         }),
-        Err(NetFault::Failed) => {
-            close(rt, router, passes);
-            Err(StartFault::Net)
-        }
-        Err(NetFault::OutOfMemory) => {
-            close(rt, router, passes);
-            Err(StartFault::OutOfMemory)
+        Err(fault) => {
+            close(rt, router, met);
+            Err(fault)
         }
     }
 }
@@ -179,7 +190,7 @@ struct Returned<J: Naming, K> {
 }
 
 /// What is known once all jobs are back.
-#[derive(Clone, Copy, Debug, PartialEq, Eq)]
+#[derive(Clone, Copy)]
 struct Tally {
     /// Whether the net failed to take a listener back.
     failed: bool,

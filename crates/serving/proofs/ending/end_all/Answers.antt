@@ -17,11 +17,11 @@ pub returns : goal.returns
 returns g c =
     let upstream = λ (d : g.row.N-D.Denot). let u : Upstream = g.N.D.Dialer.upstream d in u in
     let ended = λ (p : Part g.row.N-L.Denot g.row.N-D.Denot g.row.N-S.Denot). ended_by g.N.L.Listener.state upstream g.N.S.Stop.calls p in
-    let first = c.in-Some.first in
+    let first = c.take_next-first.result in
     let clients = c.finish_clients.ensures in
     let callers = c.finish_callers.ensures in
     let peers = clients.0 ++ callers.0 in
-    let cut = sym c.into_iter-parts.ensures.rest ∙ c.in-Some.ensures.items in
+    let cut = sym c.into_iter-parts.ensures.rest ∙ c.take_next-first.ensures in
     let count = length-append clients.0 callers.0 in
     let many = clients.1 in
     let others = callers.1 in
@@ -45,7 +45,7 @@ returns g c =
         ends_first ended peers _ _ first e (g.N.Net.state c.args.net.now) _ _ cut e_is c.end-failed.ensures.state c.end_rest.ensures.state,
       );
       broken = c.end_rest.ensures.broken
-          ∙ (ap (λ (b : Bool). b || list_any (λ p. is_broken (ended p)) (into_iter_items c.next.new.self)) (c.end-failed.ensures.broken ∙ same)
+          ∙ (ap (λ (b : Bool). b || list_any (λ p. is_broken (ended p)) (into_iter_items c.take_next-first.new.items)) (c.end-failed.ensures.broken ∙ same)
           ∙ ap (list_any (λ p. is_broken (ended p))) (sym cut));
       faults = c.end_rest.ensures.faults _ c.end-failed.ensures.faults;
     }

@@ -49,11 +49,11 @@ loop-listener-preserved g c =
     let inv = c.loop-listener.invariant in
     let cut = c.in-Some.ensures.steps.0 in
     let shorter = ap length cut in
-    let taken = c.in-Some-next.ensures.items in
+    let taken = c.take_next-pass.ensures in
     let fewer = ap length taken in
-    let taken_hand = c.in-Some-next-2.ensures.items in
+    let taken_hand = c.take_next-hand.ensures in
     let fewer_hands = ap length taken_hand in
-    let fewer_scrapers = ap length c.in-Some-next-3.ensures.items in
+    let fewer_scrapers = ap length c.take_next-scraper.ensures in
     let pushed = c.push_reserved.ensures in
     let told = (g.N.Net.state c.args.net.now).told in
     let before = inv.posted in
@@ -64,13 +64,13 @@ loop-listener-preserved g c =
       enough = omega (arith, inv.enough, shorter, fewer);
       hands = omega (arith, inv.hands, shorter, fewer_hands);
       enough_hands = omega (arith, inv.enough_hands, shorter, fewer_hands);
-      new_hands = new_rest _ _ c.in-Some-next-2.hand taken_hand inv.new_hands;
+      new_hands = new_rest _ _ c.take_next-hand.result taken_hand inv.new_hands;
       scrapers = omega (arith, inv.scrapers, shorter, fewer_scrapers);
       enough_scrapers = omega (arith, inv.enough_scrapers, shorter, fewer_scrapers);
       recorders = lists_same (λ (j : RouterJob g.row.N-L-P.Denot g.row.J.Denot g.row.N-L.Denot g.row.N-D.Denot g.row.C.Denot g.row.K.Denot g.row.N-S.Denot g.row.X.Denot g.row.A.Denot g.row.B.Denot g.row.E.Denot g.row.F.Denot g.J.Handling g.J.Naming). recorder_of j) recorders_of_jobs refl (λ j js. refl) _ _ _ pushed.items refl ∙ inv.recorders;
       room = omega (arith, pushed.len, pushed.capacity, inv.room, shorter);
       capacity = pushed.capacity ∙ inv.capacity;
-      free = free_rest _ _ c.in-Some-next.pass taken inv.free;
+      free = free_rest _ _ c.take_next-pass.result taken inv.free;
       posted = (
         before.0 + 1,
         omega (arith, before.1, shorter),
@@ -78,11 +78,29 @@ loop-listener-preserved g c =
         λ port n policy moments ps all.
             let next = next_new g.N.L.Listener.state told port before.0 (before.0 + 1) _ _ c.in-Some.listener refl cut (before.2 port n) in
             one_posted (R policy moments) (interface_post c.args.interface.which port) before.0 (before.0 + 1) ps _ _ _ refl pushed.items (before.3 port n policy moments ps all)
-            (record { listener = next.0; which_is = refl; lacked = refl; stops = c.stopper.ensures.calls; hand = new_first _ _ c.in-Some-next-2.hand taken_hand inv.new_hands }),
+            (record { listener = next.0; which_is = refl; lacked = refl; stops = c.stopper.ensures.calls; hand = new_first _ _ c.take_next-hand.result taken_hand inv.new_hands }),
       );
       stops = stops_moved _ _ c.in-Some.listener (g.N.Net.state c.loop-listener.net) _ _ cut c.stopper.ensures.state inv.stops;
       kept = c.stopper.ensures.kept ∙ inv.kept;
     }
+
+pub take_next-pass-requires : goal.take_next-pass-requires
+take_next-pass-requires g c =
+    let inv = c.loop-listener.invariant in
+    let shorter = ap length c.in-Some.ensures.steps.0 in
+    omega (arith, inv.enough, shorter)
+
+pub take_next-scraper-requires : goal.take_next-scraper-requires
+take_next-scraper-requires g c =
+    let inv = c.loop-listener.invariant in
+    let shorter = ap length c.in-Some.ensures.steps.0 in
+    omega (arith, inv.enough_scrapers, shorter)
+
+pub take_next-hand-requires : goal.take_next-hand-requires
+take_next-hand-requires g c =
+    let inv = c.loop-listener.invariant in
+    let shorter = ap length c.in-Some.ensures.steps.0 in
+    omega (arith, inv.enough_hands, shorter)
 
 pub returns-clause-posted : goal.returns-clause-posted
 returns-clause-posted g c = λ port n policy moments ps all.

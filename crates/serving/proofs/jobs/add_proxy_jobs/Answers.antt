@@ -56,7 +56,7 @@ loop-listener-preserved g c =
     let inv = c.loop-listener.invariant in
     let cut = c.in-Some.ensures.steps.0 in
     let shorter = ap length cut in
-    let taken = c.in-Some-next.ensures.items in
+    let taken = c.take_next-pass.ensures in
     let fewer = ap length taken in
     let pushed = c.push_reserved.ensures in
     let told = (g.N.Net.state c.args.net.now).told in
@@ -68,14 +68,14 @@ loop-listener-preserved g c =
       count = omega (arith, pushed.len, inv.count, shorter);
       rest = omega (arith, inv.rest, shorter, fewer);
       enough = omega (arith, inv.enough, shorter, fewer);
-      rooms = let less = ap length c.in-Some-next-2.ensures.items in omega (arith, inv.rooms, shorter, less);
-      recorders = lists_moved (λ (j : RouterJob g.row.N-L-P.Denot g.row.J.Denot g.row.N-L.Denot g.row.N-D.Denot g.row.C.Denot g.row.K.Denot g.row.N-S.Denot g.row.X.Denot g.row.A.Denot g.row.B.Denot g.row.E.Denot g.row.F.Denot g.J.Handling g.J.Naming). recorder_of j) recorders_of_jobs refl (λ j js. refl) _ _ _ c.in-Some-next-3.recorder _ _ _ pushed.items refl c.in-Some-next-3.ensures.items inv.recorders;
-      recorders_left = let less = ap length c.in-Some-next-3.ensures.items in omega (arith, inv.recorders_left, shorter, less);
-      hands = let less = ap length c.in-Some-next-4.ensures.items in omega (arith, inv.hands, shorter, less);
-      new_hands = new_rest _ _ c.in-Some-next-4.hand c.in-Some-next-4.ensures.items inv.new_hands;
+      rooms = let less = ap length c.take_next-room.ensures in omega (arith, inv.rooms, shorter, less);
+      recorders = lists_moved (λ (j : RouterJob g.row.N-L-P.Denot g.row.J.Denot g.row.N-L.Denot g.row.N-D.Denot g.row.C.Denot g.row.K.Denot g.row.N-S.Denot g.row.X.Denot g.row.A.Denot g.row.B.Denot g.row.E.Denot g.row.F.Denot g.J.Handling g.J.Naming). recorder_of j) recorders_of_jobs refl (λ j js. refl) _ _ _ c.take_next-recorder.result _ _ _ pushed.items refl c.take_next-recorder.ensures inv.recorders;
+      recorders_left = let less = ap length c.take_next-recorder.ensures in omega (arith, inv.recorders_left, shorter, less);
+      hands = let less = ap length c.take_next-hand.ensures in omega (arith, inv.hands, shorter, less);
+      new_hands = new_rest _ _ c.take_next-hand.result c.take_next-hand.ensures inv.new_hands;
       room = omega (arith, pushed.len, pushed.capacity, inv.room, shorter);
       capacity = pushed.capacity ∙ inv.capacity;
-      free = free_rest _ _ c.in-Some-next.pass taken inv.free;
+      free = free_rest _ _ c.take_next-pass.result taken inv.free;
       place = omega (arith, inv.place, shorter);
       new = next.1;
       posted = λ ps all.
@@ -94,12 +94,36 @@ loop-listener-preserved g c =
             policy_is = refl;
             lacked = refl;
             stops = c.stopper.ensures.calls;
-            hand = new_first _ _ c.in-Some-next-4.hand c.in-Some-next-4.ensures.items inv.new_hands;
+            hand = new_first _ _ c.take_next-hand.result c.take_next-hand.ensures inv.new_hands;
           });
       told = ap (λ (n : Networking g.row.N-L-P.Denot). n.told) c.stopper.ensures.state ∙ same;
       stops = stops_moved _ _ c.in-Some.listener (g.N.Net.state c.loop-listener.net) _ _ cut (c.stopper.ensures.state ∙ ap after_stopper c.dialer.ensures.kept.0) inv.stops;
       kept = c.stopper.ensures.kept ∙ (c.dialer.ensures.kept.1 ∙ inv.kept);
     }
+
+pub take_next-pass-requires : goal.take_next-pass-requires
+take_next-pass-requires g c =
+    let inv = c.loop-listener.invariant in
+    let shorter = ap length c.in-Some.ensures.steps.0 in
+    omega (arith, inv.enough, shorter)
+
+pub take_next-room-requires : goal.take_next-room-requires
+take_next-room-requires g c =
+    let inv = c.loop-listener.invariant in
+    let shorter = ap length c.in-Some.ensures.steps.0 in
+    omega (arith, inv.rooms, shorter)
+
+pub take_next-recorder-requires : goal.take_next-recorder-requires
+take_next-recorder-requires g c =
+    let inv = c.loop-listener.invariant in
+    let shorter = ap length c.in-Some.ensures.steps.0 in
+    omega (arith, inv.recorders_left, shorter)
+
+pub take_next-hand-requires : goal.take_next-hand-requires
+take_next-hand-requires g c =
+    let inv = c.loop-listener.invariant in
+    let shorter = ap length c.in-Some.ensures.steps.0 in
+    omega (arith, inv.hands, shorter)
 
 pub returns-clause-posted : goal.returns-clause-posted
 returns-clause-posted g c = λ ps all.
