@@ -1,6 +1,7 @@
 pub mod Known
 pub mod Plays
 pub mod Runs
+pub mod Courses
 pub mod Causes
 pub mod Follows
 pub mod Serving

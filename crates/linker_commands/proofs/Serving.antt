@@ -1,7 +1,6 @@
 -- How a run ends that was to serve.
 use Rattle.std.proofs.Common.{◌≡◌, ℕ, ◌+◌, List, ◌++◌, refl, sym, ap, subst, ◌∙◌, inl, inr, false}
-use Rattle.std.proofs.Common.{arith}
-use Rattle.std.specs.Prelude.{Option, None, Some, option_map, Err, codes}
+use Rattle.std.specs.Prelude.{Option, None, Some, option_map, codes}
 use Rattle.std.specs.Io.KnownBytes.{Appends}
 use Rattle.std.specs.declared.vec.Vec.{Vec}
 use Rattle.std.specs.declared.alloc.Global.{Global}
@@ -25,11 +24,6 @@ use Rattle.line_base.specs.declared.socket_address.SocketAddress.{SocketAddress}
 use Rattle.std.specs.declared.marker.Brand.{Brand}
 use Rattle.linker_config.specs.declared.config.Config.{Config}
 use Rattle.linker_config.specs.declared.config.FeedAt.{FeedAt}
-use Rattle.linker_config.specs.declared.loaded.LoadFault.{LoadFault}
-use Rattle.linker_config.specs.declared.loaded.LoadFault.TheVariants.{BadFile, FolderFault}
-use Rattle.linker_config.specs.declared.loaded.LoadFault.TheVariants.{LongFile, OutOfMemory}
-use Rattle.linker_config.specs.Folder.{Loads}
-use Rattle.linker_config.specs.Loading.{HasLoadCause}
 use Rattle.linker_commands.specs.declared.check.ConfigEnd.{ConfigEnd}
 use Rattle.linker_commands.specs.declared.check.ConfigEnd.TheVariants.{Wrong}
 use Rattle.linker_commands.specs.Found.{IfWrong}
@@ -42,11 +36,11 @@ use Rattle.linker_commands.specs.Run.{AppendsFront, Course, line_told, no_memory
 use Rattle.linker_commands.specs.Linked.{Linked}
 use Rattle.linker_commands.specs.Run.{EndsServing, EndsCourse, Serves}
 use Rattle.linker_commands.specs.Served.{Finish, broken, short, finish_code, AreLoaded, IsConfig}
-use Rattle.linker_commands.specs.Served.{IsFeeding, IsLast, IsMadeBy, IsSiteOf, LoadsRoot}
-use Rattle.linker_commands.specs.Served.{RefusesBook, RefusesService, feed_jobs_in, feed_port}
+use Rattle.linker_commands.specs.Served.{IsFeeding, IsLast, IsMadeBy, IsSiteOf}
+use Rattle.linker_commands.specs.Served.{RefusesBook, feed_jobs_in, feed_port}
 use Rattle.linker_commands.specs.Served.{jobs_in, line_of_ports, site_line}
 use Rattle.linker_commands.specs.Served.{ServedBy, TellsEnd, TellsNet, router_of}
-use Rattle.linker_commands.specs.Served.{file_line, memory_line, serving_line, shut_down}
+use Rattle.linker_commands.specs.Served.{memory_line, serving_line, shut_down}
 use Rattle.linker_commands.specs.Told.{Tells, code_of}
 use Rattle.linker_commands.proofs.Runs.{tells_end, tells_behind, tells_memory_first, fails_before}
 
@@ -216,59 +210,6 @@ pub jobs_by : (moments : Option (List ℕ)) (c : Config) (site : Site) → IsSit
 jobs_by moments c site by =
     let feed = feed_count moments c.feed site.feed by.feed in
     λ i. by.workers i + 4 + feed i
-
--- a refusal of services comes from the folder that is named
-named_root : (files : Option (List File)) (root : Option (List ℕ)) (fault : LoadFault)
-    → LoadsRoot files root (Err fault)
-    → (named : List ℕ) × (root ≡ Some named) × Loads files named (Err fault)
-named_root files None fault told = cc told
-named_root files (Some named) fault told = (named, refl, told)
-
-pub refuses_long : (files : Option (List File)) (c : Config) (name : List ℕ) (fault : LoadFault)
-    → fault ≡ LongFile name → LoadsRoot files c.root (Err fault)
-    → RefusesService files c (file_line name)
-refuses_long files c name fault is told =
-    let root = named_root files c.root fault told in
-    let loads : LoadFault → Type 0 = λ f. Loads files root.0 (Err f) in
-    inl (root.0, name, root.1, inl (subst loads is root.2), refl)
-
-pub refuses_bad : (files : Option (List File)) (c : Config) (name : List ℕ) (line : ℕ)
-    (fault : LoadFault) → fault ≡ BadFile name line → LoadsRoot files c.root (Err fault)
-    → RefusesService files c (file_line name)
-refuses_bad files c name line fault is told =
-    let root = named_root files c.root fault told in
-    let loads : LoadFault → Type 0 = λ f. Loads files root.0 (Err f) in
-    inl (root.0, name, root.1, inr (line, subst loads is root.2), refl)
-
--- the folder's count rose exactly where it could not be read
-pub kept_unless : {T : Type 0} (before now : ℕ) (fault : LoadFault) → (fault ≡ FolderFault → ⊥)
-    → HasLoadCause {T = T} before now (Err fault) → now ≡ before
-kept_unless before now (LongFile name) other cause = cause.count
-kept_unless before now (BadFile name line) other cause = cause.count
-kept_unless before now FolderFault other cause = absurd (other refl)
-kept_unless before now OutOfMemory other cause = cause.count
-
--- and so it stands where a file of it is refused
-pub kept_at_long : {T : Type 0} (before now : ℕ) (fault : LoadFault) (name : List ℕ)
-    → fault ≡ LongFile name → HasLoadCause {T = T} before now (Err fault) → now ≡ before
-kept_at_long before now (LongFile other) name is cause = cause.count
-kept_at_long before now (BadFile other line) name is cause = cause.count
-kept_at_long before now FolderFault name is cause = cc is
-kept_at_long before now OutOfMemory name is cause = cause.count
-
-pub kept_at_bad : {T : Type 0} (before now : ℕ) (fault : LoadFault) (name : List ℕ) (line : ℕ)
-    → fault ≡ BadFile name line → HasLoadCause {T = T} before now (Err fault) → now ≡ before
-kept_at_bad before now (LongFile other) name line is cause = cause.count
-kept_at_bad before now (BadFile other at) name line is cause = cause.count
-kept_at_bad before now FolderFault name line is cause = cc is
-kept_at_bad before now OutOfMemory name line is cause = cause.count
-
-pub rose_with : {T : Type 0} (before now : ℕ) (fault : LoadFault) → fault ≡ FolderFault
-    → HasLoadCause {T = T} before now (Err fault) → Rose before now
-rose_with before now (LongFile name) is cause = cc is
-rose_with before now (BadFile name line) is cause = cc is
-rose_with before now FolderFault is cause = omega (arith, cause.count)
-rose_with before now OutOfMemory is cause = cc is
 
 -- how a router ends that was to serve by a configuration is a course of serving by the one at a
 -- path

@@ -1,4 +1,5 @@
 pub mod Check
+pub mod Courses
 pub mod Follow
 pub mod Found
 pub mod Generated

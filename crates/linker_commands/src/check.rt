@@ -109,13 +109,17 @@ pub fn check<F: Folder>(alloc: Global, folder: &mut F, path: &str) -> Result<Ver
     ensures files { (F.filed folder.new).files ≡ (F.filed folder.old).files }
 {
     match configured(alloc, folder, path) {
-        Ok(config) => match check_line(alloc, &config) {
-            Ok(line) => Ok(Verdict {
-                is_right: true,
-                line,
-            }),
-            Err(_) => Err(CheckEnd::OutOfMemory),
-        },
+        Ok(config) => {
+            let told = check_line(alloc, &config);
+            drop(config);
+            match told {
+                Ok(line) => Ok(Verdict {
+                    is_right: true,
+                    line,
+                }),
+                Err(_) => Err(CheckEnd::OutOfMemory),
+            }
+        }
         Err(ConfigEnd::Wrong(line)) => Ok(Verdict {
             is_right: false,
             line,

@@ -123,24 +123,31 @@ pub fn play<K: Sink, L: Ledger>(
         ≡ (K.output sink.old).faults }
     ensures later { (K.output sink.old).faults ≤ (K.output sink.new).faults }
 {
-    match (script_settings(alloc), State::start(alloc)) {
-        (Ok(settings), Ok(state)) => play_on(alloc, &settings, state, script, sink, steps),
-        _ => PlayEnd::OutOfMemory,
-    }
+    let Ok(settings) = script_settings(alloc) else {
+        return PlayEnd::OutOfMemory;
+    };
+    let Ok(mut state) = State::start(alloc) else {
+        drop(settings);
+        return PlayEnd::OutOfMemory;
+    };
+    let end = play_on(alloc, &settings, &mut state, script, sink, steps);
+    drop(state);
+    drop(settings);
+    end
 }
 
 /// Carries out the lines of a script in order on the state in which nothing is there.
 fn play_on<K: Sink, L: Ledger>(
     alloc: Global,
     settings: &Settings,
-    state: State,
+    state: &mut State,
     script: &[u8],
     sink: &mut K,
     steps: &mut Steps<L>,
 ) -> PlayEnd
     requires few { length script.now ≤ 67108864 }
     requires settings { settings_of settings.now ≡ script_settings }
-    requires state { state_of state ≡ opening }
+    requires state { state_of state.old ≡ opening }
     ensures played { Plays script.now (K.output sink.old).held (K.output sink.new).held result }
     ensures cause { result ≡ PlayEnd.WriteFault → Rose (K.output sink.old).faults
         (K.output sink.new).faults }
@@ -148,7 +155,6 @@ fn play_on<K: Sink, L: Ledger>(
         ≡ (K.output sink.old).faults }
     ensures later { (K.output sink.old).faults ≤ (K.output sink.new).faults }
 {
-    let mut state = state;
     let mut replies: Bytes = Vec::new(alloc);
     let mut at = 0;
     let mut number = 1u64;
@@ -159,7 +165,7 @@ fn play_on<K: Sink, L: Ledger>(
             settings,
             &script[at..cut.stop],
             number,
-            &mut state,
+            state,
             &mut replies,
             steps,
         ) {

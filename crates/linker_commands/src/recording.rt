@@ -70,8 +70,31 @@ fn open_journal<O: Journals>(
     }
 }
 
-/// A record that publishes by each of these writers, in their order. It has a fork of the clock,
-/// and a journal of its own where there is to be an access log.
+/// A record that publishes by this writer. It has a fork of the clock, and a journal of its own
+/// where there is to be an access log.
+fn make_record<'a, C: Clock + Drop, O: Journals>(
+    recording: &Recording<'a, C>,
+    writer: CountWriter,
+    journals: &mut O,
+) -> Mem<WorkerRecord<'a, C, O::J>>
+    requires writer { IsWriterOf recording.now.counts.now writer }
+    requires none { HasCountedNone writer }
+    ensures new { IfOk result (λ made. IsNewRecord
+        (C.of_fork recording.now.clock.now) recording.now.log.now made) }
+    ensures closed { O.closed journals.new ≡ O.closed journals.old }
+{
+    let journal = match open_journal(recording.alloc, recording.log, journals) {
+        Ok(journal) => journal,
+        Err(fault) => {
+            drop(writer);
+            return Err(fault);
+        }
+    };
+    let clock = recording.clock.fork();
+    Ok(WorkerRecord::new(recording.alloc, clock, recording.counts, writer, journal))
+}
+
+/// A record that publishes by each of these writers, in their order.
 fn make_records<'a, C: Clock + Drop, O: Journals>(
     recording: &Recording<'a, C>,
     writers: Vec<CountWriter>,
@@ -86,9 +109,7 @@ fn make_records<'a, C: Clock + Drop, O: Journals>(
 {
     let mut records = Vec::with_capacity(recording.alloc, writers.len())?;
     for writer in writers {
-        let journal = open_journal(recording.alloc, recording.log, journals)?;
-        let clock = recording.clock.fork();
-        let made = WorkerRecord::new(recording.alloc, clock, recording.counts, writer, journal);
+        let made = make_record(recording, writer, journals)?;
         records.push(made)?;
     }
     Ok(records)

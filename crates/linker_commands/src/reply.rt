@@ -20,8 +20,9 @@ pub fn append_answer(alloc: Global, said: Option<Said>, out: &mut Bytes) -> Mem<
     let Some(said) = said else {
         return Ok(());
     };
-    let mut line = reply_text(alloc, &said)?;
+    let text = reply_text(alloc, &said);
     drop(said);
+    let mut line = text?;
     line.push(b'\n')?;
     out.extend_from_slice(line.as_slice())
 }

@@ -3,13 +3,14 @@ ghost use Rattle.std.specs.Prelude.{◌≡◌, ◌<◌, ◌≤◌, ℕ, List, le
 ghost use Rattle.line_base.specs.Files.{Filed};
 ghost use Rattle.line_base.specs.Streams.{Input, Output};
 ghost use Rattle.linker_commands.specs.Check.{TellsPath};
+ghost use Rattle.linker_commands.specs.Courses.{verdict_course};
 ghost use Rattle.linker_commands.specs.Linked.{linked};
 ghost use Rattle.linker_commands.specs.Lint.{TellsTablePath};
 ghost use Rattle.linker_commands.specs.Run.{Ran, Course, words_refused, script_read, output_of};
 ghost use Rattle.linker_commands.specs.Run.{status_if, Reads, Checks, Makes, EndsCourse};
 ghost use Rattle.linker_commands.specs.Told.{code_of, Tells};
 
-use crate::check::{CheckEnd, check};
+use crate::check::{CheckEnd, Verdict, check};
 use crate::ends::{ReadEnd, read_all, write_all};
 use crate::follow::follow;
 use crate::generated::{storm_line, weave_line};
@@ -136,6 +137,22 @@ fn replay<S: Source, K: Sink, L: Ledger>(
     }
 }
 
+/// Tells what was found of a file, or why nothing is told of it.
+fn tell_verdict<K: Sink>(out: &mut K, verdict: Result<Verdict, CheckEnd>) -> ExitStatus
+    ensures { EndsCourse (verdict_course verdict) (K.output out.old) (K.output out.new)
+        (code_of result) }
+{
+    match verdict {
+        Ok(told) => tell(
+            out,
+            told.line.as_slice(),
+            ExitStatus::of_right(told.is_right),
+        ),
+        Err(CheckEnd::Fault) => tell(out, b"error read\n", ExitStatus::Read),
+        Err(CheckEnd::OutOfMemory) => tell(out, b"error memory\n", ExitStatus::Memory),
+    }
+}
+
 /// Tells of the configuration at a path.
 fn check_config<F: Folder, K: Sink>(
     alloc: Global,
@@ -148,15 +165,7 @@ fn check_config<F: Folder, K: Sink>(
         (K.output out.new) (code_of result) }
     ensures files { (F.filed folder.new).files ≡ (F.filed folder.old).files }
 {
-    match check(alloc, folder, path) {
-        Ok(verdict) => tell(
-            out,
-            verdict.line.as_slice(),
-            ExitStatus::of_right(verdict.is_right),
-        ),
-        Err(CheckEnd::Fault) => tell(out, b"error read\n", ExitStatus::Read),
-        Err(CheckEnd::OutOfMemory) => tell(out, b"error memory\n", ExitStatus::Memory),
-    }
+    tell_verdict(out, check(alloc, folder, path))
 }
 
 /// Tells which entries of the table at a path are never asked.
@@ -171,15 +180,7 @@ fn lint_table<F: Folder, K: Sink>(
         (K.output out.new) (code_of result) }
     ensures files { (F.filed folder.new).files ≡ (F.filed folder.old).files }
 {
-    match lint(alloc, folder, path) {
-        Ok(verdict) => tell(
-            out,
-            verdict.line.as_slice(),
-            ExitStatus::of_right(verdict.is_right),
-        ),
-        Err(CheckEnd::Fault) => tell(out, b"error read\n", ExitStatus::Read),
-        Err(CheckEnd::OutOfMemory) => tell(out, b"error memory\n", ExitStatus::Memory),
-    }
+    tell_verdict(out, lint(alloc, folder, path))
 }
 
 /// Tells the line that was made from the words alone, unless there was no memory for it.

@@ -4,11 +4,12 @@ ghost use Rattle.std.specs.Prelude.{length, string_bytes};
 ghost use Rattle.line_base.specs.Files.{File};
 ghost use Rattle.line_base.specs.Files.{Filed};
 ghost use Rattle.line_base.specs.Streams.{Output};
+ghost use Rattle.linker_commands.specs.Courses.{load_course};
 ghost use Rattle.linker_commands.specs.Linked.{Linked, linked};
 ghost use Rattle.linker_commands.specs.Run.{Course, EndsCourse, EndsServing, Serves, line_told};
 ghost use Rattle.linker_commands.specs.Served.{Finish, IsConfig, IsLast, IsMadeBy, LoadsRoot};
 ghost use Rattle.linker_commands.specs.Served.{TellsEnd, TellsNet, file_line, finish_code, last_of};
-ghost use Rattle.linker_commands.specs.Served.{IsFeeding, IsRun, feed_port, feed_words};
+ghost use Rattle.linker_commands.specs.Served.{IsFeeding, IsRun, IsSiteOf, feed_port, feed_words};
 ghost use Rattle.linker_commands.specs.Served.{main_words, site_line};
 ghost use Rattle.linker_commands.specs.Told.{Tells, code_of};
 ghost use Rattle.linker_config.specs.declared.loaded.LoadedItem.{LoadedItem};
@@ -31,6 +32,7 @@ use client_stays::Handling;
 use line_base::{Clock, Folder, Listener, Net, Sink, Source};
 use line_log::Journals;
 use linker_config::{Config, FeedAt, LoadFault, Loaded, Text, append_port, load_folder};
+use machine::Settings;
 use router::{Opened, open};
 use serving::{Feeding, Policy, RunFault, Served, Serving, Site, StartFault, start};
 use std::alloc::Global;
@@ -144,6 +146,62 @@ fn tell_file<K: Sink>(alloc: Global, out: &mut K, name: &Name) -> ExitStatus
         Ok(line) => tell(out, line.as_slice(), ExitStatus::Wrong),
         Err(_) => tell(out, b"error memory\n", ExitStatus::Memory),
     }
+}
+
+/// Tells why the services of a configuration were not loaded.
+fn tell_load_fault<K: Sink>(alloc: Global, out: &mut K, fault: LoadFault) -> ExitStatus
+    ensures { EndsCourse (load_course fault) (K.output out.old) (K.output out.new)
+        (code_of result) }
+{
+    match fault {
+        LoadFault::LongFile { name } => tell_file(alloc, out, &name),
+        LoadFault::BadFile { name, line: _ } => tell_file(alloc, out, &name),
+        LoadFault::FolderFault => tell(out, b"error read\n", ExitStatus::Read),
+        LoadFault::OutOfMemory => tell(out, b"error memory\n", ExitStatus::Memory),
+    }
+}
+
+/// Where a router serves by a configuration, with its access log, and what its state goes by.
+fn site_and_settings<C: Clock + Drop>(config: Config, clock: &C) -> (LoggedSite, Settings)
+    requires workers { (1 ≤ config.workers) × (config.workers ≤ 256) }
+    ensures site { IsSiteOf (C.of_fork clock.now) config result.0.site }
+    ensures workers { (1 ≤ result.0.site.workers) × (result.0.site.workers ≤ 256) }
+    ensures log { result.0.log ≡ config.access_log }
+    ensures settings { result.1 ≡ config.settings }
+{
+    let Config {
+        admin,
+        namerd,
+        server,
+        root: _,
+        rule,
+        clear_context: _,
+        settings,
+        pool,
+        retries,
+        access_log,
+        workers,
+        seed,
+        feed,
+    } = config;
+    let site = Site {
+        server,
+        namerd,
+        admin,
+        policy: Policy {
+            rule,
+            retries,
+            pool,
+        },
+        workers,
+        seed,
+        feed: feeding(feed, clock),
+    };
+    let logged = LoggedSite {
+        site,
+        log: access_log,
+    };
+    (logged, settings)
 }
 
 /// Tells how it was to serve.
@@ -312,59 +370,24 @@ where
     ensures files { (F.filed outside.new.folder).files ≡ (F.filed outside.old.folder).files }
     ensures input { outside.new.input ≡ outside.old.input }
 {
-    let Config {
-        admin,
-        namerd,
-        server,
-        root,
-        rule,
-        clear_context: _,
-        access_log,
-        settings,
-        pool,
-        retries,
-        workers,
-        seed,
-        feed,
-    } = config;
-    let loaded = match load(alloc, &mut outside.folder, &root) {
+    let loaded = match load(alloc, &mut outside.folder, &config.root) {
         Ok(loaded) => loaded,
-        Err(LoadFault::LongFile { name }) => return tell_file(alloc, &mut outside.out, &name),
-        Err(LoadFault::BadFile { name, line: _ }) => return tell_file(
-            alloc,
-            &mut outside.out,
-            &name,
-        ),
-        Err(LoadFault::FolderFault) => return tell(
-            &mut outside.out,
-            b"error read\n",
-            ExitStatus::Read,
-        ),
-        Err(LoadFault::OutOfMemory) => {
-            return tell(&mut outside.out, b"error memory\n", ExitStatus::Memory);
+        Err(fault) => {
+            drop(config);
+            return tell_load_fault(alloc, &mut outside.out, fault);
         }
     };
-    let site = Site {
-        server,
-        namerd,
-        admin,
-        policy: Policy {
-            rule,
-            retries,
-            pool,
-        },
-        workers,
-        seed,
-        feed: feeding(feed, &outside.clock),
-    };
-    let Ok(opened) = open(rt, alloc, settings, site.seats()) else {
+    let (logged, settings) = site_and_settings(config, &outside.clock);
+    let Ok(opened) = open(rt, alloc, settings, logged.site.seats()) else {
+        drop(loaded);
+        drop(logged);
         return tell(&mut outside.out, b"error memory\n", ExitStatus::Memory);
     };
-    let logged = LoggedSite {
-        site,
-        log: access_log,
-    };
-    serve_opened::<Brand, R, F, N, C, S, K, O>(rt, alloc, opened, loaded, &logged, outside)
+    let status = serve_opened::<Brand, R, F, N, C, S, K, O>(
+        rt, alloc, opened, loaded, &logged, outside,
+    );
+    drop(logged);
+    status
 }
 
 /// Serves by the configuration at a path, until it is stopped.

@@ -1,5 +1,5 @@
 //! The words of the command line.
-ghost use Rattle.std.specs.Prelude.{◌≡◌, None, Some, Ok, Err, ℕ, List, IfOk, IfErr, IsTrue};
+ghost use Rattle.std.specs.Prelude.{◌≡◌, ◌∷◌, None, Some, Ok, Err, ℕ, List, IfOk, IfErr, IsTrue};
 ghost use Rattle.std.specs.Prelude.{IsFalse, MatchResult, map, string_bytes};
 ghost use Rattle.text_parts.specs.Numbers.{at_most, number_of};
 ghost use Rattle.linker_commands.specs.Words.{asked_by, command_of, replay, storm, weave, alone};
@@ -63,14 +63,33 @@ pub fn read_words(words: &[String]) -> Result<Command<'_>, usize>
         (λ place. command_of (map string_bytes words.now) ≡ Err place) }
 {
     match words {
-        [word, others @ ..] if word.as_str() == "replay" => read_replay(others),
-        [word, others @ ..] if word.as_str() == "check" => read_check(others),
-        [word, others @ ..] if word.as_str() == "serve" => read_serve(others),
-        [word, others @ ..] if word.as_str() == "lint" => read_lint(others),
-        [word, others @ ..] if word.as_str() == "storm" => read_storm(others),
-        [word, others @ ..] if word.as_str() == "weave" => read_weave(others),
-        [word, others @ ..] if word.as_str() == "follow" => read_follow(others),
-        _ => Err(1),
+        [word, others @ ..] => read_command(word.as_str(), others),
+        [] => Err(1),
+    }
+}
+
+/// The command of a word and of those behind it.
+fn read_command<'a>(word: &str, others: &'a [String]) -> Result<Command<'a>, usize>
+    ensures { MatchResult result
+        (λ command. command_of (word.now ∷ map string_bytes others.now) ≡ Ok (asked_by command))
+        (λ place. command_of (word.now ∷ map string_bytes others.now) ≡ Err place) }
+{
+    if word == "replay" {
+        read_replay(others)
+    } else if word == "check" {
+        read_check(others)
+    } else if word == "serve" {
+        read_serve(others)
+    } else if word == "lint" {
+        read_lint(others)
+    } else if word == "storm" {
+        read_storm(others)
+    } else if word == "weave" {
+        read_weave(others)
+    } else if word == "follow" {
+        read_follow(others)
+    } else {
+        Err(1)
     }
 }
 

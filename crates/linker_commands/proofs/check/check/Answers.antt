@@ -17,11 +17,11 @@ told_right (Bytes bytes) text line config is reads told =
 told_right Absent text line config is reads told = absurd is
 told_right Longer text line config is reads told = absurd is
 
-pub returns-in-Ok-check_line-clause-told : goal.returns-in-Ok-check_line-clause-told
-returns-in-Ok-check_line-clause-told g c =
+pub returns-in-Ok-told-clause-told : goal.returns-in-Ok-told-clause-told
+returns-in-Ok-told-clause-told g c =
     let right = c.in-Ok.ensures.config in (
       right.0,
       right.1,
-      told_right right.0 right.2 c.in-Ok-check_line.line.items c.in-Ok.config
-          right.3 right.4 c.in-Ok-check_line.ensures,
+      told_right right.0 right.2 c.in-Ok-told.line.items c.in-Ok.config
+          right.3 right.4 c.in-Ok-told.ensures,
     )

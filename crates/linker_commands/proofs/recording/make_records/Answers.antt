@@ -1,10 +1,8 @@
 use Rattle.std.proofs.Common.{List, length, arith, ap, sym, subst, ◌∙◌, All}
-use Rattle.std.specs.Prelude.{option_map}
 use Rattle.std.specs.Vec.Iter.{into_iter_items}
 use Rattle.std.proofs.lemmas.List.{length_push}
 use Rattle.std.proofs.lemmas.List.Elements.{All-push, All-rest}
 use Rattle.count_words.specs.Seats.{HasCountedNone, IsWriterOf}
-use Rattle.line_log.specs.Logged.{Logged}
 use Rattle.worker_record.specs.Recording.{RecordValue}
 use Rattle.linker_commands.specs.Recorded.{IsNewRecord}
 use Rattle.linker_commands.proofs.recording.make_records.Goals as goal
@@ -17,16 +15,9 @@ loop-writer-preserved g c =
     let rest = into_iter_items c.next.new.self in
     let moments = g.C.Clock.of_fork c.args.recording.now.clock.now in
     let path = c.args.recording.now.log.now in
-    let log_of = λ (j : g.row.O-J.Denot). let l : Logged = g.O.J.Journal.log j in l in
-    let made : RecordValue = c.new-made.result in
+    let made : RecordValue = c.in_ok-made.made in
     let records : List RecordValue = c.loop-writer.records.items in
-    let new : IsNewRecord moments path made = record {
-      clock = g.C.Clock.to_come c.fork-clock.result;
-      forked = c.fork-clock.ensures.0;
-      log = option_map log_of c.in_ok-journal.journal;
-      log_is = c.in_ok-journal.ensures.new;
-      fresh = c.new-made.ensures;
-    } in
+    let new : IsNewRecord moments path made = c.in_ok-made.ensures.new in
     let pushed = c.in_ok-push.ensures.items in
     let longer = length_push records made in
     let grown = ap (λ (rs : List RecordValue). length rs) pushed in
@@ -39,5 +30,5 @@ loop-writer-preserved g c =
       none = All-rest HasCountedNone c.in-Some.writer rest before cut inv.none;
       new = subst (All (IsNewRecord moments path)) (sym pushed)
           (All-push (IsNewRecord moments path) records made inv.new new);
-      closed = c.in_ok-journal.ensures.closed ∙ inv.closed;
+      closed = c.in_ok-made.ensures.closed ∙ inv.closed;
     }
