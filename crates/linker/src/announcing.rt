@@ -8,7 +8,7 @@ use std::env::Args;
 use std::io;
 
 /// What the process is asked to do with a file.
-#[derive(Debug, Drop)]
+#[derive(Drop)]
 pub enum Asked {
     /// To check a configuration.
     Check,

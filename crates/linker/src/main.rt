@@ -28,6 +28,7 @@
 #![tactic(auto)]
 
 use announcing::{Asked, asked_of, reason};
+use line_base::Sink;
 use linker_commands::{ExitStatus, Outside, run_arguments, tell};
 use log_file::FileJournals;
 use losing::WarningJournals;
@@ -75,14 +76,21 @@ usage: linker weave N SEED
 const UNWATCHED: &str = "linker: SIGTERM and SIGINT are blocked, and no thread could be made to \
     watch for them";
 
+/// Tells that there was no memory.
+fn without_memory<K: Sink>(out: &mut K) -> ExitCode {
+    ExitCode::from(tell(out, b"error memory\n", ExitStatus::Memory).code())
+}
+
 fn main(rt: HostRuntime) -> ExitCode {
     let mut out = WriterSink::of(io::writer(&rt));
-    let (Ok(sockets), Ok(stops), Ok(finish)) = (
-        SocketNet::of(&rt),
-        StopCell::new(rt.alloc()),
-        Finish::awaited(rt.alloc()),
-    ) else {
-        return ExitCode::from(tell(&mut out, b"error memory\n", ExitStatus::Memory).code());
+    let Ok(stops) = StopCell::new(rt.alloc()) else {
+        return without_memory(&mut out);
+    };
+    let Ok(finish) = Finish::awaited(rt.alloc()) else {
+        return without_memory(&mut out);
+    };
+    let Ok(sockets) = SocketNet::of(&rt) else {
+        return without_memory(&mut out);
     };
     let asked = asked_of(rt.alloc(), env::args(&rt));
     let expected = asked.as_ref().map(Asked::expected);

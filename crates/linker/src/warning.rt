@@ -15,7 +15,7 @@ const HEARD: &str = "linker: routers[0].servers[0].clearContext is not there and
     loopback, so any client may name any address in l5d-dtab (clearContext false says it is meant)";
 
 /// What a file is of which there may be something to tell.
-#[derive(Clone, Copy, Debug, PartialEq, Eq, Drop)]
+#[derive(Clone, Copy, Drop)]
 pub enum Expected {
     /// A configuration.
     Config,
@@ -49,10 +49,13 @@ fn warn_of<R: Eprint + AllocGlobal>(rt: &R, text: &[u8]) {
     let Ok(config) = read_config(rt.alloc(), text) else {
         return;
     };
-    if config.table_covers_prefix() {
+    let covers = config.table_covers_prefix();
+    let hears = config.hears_strangers();
+    drop(config);
+    if covers {
         let _ = eprintln!(rt; "{COVERED}");
     }
-    if config.hears_strangers() {
+    if hears {
         let _ = eprintln!(rt; "{HEARD}");
     }
 }
