@@ -1,8 +1,8 @@
 //! Routers with an access log.
-use crate::outside::{folder_of, logged_over, net_of};
+use crate::outside::{Left, folder_of, logged_over, net_of};
 use crate::running::append;
 use line_log::{Journal, MemJournals};
-use std::alloc::AllocGlobal;
+use std::alloc::{AllocError, AllocGlobal, Global};
 use std::sync::Wait;
 use std::test::Fail;
 use std::thread::Threads;
@@ -41,19 +41,34 @@ fn logged<R: AllocGlobal + Threads + Wait + Sync>(
     losing: &[u64],
 ) -> Result<(String, u64, u8), Fail> {
     let alloc = rt.alloc();
+    let losing = Vec::from_slice(alloc, losing)?;
     let folder = folder_of(alloc, config, "127.0.0.1 9001\n", 1, &[])?;
     let net = net_of(alloc, REQUESTS, "", "", "")?;
-    let journals = MemJournals::of(alloc, Vec::from_slice(alloc, losing)?);
-    let left = logged_over(rt, folder, net, journals)?;
+    let Left {
+        written,
+        status,
+        net,
+        journals,
+    } = logged_over(rt, folder, net, MemJournals::of(alloc, losing))?;
+    drop(written);
+    drop(net);
+    let told = held(alloc, &journals);
+    drop(journals);
+    let (text, lost) = told?;
+    Ok((text, lost, status))
+}
+
+/// What the journals that were given back hold, and how many lines they lost.
+fn held(alloc: Global, journals: &MemJournals) -> Result<(String, u64), AllocError> {
     let mut text = String::new(alloc);
     let mut lost = 0u64;
-    for journal in left.journals.closed() {
+    for journal in journals.closed() {
         lost = lost.saturating_add(journal.counts().lost);
         for line in journal.lines() {
             append(&mut text, line.as_slice())?;
         }
     }
-    Ok((text, lost, left.status))
+    Ok((text, lost))
 }
 
 /// Each exchange has a line, in order, or its line is lost; without a log there are none.

@@ -133,10 +133,9 @@ fn net_of<'a>(
     }
     let client = MemPeer::of(source(alloc, ASKS)?, sink(alloc));
     let peers = vec![in alloc; Paired::of(here, flag, client)]?;
-    let addresses = vec![in alloc;
-        visits(alloc, port, Vec::new(alloc), failing)?,
-        visits(alloc, 4140, peers, Vec::new(alloc))?,
-    ]?;
+    let mut addresses = Vec::new(alloc);
+    addresses.push(visits(alloc, port, Vec::new(alloc), failing)?)?;
+    addresses.push(visits(alloc, 4140, peers, Vec::new(alloc))?)?;
     Ok(MemNet::of(alloc, addresses, Vec::new(alloc), Vec::new(alloc)))
 }
 
@@ -151,8 +150,9 @@ fn flagged_over<R: AllocGlobal + Threads + Wait + Sync, P: Peer + Drop + Send>(
         written,
         status,
         net,
-        journals: _,
+        journals,
     } = served_over(rt, folder, FlagNet { flag, net })?;
+    drop(journals);
     Ok((written, status, net.into_net()))
 }
 
@@ -163,9 +163,17 @@ fn stopped_over<R: AllocGlobal + Threads + Wait + Sync, P: Peer + Drop + Send + 
     net: MemNet<P>,
 ) -> Result<(String, u8, String), AllocError> {
     let alloc = rt.alloc();
-    let folder = folder_of(alloc, TWO_WORKERS, "", 0, &[])?;
+    let folder = match folder_of(alloc, TWO_WORKERS, "", 0, &[]) {
+        Ok(folder) => folder,
+        Err(fault) => {
+            drop(net);
+            return Err(fault);
+        }
+    };
     let (written, status, net) = flagged_over(rt, folder, flag, net)?;
-    Ok((written, status, given(alloc, &net)?))
+    let given = given(alloc, &net);
+    drop(net);
+    Ok((written, status, given?))
 }
 
 /// What is written where the first listener of a port breaks, the status, and what the client is

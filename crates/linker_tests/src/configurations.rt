@@ -1,7 +1,8 @@
 //! Configurations that are checked.
-use crate::running::{run_with, sink, source};
+use crate::running::{no_input, run_with, sink};
 use line_doubles::{MemFile, MemFolder};
 use std::alloc::{AllocError, AllocGlobal, Global};
+use std::process::Abort;
 use std::sync::Wait;
 use std::test::Fail;
 use std::thread::Threads;
@@ -18,13 +19,7 @@ fn checked<R: AllocGlobal + Threads + Wait + Sync>(
 ) -> Result<(String, u8), Fail> {
     let alloc = rt.alloc();
     let folder = one_file(alloc, text, blanks, failing)?;
-    Ok(run_with(
-        rt,
-        &["check", path],
-        folder,
-        source(alloc, "")?,
-        sink(alloc),
-    )?)
+    Ok(run_with(rt, &["check", path], folder, no_input(alloc), sink(alloc))?)
 }
 
 /// A folder that has one file, `conf/c.json`.
@@ -54,9 +49,25 @@ const SHORTEST: &str = "{\"routers\":[{\"protocol\":\"http\"}]}";
 
 const GOOD_LINE: &str = "ok router 127.0.0.1:4140 namerd 127.0.0.1:4180 admin 127.0.0.1:9990\n";
 
+/// Asserts that of configurations this is told, and that the program ends with this status.
+fn assert_checked<R: AllocGlobal + Threads + Wait + Sync + Abort>(
+    rt: &R,
+    rows: &[(&str, &str, u8)],
+) -> Result<(), Fail> {
+    for (text, written, status) in rows {
+        let (line, ended) = checked(rt, "conf/c.json", text, 0, &[])?;
+        assert!(rt;
+            line.as_str() == *written && ended == *status,
+            "of {text:?}"
+        );
+    }
+    Ok(())
+}
+
+/// Configurations that are right.
 #[test]
 fn configurations(rt: HostRuntime) -> Result<(), Fail> {
-    let rows = [
+    let rows: [(&str, &str, u8); 4] = [
         (SHORTEST, GOOD_LINE, 0),
         // The folder of the services is not looked at, and is not there.
         (
@@ -80,6 +91,14 @@ fn configurations(rt: HostRuntime) -> Result<(), Fail> {
             GOOD_LINE,
             0,
         ),
+    ];
+    assert_checked(&rt, &rows)
+}
+
+/// Configurations with a fault.
+#[test]
+fn configurations_with_a_fault(rt: HostRuntime) -> Result<(), Fail> {
+    let rows: [(&str, &str, u8); 6] = [
         (
             "{\"routers\":[{\"protocol\":\"http\",\"retries\":{\"most\":11}}]}",
             "error config routers[0].retries.most bad\n",
@@ -95,11 +114,7 @@ fn configurations(rt: HostRuntime) -> Result<(), Fail> {
         ("[", "error config json\n", 3),
         ("", "error config json\n", 3),
     ];
-    for (text, written, status) in rows {
-        let (line, ended) = checked(&rt, "conf/c.json", text, 0, &[])?;
-        assert!(rt; line.as_str() == written && ended == status, "of {text:?}");
-    }
-    Ok(())
+    assert_checked(&rt, &rows)
 }
 
 /// The longest configuration, one that is longer, one that is not there, and a folder that fails.

@@ -1,7 +1,7 @@
 //! Leaders that are followed.
-use crate::running::{assert_answered, run_over, source};
-use line_doubles::{MemDials, MemFolder, MemNet, MemSink};
-use std::alloc::AllocGlobal;
+use crate::running::{assert_answered, no_input, run_over};
+use line_doubles::{MemDials, MemFolder, MemNet, MemPeer, MemSink};
+use std::alloc::{AllocError, AllocGlobal, Global};
 use std::sync::Wait;
 use std::test::Fail;
 use std::thread::Threads;
@@ -14,15 +14,12 @@ const REPLY: &str =
 /// A reply that tells that the namespace is gone.
 const GONE: &str = "HTTP/1.1 200 OK\r\nContent-Length: 19\r\n\r\n{\"place\":2,\"run\":7}";
 
-/// What `follow` writes for two polls, and its status, where a leader gives these replies, and
-/// these calls of the dialer and of the sink fail.
-fn followed<R: AllocGlobal + Threads + Wait + Sync>(
-    rt: &R,
+/// A net whose one dialer gives these replies. The calls of it whose numbers are in `failing` fail.
+fn net_of_replies(
+    alloc: Global,
     replies: &[&str],
     failing: &[u64],
-    writes: &[u64],
-) -> Result<(String, u8), Fail> {
-    let alloc = rt.alloc();
+) -> Result<MemNet<MemPeer>, AllocError> {
     let mut given = Vec::new(alloc);
     for reply in replies {
         given.push(Vec::from_slice(alloc, reply.as_bytes())?)?;
@@ -32,16 +29,29 @@ fn followed<R: AllocGlobal + Threads + Wait + Sync>(
         sizes: Vec::new(alloc),
         failing: Vec::from_slice(alloc, failing)?,
     };
-    let net = MemNet::of(
+    Ok(MemNet::of(
         alloc,
         Vec::new(alloc),
         vec![in alloc; dials]?,
         Vec::new(alloc),
-    );
+    ))
+}
+
+/// What `follow` writes for two polls, and its status, where a leader gives these replies, and
+/// these calls of the dialer and of the sink fail.
+fn followed<R: AllocGlobal + Threads + Wait + Sync>(
+    rt: &R,
+    replies: &[&str],
+    failing: &[u64],
+    writes: &[u64],
+) -> Result<(String, u8), Fail> {
+    let alloc = rt.alloc();
+    let writes = Vec::from_slice(alloc, writes)?;
+    let net = net_of_replies(alloc, replies, failing)?;
     let folder = MemFolder::of(alloc, Vec::new(alloc), Vec::new(alloc));
-    let out = MemSink::of(alloc, Vec::new(alloc), Vec::from_slice(alloc, writes)?);
+    let out = MemSink::of(alloc, Vec::new(alloc), writes);
     let words = ["follow", "127.0.0.1:4181", "default", "2"];
-    Ok(run_over(rt, &words, folder, net, source(alloc, "")?, out)?)
+    Ok(run_over(rt, &words, folder, net, no_input(alloc), out)?)
 }
 
 /// What is written where the second poll tells the table, where both do, where the second tells

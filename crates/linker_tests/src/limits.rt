@@ -68,7 +68,7 @@ fn table_behind(alloc: Global, blanks: usize, bytes: usize) -> Result<String, Al
 }
 
 /// A script that comes to a limit.
-#[derive(Clone, Copy, Debug, PartialEq, Eq)]
+#[derive(Clone, Copy, Debug)]
 enum Shape {
     /// Names that lead from one to the next.
     Chain,

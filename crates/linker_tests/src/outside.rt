@@ -1,10 +1,8 @@
 //! A folder and a net in memory, for a router that serves.
 use crate::paired::Paired;
-use crate::running::{append, run_words, sink, source, text_of};
+use crate::running::{MemOutside, StillClock, append, no_input, run_words, sink, source};
 use line_base::{DialEvent, Event, Listener, Net, Peer};
-use line_doubles::{
-    MemAddress, MemClock, MemDials, MemFile, MemFolder, MemNet, MemPeer, MemVisits,
-};
+use line_doubles::{MemAddress, MemDials, MemFile, MemFolder, MemNet, MemPeer, MemVisits};
 use line_log::MemJournals;
 use linker_commands::Outside;
 use std::alloc::{AllocError, AllocGlobal, Global};
@@ -74,20 +72,32 @@ pub(crate) fn net_of(
     admin: &str,
 ) -> Result<MemNet<MemPeer>, AllocError> {
     let mut addresses = Vec::new(alloc);
-    addresses.push(visit(alloc, 4140, first)?)?;
-    addresses.push(visit(alloc, 4140, second)?)?;
-    addresses.push(visit(alloc, 4180, namerd)?)?;
-    addresses.push(visit(alloc, 9990, admin)?)?;
-    let reply = b"HTTP/1.1 200 OK\r\nContent-Length: 2\r\n\r\nhi";
+    let listeners = [(4140, first), (4140, second), (4180, namerd), (9990, admin)];
+    for (port, bytes) in listeners {
+        addresses.push(visit(alloc, port, bytes)?)?;
+    }
+    let dials = answering(alloc, 2, Vec::new(alloc))?;
+    Ok(MemNet::of(alloc, addresses, dials, Vec::new(alloc)))
+}
+
+/// What the dialers of a net do: the one that there is answers so often, with `hi`. The calls of it
+/// whose numbers are in `failing` fail.
+pub(crate) fn answering(
+    alloc: Global,
+    times: u32,
+    failing: Vec<u64>,
+) -> Result<Vec<MemDials>, AllocError> {
+    let mut replies = Vec::new(alloc);
+    for _ in 0..times {
+        let reply = b"HTTP/1.1 200 OK\r\nContent-Length: 2\r\n\r\nhi";
+        replies.push(Vec::from_slice(alloc, reply)?)?;
+    }
     let dials = MemDials {
-        replies: vec![in alloc;
-            Vec::from_slice(alloc, reply)?,
-            Vec::from_slice(alloc, reply)?,
-        ]?,
+        replies,
         sizes: Vec::new(alloc),
-        failing: Vec::new(alloc),
+        failing,
     };
-    Ok(MemNet::of(alloc, addresses, vec![in alloc; dials]?, Vec::new(alloc)))
+    Ok(vec![in alloc; dials]?)
 }
 
 /// A folder with the configuration `conf/c.json`, and the service `web` at `disco`, whose file has
@@ -103,10 +113,9 @@ pub(crate) fn folder_of(
     for _ in 0..lines {
         text.push_str(line)?;
     }
-    let files = vec![in alloc;
-        file(alloc, "conf", "c.json", config)?,
-        file(alloc, "disco", "web", text.as_str())?,
-    ]?;
+    let mut files = Vec::new(alloc);
+    files.push(file(alloc, "conf", "c.json", config)?)?;
+    files.push(file(alloc, "disco", "web", text.as_str())?)?;
     Ok(MemFolder::of(alloc, files, Vec::from_slice(alloc, failing)?))
 }
 
@@ -215,19 +224,39 @@ where
     let mut outside = Outside {
         folder,
         net,
-        clock: MemClock::of(alloc, Vec::new(alloc))?,
-        input: source(alloc, "")?,
+        clock: StillClock,
+        input: no_input(alloc),
         out: sink(alloc),
         journals,
     };
-    let status = run_words(rt, &["serve", "conf/c.json"], &mut outside)?;
-    let written = text_of(alloc, outside.out.held())?;
-    Ok(Left {
+    match run_words(rt, &["serve", "conf/c.json"], &mut outside) {
+        Ok((written, status)) => Ok(left_of(outside, written, status)),
+        Err(fault) => {
+            drop(outside);
+            Err(fault)
+        }
+    }
+}
+
+/// What is left of an outside behind a run.
+fn left_of<N>(outside: MemOutside<N>, written: String, status: u8) -> Left<N> {
+    let Outside {
+        folder,
+        net,
+        clock: _,
+        input,
+        out,
+        journals,
+    } = outside;
+    drop(folder);
+    drop(input);
+    drop(out);
+    Left {
         written,
         status,
-        net: outside.net,
-        journals: outside.journals,
-    })
+        net,
+        journals,
+    }
 }
 
 /// Serves by the configuration `conf/c.json`.
@@ -236,12 +265,29 @@ pub(crate) fn served<R: AllocGlobal + Threads + Wait + Sync, P: Peer + Drop + Se
     folder: MemFolder,
     net: MemNet<P>,
 ) -> Result<Outcome, AllocError> {
-    let alloc = rt.alloc();
-    let left = served_over(rt, folder, net)?;
+    let Left {
+        written,
+        status,
+        net,
+        journals,
+    } = served_over(rt, folder, net)?;
+    drop(journals);
+    let told = tell_net(rt.alloc(), &net);
+    drop(net);
+    let (given, dialed) = told?;
     Ok(Outcome {
-        given: given(alloc, &left.net)?,
-        dialed: dialed(alloc, &left.net)?,
-        written: left.written,
-        status: left.status,
+        written,
+        status,
+        given,
+        dialed,
     })
+}
+
+/// What the connections to a net were given, and what its dialers did.
+fn tell_net<P: Peer + Drop + Answered>(
+    alloc: Global,
+    net: &MemNet<P>,
+) -> Result<(String, String), AllocError> {
+    let given = given(alloc, net)?;
+    Ok((given, dialed(alloc, net)?))
 }

@@ -2,7 +2,7 @@
 use crate::outside::{folder_of, served, told};
 use crate::paired::Paired;
 use crate::running::{sink, source};
-use line_base::Event;
+use line_base::{Event, Peer};
 use line_doubles::{MemNet, MemPeer};
 use std::alloc::{AllocError, AllocGlobal, Global};
 use std::sync::Wait;
@@ -39,18 +39,25 @@ fn net_of_three<'a>(
     first: &'a AtomicBool,
     second: &'a AtomicBool,
 ) -> Result<MemNet<Paired<'a>>, AllocError> {
-    let here = vec![in alloc;
-        Event::Came(Paired::pausing(paused, first, asking(alloc, HEAD)?)),
-        Event::Came(Paired::of(first, paused, asking(alloc, GET)?)),
-    ]?;
-    let there = vec![in alloc;
-        Event::Came(Paired::of(second, first, asking(alloc, GET)?)),
-        Event::Ready(0),
-    ]?;
-    let addresses = vec![in alloc;
-        told(alloc, 4140, here, Vec::new(alloc))?,
-        told(alloc, 4140, there, Vec::new(alloc))?,
-    ]?;
+    let mut here = Vec::new(alloc);
+    here.push(Event::Came(Paired::pausing(paused, first, asking(alloc, HEAD)?)))?;
+    here.push(Event::Came(Paired::of(first, paused, asking(alloc, GET)?)))?;
+    let mut there = Vec::new(alloc);
+    there.push(Event::Came(Paired::of(second, first, asking(alloc, GET)?)))?;
+    there.push(Event::Ready(0))?;
+    net_telling(alloc, here, there)
+}
+
+/// A net whose router's two listeners tell these.
+fn net_telling<P: Peer + Drop>(
+    alloc: Global,
+    here: Vec<Event<P>>,
+    there: Vec<Event<P>>,
+) -> Result<MemNet<P>, AllocError> {
+    let mut addresses = Vec::new(alloc);
+    for events in vec![in alloc; here, there]? {
+        addresses.push(told(alloc, 4140, events, Vec::new(alloc))?)?;
+    }
     Ok(MemNet::of(alloc, addresses, Vec::new(alloc), Vec::new(alloc)))
 }
 
@@ -62,8 +69,8 @@ fn three<R: AllocGlobal + Threads + Wait + Sync>(rt: &R) -> Result<(String, u8),
         AtomicBool::new(false),
         AtomicBool::new(false),
     );
-    let net = net_of_three(alloc, &paused, &first, &second)?;
-    let served = served(rt, folder_of(alloc, TWO_WORKERS, "", 0, &[])?, net)?;
+    let folder = folder_of(alloc, TWO_WORKERS, "", 0, &[])?;
+    let served = served(rt, folder, net_of_three(alloc, &paused, &first, &second)?)?;
     Ok((served.given, served.status))
 }
 
@@ -91,7 +98,8 @@ fn net_of_one(
     asks: &str,
     quiet: &[u64],
 ) -> Result<MemNet<MemPeer>, AllocError> {
-    let client = asking(alloc, asks)?.quiet(Vec::from_slice(alloc, quiet)?);
+    let quiet = Vec::from_slice(alloc, quiet)?;
+    let client = asking(alloc, asks)?.quiet(quiet);
     let events = vec![in alloc; Event::Came(client)]?;
     let addresses = vec![in alloc; told(alloc, port, events, Vec::new(alloc))?]?;
     Ok(MemNet::of(alloc, addresses, Vec::new(alloc), Vec::new(alloc)))
@@ -105,8 +113,8 @@ fn waited<R: AllocGlobal + Threads + Wait + Sync>(
     quiet: &[u64],
 ) -> Result<(String, u8), Fail> {
     let alloc = rt.alloc();
-    let net = net_of_one(alloc, port, asks, quiet)?;
-    let served = served(rt, folder_of(alloc, ONE_WORKER, "", 0, &[])?, net)?;
+    let folder = folder_of(alloc, ONE_WORKER, "", 0, &[])?;
+    let served = served(rt, folder, net_of_one(alloc, port, asks, quiet)?)?;
     Ok((served.given, served.status))
 }
 

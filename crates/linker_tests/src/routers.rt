@@ -1,5 +1,5 @@
 //! Routers that serve, and routers that don't.
-use crate::outside::{Outcome, file, folder_of, net_of, served, visits};
+use crate::outside::{Outcome, answering, file, folder_of, net_of, served, visits};
 use crate::paired::Paired;
 use crate::running::{sink, source};
 use line_doubles::{MemDials, MemFolder, MemNet, MemPeer};
@@ -152,58 +152,67 @@ fn served_amiss<R: AllocGlobal + Threads + Wait + Sync>(
     lines: u32,
 ) -> Result<(String, u8), Fail> {
     let alloc = rt.alloc();
+    let folder = folder_of(alloc, WITH_SERVICES, line, lines, reads)?;
+    let served = served(rt, folder, net_amiss(alloc, listens, waits)?)?;
+    Ok((served.written, served.status))
+}
+
+/// A net where nobody comes, and these calls of `listen` fail, and so many waits of the router's
+/// first listener.
+fn net_amiss(alloc: Global, listens: &[u64], waits: u64) -> Result<MemNet<MemPeer>, AllocError> {
+    let listens = Vec::from_slice(alloc, listens)?;
     let mut failing = Vec::new(alloc);
     for wait in 0..waits {
         failing.push(wait)?;
     }
-    let none: Vec<MemPeer> = Vec::new(alloc);
-    let net = MemNet::of(
-        alloc,
-        vec![in alloc; visits(alloc, 4140, none, failing)?]?,
-        Vec::new(alloc),
-        Vec::from_slice(alloc, listens)?,
-    );
-    let folder = folder_of(alloc, WITH_SERVICES, line, lines, reads)?;
-    let served = served(rt, folder, net)?;
-    Ok((served.written, served.status))
+    let address = visits(alloc, 4140, Vec::new(alloc), failing)?;
+    Ok(MemNet::of(alloc, vec![in alloc; address]?, Vec::new(alloc), listens))
 }
 
-/// A folder that can't be read, files that are refused, addresses that can't be listened on, and
-/// waits that fail.
+/// The line of a service with one address.
+const ONE_ADDRESS: &str = "127.0.0.1 9001\n";
+
+/// A folder that can't be read, and files that are refused. Their faults come before that of the
+/// net, whose first address can't be listened on.
+#[test]
+fn services_that_are_not_loaded(rt: HostRuntime) -> Result<(), Fail> {
+    let rows: [(&[u64], &str, u32, &str, u8); 4] = [
+        (&[1], ONE_ADDRESS, 1, "error read\n", 4),
+        (&[2], ONE_ADDRESS, 1, "error read\n", 4),
+        // A file of 1,048,590 bytes is too long.
+        (&[], "127.0.0.1\n", 1, "error file web\n", 3),
+        (&[], ONE_ADDRESS, 69_906, "error file web\n", 3),
+    ];
+    for (reads, line, lines, written, status) in rows {
+        let (text, ended) = served_amiss(&rt, reads, &[0], 0, line, lines)?;
+        assert!(rt; text.as_str() == written && ended == status);
+    }
+    Ok(())
+}
+
+/// Addresses that can't be listened on, and waits that fail: a listener is broken at a hundred
+/// faults in a row.
 #[test]
 fn routers_that_do_not_serve(rt: HostRuntime) -> Result<(), Fail> {
-    let line = "127.0.0.1 9001\n";
-    let rows: [(&[u64], &[u64], u64, &str, u32, &str, u8); 9] = [
-        (&[1], &[0], 0, line, 1, "error read\n", 4),
-        (&[2], &[0], 0, line, 1, "error read\n", 4),
-        // A file of 1,048,590 bytes is too long. Its fault comes before that of the net.
-        (&[], &[0], 0, "127.0.0.1\n", 1, "error file web\n", 3),
-        (&[], &[0], 0, line, 69_906, "error file web\n", 3),
-        (&[], &[0], 0, line, 1, "error net\n", 6),
-        (&[], &[1], 0, line, 1, "error net\n", 6),
-        (&[], &[2], 0, line, 1, "error net\n", 6),
-        // A listener is broken at a hundred faults in a row.
+    let rows: [(&[u64], u64, &str, u8); 5] = [
+        (&[0], 0, "error net\n", 6),
+        (&[1], 0, "error net\n", 6),
+        (&[2], 0, "error net\n", 6),
         (
             &[],
-            &[],
             99,
-            line,
-            1,
             "serving 127.0.0.1:4140 127.0.0.1:4180 127.0.0.1:9990\nclosed 1\n",
             0,
         ),
         (
             &[],
-            &[],
             100,
-            line,
-            1,
             "serving 127.0.0.1:4140 127.0.0.1:4180 127.0.0.1:9990\nerror net\n",
             6,
         ),
     ];
-    for (reads, listens, waits, line, lines, written, status) in rows {
-        let (text, ended) = served_amiss(&rt, reads, listens, waits, line, lines)?;
+    for (listens, waits, written, status) in rows {
+        let (text, ended) = served_amiss(&rt, &[], listens, waits, ONE_ADDRESS, 1)?;
         assert!(rt; text.as_str() == written && ended == status);
     }
     Ok(())
@@ -224,16 +233,25 @@ fn fed<R: AllocGlobal + Threads + Wait + Sync>(
     let alloc = rt.alloc();
     let requests =
         "GET /feed/default HTTP/1.1\r\nHost: f\r\n\r\nHEAD /feed/a/b HTTP/1.1\r\nHost: f\r\n\r\n";
-    let client = MemPeer::of(source(alloc, requests)?, sink(alloc));
-    let address = visits(alloc, 4181, vec![in alloc; client]?, Vec::new(alloc))?;
-    let net = MemNet::of(
-        alloc,
-        vec![in alloc; address]?,
-        Vec::new(alloc),
-        Vec::new(alloc),
-    );
-    let served = served(rt, folder_of(alloc, config, "", 0, &[])?, net)?;
+    let folder = folder_of(alloc, config, "", 0, &[])?;
+    let served = served(
+        rt,
+        folder,
+        net_of_client(alloc, 4181, requests, Vec::new(alloc))?,
+    )?;
     Ok((served.written, served.given, served.status))
+}
+
+/// A net in which one client comes, to a port, and asks this. Its dialers do these.
+fn net_of_client(
+    alloc: Global,
+    port: u16,
+    asks: &str,
+    dials: Vec<MemDials>,
+) -> Result<MemNet<MemPeer>, AllocError> {
+    let client = MemPeer::of(source(alloc, asks)?, sink(alloc));
+    let address = visits(alloc, port, vec![in alloc; client]?, Vec::new(alloc))?;
+    Ok(MemNet::of(alloc, vec![in alloc; address]?, dials, Vec::new(alloc)))
 }
 
 /// A feed with a run that is said, and with one that is the first moment of the clock.
@@ -275,20 +293,8 @@ fn tried<R: AllocGlobal + Threads + Wait + Sync>(rt: &R, retries: &str) -> Resul
 
 /// A net in which one client comes, and the first dial fails.
 fn net_of_failing(alloc: Global) -> Result<MemNet<MemPeer>, AllocError> {
-    let client = MemPeer::of(source(alloc, FOR_WEB)?, sink(alloc));
-    let address = visits(alloc, 4140, vec![in alloc; client]?, Vec::new(alloc))?;
-    let reply = b"HTTP/1.1 200 OK\r\nContent-Length: 2\r\n\r\nhi";
-    let dials = MemDials {
-        replies: vec![in alloc; Vec::from_slice(alloc, reply)?]?,
-        sizes: Vec::new(alloc),
-        failing: vec![in alloc; 0]?,
-    };
-    Ok(MemNet::of(
-        alloc,
-        vec![in alloc; address]?,
-        vec![in alloc; dials]?,
-        Vec::new(alloc),
-    ))
+    let dials = answering(alloc, 1, vec![in alloc; 0]?)?;
+    net_of_client(alloc, 4140, FOR_WEB, dials)
 }
 
 /// A request whose first dial fails is tried again where the configuration says so.

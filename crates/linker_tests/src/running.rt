@@ -1,6 +1,8 @@
 //! Runs of the program over an outside in memory.
+ghost use Rattle.std.specs.Prelude.{None};
+
 use line_base::{Clock, Folder, Listener, Net, Sink, Source};
-use line_doubles::{MemClock, MemFolder, MemNet, MemPeer, MemSink, MemSource};
+use line_doubles::{MemFolder, MemNet, MemPeer, MemSink, MemSource};
 use line_log::{Journals, MemJournals};
 use linker_commands::{Outside, linker};
 use std::alloc::{AllocError, AllocGlobal, Global};
@@ -14,8 +16,26 @@ pub(crate) const SAMPLE: &str = "dtab /svc => /$/inet/127.0.0.1/8080\n\npick /sv
 
 pub(crate) const SAMPLE_OUT: &str = "ok\n127.0.0.1:8080 /$/inet/127.0.0.1/8080 /a\nnegative\n";
 
+/// A clock that stands at 0. It tells no moments.
+#[derive(Drop)]
+pub(crate) struct StillClock;
+
+impl Clock for StillClock {
+    ghost to_come = { λ _. None };
+
+    ghost of_fork = { λ _. None };
+
+    fn now(&mut self) -> u64 {
+        0
+    }
+
+    fn fork(&self) -> StillClock {
+        StillClock
+    }
+}
+
 /// An outside in memory, over such a net.
-pub(crate) type MemOutside<N> = Outside<MemFolder, N, MemClock, MemSource, MemSink, MemJournals>;
+pub(crate) type MemOutside<N> = Outside<MemFolder, N, StillClock, MemSource, MemSink, MemJournals>;
 
 /// The status that a run of the program ends with.
 ///
@@ -35,21 +55,28 @@ where
     linker(rt, words, outside)
 }
 
-/// Runs the program with these words, and gives its status.
-pub(crate) fn run_words<R: AllocGlobal + Threads + Wait + Sync, N: Net + Send>(
-    rt: &R,
-    words: &[&str],
-    outside: &mut MemOutside<N>,
-) -> Result<u8, AllocError>
-where
-    <N::L as Listener>::P: Send,
-{
-    let alloc = rt.alloc();
+/// These words, each with its own memory.
+fn owned_words(alloc: Global, words: &[&str]) -> Result<Vec<String>, AllocError> {
     let mut owned = Vec::new(alloc);
     for word in words {
         owned.push(String::from_str(alloc, word)?)?;
     }
-    Ok(status_of(rt, owned.as_slice(), outside))
+    Ok(owned)
+}
+
+/// Runs the program with these words: what is written then, and the status.
+pub(crate) fn run_words<R: AllocGlobal + Threads + Wait + Sync, N: Net + Send>(
+    rt: &R,
+    words: &[&str],
+    outside: &mut MemOutside<N>,
+) -> Result<(String, u8), AllocError>
+where
+    <N::L as Listener>::P: Send,
+{
+    let alloc = rt.alloc();
+    let words = owned_words(alloc, words)?;
+    let status = status_of(rt, words.as_slice(), outside);
+    Ok((text_of(alloc, outside.out.held())?, status))
 }
 
 /// What is written, and the status, where there is no file.
@@ -90,13 +117,14 @@ pub(crate) fn run_over<R: AllocGlobal + Threads + Wait + Sync>(
     let mut outside = Outside {
         folder,
         net,
-        clock: MemClock::of(alloc, Vec::new(alloc))?,
+        clock: StillClock,
         input: source,
         out: sink,
         journals: MemJournals::of(alloc, Vec::new(alloc)),
     };
-    let status = run_words(rt, words, &mut outside)?;
-    Ok((text_of(alloc, outside.out.held())?, status))
+    let ran = run_words(rt, words, &mut outside);
+    drop(outside);
+    ran
 }
 
 /// A script on standard input, of which no read fails.
@@ -106,6 +134,11 @@ pub(crate) fn source(alloc: Global, script: &str) -> Result<MemSource, AllocErro
         Vec::new(alloc),
         Vec::new(alloc),
     ))
+}
+
+/// A standard input that has nothing.
+pub(crate) fn no_input(alloc: Global) -> MemSource {
+    MemSource::of(Vec::new(alloc), Vec::new(alloc), Vec::new(alloc))
 }
 
 /// A standard output of which no write fails.
@@ -136,8 +169,10 @@ pub(crate) fn answered<R: AllocGlobal + Threads + Wait + Sync>(
     failing: &[u64],
 ) -> Result<(String, u8), Fail> {
     let alloc = rt.alloc();
-    let sink = MemSink::of(alloc, Vec::new(alloc), Vec::from_slice(alloc, failing)?);
-    Ok(run(rt, words, source(alloc, SAMPLE)?, sink)?)
+    let failing = Vec::from_slice(alloc, failing)?;
+    let source = source(alloc, SAMPLE)?;
+    let sink = MemSink::of(alloc, Vec::new(alloc), failing);
+    Ok(run(rt, words, source, sink)?)
 }
 
 /// What `replay` writes for a script, and its status.
