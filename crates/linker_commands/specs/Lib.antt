@@ -5,6 +5,7 @@ pub mod Found
 pub mod Generated
 pub mod Linked
 pub mod Lint
+pub mod Outside
 pub mod Recorded
 pub mod Replay
 pub mod Run

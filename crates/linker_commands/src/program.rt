@@ -3,10 +3,8 @@ ghost use Rattle.std.specs.Prelude.{◌≡◌, ◌⊎◌, ◌<◌, Contains, IsE
 ghost use Rattle.std.specs.Prelude.{string_bytes};
 ghost use Rattle.line_base.specs.Counts.{Rose};
 ghost use Rattle.linker_commands.specs.Generated.{storm_line, weave_line};
-ghost use Rattle.line_base.specs.Files.{Filed};
-ghost use Rattle.line_base.specs.Streams.{Input, Output};
-ghost use Rattle.linker_commands.specs.Linked.{Linked, linked};
-ghost use Rattle.linker_commands.specs.Run.{Ran, statuses, EndsWhole, Shows, ReadsLong};
+ghost use Rattle.linker_commands.specs.Outside.{RanOver, linked_in};
+ghost use Rattle.linker_commands.specs.Run.{statuses, EndsWhole, Shows, ReadsLong};
 ghost use Rattle.linker_commands.specs.Run.{Yields, ReplaysAll, ChecksAll, LintsAll, MakesAll};
 ghost use Rattle.linker_commands.specs.Words.{command_of, storm, weave};
 
@@ -76,15 +74,8 @@ where
     // configuration and the services of its folder: each stay of a client's connection went on with
     // what was seen for it before, all connections were finished, and all listeners and stops came
     // back.
-    ensures ran { Ran N.L.P.line N.L.P.address (C.of_fork outside.old.clock)
-        (map string_bytes words.now)
-        (S.input outside.old.input) (S.input outside.new.input) (F.filed outside.old.folder)
-        (F.filed outside.new.folder)
-        (linked (N.state outside.old.net) (N.faults outside.old.net)
-        (O.closed outside.old.journals))
-        (linked (N.state outside.new.net) (N.faults outside.new.net)
-        (O.closed outside.new.journals)) (K.output outside.old.out)
-        (K.output outside.new.out) result }
+    ensures ran { RanOver F.filed N.state N.faults N.L.P.line N.L.P.address C.of_fork S.input
+        K.output O.closed (map string_bytes words.now) outside.old outside.new result }
 
     // 2 exactly where the words fit no command.
     ensures words { result ≡ 2 → IsErr (command_of (map string_bytes words.now)) }
@@ -104,11 +95,8 @@ where
     // 0 of `serve` only where every listener came back clean, as many connections were finished as
     // were accepted, and as many stops came back as were handed out.
     ensures all_back { result ≡ 0 → EndsWhole (command_of (map string_bytes words.now))
-        (F.filed outside.old.folder)
-        (linked (N.state outside.old.net) (N.faults outside.old.net)
-        (O.closed outside.old.journals))
-        (linked (N.state outside.new.net) (N.faults outside.new.net)
-        (O.closed outside.new.journals)) }
+        (F.filed outside.old.folder) (linked_in N.state N.faults O.closed outside.old)
+        (linked_in N.state N.faults O.closed outside.new) }
 
     // 5 exactly where the output's count of faults rose, 4 exactly where the input's or the
     // folder's did, and 6 exactly where the net's did, but for want of memory.

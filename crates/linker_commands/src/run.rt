@@ -4,9 +4,9 @@ ghost use Rattle.line_base.specs.Files.{Filed};
 ghost use Rattle.line_base.specs.Streams.{Input, Output};
 ghost use Rattle.linker_commands.specs.Check.{TellsPath};
 ghost use Rattle.linker_commands.specs.Courses.{verdict_course};
-ghost use Rattle.linker_commands.specs.Linked.{linked};
 ghost use Rattle.linker_commands.specs.Lint.{TellsTablePath};
-ghost use Rattle.linker_commands.specs.Run.{Ran, Course, words_refused, script_read, output_of};
+ghost use Rattle.linker_commands.specs.Outside.{RanOver};
+ghost use Rattle.linker_commands.specs.Run.{Course, words_refused, script_read, output_of};
 ghost use Rattle.linker_commands.specs.Run.{status_if, Reads, Checks, Makes, EndsCourse};
 ghost use Rattle.linker_commands.specs.Told.{code_of, Tells};
 
@@ -217,14 +217,8 @@ where
     requires name { blank.name ≡ L.name }
     requires parts { blank.parts ≡ L.parts }
     requires some { 0 < blank.parts }
-    ensures { Ran N.L.P.line N.L.P.address (C.of_fork outside.old.clock)
-        (map string_bytes words.now) (S.input outside.old.input) (S.input outside.new.input)
-        (F.filed outside.old.folder) (F.filed outside.new.folder)
-        (linked (N.state outside.old.net) (N.faults outside.old.net)
-        (O.closed outside.old.journals))
-        (linked (N.state outside.new.net) (N.faults outside.new.net)
-        (O.closed outside.new.journals)) (K.output outside.old.out) (K.output outside.new.out)
-        (code_of result) }
+    ensures { RanOver F.filed N.state N.faults N.L.P.line N.L.P.address C.of_fork S.input K.output
+        O.closed (map string_bytes words.now) outside.old outside.new (code_of result) }
 {
     let mut steps = Steps::<L>::start(blank);
     match read_words(words) {

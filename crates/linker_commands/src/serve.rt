@@ -2,11 +2,10 @@
 ghost use Rattle.std.specs.Prelude.{◌≡◌, ◌+◌, ◌≤◌, ◌++◌, ℕ, List, Option, IfOk, OnOk, false};
 ghost use Rattle.std.specs.Prelude.{length, string_bytes};
 ghost use Rattle.line_base.specs.Files.{File};
-ghost use Rattle.line_base.specs.Files.{Filed};
-ghost use Rattle.line_base.specs.Streams.{Output};
 ghost use Rattle.linker_commands.specs.Courses.{load_course};
-ghost use Rattle.linker_commands.specs.Linked.{Linked, linked};
-ghost use Rattle.linker_commands.specs.Run.{Course, EndsCourse, EndsServing, Serves, line_told};
+ghost use Rattle.linker_commands.specs.Linked.{Linked};
+ghost use Rattle.linker_commands.specs.Outside.{EndsOver, ServesOver, linked_in};
+ghost use Rattle.linker_commands.specs.Run.{EndsCourse, line_told};
 ghost use Rattle.linker_commands.specs.Served.{Finish, IsConfig, IsLast, IsMadeBy, LoadsRoot};
 ghost use Rattle.linker_commands.specs.Served.{TellsEnd, TellsNet, file_line, finish_code, last_of};
 ghost use Rattle.linker_commands.specs.Served.{IsFeeding, IsRun, IsSiteOf, feed_port, feed_words};
@@ -255,8 +254,7 @@ where
         → O.closed outside.old.journals ≡ before.logs
         → (last : List ℕ) × (finish : Finish) × (end : ExitStatus)
         × IsLast J N.L.P.line N.L.P.address (C.of_fork outside.old.clock) files c before
-        (linked (N.state outside.new.net) (N.faults outside.new.net)
-        (O.closed outside.new.journals)) last finish
+        (linked_in N.state N.faults O.closed outside.new) last finish
         × TellsNet (N.faults outside.old.net) (N.faults outside.new.net) finish
         × (code_of end ≡ finish_code finish)
         × Tells last end (K.output outside.old.out) (K.output outside.new.out) result }
@@ -307,12 +305,8 @@ where
     ensures served { (files : Option (List File)) → (c : Config)
         → IsMadeBy (C.of_fork outside.old.clock) files c logged.now.site J.settings loaded
         logged.now.log
-        → EndsServing J N.L.P.line N.L.P.address (C.of_fork outside.old.clock) files c
-        (linked (N.state outside.old.net) (N.faults outside.old.net)
-        (O.closed outside.old.journals))
-        (linked (N.state outside.new.net) (N.faults outside.new.net)
-        (O.closed outside.new.journals)) (K.output outside.old.out) (K.output outside.new.out)
-        (code_of result) }
+        → EndsOver F.filed N.state N.faults N.L.P.line N.L.P.address C.of_fork S.input K.output
+        O.closed J files c outside.old outside.new (code_of result) }
     ensures kept { (outside.new.folder ≡ outside.old.folder)
         × (outside.new.input ≡ outside.old.input) }
 {
@@ -358,15 +352,8 @@ where
     <N::L as Listener>::P: Send,
     requires workers { (1 ≤ config.workers) × (config.workers ≤ 256) }
     ensures served { (path : List ℕ) → IsConfig (F.filed outside.old.folder).files path config
-        → (course : Course)
-        × Serves N.L.P.line N.L.P.address (C.of_fork outside.old.clock) path
-        (F.filed outside.old.folder) (F.filed outside.new.folder)
-        (linked (N.state outside.old.net) (N.faults outside.old.net)
-        (O.closed outside.old.journals))
-        (linked (N.state outside.new.net) (N.faults outside.new.net)
-        (O.closed outside.new.journals)) course
-        × EndsCourse course (K.output outside.old.out) (K.output outside.new.out)
-        (code_of result) }
+        → ServesOver F.filed N.state N.faults N.L.P.line N.L.P.address C.of_fork S.input
+        K.output O.closed path outside.old outside.new (code_of result) }
     ensures files { (F.filed outside.new.folder).files ≡ (F.filed outside.old.folder).files }
     ensures input { outside.new.input ≡ outside.old.input }
 {
@@ -402,15 +389,8 @@ pub fn serve<
 >(rt: &R, alloc: Global, path: &str, outside: &mut Outside<F, N, C, S, K, O>) -> ExitStatus
 where
     <N::L as Listener>::P: Send,
-    ensures served { (course : Course)
-        × Serves N.L.P.line N.L.P.address (C.of_fork outside.old.clock) path.now
-        (F.filed outside.old.folder) (F.filed outside.new.folder)
-        (linked (N.state outside.old.net) (N.faults outside.old.net)
-        (O.closed outside.old.journals))
-        (linked (N.state outside.new.net) (N.faults outside.new.net)
-        (O.closed outside.new.journals)) course
-        × EndsCourse course (K.output outside.old.out) (K.output outside.new.out)
-        (code_of result) }
+    ensures served { ServesOver F.filed N.state N.faults N.L.P.line N.L.P.address C.of_fork S.input
+        K.output O.closed path.now outside.old outside.new (code_of result) }
     ensures files { (F.filed outside.new.folder).files ≡ (F.filed outside.old.folder).files }
     ensures input { outside.new.input ≡ outside.old.input }
 {

@@ -2,10 +2,8 @@
 ghost use Rattle.std.specs.Prelude.{◌≡◌, ◌↔◌, IsTrue, IfOk, drop};
 ghost use Rattle.std.specs.Process.{exit_status};
 ghost use Rattle.std.specs.Vec.Iter.{into_iter_items};
-ghost use Rattle.line_base.specs.Files.{Filed};
-ghost use Rattle.line_base.specs.Streams.{Input, Output};
-ghost use Rattle.linker_commands.specs.Linked.{Linked, linked};
-ghost use Rattle.linker_commands.specs.Run.{Ran, words_of};
+ghost use Rattle.linker_commands.specs.Outside.{RanOver};
+ghost use Rattle.linker_commands.specs.Run.{words_of};
 
 use crate::outside::Outside;
 use crate::program::linker;
@@ -57,14 +55,8 @@ fn status_for<
 >(rt: &R, arguments: io::Result<Args>, outside: &mut Outside<F, N, C, S, K, O>) -> u8
 where
     <N::L as Listener>::P: Send,
-    ensures { Ran N.L.P.line N.L.P.address (C.of_fork outside.old.clock) (words_of arguments)
-        (S.input outside.old.input)
-        (S.input outside.new.input) (F.filed outside.old.folder) (F.filed outside.new.folder)
-        (linked (N.state outside.old.net) (N.faults outside.old.net)
-        (O.closed outside.old.journals))
-        (linked (N.state outside.new.net) (N.faults outside.new.net)
-        (O.closed outside.new.journals)) (K.output outside.old.out)
-        (K.output outside.new.out) result }
+    ensures { RanOver F.filed N.state N.faults N.L.P.line N.L.P.address C.of_fork S.input K.output
+        O.closed (words_of arguments) outside.old outside.new result }
 {
     let alloc = rt.alloc();
     match arguments {
@@ -92,14 +84,8 @@ pub fn run_arguments<
 >(rt: &R, arguments: io::Result<Args>, outside: &mut Outside<F, N, C, S, K, O>) -> Exit
 where
     <N::L as Listener>::P: Send,
-    ensures ran { Ran N.L.P.line N.L.P.address (C.of_fork outside.old.clock) (words_of arguments)
-        (S.input outside.old.input)
-        (S.input outside.new.input) (F.filed outside.old.folder) (F.filed outside.new.folder)
-        (linked (N.state outside.old.net) (N.faults outside.old.net)
-        (O.closed outside.old.journals))
-        (linked (N.state outside.new.net) (N.faults outside.new.net)
-        (O.closed outside.new.journals)) (K.output outside.old.out)
-        (K.output outside.new.out) (exit_status result.code) }
+    ensures ran { RanOver F.filed N.state N.faults N.L.P.line N.L.P.address C.of_fork S.input
+        K.output O.closed (words_of arguments) outside.old outside.new (exit_status result.code) }
     ensures status { exit_status result.code ≡ result.status }
     ensures usage { IsTrue result.tells_usage ↔ (exit_status result.code ≡ 2) }
 {
