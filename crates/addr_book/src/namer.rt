@@ -25,7 +25,8 @@ const FS_LABELS: usize = 3;
 /// or not. The labels behind these are the residual. Every other path names nothing, which takes no
 /// memory.
 ///
-/// It copies the labels of the path, and takes one look-up in the book.
+/// It copies the labels that name the replicas, where others follow them, and shares the rest. It
+/// takes one look-up in the book.
 pub fn name_answer(alloc: Global, book: &Book, path: &Path) -> Mem<Option<Leaf>>
     ensures leaf { IfOk result (λ leaf. leaf ≡ named_in book.now path.now) }
     ensures memory { OnErr result (IsSome (named_in book.now path.now)) }

@@ -61,7 +61,7 @@ impl Binding {
     /// The binding of a path and a request's own table, of what a delegation came to after so many
     /// accepted changes. The delegation is to be one of which the paths were wanted.
     ///
-    /// It copies the path and the table, and takes memory for their texts and those of the paths
+    /// It shares the path and the table, and takes memory for their texts and those of the paths
     /// for as long as it counts their bytes.
     pub fn of(
         alloc: Global,

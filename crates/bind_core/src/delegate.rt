@@ -72,9 +72,9 @@ const MOST_ASKED: u32 = 256;
 ///
 /// - A lookup costs one pass over the text of its path,
 ///   [`Dtab::lean_matching`](dtab_table::Dtab::lean_matching) in each of the three tables, and a
-///   look-up in the book. It takes memory for a reference to each entry that matches, and for a
-///   copy of the path where the leaf that it was reached by had a rest behind it, or where a list
-///   is wanted and kept.
+///   look-up in the book. It takes memory for a reference to each entry that matches, for a copy
+///   of the path where the leaf that it was reached by had a rest behind it, and for an item where
+///   a list is wanted and kept.
 /// - A tree that is tried costs a turn of a loop, whatever stands in it or behind it. Of each tree
 ///   the tables keep what makes lookups, and that is tried: marks in front of others, what stands
 ///   behind a `!` or a `$` and branches of weight 0 cost nothing. The trees are lent by the tables:

@@ -45,7 +45,7 @@ impl Visits {
         self.most > 0
     }
 
-    /// A lookup begins behind so many. Where it is kept, the path is copied. Until it ends it
+    /// A lookup begins behind so many. Where it is kept, it shares the path. Until it ends it
     /// counts as too deep, since it never ends where something is that.
     pub(crate) fn begin(&mut self, alloc: Global, count: u32, depth: u32, path: &Path) -> Mem<()>
         ensures items { OnOk result (self.new.items.items

@@ -12,6 +12,15 @@
 //! is one ([`connections_forget_nothing`]).
 //!
 //! It is tested in `linker_tests`, where routers serve connections that wait.
+//!
+//! # Example
+//! ```text
+//! let client = IdleClient::came(peer, tries, &server);
+//! match client.serve(&mut server, &context, &gate, 0, &mut recorder) {
+//!     Stayed::Waits(client) => { /* it waits: another server may go on with it */ }
+//!     Stayed::Ends(peer, ended) => { /* the connection is done */ }
+//! }
+//! ```
 #![tactic(auto)]
 
 mod client;

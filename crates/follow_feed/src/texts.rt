@@ -20,6 +20,9 @@ use text_parts::append_json_string;
 
 /// The response that tells the feed of a namespace, which a look at it in this run showed at this
 /// place. What the look told is let go of once it is told.
+///
+/// Where the table's canonical text has more than 65,536 bytes it is 507 with the word `long`
+/// (RFC 4918 section 11.5).
 pub fn told_feed(alloc: Global, run: u64, place: u64, said: Reply) -> Mem<Response>
     ensures { IfOk result (λ response. response_value response ≡ feed_response (record {
       run = run;

@@ -7,7 +7,7 @@ use crate::fault::IdentifyFault;
 use name_tree::Path;
 use std::alloc::{AllocError, Global};
 
-/// A copy of a path.
+/// The same path once more. The two share their labels.
 pub(crate) fn copied(alloc: Global, path: &Path) -> Result<Path, AllocError>
     ensures { IfOk result (λ copy. copy ≡ path.now) }
 {

@@ -25,12 +25,12 @@ pub enum ConfigEnd {
     OutOfMemory,
 }
 
-/// What is told of a configuration.
+/// What is told of a configuration or a table.
 #[derive(Debug)]
 pub struct Verdict {
     /// Whether it is right.
     pub is_right: bool,
-    /// The line that tells so, or tells of its first fault, with its line feed.
+    /// What is told of it, or of its first fault, in whole lines.
     pub line: Bytes,
 }
 
@@ -41,7 +41,7 @@ impl Drop for Verdict {
     }
 }
 
-/// Why nothing is told of a configuration.
+/// Why nothing is told of a configuration or a table.
 #[derive(Clone, Copy, Debug, PartialEq, Eq)]
 pub enum CheckEnd {
     /// The folder could not be read.

@@ -5,8 +5,8 @@
 //! looks, and picks; the crate `script` says which lines there are. `check CONFIG` tells whether a
 //! router's configuration is right, or what its first fault is. `lint FILE` tells which entries of
 //! a table are never asked; the crate `dtab_check` finds them. `serve CONFIG` serves by it until it
-//! is shut down: a router and its two interfaces, which the crate `serving` runs. `storm N SEED`
-//! makes a run of N generated changes and picks on one state, and `weave N SEED` one of four
+//! is shut down: a router, its interfaces and its feed, which the crate `serving` runs. `storm N
+//! SEED` makes a run of N generated changes and picks on one state, and `weave N SEED` one of four
 //! passes, whose answers come later than their questions. `follow A NS N` asks another router, the
 //! leader at A, N times for the table of its namespace NS, and tells each that is later than those
 //! before it; the crate `follow_feed` does that.
@@ -31,7 +31,7 @@
 //!
 //! # Example
 //! ```text
-//! let words = ["replay"];
+//! let words = [String::from_str(alloc, "replay")?];
 //! let status = linker(rt, &words, &mut outside);
 //! // For `dtab /svc => /$/inet/127.0.0.1/8080` and `pick /svc/a` on the input, 0, and written are
 //! // `ok` and `127.0.0.1:8080 /$/inet/127.0.0.1/8080 /a`.

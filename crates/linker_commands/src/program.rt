@@ -28,8 +28,9 @@ use std::thread::Threads;
 ///   for each of its entries that is never asked, a line that counts them, and the table without
 ///   them.
 /// - `serve CONFIG` reads the configuration at the path CONFIG and the services of the folder that
-///   it names, listens on the router's address and on those of the two interfaces, writes a line
-///   that says where, serves until it is shut down, and writes how many changes there were.
+///   it names, listens on the router's address, on those of the two interfaces and on that of the
+///   feed, if there is one, writes a line that says where, serves until it is shut down, and writes
+///   how many changes there were.
 /// - `storm N SEED` makes N generated turns, each a change or a pick by the words of the generator
 ///   with this seed, on one state, and writes the line that sums them up.
 /// - `weave N SEED` makes N generated steps of four passes, each a change, a question, an answer to

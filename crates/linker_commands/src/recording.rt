@@ -192,6 +192,10 @@ fn close_journals<C: Clock + Drop, O: Journals>(
 
 /// Serves until it is stopped. Each worker records what it serves: it counts, for whoever scrapes
 /// its router, and writes an access log, where there is to be one. The logs are given back then.
+///
+/// # Errors
+/// Those of [`Serving::run`]. [`RunFault::OutOfMemory`] comes also where there was no memory to
+/// make the instruments, or to take a log back once all jobs have ended.
 pub(crate) fn run_recorded<
     J: Handling + Send + Sync,
     R: Threads + Wait + Sync,

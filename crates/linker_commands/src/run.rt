@@ -38,7 +38,8 @@ pub enum ExitStatus {
     Done = 0,
     /// The words fit no command.
     Words = 2,
-    /// What was read is wrong: a line of the script is bad, or the configuration has a fault.
+    /// What was read is wrong: a line of the script, the configuration, a table or the file of a
+    /// service; or there is no room for the services.
     Wrong = 3,
     /// The input or the folder could not be read.
     Read = 4,
@@ -46,7 +47,7 @@ pub enum ExitStatus {
     Write = 5,
     /// An address can't be listened on, or a listener is broken.
     Net = 6,
-    /// There was no memory.
+    /// There was no memory, or not enough for a session of a router.
     Memory = 7,
     /// The script is too long.
     Long = 8,

@@ -22,6 +22,14 @@
 //! line which is counted as written stands there is as true as the system's answer.
 //!
 //! Its tests are `operator_tests`' modules `torn` and `rotated`.
+//!
+//! # Example
+//! ```text
+//! let mut journals = FileJournals::of(&rt);
+//! let mut journal = journals.open(alloc, "/var/log/linker/access.log")?;
+//! journal.append(line.as_slice(), clock.now());
+//! journals.close(journal)?;
+//! ```
 #![tactic(auto)]
 
 mod file;

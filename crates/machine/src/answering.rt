@@ -59,8 +59,8 @@ impl State {
         }
     }
 
-    /// Answers a look. A `Get` or an `Addrs` copies what it gives, a `Services` goes over the book,
-    /// and a `View` is a delegation with its trace.
+    /// Answers a look. A `Get` shares the table that it gives, and an `Addrs` copies the list. A
+    /// `Services` goes over the book, and a `View` is a delegation with its trace.
     pub fn answer<L: Ledger>(
         &self,
         alloc: Global,

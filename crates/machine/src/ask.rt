@@ -54,7 +54,7 @@ impl Ask {
         path
     }
 
-    /// An equal ask. It copies the path and the table.
+    /// An equal ask. It shares the path and the table, and takes no memory.
     pub fn copied(&self, alloc: Global) -> Mem<Ask>
         ensures { IfOk result (λ copy. ask_of copy ≡ ask_of self.now) }
     {

@@ -88,7 +88,8 @@ impl Drop for Change {
 }
 
 impl Change {
-    /// An equal change. It copies the table of a `Create` or a `Put`, and the list of a `SetAddrs`.
+    /// An equal change. It shares the table of a `Create` or a `Put`, and copies the list of a
+    /// `SetAddrs`.
     pub fn copied(&self, alloc: Global) -> Mem<Change>
         ensures { IfOk result (λ copy. change_of copy ≡ change_of self.now) }
     {

@@ -27,8 +27,8 @@ impl State {
     ///
     /// A change is refused for the first of its causes; where there is none,
     /// [`Reply::HistorySpent`] comes exactly at the place 2^64 - 1. A change of namespaces copies
-    /// its own table and the list of namespaces, and one of services copies the parts of the book
-    /// that it touches.
+    /// the list of namespaces and shares its own table, and one of services copies the parts of the
+    /// book that it touches.
     pub fn prepare(
         &self,
         alloc: Global,

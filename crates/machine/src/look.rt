@@ -58,7 +58,7 @@ impl Drop for Look {
 }
 
 impl Look {
-    /// An equal look. It copies the path and the table of a `View`.
+    /// An equal look. It shares the path and the table of a `View`.
     pub fn copied(&self, alloc: Global) -> Mem<Look>
         ensures { IfOk result (λ copy. look_value copy ≡ look_value self.now) }
     {

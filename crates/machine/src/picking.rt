@@ -89,8 +89,7 @@ impl State {
 
     /// Picks a replica where no address has any load.
     ///
-    /// No table and no list of addresses is copied; it takes the memory of a delegation, and of the
-    /// two paths that it gives where the path came to a union.
+    /// No table and no list of addresses is copied: it takes the memory of a delegation.
     pub fn choose<L: Ledger>(
         &self,
         alloc: Global,
@@ -171,7 +170,7 @@ impl State {
     }
 
     /// Picks a replica where no address has any load, and the ask's path came to an outcome in this
-    /// state. It takes the memory of the two paths that it gives.
+    /// state. It shares the two paths that it gives.
     pub fn choose_in(
         &self,
         alloc: Global,

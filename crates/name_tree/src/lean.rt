@@ -30,7 +30,7 @@ impl Tree {
     /// branches of weight other than 0 that make lookups, with one `!` and one `$` behind them
     /// where a branch was one. An alternation or a union of which nothing else is left is a mark.
     ///
-    /// It copies the leaves that are left.
+    /// It shares the paths of the leaves that are left.
     #[cycle(lean)]
     pub fn lean(&self, alloc: Global) -> Mem<Tree>
         ensures { IfOk result (λ tree. value_of tree ≡ lean (value_of self.now)) }

@@ -21,8 +21,8 @@ pub const MOST_NAMES: usize = 256;
 /// next. Contracts see both as `contents_of store`.
 ///
 /// A change is prepared first, which may be refused, and is then made by [`absorb`](Store::absorb).
-/// Preparing copies the list of namespaces, for each two counts that go up by one, and no table but
-/// the change's own: stores share the tables, and the list too once one absorbs the other.
+/// Preparing copies the list of namespaces, for each two counts that go up by one, and no table:
+/// stores share the tables, and the list too once one absorbs the other.
 #[derive(Debug)]
 pub struct Store {
     spaces: Arc<Spaces>,
@@ -122,7 +122,7 @@ impl Store {
         }
     }
 
-    /// Prepares the store with a new namespace, which gets the next version. The table is copied,
+    /// Prepares the store with a new namespace, which gets the next version. The table is shared,
     /// once the change is not refused.
     ///
     /// # Errors
@@ -153,7 +153,7 @@ impl Store {
     }
 
     /// Prepares the store with another table for a namespace, which gets the next version. The
-    /// table is copied, once the change is not refused.
+    /// table is shared, once the change is not refused.
     ///
     /// # Errors
     /// In this order: [`StoreFault::Missing`] where the namespace is not there,

@@ -5,7 +5,7 @@ ghost use Rattle.proxy_session.specs.Answering.{has_body, has_reply_body, is_ear
 use http_wire::{Framing, FramingFault, Head, framing};
 use own_reply::{OwnError, asks_to_close};
 
-/// Whether a reply to a request may have a body.
+/// Whether a reply to a request may have a body: one to HEAD has none (RFC 9110 section 9.3.2).
 pub(crate) fn has_reply_body(head: &Head) -> bool
     ensures { result ≡ has_reply_body head.now }
 {
@@ -13,14 +13,14 @@ pub(crate) fn has_reply_body(head: &Head) -> bool
 }
 
 /// Whether the connection closes behind a refusal of a request, however many requests it has
-/// carried.
+/// carried. A body that was not read would be taken for the next request (RFC 9112 section 9.3).
 pub(crate) fn own_closes(err: OwnError, head: &Head) -> bool
     ensures { result ≡ own_closes err head.now }
 {
     is_early(err) || asks_to_close(head) || has_body(framing(head))
 }
 
-/// Whether a refusal leaves the begin of the next request in doubt.
+/// Whether a request is refused before its head has passed its tests, or for its body.
 fn is_early(err: OwnError) -> bool
     ensures { result ≡ is_early err }
 {

@@ -6,7 +6,7 @@ ghost use Rattle.replica_try.specs.Trying.{closes_behind, is_reusable, knows_chu
 use http_wire::{Framing, Head, ReplyHead, Rest, names_close};
 use own_reply::asks_to_close;
 
-/// Whether the client knows chunks.
+/// Whether the client knows chunks: one of HTTP/1.0 does not (RFC 9112 section 6.1).
 pub(crate) fn knows_chunks(head: &Head) -> bool
     ensures { result ≡ knows_chunks head.now }
 {
@@ -28,7 +28,7 @@ pub(crate) fn is_closing(closes: bool, last: bool) -> bool
 }
 
 /// Whether the connection to a replica may carry another request behind a reply that it gave whole,
-/// where this is left of what was received.
+/// where this is left of what was received (RFC 9112 section 9.3).
 pub(crate) fn is_reusable(reply: &ReplyHead, framing: Framing, left: &Rest) -> bool
     ensures { result ≡ is_reusable reply.now framing left.now }
 {

@@ -52,8 +52,8 @@ impl HeadFault {
     }
 }
 
-/// Whether a head is one of an interim reply, which is dropped: 100, and 102 to 199. 101 would
-/// switch to another protocol.
+/// Whether a head is one of an interim reply, which is dropped: 100, and 102 to 199 (RFC 9110
+/// section 15.2). 101 would switch to another protocol (section 15.2.2).
 fn is_interim(status: u16) -> bool
     ensures { result ≡ is_interim status }
 {

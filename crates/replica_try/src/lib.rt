@@ -5,8 +5,8 @@
 //! [`Try`] which request goes where, and runs it ([`Try::run`]). The request's body is passed on as
 //! it comes, the final head of the reply is received, and the reply goes back to the client. What
 //! became of it is a [`Tried`], with how much content moved both ways ([`Moved`]); the caller
-//! reports, answers or tries again by that. A worker has
-//! one way for all its tries, so that a try takes no memory for its bytes again.
+//! reports, answers or tries again by that. A worker has one way for all its tries, so that a try
+//! takes no memory for its bytes again.
 //!
 //! Where the dialer keeps connections ([`Dialer::keeps`](line_base::Dialer::keeps)), a request that
 //! may be repeated ([`Try::is_repeatable`]) goes over one that was kept to its replica, if there is
@@ -25,9 +25,8 @@
 //! the variant of [`Tried`] that these show: the body by `body_wire`'s definitions, the final head
 //! behind up to eight interim ones (`Hears` of `specs/Heads.antt`), and the reply behind the head
 //! of `forward`, with the number of content bytes that each of the two took ([`Moved`]). Where
-//! memory runs out, or a call fails, what moved until then is a prefix of what
-//! would have moved. Behind each try no connection is open: it was ended, or it was kept where
-//! `is_reusable` says so.
+//! memory runs out, or a call fails, what moved until then is a prefix of what would have moved.
+//! Behind each try no connection is open: it was ended, or it was kept where `is_reusable` says so.
 //!
 //! Its tests are `session_tests`: modules `keeping` and `retries` above all.
 //!

@@ -7,7 +7,7 @@ use http_wire::Framing;
 
 impl Try<'_> {
     /// Whether a replica may be sent the request again, though one may have carried it out already:
-    /// it has no body, and its method is idempotent.
+    /// it has no body, and its method is idempotent (RFC 9110 section 9.2.2).
     pub fn is_repeatable(&self) -> bool
         ensures { result ≡ is_repeatable self.now.head.now self.now.framing }
     {

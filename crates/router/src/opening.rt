@@ -42,7 +42,7 @@ fn first_copies(alloc: Global, settings: Arc<Settings>) -> Mem<(Current, Current
     }
 }
 
-/// A router for so many passes. Nothing was changed in it, and nothing is kept.
+/// A router for so many passes, 1 to 1,024. Nothing was changed in it, and nothing is kept.
 pub fn open<R: Wait>(rt: &R, alloc: Global, settings: Settings, seats: u32) -> Mem<Opened>
     requires { (1 ≤ seats) × (seats ≤ 1024) }
     ensures seats { IfOk result (λ o. (beginning_of o).seats ≡ seats) }

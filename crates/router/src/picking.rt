@@ -32,7 +32,7 @@ pub(crate) enum CacheLookup {
     Miss(Detached),
 }
 
-/// The answer that a decision stands for, without a delegation. It copies the names of the replica.
+/// The answer that a decision stands for, without a delegation. It shares the names of the replica.
 pub(crate) fn answer_of(alloc: Global, decision: &Decision<'_>, place: u64) -> Mem<Answer>
     ensures let_in { IfOk result (λ a. is_let_in a ≡ true) }
     ensures said { IfOk result (λ a. said_by a ≡ decision_value decision.now) }

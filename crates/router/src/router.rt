@@ -43,6 +43,9 @@ impl<J: Naming> Router<J> {
     ///
     /// Both are of one point: the pass enters the value once. A long look, as a delegation, is
     /// worked out once it has left, so that no publish waits for it.
+    ///
+    /// # Errors
+    /// Out of memory. The pass had entered, so the call stands at its point.
     pub fn look<L: Ledger>(
         &self,
         alloc: Global,
@@ -69,7 +72,12 @@ impl<J: Naming> Router<J> {
         }
     }
 
-    /// Answers a pick.
+    /// Answers a pick. Where no delegation is kept for it, the answer brings along the one that was
+    /// worked out, for [`Router::remember`].
+    ///
+    /// # Errors
+    /// Out of memory. The pass had entered, so the call stands at its point. Of the load words none
+    /// was read, or just those that the pick reads.
     pub fn pick<L: Ledger>(
         &self,
         alloc: Global,

@@ -20,7 +20,8 @@
 //! delegation where it may stand. Where the operation fits, [`taking_is_applying`]: that is what
 //! the list of operations comes to with one more.
 //!
-//! Its tests are `state_tests`' module `schedule`.
+//! Its tests are `state_tests`' module `schedule`, over `weave`, and those of `router_tests`, over
+//! `router`.
 //!
 //! # Example
 //! ```text

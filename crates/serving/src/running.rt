@@ -125,6 +125,9 @@ fn listen_behind<N: Net>(
 }
 
 /// Gives a router its services, and listens on its addresses.
+///
+/// # Errors
+/// Why it can't serve: see [`StartFault`]. The router has ended then.
 pub fn start<J: Naming, R: Wait, N: Net>(
     rt: &R,
     alloc: Global,
@@ -521,6 +524,10 @@ impl<J: Handling + Send + Sync, L: Listener> Serving<J, L> {
     /// any worker goes on with it. One that has waited for a minute is ended, and so is the one
     /// that has waited longest where there is no room for another. Those that still wait when all
     /// workers have ended are ended then, so that as many are finished as were accepted.
+    ///
+    /// # Errors
+    /// Why it came to no good end: see [`RunFault`]. The router has ended then too, and the
+    /// recorders are let go of.
     pub fn run<
         R: Threads + Wait + Sync,
         N: Net<L = L> + Send,

@@ -31,7 +31,7 @@ pub struct Site {
     pub namerd: Port,
     /// Where the administrator's interface listens.
     pub admin: Port,
-    /// How requests are named, and how often they may be tried again.
+    /// How requests are named, how often they may be tried again, and which connections are kept.
     pub policy: Policy,
     /// How many proxy jobs there are.
     pub workers: u32,

@@ -29,7 +29,7 @@
 //! let mut net = StoppableNet::of(&rt, net, cell);
 //! let watching = thread::spawn(&rt, move || watch(&rt, &mut folder, &mut pause, &mut stop))?;
 //! serve(&mut net);
-//! match watching.join(&rt) {
+//! match watching.join(&rt)? {
 //!     Watched::Asked => {}  // a signal waited, and the stop was called
 //!     Watched::Over => {}   // nothing is left to stop: it ended for another reason
 //!     Watched::Blind => {}  // there is no status file to look at

@@ -8,6 +8,6 @@ pub enum Left<C> {
     /// It waits, and there was no room for one more: this one had waited longest, and waits no
     /// more.
     Displaced(C),
-    /// It does not wait: it can't be watched, or there was no memory.
+    /// It does not wait: it can't be watched, there was no memory, or no number is left.
     Back(C),
 }

@@ -28,7 +28,8 @@
 //!
 //! # Example
 //! ```text
-//! let (lot, mut hands) = Lot::open(alloc, 10_000, 60, blank, blank, 2)?;
+//! // `left` and `taken` are two blank ledgers
+//! let (lot, mut hands) = Lot::open(alloc, 10_000, 60, left, taken, 2)?;
 //! // in a thread with a hand of its own
 //! match lot.leave(&rt, hand, connection, &watch) {
 //!     Left::Waits => {}
