@@ -1,111 +1,134 @@
 //! The adapters over the standard streams and the file system.
-use line_base::{Failed, Folder, FolderFault, Found, Sink, Source};
+use line_base::{Failed, Folder, FolderFault, Found, Mem, Sink, Source};
 use net_edge::{FileSystem, ReaderSource, WriterSink};
 use std::os::unix::fs::symlink;
 use std::test::Fail;
-use std::{env, fs, process};
+use std::{fs, io};
+
+/// What three reads of a source give: one of four bytes at most, one of none, and one of four
+/// again; and the first two of those bytes then.
+fn read_thrice<S: Source>(source: &mut S) -> ([Result<usize, Failed>; 3], [u8; 2]) {
+    let mut into = [0u8; 4];
+    let first = source.read(&mut into);
+    let empty = source.read(&mut []);
+    let end = source.read(&mut into);
+    ([first, empty, end], [into[0], into[1]])
+}
+
+/// What four writes to a sink give: of two bytes, of none, of two again, and of one.
+fn write_often<K: Sink>(sink: &mut K) -> [Result<usize, Failed>; 4] {
+    let first = sink.write(b"cd");
+    let empty = sink.write(b"");
+    let second = sink.write(b"ef");
+    let third = sink.write(b"f");
+    [first, empty, second, third]
+}
 
 /// A reader's end is an end and no fault, and a writer that takes nothing is at fault.
 #[test]
 fn over_readers_and_writers(rt: HostRuntime) {
     let text: &[u8] = b"ab";
     let mut source = ReaderSource::of(text);
-    let mut into = [0u8; 4];
-    assert_eq!(rt; source.read(&mut into), Ok(2));
-    assert_eq!(rt; source.read(&mut []), Ok(0));
-    assert_eq!(rt; source.read(&mut into), Ok(0));
-    assert_eq!(rt; &into[..2], b"ab".as_slice());
+    let read = read_thrice(&mut source);
+    drop(source);
     let mut room = [0u8; 3];
     let full: &mut [u8] = &mut room;
     let mut sink = WriterSink::of(full);
-    assert_eq!(rt; sink.write(b"cd"), Ok(2));
-    assert_eq!(rt; sink.write(b""), Ok(0));
-    assert_eq!(rt; sink.write(b"ef"), Ok(1));
-    assert_eq!(rt; sink.write(b"f"), Err(Failed));
+    let written = write_often(&mut sink);
+    drop(sink);
+    assert_eq!(rt; read, ([Ok(2), Ok(0), Ok(0)], *b"ab"));
+    assert_eq!(rt; written, [Ok(2), Ok(0), Ok(1), Err(Failed)]);
 }
 
-/// The path of this name in a folder.
-fn below(rt: &HostRuntime, root: &str, name: &str) -> Result<String, Fail> {
-    Ok(format!(in rt.alloc(); "{root}/{name}")?)
+/// Makes a folder of files, of a folder, and of links to a file and to nothing. It lies where the
+/// test runs.
+fn lay_out(rt: &HostRuntime) -> io::Result<()> {
+    fs::create_dir_all(rt, "files/inner")?;
+    fs::write(rt, "files/web", "127.0.0.1 9001\n")?;
+    fs::write(rt, "files/b", "")?;
+    fs::write(rt, "files/a", "")?;
+    fs::write(rt, "files/B", "")?;
+    symlink(rt, "web", "files/link")?;
+    symlink(rt, "gone", "files/loose")
 }
 
-/// Writes a file of this text.
-fn write(rt: &HostRuntime, root: &str, name: &str, text: &str) -> Result<(), Fail> {
-    let path = below(rt, root, name)?;
-    fs::write(rt, path.as_str(), text)?;
-    Ok(())
-}
-
-/// Makes a link of this name to another file of the folder.
-fn link(rt: &HostRuntime, root: &str, to: &str, name: &str) -> Result<(), Fail> {
-    let path = below(rt, root, name)?;
-    symlink(rt, to, path.as_str())?;
-    Ok(())
-}
-
-/// A folder of files, of a folder, and of links to a file and to nothing. It gives its path.
-fn lay_out(rt: &HostRuntime) -> Result<String, Fail> {
-    let temp = env::temp_dir(rt)?;
-    let number = process::id(rt.process());
-    let root = format!(in rt.alloc(); "{}/linker-test-{number}", temp.as_str())?;
-    let inner = below(rt, root.as_str(), "inner")?;
-    fs::create_dir_all(rt, inner.as_str())?;
-    for (name, text) in [("web", "127.0.0.1 9001\n"), ("b", ""), ("a", ""), ("B", "")] {
-        write(rt, root.as_str(), name, text)?;
-    }
-    for (to, name) in [("web", "link"), ("gone", "loose")] {
-        link(rt, root.as_str(), to, name)?;
-    }
-    Ok(root)
-}
-
-/// The names of the files of a folder, in the order told, each ended by a blank; or that they can't
-/// be read.
-fn names_in(rt: &HostRuntime, path: &str) -> Result<String, Fail> {
-    let mut told = String::new(rt.alloc());
-    let Ok(names) = FileSystem::of(rt).names(path) else {
-        told.push_str("failed")?;
-        return Ok(told);
-    };
-    for name in names.items() {
+/// Adds the names of files, in the order told, each ended by a blank.
+fn add_names(names: &[String], told: &mut String) -> Mem<()> {
+    for name in names {
         told.push_str(name.as_str())?;
         told.push_str(" ")?;
     }
-    Ok(told)
+    Ok(())
 }
 
-/// What a read of so many bytes at most says of a file: its number of bytes, or why there are none.
-fn read_in(rt: &HostRuntime, root: &str, name: &str, most: usize) -> Result<Vec<u8>, Fail> {
-    let path = below(rt, root, name)?;
-    let found = FileSystem::of(rt).read(path.as_str(), most);
-    let said = match &found {
-        Ok(Found::Bytes(bytes)) => bytes.as_slice(),
-        Ok(Found::Longer) => b"longer".as_slice(),
-        Ok(Found::Absent) => b"absent".as_slice(),
-        Err(FolderFault::Failed) => b"failed".as_slice(),
-        Err(FolderFault::OutOfMemory) => b"out of memory".as_slice(),
+/// Adds the names of the files of a folder, or that they can't be read, ended by a bar.
+fn tell_names<F: Folder>(folder: &mut F, path: &str, told: &mut String) -> Mem<()> {
+    let Ok(names) = folder.names(path) else {
+        return told.push_str("failed|");
     };
-    Ok(Vec::from_slice(rt.alloc(), said)?)
+    let added = add_names(names.items(), told);
+    drop(names);
+    added?;
+    told.push_str("|")
 }
 
-/// Files and folders of the system: what is there, what is not, and what can't be read.
+/// Adds the text of a file.
+fn add_text(bytes: &[u8], told: &mut String) -> Mem<()> {
+    match str::from_utf8(bytes) {
+        Ok(text) => told.push_str(text),
+        Err(_) => told.push_str("no text"),
+    }
+}
+
+/// Adds what a read of so many bytes at most says of a file, ended by a bar: its text, or why there
+/// is none.
+fn tell_file<F: Folder>(folder: &mut F, path: &str, most: usize, told: &mut String) -> Mem<()> {
+    let found = folder.read(path, most);
+    let added = match &found {
+        Ok(Found::Bytes(bytes)) => add_text(bytes.as_slice(), told),
+        Ok(Found::Longer) => told.push_str("longer"),
+        Ok(Found::Absent) => told.push_str("absent"),
+        Err(FolderFault::Failed) => told.push_str("failed"),
+        Err(FolderFault::OutOfMemory) => told.push_str("out of memory"),
+    };
+    drop(found);
+    added?;
+    told.push_str("|")
+}
+
+/// Files, and how many bytes of each are read at most. Their paths are absolute, but for the last.
+const FILES: [(&str, usize); 6] = [
+    ("/proc/self/cwd/files/web", 15),
+    ("/proc/self/cwd/files/web", 14),
+    ("/proc/self/cwd/files/gone", 15),
+    ("/proc/self/cwd/files/web/x", 15),
+    ("/proc/self/cwd/files/inner", 15),
+    ("./files/web", 15),
+];
+
+/// Tells of two folders and of these files.
+fn tell<F: Folder>(folder: &mut F, told: &mut String) -> Mem<()> {
+    tell_names(folder, "/proc/self/cwd/files/.", told)?;
+    tell_names(folder, "/proc/self/cwd/files/gone", told)?;
+    for (path, most) in FILES {
+        tell_file(folder, path, most, told)?;
+    }
+    Ok(())
+}
+
+/// Files and folders of the system: what is there, what is not, and what can't be read. A path that
+/// is relative begins at the folder where the test runs.
 #[test]
 fn over_the_file_system(rt: HostRuntime) -> Result<(), Fail> {
-    let root = lay_out(&rt)?;
-    for (name, told) in [(".", "B a b link web "), ("gone", "failed")] {
-        let path = below(&rt, root.as_str(), name)?;
-        assert_eq!(rt; names_in(&rt, path.as_str())?.as_str(), told);
-    }
-    let rows = [
-        ("web", 15, b"127.0.0.1 9001\n".as_slice()),
-        ("web", 14, b"longer".as_slice()),
-        ("gone", 15, b"absent".as_slice()),
-        ("web/x", 15, b"absent".as_slice()),
-        ("inner", 15, b"failed".as_slice()),
-    ];
-    for (name, most, told) in rows {
-        assert_eq!(rt; read_in(&rt, root.as_str(), name, most)?.as_slice(), told);
-    }
-    fs::remove_dir_all(&rt, root.as_str())?;
+    lay_out(&rt)?;
+    let mut told = String::new(rt.alloc());
+    let gathered = tell(&mut FileSystem::of(&rt), &mut told);
+    fs::remove_dir_all(&rt, "files")?;
+    assert_eq!(rt;
+        told.as_str(),
+        "B a b link web |failed|127.0.0.1 9001\n|longer|absent|absent|failed|127.0.0.1 9001\n|"
+    );
+    drop(told);
+    gathered?;
     Ok(())
 }

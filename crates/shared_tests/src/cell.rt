@@ -102,67 +102,61 @@ fn end<R: Wait>(rt: &R, writer: Writer<Sum, Add>, readers: Vec<Reader<Sum, Add, 
     }
 }
 
-/// Publishes for the second reader's caller, and gives what that reader sees then; none where it
-/// was not published.
-fn publish_for_second<R: Wait>(
-    rt: &R,
-    writer: &mut Writer<Sum, Add>,
-    readers: &mut Vec<Reader<Sum, Add, u64>>,
-) -> Option<u64>
-    requires own { EachOf (cell_written writer.old) readers.old.items }
-    requires two { (length readers.old.items ≡ 2) × (reader_count writer.old ≡ 2) }
-    ensures own { EachOf (cell_written writer.new) readers.new.items }
-    ensures two { (length readers.new.items ≡ 2) × (reader_count writer.new ≡ 2) }
-{
-    let add = digit_of(readers[1].number(), 0, 5);
-    let published = writer.publish_for(rt, &mut readers[1], add, Some(Snapshot::of(&2)));
-    let learnt = read(&mut readers[1], 3);
-    published.ok().and(learnt)
-}
-
-/// What the first reader sees once it has caught up with what was published.
-fn read_behind<R: Wait>(
-    rt: &R,
-    writer: &mut Writer<Sum, Add>,
-    readers: &mut Vec<Reader<Sum, Add, u64>>,
-) -> Option<u64>
-    requires own { EachOf (cell_written writer.old) readers.old.items }
-    requires two { (length readers.old.items ≡ 2) × (reader_count writer.old ≡ 2) }
-    ensures own { EachOf (cell_written writer.new) readers.new.items }
-    ensures two { (length readers.new.items ≡ 2) × (reader_count writer.new ≡ 2) }
-{
-    readers[0].catch_up(rt, writer, Some(Snapshot::of(&4)));
-    read(&mut readers[0], 5)
-}
-
-/// What was seen before and after a publish of the second reader's caller, by that reader, which
-/// then has seen it, and by the first, which entered later; and the sum of all in the end.
+/// The second reader's caller publishes, of which that reader has learnt then, and the first one
+/// catches up with it. It gives the readers' numbers; what the first one sees before that, the
+/// second one then, and the first one last, and the sum of all in the end; and how often each was
+/// refused. Where nothing was published, the second one sees nothing.
 fn publish_one<R: Wait>(
     rt: &R,
     writer: &mut Writer<Sum, Add>,
+    first: &mut Reader<Sum, Add, u64>,
+    second: &mut Reader<Sum, Add, u64>,
+) -> ([u32; 2], [Option<u64>; 4], [u64; 2])
+    requires first { cell_of first.old ≡ cell_written writer.old }
+    requires second { cell_of second.old ≡ cell_written writer.old }
+    ensures writer { cell_written writer.new ≡ cell_written writer.old }
+    ensures first { cell_of first.new ≡ cell_of first.old }
+    ensures second { cell_of second.new ≡ cell_of second.old }
+{
+    let number = second.number();
+    let before = read(first, 1);
+    let add = digit_of(number, 0, 5);
+    let published = writer.publish_for(rt, second, add, Some(Snapshot::of(&2)));
+    let learnt = read(second, 3);
+    first.catch_up(rt, writer, Some(Snapshot::of(&4)));
+    let entered = read(first, 5);
+    let sum = latest(rt, writer);
+    (
+        [first.number(), number],
+        [before, published.ok().and(learnt), entered, Some(sum)],
+        [first.refused(), second.refused()],
+    )
+}
+
+/// The same of a cell's two readers.
+fn publish_one_of_two<R: Wait>(
+    rt: &R,
+    writer: &mut Writer<Sum, Add>,
     readers: &mut Vec<Reader<Sum, Add, u64>>,
-) -> [Option<u64>; 4]
+) -> ([u32; 2], [Option<u64>; 4], [u64; 2])
     requires own { EachOf (cell_written writer.old) readers.old.items }
     requires two { (length readers.old.items ≡ 2) × (reader_count writer.old ≡ 2) }
     ensures own { EachOf (cell_written writer.new) readers.new.items }
     ensures two { (length readers.new.items ≡ 2) × (reader_count writer.new ≡ 2) }
 {
-    let before = read(&mut readers[0], 1);
-    let learnt = publish_for_second(rt, writer, readers);
-    let entered = read_behind(rt, writer, readers);
-    [before, learnt, entered, Some(latest(rt, writer))]
+    let (front, back) = readers.split_at_mut(1);
+    publish_one(rt, writer, &mut front[0], &mut back[0])
 }
 
 #[test]
 fn what_was_published_is_seen(rt: HostRuntime) -> Result<(), Fail> {
     let (mut writer, mut readers) = start::<Sum, Add, u64, _>(&rt, rt.alloc(), Sum(0), Sum(0), 2)?;
-    let numbers = (readers[0].number(), readers[1].number());
-    let seen = publish_one(&rt, &mut writer, &mut readers);
-    let refused = (readers[0].refused(), readers[1].refused());
+    let told = publish_one_of_two(&rt, &mut writer, &mut readers);
     end(&rt, writer, readers);
-    assert_eq!(rt; numbers, (0, 1));
-    assert_eq!(rt; seen, [Some(0), Some(5), Some(5), Some(5)]);
-    assert_eq!(rt; refused, (0, 0));
+    assert_eq!(rt;
+        told,
+        ([0, 1], [Some(0), Some(5), Some(5), Some(5)], [0, 0])
+    );
     Ok(())
 }
 
@@ -183,6 +177,15 @@ fn fewer_readers_are_handed_back(rt: HostRuntime) -> Result<(), Fail> {
     }
 }
 
+/// Publishes a digit for the first caller; whether it was published.
+fn publish_digit<R: Wait>(rt: &R, writer: &mut Writer<Sum, Add>, serial: u64, digit: u64) -> bool
+    requires caller { 0 < reader_count writer.old }
+    requires fits { digit < 10 }
+    ensures { cell_written writer.new ≡ cell_written writer.old }
+{
+    writer.publish(rt, digit_of(0, serial, digit)).is_ok()
+}
+
 // A copy has no memory for the second operation, after which nothing is published.
 fn publish_three<R: Wait>(
     rt: &R,
@@ -194,9 +197,9 @@ fn publish_three<R: Wait>(
     ensures own { EachOf (cell_written writer.new) readers.new.items }
     ensures one { (length readers.new.items ≡ 1) × (reader_count writer.new ≡ 1) }
 {
-    let first = writer.publish(rt, digit_of(0, 0, 3)).is_ok();
-    let second = writer.publish(rt, digit_of(0, 1, 7)).is_ok();
-    let third = writer.publish(rt, digit_of(0, 2, 1)).is_ok();
+    let first = publish_digit(rt, writer, 0, 3);
+    let second = publish_digit(rt, writer, 1, 7);
+    let third = publish_digit(rt, writer, 2, 1);
     let seen = read(&mut readers[0], 0);
     ([first, second, third], seen, latest(rt, writer))
 }
@@ -216,7 +219,7 @@ fn publish_ones<R: Wait>(rt: &R, writer: &mut Writer<Sum, Add>, count: u64) -> b
     ensures { cell_written writer.new ≡ cell_written writer.old }
 {
     for serial in 0..count {
-        if writer.publish(rt, digit_of(0, serial, 1)).is_err() {
+        if !publish_digit(rt, writer, serial, 1) {
             return false;
         }
     }
@@ -279,23 +282,24 @@ fn race<R: Wait + Threads + Sync>(
     )
 }
 
-/// The race of a cell's two readers.
-fn race_of_two<R: Wait + Threads + Sync>(
-    rt: &R,
-    writer: &mut Writer<Sum, Add>,
-    readers: &mut Vec<Reader<Sum, Add, u64>>,
-) -> (bool, (bool, bool))
-    requires own { EachOf (cell_written writer.old) readers.old.items }
-    requires two { (length readers.old.items ≡ 2) × (reader_count writer.old ≡ 2) }
-    ensures own { EachOf (cell_written writer.new) readers.new.items }
-    ensures two { (length readers.new.items ≡ 2) × (reader_count writer.new ≡ 2) }
-{
-    let (front, back) = readers.split_at_mut(1);
-    race(rt, writer, &mut front[0], &mut back[0])
-}
-
 /// The race, and what both readers see in the end.
 fn race_and_read<R: Wait + Threads + Sync>(
+    rt: &R,
+    writer: &mut Writer<Sum, Add>,
+    first: &mut Reader<Sum, Add, u64>,
+    second: &mut Reader<Sum, Add, u64>,
+) -> ((bool, (bool, bool)), Option<u64>, Option<u64>)
+    requires { 0 < reader_count writer.old }
+    ensures writer { cell_written writer.new ≡ cell_written writer.old }
+    ensures first { cell_of first.new ≡ cell_of first.old }
+    ensures second { cell_of second.new ≡ cell_of second.old }
+{
+    let told = race(rt, writer, first, second);
+    (told, read(first, 0), read(second, 0))
+}
+
+/// The same of a cell's two readers.
+fn race_of_two<R: Wait + Threads + Sync>(
     rt: &R,
     writer: &mut Writer<Sum, Add>,
     readers: &mut Vec<Reader<Sum, Add, u64>>,
@@ -305,14 +309,14 @@ fn race_and_read<R: Wait + Threads + Sync>(
     ensures own { EachOf (cell_written writer.new) readers.new.items }
     ensures two { (length readers.new.items ≡ 2) × (reader_count writer.new ≡ 2) }
 {
-    let told = race_of_two(rt, writer, readers);
-    (told, read(&mut readers[0], 0), read(&mut readers[1], 0))
+    let (front, back) = readers.split_at_mut(1);
+    race_and_read(rt, writer, &mut front[0], &mut back[0])
 }
 
 #[test]
 fn what_is_entered_never_falls_back(rt: HostRuntime) -> Result<(), Fail> {
     let (mut writer, mut readers) = start::<Sum, Add, u64, _>(&rt, rt.alloc(), Sum(0), Sum(0), 2)?;
-    let told = race_and_read(&rt, &mut writer, &mut readers);
+    let told = race_of_two(&rt, &mut writer, &mut readers);
     end(&rt, writer, readers);
     assert_eq!(rt; told, ((true, (true, true)), Some(10_000), Some(10_000)));
     Ok(())

@@ -1,12 +1,12 @@
-//! A net over loopback, and the other adapters over the machine.
-use line_base::{
-    Clock, ConnectionPool, Dialer, Event, Failed, Folder, FolderFault, Found, Listener, Net,
-    NetFault, Peer, Sink, Source, Stop,
-};
-use net_edge::{FileSystem, ReaderSource, SocketNet, SystemClock, WriterSink};
-use std::net::{Ipv4Addr, SocketAddr, SocketAddrV4, TcpListener, TcpStream};
+//! A net over loopback.
+use line_base::{ConnectionPool, Dialer, Event, Failed, Listener, Net, NetFault, Peer, Stop};
+use net_edge::SocketNet;
+use std::alloc::AllocGlobal;
+use std::net::{self, Ipv4Addr, SocketAddr, SocketAddrV4, TcpListener, TcpStream};
+use std::sync::atomic::{AtomicU32, Ordering};
 use std::test::Fail;
-use std::{fs, thread};
+use std::thread::Threads;
+use std::{io, thread};
 
 const LOOPBACK: u32 = 0x7f00_0001;
 
@@ -16,10 +16,20 @@ fn address(port: u16) -> SocketAddr {
 }
 
 /// A port that is free.
-fn free_port(
-    rt: &impl std::net::Net<Listener = TcpListener, Stream = TcpStream>,
-) -> std::io::Result<u16> {
-    Ok(TcpListener::bind(rt, address(0))?.local_addr()?.port())
+fn free_port<R: net::Net<Listener = TcpListener, Stream = TcpStream>>(rt: &R) -> io::Result<u16> {
+    let listener = TcpListener::bind(rt, address(0))?;
+    let address = listener.local_addr();
+    drop(listener);
+    Ok(address?.port())
+}
+
+/// What the threads did that answer connections.
+#[derive(Drop)]
+struct Counts {
+    /// How many connections they answered.
+    answered: AtomicU32,
+    /// How many of their listeners were closed.
+    closed: AtomicU32,
 }
 
 /// Answers each connection with what it said first, in capitals, until the listener is closed; at
@@ -43,8 +53,20 @@ fn echo<L: Listener>(listener: &mut L, most: u32) -> (u32, bool) {
     (served, false)
 }
 
+/// Answers the connections of a listener, and counts what was done.
+fn answer<L: Listener>(listener: &mut L, counts: &Counts) {
+    let (answered, is_closed) = echo(listener, 8);
+    counts.answered.fetch_add(answered, Ordering::SeqCst);
+    counts
+        .closed
+        .fetch_add(u32::from(is_closed), Ordering::SeqCst);
+}
+
+/// What is heard by who says `ping` on a connection, and how many bytes come behind it.
+type Answer = Result<([u8; 4], usize), Failed>;
+
 /// Says `ping` on a connection of its own, and gives what comes back before the end.
-fn ask<D: Dialer>(dialer: &mut D, port: u16) -> Result<([u8; 4], usize), Failed> {
+fn ask<D: Dialer>(dialer: &mut D, port: u16) -> Answer {
     match dialer.dial(LOOPBACK, port) {
         Ok(()) => {}
         Err(failed) => return Err(failed),
@@ -61,90 +83,132 @@ fn ask<D: Dialer>(dialer: &mut D, port: u16) -> Result<([u8; 4], usize), Failed>
     }
 }
 
-/// What one thread does.
-#[derive(Drop)]
-enum Part<L, D, S> {
-    /// It answers connections, until its listener is closed.
-    Answers {
-        listener: L,
-        served: u32,
-        is_closed: bool,
-    },
-    /// It asks twice at each port, and then calls the stop.
-    Asks {
-        dialer: D,
-        stop: S,
-        heard: u32,
-    },
+/// The same with a new dialer of this net.
+fn ask_anew<N: Net>(net: &mut N, port: u16) -> Answer {
+    let mut dialer = net.dialer(ConnectionPool::NONE);
+    let answer = ask(&mut dialer, port);
+    drop(dialer);
+    answer
 }
 
-fn play<L: Listener, D: Dialer, S: Stop>(part: &mut Part<L, D, S>, ports: [u16; 2]) {
-    match part {
-        Part::Answers {
-            listener,
-            served,
-            is_closed,
-        } => {
-            let (count, closed) = echo(listener, 8);
-            *served = count;
-            *is_closed = closed;
-        }
-        Part::Asks {
-            dialer,
-            stop,
-            heard,
-        } => {
-            let [one, other] = ports;
-            for port in [one, one, other, other] {
-                if ask(dialer, port) == Ok((*b"PING", 0)) {
-                    *heard = heard.saturating_add(1);
-                }
-            }
-            stop.stop();
+/// Asks twice at each port, and then calls the stop. It gives how many answers were heard.
+fn ask_all<D: Dialer, S: Stop>(dialer: &mut D, stop: &mut S, ports: [u16; 2]) -> u32 {
+    let mut heard = 0u32;
+    let [one, other] = ports;
+    for port in [one, one, other, other] {
+        if ask(dialer, port) == Ok((*b"PING", 0)) {
+            heard = heard.saturating_add(1);
         }
     }
+    stop.stop();
+    heard
 }
 
-/// Adds a part for each of so many listeners of a port.
+/// Answers the connections of each of three listeners in a thread of its own.
+fn answer_each<R: Threads + Sync, L: Listener + Send>(rt: &R, listeners: &mut [L], counts: &Counts)
+where
+    L::P: Send,
+{
+    thread::for_each_mut(rt, listeners, 3, &|_, listener| answer(listener, counts));
+}
+
+/// Answers at three listeners while a thread more asks. It gives how many connections were
+/// answered, how many listeners were closed, and how many answers were heard.
+fn answer_and_ask<R: Threads + Sync, L: Listener + Send, D: Dialer + Send, S: Stop + Send>(
+    rt: &R,
+    listeners: &mut [L],
+    dialer: &mut D,
+    stop: &mut S,
+    ports: [u16; 2],
+) -> [u32; 3]
+where
+    L::P: Send,
+{
+    let counts = Counts {
+        answered: AtomicU32::new(0),
+        closed: AtomicU32::new(0),
+    };
+    let (heard, ()) = thread::join(
+        rt,
+        || ask_all(dialer, stop, ports),
+        || answer_each(rt, listeners, &counts),
+    );
+    let answered = counts.answered.load(Ordering::SeqCst);
+    [answered, counts.closed.load(Ordering::SeqCst), heard]
+}
+
+/// Adds so many listeners of a port.
 fn listen<N: Net>(
     net: &mut N,
     port: u16,
     copies: u32,
-    parts: &mut Vec<Part<N::L, N::D, N::S>>,
+    listeners: &mut Vec<N::L>,
 ) -> Result<(), Fail> {
-    for listener in net.listen(LOOPBACK, port, copies, 0)?.into_items() {
-        parts.push(Part::Answers {
-            listener,
-            served: 0,
-            is_closed: false,
-        })?;
-    }
-    Ok(())
+    let mut more = net.listen(LOOPBACK, port, copies, 0)?.into_items();
+    let added = listeners.append(&mut more);
+    drop(more);
+    Ok(added?)
 }
 
-/// Gives the listeners back: how many connections they answered, how many of them were closed and
-/// came back well, and how many answers were heard.
-fn end<N: Net>(net: &mut N, parts: Vec<Part<N::L, N::D, N::S>>) -> (u32, u32, u32) {
-    let mut answered = 0u32;
-    let mut closed = 0u32;
-    let mut all_heard = 0u32;
-    for part in parts {
-        match part {
-            Part::Answers {
-                listener,
-                served,
-                is_closed,
-            } => {
-                answered = answered.saturating_add(served);
-                let stop = net.stopper();
-                if net.end(listener, None, stop).is_ok() && is_closed {
-                    closed = closed.saturating_add(1);
-                }
-            }
-            Part::Asks { heard, .. } => all_heard = all_heard.saturating_add(heard),
+/// Adds two listeners of a port that was free, and one of another such port. It gives both ports,
+/// and why nobody can listen at the first one meanwhile.
+fn listen_at_two<R, N: Net>(
+    rt: &R,
+    net: &mut N,
+    listeners: &mut Vec<N::L>,
+) -> Result<([u16; 2], Option<NetFault>), Fail>
+where
+    R: net::Net<Listener = TcpListener, Stream = TcpStream>,
+{
+    let one = free_port(rt)?;
+    listen(net, one, 2, listeners)?;
+    let fault = net.listen(LOOPBACK, one, 1, 0).err();
+    let other = free_port(rt)?;
+    listen(net, other, 1, listeners)?;
+    Ok(([one, other], fault))
+}
+
+/// Gives the listeners back, and how many of them came back well.
+fn end<N: Net>(net: &mut N, listeners: Vec<N::L>) -> u32 {
+    let mut ended = 0u32;
+    for listener in listeners {
+        let stop = net.stopper();
+        if net.end(listener, None, stop).is_ok() {
+            ended = ended.saturating_add(1);
         }
     }
-    (answered, closed, all_heard)
+    ended
+}
+
+/// Why nobody can listen at an address that is in use; how many connections were answered, how many
+/// listeners were closed, and how many answers were heard; how many listeners came back well; and
+/// what is heard behind that at both addresses.
+type Played = (Option<NetFault>, [u32; 3], u32, [Answer; 2]);
+
+/// Listens at two addresses, answers and asks there, and gives the listeners back. It gives the
+/// port of the address that was in use meanwhile, and what came of it all.
+fn play<R, N: Net>(rt: &R, net: &mut N) -> Result<(u16, Played), Fail>
+where
+    R: Threads + Sync + AllocGlobal + net::Net<Listener = TcpListener, Stream = TcpStream>,
+    <N::L as Listener>::P: Send,
+{
+    let mut listeners = Vec::new(rt.alloc());
+    let (ports, fault) = match listen_at_two(rt, net, &mut listeners) {
+        Ok(made) => made,
+        Err(fail) => {
+            drop(listeners);
+            return Err(fail);
+        }
+    };
+    let mut dialer = net.dialer(ConnectionPool::NONE);
+    let mut stop = net.stopper();
+    let counts = answer_and_ask(rt, listeners.as_mut_slice(), &mut dialer, &mut stop, ports);
+    drop(stop);
+    drop(dialer);
+    let ended = end(net, listeners);
+    let [one, other] = ports;
+    let behind = [ask_anew(net, one), ask_anew(net, other)];
+    Ok((one, (fault, counts, ended, behind)))
 }
 
 /// Two threads wait in the queue of an address, which is in use meanwhile, and one at another
@@ -152,85 +216,12 @@ fn end<N: Net>(net: &mut N, parts: Vec<Part<N::L, N::D, N::S>>) -> (u32, u32, u3
 #[test]
 fn net_over_loopback(rt: HostRuntime) -> Result<(), Fail> {
     let mut net = SocketNet::of(&rt)?;
-    let mut parts = Vec::new(rt.alloc());
-    let one = free_port(&rt)?;
-    listen(&mut net, one, 2, &mut parts)?;
-    assert_eq!(rt;
-        net.listen(LOOPBACK, one, 1, 0).err(),
-        Some(NetFault::Failed)
-    );
-    assert_eq!(rt;
-        net.refused().map(|refusal| refusal.address()),
-        Some(address(one))
-    );
-    let other = free_port(&rt)?;
-    listen(&mut net, other, 1, &mut parts)?;
-    parts.push(Part::Asks {
-        dialer: net.dialer(ConnectionPool::NONE),
-        stop: net.stopper(),
-        heard: 0,
-    })?;
-    thread::for_each_mut(
-        &rt,
-        parts.as_mut_slice(),
-        4,
-        &|_, part| play(part, [one, other]),
-    );
-    assert_eq!(rt; end(&mut net, parts), (4, 3, 4));
-    assert_eq!(rt;
-        ask(&mut net.dialer(ConnectionPool::NONE), one),
-        Err(Failed)
-    );
-    assert_eq!(rt;
-        ask(&mut net.dialer(ConnectionPool::NONE), other),
-        Err(Failed)
-    );
-    Ok(())
-}
-
-fn read<S: Source>(source: &mut S, into: &mut [u8]) -> Result<usize, Failed> {
-    source.read(into)
-}
-
-fn write<K: Sink>(sink: &mut K, bytes: &[u8]) -> Result<usize, Failed> {
-    sink.write(bytes)
-}
-
-fn moments<C: Clock + Drop>(clock: &mut C) -> (u64, u64) {
-    let first = clock.now();
-    (first, clock.fork().now())
-}
-
-fn found<F: Folder>(folder: &mut F, path: &str, most: usize) -> Result<Option<usize>, FolderFault> {
-    match folder.read(path, most)? {
-        Found::Bytes(bytes) => Ok(Some(bytes.len())),
-        Found::Longer => Ok(Some(usize::MAX)),
-        Found::Absent => Ok(None),
-    }
-}
-
-/// A file of three bytes in the folder where the test runs, two streams over bytes, and the clock,
-/// whose moments don't fall.
-#[test]
-fn files_streams_and_clock(rt: HostRuntime) -> Result<(), Fail> {
-    fs::write(&rt, "three", "abc")?;
-    let mut folder = FileSystem::of(&rt);
-    let rows = [
-        ("./three", 3, Ok(Some(3))),
-        ("./three", 2, Ok(Some(usize::MAX))),
-        ("./two", 3, Ok(None)),
-    ];
-    for (path, most, gives) in rows {
-        assert_eq!(rt; found(&mut folder, path, most), gives);
-    }
-    let mut into = [0u8; 4];
-    let mut source = ReaderSource::of(b"abc".as_slice());
-    assert_eq!(rt; read(&mut source, &mut into), Ok(3));
-    assert_eq!(rt; read(&mut source, &mut into), Ok(0));
-    let mut sink = WriterSink::of(Vec::new(rt.alloc()));
-    assert_eq!(rt; write(&mut sink, b"ab"), Ok(2));
-    let (first, then) = moments(&mut SystemClock::of(&rt));
-    assert!(rt; 0 < first && first <= then);
-    fs::remove_file(&rt, "three")?;
+    let played = play(&rt, &mut net);
+    let refused = net.refused().map(|refusal| refusal.address());
+    drop(net);
+    let (port, played) = played?;
+    let silence = [Err(Failed), Err(Failed)];
+    assert_eq!(rt; refused, Some(address(port)));
+    assert_eq!(rt; played, (Some(NetFault::Failed), [4, 3, 4], 3, silence));
     Ok(())
 }

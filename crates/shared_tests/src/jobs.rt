@@ -55,6 +55,14 @@ impl Job for Meeting<'_> {
     }
 }
 
+/// What two jobs ended with.
+fn ends_of(back: &[(Meeting<'_>, (u32, bool))]) -> Option<[(u32, bool); 2]> {
+    match back {
+        [one, other] => Some([one.1, other.1]),
+        _ => None,
+    }
+}
+
 /// Two jobs wait for one another: each ends only where both run at once.
 #[test]
 fn jobs_run_beside_one_another(rt: HostRuntime) -> Result<(), Fail> {
@@ -74,9 +82,9 @@ fn jobs_run_beside_one_another(rt: HostRuntime) -> Result<(), Fail> {
     let Ok(back) = run_workers(&rt, jobs, &begun) else {
         return Err(Fail::from("memory"));
     };
-    assert_eq!(rt; back.len(), 2);
-    assert_eq!(rt; back[0].1, (7, true));
-    assert_eq!(rt; back[1].1, (3, true));
+    let ends = ends_of(back.as_slice());
+    drop(back);
+    assert_eq!(rt; ends, Some([(7, true), (3, true)]));
     Ok(())
 }
 
@@ -254,7 +262,9 @@ fn clients_are_served_by_turns(rt: HostRuntime) -> Result<(), Fail> {
     let heard = heard_by(alloc, &listener);
     let faults = listener.faults();
     drop(listener);
-    assert!(rt; heard?.as_slice() == b"onetwothreefourfive!".as_slice());
+    let heard = heard?;
+    assert_eq!(rt; heard.as_slice(), b"onetwothreefourfive!".as_slice());
+    drop(heard);
     assert!(rt; served? == (7, 0, Accepting::Closed) && faults == 1);
     Ok(())
 }

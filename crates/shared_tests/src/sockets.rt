@@ -1,9 +1,13 @@
 //! Connections over loopback: what is sent arrives, and what is cut is a fault.
+ghost use Rattle.std.specs.Prelude.{IfOk, IsSome};
+
 use line_base::{Clock, ConnectionPool, Dialer, Event, Failed, Listener, Net, Next, Peer, Stop};
 use net_edge::{SocketNet, SystemClock};
+use std::alloc::AllocGlobal;
 use std::io::{self, Read, Write};
 use std::net::{self, Ipv4Addr, SocketAddr, SocketAddrV4, TcpListener, TcpStream};
 use std::test::Fail;
+use std::thread::Threads;
 use std::time::Duration;
 use std::{rt, thread};
 
@@ -15,9 +19,20 @@ const OTHER: u32 = 0x7f00_0002;
 /// More bytes than a connection takes at once.
 const MANY: usize = 1_048_576;
 
+/// How many bytes a call moved.
+type Moved = Result<usize, Failed>;
+
 /// An address of this machine, with a port.
 fn at(ip: u32, port: u16) -> SocketAddr {
     SocketAddr::V4(SocketAddrV4::new(Ipv4Addr::from_bits(ip), port))
+}
+
+/// The port of a listener, which is free once the listener is gone.
+fn port_of(listener: io::Result<TcpListener>) -> io::Result<u16> {
+    let listener = listener?;
+    let address = listener.local_addr();
+    drop(listener);
+    Ok(address?.port())
 }
 
 /// A listener of a net at a port that was free, and the port.
@@ -25,8 +40,11 @@ fn listener_of<N: Net>(
     net: &mut N,
     listener: io::Result<TcpListener>,
 ) -> Result<(N::L, u16), Fail> {
-    let port = listener?.local_addr()?.port();
-    match net.listen(LOOPBACK, port, 1, 0)?.into_items().pop() {
+    let port = port_of(listener)?;
+    let mut listeners = net.listen(LOOPBACK, port, 1, 0)?.into_items();
+    let listener = listeners.pop();
+    drop(listeners);
+    match listener {
         Some(listener) => Ok((listener, port)),
         None => Err(Fail::from("no listener")),
     }
@@ -79,19 +97,52 @@ fn say_all<L: Listener>(listener: &mut L, bytes: &[u8]) -> bool {
     rest.is_empty()
 }
 
+/// Says many bytes to a client that reads slowly. Gives whether all were taken, and how many came.
+fn written<R: Threads + Sync + rt::Clock + AllocGlobal, L: Listener>(
+    rt: &R,
+    listener: &mut L,
+    client: &mut TcpStream,
+) -> Result<(bool, usize), Fail> {
+    let bytes = Vec::from_elem(rt.alloc(), 7u8, MANY)?;
+    let (count, is_taken) = thread::join(
+        rt,
+        || count_slowly(rt, client),
+        || say_all(listener, bytes.as_slice()),
+    );
+    drop(bytes);
+    Ok((is_taken, count))
+}
+
+/// The same of a client that connects to a listener of this net.
+fn written_over<R, N: Net>(rt: &R, net: &mut N) -> Result<(bool, usize), Fail>
+where
+    R: Threads
+        + Sync
+        + rt::Clock
+        + AllocGlobal
+        + net::Net<Listener = TcpListener, Stream = TcpStream>,
+{
+    let (mut listener, port) = listener_of(net, TcpListener::bind(rt, at(LOOPBACK, 0)))?;
+    let mut client = match TcpStream::connect(rt, at(LOOPBACK, port)) {
+        Ok(client) => client,
+        Err(error) => {
+            drop(listener);
+            return Err(Fail::from(error));
+        }
+    };
+    let told = written(rt, &mut listener, &mut client);
+    drop(client);
+    drop(listener);
+    told
+}
+
 /// A client that reads slowly gets all that was written for it.
 #[test]
 fn what_is_written_arrives(rt: HostRuntime) -> Result<(), Fail> {
     let mut net = SocketNet::of(&rt)?;
-    let (mut listener, port) = listener_of(&mut net, TcpListener::bind(&rt, at(LOOPBACK, 0)))?;
-    let mut client = TcpStream::connect(&rt, at(LOOPBACK, port))?;
-    let bytes = Vec::from_elem(rt.alloc(), 7u8, MANY)?;
-    let (is_taken, count) = thread::join(
-        &rt,
-        || say_all(&mut listener, bytes.as_slice()),
-        || count_slowly(&rt, &mut client),
-    );
-    assert_eq!(rt; (is_taken, count), (true, MANY));
+    let told = written_over(&rt, &mut net);
+    drop(net);
+    assert_eq!(rt; told?, (true, MANY));
     Ok(())
 }
 
@@ -109,7 +160,7 @@ fn answer_early<R: rt::Clock>(rt: &R, listener: &TcpListener) -> usize {
 }
 
 /// How many bytes a connection took in one send, and how many came back, before it was ended.
-fn exchange<D: Dialer>(dialer: &mut D, port: u16, bytes: &[u8]) -> [Result<usize, Failed>; 2] {
+fn exchange<D: Dialer>(dialer: &mut D, port: u16, bytes: &[u8]) -> [Moved; 2] {
     match dialer.dial(LOOPBACK, port) {
         Ok(()) => {}
         Err(failed) => return [Err(failed), Err(failed)],
@@ -121,39 +172,107 @@ fn exchange<D: Dialer>(dialer: &mut D, port: u16, bytes: &[u8]) -> [Result<usize
     [sent, got]
 }
 
+/// An exchange with a replica that answers early and reads on slowly. Gives what the dialer is
+/// told, and how many bytes the replica got.
+fn sent<R: Threads + Sync + rt::Clock, D: Dialer + Send>(
+    rt: &R,
+    dialer: &mut D,
+    replica: &TcpListener,
+    port: u16,
+    bytes: &[u8],
+) -> ([Moved; 2], usize) {
+    thread::join(
+        rt,
+        || exchange(dialer, port, bytes),
+        || answer_early(rt, replica),
+    )
+}
+
+/// Two such exchanges of many bytes, one behind the other.
+fn sent_twice<R: Threads + Sync + rt::Clock + AllocGlobal, D: Dialer + Send>(
+    rt: &R,
+    dialer: &mut D,
+    replica: &TcpListener,
+) -> Result<[([Moved; 2], usize); 2], Fail> {
+    let port = replica.local_addr()?.port();
+    let bytes = Vec::from_elem(rt.alloc(), 7u8, MANY)?;
+    let first = sent(rt, dialer, replica, port, bytes.as_slice());
+    let second = sent(rt, dialer, replica, port, bytes.as_slice());
+    drop(bytes);
+    Ok([first, second])
+}
+
+/// The same over one dialer of this net.
+fn sent_over<R, N: Net>(rt: &R, net: &mut N) -> Result<[([Moved; 2], usize); 2], Fail>
+where
+    R: Threads
+        + Sync
+        + rt::Clock
+        + AllocGlobal
+        + net::Net<Listener = TcpListener, Stream = TcpStream>,
+{
+    let replica = TcpListener::bind(rt, at(LOOPBACK, 0))?;
+    let mut dialer = net.dialer(ConnectionPool::NONE);
+    let told = sent_twice(rt, &mut dialer, &replica);
+    drop(dialer);
+    drop(replica);
+    told
+}
+
 /// A replica that answers early and reads on slowly gets all that was sent. Then the dialer's next
 /// connection is as good.
 #[test]
 fn what_is_sent_arrives(rt: HostRuntime) -> Result<(), Fail> {
     let mut net = SocketNet::of(&rt)?;
-    let mut dialer = net.dialer(ConnectionPool::NONE);
-    let listener = TcpListener::bind(&rt, at(LOOPBACK, 0))?;
-    let port = listener.local_addr()?.port();
-    let bytes = Vec::from_elem(rt.alloc(), 7u8, MANY)?;
-    for _ in 0..2 {
-        let (ends, count) = thread::join(
-            &rt,
-            || exchange(&mut dialer, port, bytes.as_slice()),
-            || answer_early(&rt, &listener),
-        );
-        assert_eq!(rt; (ends, count), ([Ok(MANY), Ok(5)], MANY));
-    }
+    let told = sent_over(&rt, &mut net);
+    drop(net);
+    let each = ([Ok(MANY), Ok(5)], MANY);
+    assert_eq!(rt; told?, [each, each]);
     Ok(())
+}
+
+/// A reply is written for a client of which no byte is read, while the client says many. Gives
+/// whether all of the reply was taken, and what the client's dialer is told.
+fn replied<R: Threads + AllocGlobal, L: Listener, D: Dialer + Send>(
+    rt: &R,
+    listener: &mut L,
+    dialer: &mut D,
+    port: u16,
+) -> Result<(bool, [Moved; 2]), Fail> {
+    let bytes = Vec::from_elem(rt.alloc(), 7u8, 5 * MANY)?;
+    let (ends, is_taken) = thread::join(
+        rt,
+        || exchange(dialer, port, bytes.as_slice()),
+        || say_all(listener, b"reply"),
+    );
+    drop(bytes);
+    Ok((is_taken, ends))
+}
+
+/// The same of a listener and a dialer of this net.
+fn replied_over<R, N: Net>(rt: &R, net: &mut N) -> Result<(bool, [Moved; 2]), Fail>
+where
+    R: Threads
+        + Sync
+        + rt::Clock
+        + AllocGlobal
+        + net::Net<Listener = TcpListener, Stream = TcpStream>,
+{
+    let (mut listener, port) = listener_of(net, TcpListener::bind(rt, at(LOOPBACK, 0)))?;
+    let mut dialer = net.dialer(ConnectionPool::NONE);
+    let told = replied(rt, &mut listener, &mut dialer, port);
+    drop(dialer);
+    drop(listener);
+    told
 }
 
 /// A reply that is written while the client's body is unread arrives.
 #[test]
 fn a_reply_behind_an_unread_body_arrives(rt: HostRuntime) -> Result<(), Fail> {
     let mut net = SocketNet::of(&rt)?;
-    let (mut listener, port) = listener_of(&mut net, TcpListener::bind(&rt, at(LOOPBACK, 0)))?;
-    let mut dialer = net.dialer(ConnectionPool::NONE);
-    let bytes = Vec::from_elem(rt.alloc(), 7u8, 5 * MANY)?;
-    let (is_taken, ends) = thread::join(
-        &rt,
-        || say_all(&mut listener, b"reply"),
-        || exchange(&mut dialer, port, bytes.as_slice()),
-    );
-    assert_eq!(rt; (is_taken, ends), (true, [Ok(5 * MANY), Ok(5)]));
+    let told = replied_over(&rt, &mut net);
+    drop(net);
+    assert_eq!(rt; told?, (true, [Ok(5 * MANY), Ok(5)]));
     Ok(())
 }
 
@@ -162,7 +281,7 @@ fn a_reply_behind_an_unread_body_arrives(rt: HostRuntime) -> Result<(), Fail> {
 fn read_cut<L: Listener>(
     listener: &mut L,
     client: io::Result<TcpStream>,
-) -> io::Result<[Result<usize, Failed>; 2]> {
+) -> io::Result<[Moved; 2]> {
     let mut client = client?;
     client.write(b"body")?;
     let Some(peer) = next_client(listener) else {
@@ -180,37 +299,56 @@ fn read_cut<L: Listener>(
     Ok([first, then])
 }
 
-/// What two receives of a reply give, where the replica, which is at another address, says four
-/// bytes and then resets the connection.
-fn receive_cut<D: Dialer>(
-    dialer: &mut D,
-    replica: io::Result<TcpListener>,
-) -> io::Result<[Result<usize, Failed>; 2]> {
-    let replica = replica?;
-    let Ok(()) = dialer.dial(OTHER, replica.local_addr()?.port()) else {
+/// The connection that a dialer opens to a replica at this address, as the replica accepts it; and
+/// the replica's port.
+fn dialed<D: Dialer>(dialer: &mut D, ip: u32, replica: &TcpListener) -> io::Result<(TcpStream, u16)>
+    ensures { IfOk result (λ _. IsSome (D.upstream dialer.new).open_to) }
+{
+    let port = replica.local_addr()?.port();
+    let Ok(()) = dialer.dial(ip, port) else {
         return Err(io::Error::from(io::ErrorKind::NotConnected));
     };
-    let (mut stream, _) = replica.accept()?;
+    let (stream, _) = replica.accept()?;
+    Ok((stream, port))
+}
+
+/// What two receives of a reply give, where the replica, which is at another address, says four
+/// bytes and then resets the connection: it ends it with a request unread.
+fn receive_cut<D: Dialer>(dialer: &mut D, replica: &TcpListener) -> io::Result<[Moved; 2]> {
+    let (mut stream, _) = dialed(dialer, OTHER, replica)?;
     let mut piece = [0u8; 8];
     let _ = dialer.send(b"ping");
-    stream.peek(&mut piece)?;
-    stream.write(b"part")?;
+    let waited = stream.peek(&mut piece);
+    let _ = stream.write(b"part");
     let first = dialer.recv(&mut piece);
     drop(stream);
     let then = dialer.recv(&mut piece);
     dialer.hang();
+    waited?;
     Ok([first, then])
+}
+
+/// Both over this net: what two reads of the body give, and two receives of the reply.
+fn cut_over<N: Net>(rt: &HostRuntime, net: &mut N) -> Result<[[Moved; 2]; 2], Fail> {
+    let (mut listener, port) = listener_of(net, TcpListener::bind(rt, at(LOOPBACK, 0)))?;
+    let body = read_cut(&mut listener, TcpStream::connect(rt, at(LOOPBACK, port)));
+    drop(listener);
+    let body = body?;
+    let replica = TcpListener::bind(rt, at(OTHER, 0))?;
+    let mut dialer = net.dialer(ConnectionPool::NONE);
+    let reply = receive_cut(&mut dialer, &replica);
+    drop(dialer);
+    drop(replica);
+    Ok([body, reply?])
 }
 
 /// A reset in the middle of a body is a fault, and no end.
 #[test]
 fn resets_are_faults(rt: HostRuntime) -> Result<(), Fail> {
     let mut net = SocketNet::of(&rt)?;
-    let (mut listener, port) = listener_of(&mut net, TcpListener::bind(&rt, at(LOOPBACK, 0)))?;
-    let mut dialer = net.dialer(ConnectionPool::NONE);
-    let body = read_cut(&mut listener, TcpStream::connect(&rt, at(LOOPBACK, port)))?;
-    let reply = receive_cut(&mut dialer, TcpListener::bind(&rt, at(OTHER, 0)))?;
-    assert_eq!(rt; [body, reply], [[Ok(4), Err(Failed)], [Ok(4), Err(Failed)]]);
+    let told = cut_over(&rt, &mut net);
+    drop(net);
+    assert_eq!(rt; told?, [[Ok(4), Err(Failed)], [Ok(4), Err(Failed)]]);
     Ok(())
 }
 
@@ -225,37 +363,70 @@ enum Fate {
     Ends,
 }
 
+/// The replica does what becomes of a kept connection.
+fn befall(stream: &mut TcpStream, fate: Fate) -> io::Result<()> {
+    match fate {
+        Fate::Quiet => Ok(()),
+        Fate::Speaks => stream.write_all(b"408"),
+        Fate::Ends => stream.shutdown(net::Shutdown::Both),
+    }
+}
+
+/// Whether a kept connection is resumed, and how many bytes of a reply are received over it then.
+fn resumed<D: Dialer>(dialer: &mut D, port: u16, stream: &mut TcpStream) -> (bool, Moved) {
+    if !dialer.resume(LOOPBACK, port) {
+        return (false, Err(Failed));
+    }
+    let mut piece = [0u8; 8];
+    let _ = stream.write(b"reply");
+    let got = dialer.recv(&mut piece);
+    dialer.hang();
+    (true, got)
+}
+
 /// A connection is dialed and kept, and has this fate; then it is asked for again. Gives whether it
 /// is resumed, and how many bytes of a reply are received over it then.
 fn resume_behind<D: Dialer>(
     dialer: &mut D,
-    replica: io::Result<TcpListener>,
+    replica: &TcpListener,
     fate: Fate,
-) -> io::Result<(bool, Result<usize, Failed>)> {
-    let replica = replica?;
-    let port = replica.local_addr()?.port();
-    let Ok(()) = dialer.dial(LOOPBACK, port) else {
-        return Err(io::Error::from(io::ErrorKind::NotConnected));
-    };
-    let (mut stream, _) = replica.accept()?;
+) -> io::Result<(bool, Moved)> {
+    let (mut stream, port) = dialed(dialer, LOOPBACK, replica)?;
     if dialer.keeps() {
         dialer.keep();
     }
-    match fate {
-        Fate::Quiet => {}
-        Fate::Speaks => {
-            stream.write(b"408")?;
-        }
-        Fate::Ends => stream.shutdown(net::Shutdown::Both)?,
-    }
-    if !dialer.resume(LOOPBACK, port) {
-        return Ok((false, Err(Failed)));
-    }
-    let mut piece = [0u8; 8];
-    stream.write(b"reply")?;
-    let got = dialer.recv(&mut piece);
-    dialer.hang();
-    Ok((true, got))
+    let befell = befall(&mut stream, fate);
+    let told = resumed(dialer, port, &mut stream);
+    drop(stream);
+    befell?;
+    Ok(told)
+}
+
+/// The same of a dialer of this net that keeps two connections for so long.
+fn resumed_over<N: Net>(
+    rt: &HostRuntime,
+    net: &mut N,
+    fate: Fate,
+    idle_ms: u32,
+) -> io::Result<(bool, Moved)> {
+    let replica = TcpListener::bind(rt, at(LOOPBACK, 0))?;
+    let mut dialer = net.dialer(ConnectionPool {
+        max_size: 2,
+        idle_ms,
+    });
+    let told = resume_behind(&mut dialer, &replica, fate);
+    drop(dialer);
+    drop(replica);
+    told
+}
+
+/// The same of each fate, and at last of a connection that may not be kept for any time.
+fn each_resumed<N: Net>(rt: &HostRuntime, net: &mut N) -> io::Result<[(bool, Moved); 4]> {
+    let quiet = resumed_over(rt, net, Fate::Quiet, 10_000)?;
+    let spoken = resumed_over(rt, net, Fate::Speaks, 10_000)?;
+    let ended = resumed_over(rt, net, Fate::Ends, 10_000)?;
+    let old = resumed_over(rt, net, Fate::Quiet, 0)?;
+    Ok([quiet, spoken, ended, old])
 }
 
 /// A kept connection is resumed where it is quiet, and not where anything came over it, nor where
@@ -263,20 +434,10 @@ fn resume_behind<D: Dialer>(
 #[test]
 fn kept_connections_are_looked_at(rt: HostRuntime) -> Result<(), Fail> {
     let mut net = SocketNet::of(&rt)?;
-    let rows = [
-        (Fate::Quiet, 10_000, (true, Ok(5))),
-        (Fate::Speaks, 10_000, (false, Err(Failed))),
-        (Fate::Ends, 10_000, (false, Err(Failed))),
-        (Fate::Quiet, 0, (false, Err(Failed))),
-    ];
-    for (fate, idle_ms, gives) in rows {
-        let pool = ConnectionPool {
-            max_size: 2,
-            idle_ms,
-        };
-        let replica = TcpListener::bind(&rt, at(LOOPBACK, 0));
-        assert_eq!(rt; resume_behind(&mut net.dialer(pool), replica, fate)?, gives);
-    }
+    let told = each_resumed(&rt, &mut net);
+    drop(net);
+    let refused = (false, Err(Failed));
+    assert_eq!(rt; told?, [(true, Ok(5)), refused, refused, refused]);
     Ok(())
 }
 
@@ -297,33 +458,96 @@ fn count_clients<L: Listener>(listener: &mut L) -> Option<u32> {
     None
 }
 
+/// Two clients connect to a listener of this net, which is stopped then. Gives whether they could,
+/// and how many clients the listener hands out behind that.
+fn handed_out_over<N: Net>(
+    rt: &HostRuntime,
+    net: &mut N,
+) -> Result<([bool; 2], Option<u32>), Fail> {
+    let (mut listener, port) = listener_of(net, TcpListener::bind(rt, at(LOOPBACK, 0)))?;
+    let first = TcpStream::connect(rt, at(LOOPBACK, port));
+    let second = TcpStream::connect(rt, at(LOOPBACK, port));
+    let connected = [first.is_ok(), second.is_ok()];
+    let mut stop = net.stopper();
+    stop.stop();
+    let count = count_clients(&mut listener);
+    drop(second);
+    drop(first);
+    drop(stop);
+    drop(listener);
+    Ok((connected, count))
+}
+
 /// Those who wait in the queue when the listeners are stopped are handed out still.
 #[test]
 fn a_stop_loses_nobody(rt: HostRuntime) -> Result<(), Fail> {
     let mut net = SocketNet::of(&rt)?;
-    let (mut listener, port) = listener_of(&mut net, TcpListener::bind(&rt, at(LOOPBACK, 0)))?;
-    let mut stop = net.stopper();
-    let _first = TcpStream::connect(&rt, at(LOOPBACK, port))?;
-    let _second = TcpStream::connect(&rt, at(LOOPBACK, port))?;
-    stop.stop();
-    assert_eq!(rt; count_clients(&mut listener), Some(2));
+    let told = handed_out_over(&rt, &mut net);
+    drop(net);
+    assert_eq!(rt; told?, ([true, true], Some(2)));
     Ok(())
 }
 
-/// Two moments, and a pause between them.
-fn moments<C: Clock, R: rt::Clock>(rt: &R, clock: &mut C, pause: u64) -> (u64, u64) {
+/// Two moments, and a pause between them; and then a moment of a fork of the clock.
+fn moments<C: Clock + Drop, R: rt::Clock>(rt: &R, clock: &mut C, pause: u64) -> [u64; 3] {
     let first = clock.now();
     thread::sleep(rt, Duration::from_millis(pause));
-    (first, clock.now())
+    let then = clock.now();
+    let mut fork = clock.fork();
+    let forked = fork.now();
+    drop(fork);
+    [first, then, forked]
 }
 
-/// Moments are milliseconds since 1970, which was long ago.
+/// Moments are milliseconds since 1970, which was long ago. Those of a fork don't fall behind.
 #[test]
 fn moments_are_milliseconds(rt: HostRuntime) -> Result<(), Fail> {
-    let (first, then) = moments(&rt, &mut SystemClock::of(&rt), 50);
+    let [first, then, forked] = moments(&rt, &mut SystemClock::of(&rt), 50);
     let waited = then.saturating_sub(first);
-    assert!(rt; first > 1_700_000_000_000 && waited >= 50 && waited < 10_000);
+    assert!(rt; first > 1_700_000_000_000 && waited >= 50 && waited < 10_000 && then <= forked);
     Ok(())
+}
+
+/// What three reads of a client for its next request give, how many others a listener handed out
+/// before the last of them, and whether the client was told before the first and behind the last
+/// that its listeners close.
+type Waited = ([Result<Next, Failed>; 3], Option<u32>, [bool; 2]);
+
+/// What a client is told that says something when the listeners are stopped, and then waits.
+fn told_while_closing<L: Listener, S: Stop>(
+    listener: &mut L,
+    stop: &mut S,
+    client: io::Result<TcpStream>,
+) -> Result<Waited, Fail> {
+    let mut client = client?;
+    let Some(peer) = next_client(listener) else {
+        drop(client);
+        return Err(Fail::from("no client"));
+    };
+    let mut peer = peer;
+    let before = peer.is_closing();
+    let _ = client.write_all(b"GET");
+    stop.stop();
+    let mut buffer = [0u8; 16];
+    let first = peer.read_next(&mut buffer);
+    let second = peer.read_next(&mut buffer);
+    let others = count_clients(listener);
+    let third = peer.read_next(&mut buffer);
+    let behind = peer.is_closing();
+    listener.finish(peer);
+    drop(client);
+    Ok(([first, second, third], others, [before, behind]))
+}
+
+/// The same of a client that connects to a listener of this net.
+fn told_over<N: Net>(rt: &HostRuntime, net: &mut N) -> Result<Waited, Fail> {
+    let (mut listener, port) = listener_of(net, TcpListener::bind(rt, at(LOOPBACK, 0)))?;
+    let mut stop = net.stopper();
+    let client = TcpStream::connect(rt, at(LOOPBACK, port));
+    let told = told_while_closing(&mut listener, &mut stop, client);
+    drop(stop);
+    drop(listener);
+    told
 }
 
 /// Who waits for a next request is heard still while the listeners close, and is told once they are
@@ -331,33 +555,9 @@ fn moments_are_milliseconds(rt: HostRuntime) -> Result<(), Fail> {
 #[test]
 fn who_waits_is_told(rt: HostRuntime) -> Result<(), Fail> {
     let mut net = SocketNet::of(&rt)?;
-    let (mut listener, port) = listener_of(&mut net, TcpListener::bind(&rt, at(LOOPBACK, 0)))?;
-    let mut stop = net.stopper();
-    let mut client = TcpStream::connect(&rt, at(LOOPBACK, port))?;
-    let Some(peer) = next_client(&mut listener) else {
-        return Err(Fail::from("no client"));
-    };
-    let mut peer = peer;
-    let before = peer.is_closing();
-    client.write_all(b"GET")?;
-    stop.stop();
-    let mut buffer = [0u8; 16];
-    let first = peer.read_next(&mut buffer);
-    let second = peer.read_next(&mut buffer);
-    let others = count_clients(&mut listener);
-    let third = peer.read_next(&mut buffer);
-    let behind = peer.is_closing();
-    listener.finish(peer);
-    assert_eq!(rt;
-        (before, first, second, others, third, behind),
-        (
-            false,
-            Ok(Next::Bytes(3)),
-            Ok(Next::Quiet),
-            Some(0),
-            Ok(Next::Closing),
-            true
-        )
-    );
+    let told = told_over(&rt, &mut net);
+    drop(net);
+    let reads = [Ok(Next::Bytes(3)), Ok(Next::Quiet), Ok(Next::Closing)];
+    assert_eq!(rt; told?, (reads, Some(0), [false, true]));
     Ok(())
 }
