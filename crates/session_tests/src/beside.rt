@@ -4,8 +4,8 @@
 ghost use Rattle.router.specs.Opening.{IsNamedBy, beginning_of};
 
 use crate::meanwhile::{AtDial, Meanwhile};
-use crate::played::{Free, begin, close, dialer, named, parts_of, put_sent, server};
-use crate::scene::{BOOK, Mem, Scene, by_host, client, spelling};
+use crate::played::{Free, close, dialer, named, parts_of, peer, put_sent, server};
+use crate::scene::{BOOK, Mem, Scene, by_host, settings, spelling};
 use crate::texts::{GET, REPLY, WRITTEN};
 use dtab_table::Dtab;
 use exchange_record::NoRecorder;
@@ -15,7 +15,7 @@ use line_doubles::{MemDialer, MemPeer};
 use machine::Ask;
 use name_tree::read_path;
 use proxy_session::{Connection, Context};
-use router::{Names, Naming, Opened, Pass, Peek, Router};
+use router::{Names, Naming, Opened, Pass, Peek, Router, open};
 use std::alloc::Global;
 use std::marker::Brand;
 use std::process::Abort;
@@ -26,7 +26,6 @@ use std::test::Fail;
 type Loads = (u64, u64);
 
 /// What came of a client.
-#[derive(Drop)]
 struct Outcome {
     /// What it was given.
     written: String,
@@ -34,13 +33,32 @@ struct Outcome {
     sent: String,
 }
 
+impl Drop for Outcome {
+    fn drop(self) {
+        let Outcome { written, sent } = self;
+        drop(written);
+        drop(sent);
+    }
+}
+
 /// What came of both clients.
-#[derive(Drop)]
 struct Outcomes {
     first: Option<Outcome>,
     second: Option<Outcome>,
     /// The loads while the first one's replica was being dialled.
     loads: Option<Loads>,
+}
+
+impl Drop for Outcomes {
+    fn drop(self) {
+        let Outcomes {
+            first,
+            second,
+            loads: _,
+        } = self;
+        drop(first);
+        drop(second);
+    }
 }
 
 /// The second client, and the pass of its worker.
@@ -55,15 +73,19 @@ struct Second<'a, J: Naming, R> {
 }
 
 impl<J: Naming, R: Wait + Abort> AtDial for Second<'_, J, R> {
-    /// Looks at the loads, and serves the client.
+    /// Looks at the loads, and serves the client, during whose dials nothing else happens.
     fn run(&mut self) {
         let Some(mut pass) = self.pass.take() else {
             return;
         };
-        self.loads = loads(self.context.alloc, self.context.router, &mut pass);
-        let (pass, outcome) = serve_alone(&self.context, pass, self.scene);
+        let (context, scene) = (self.context, self.scene);
+        self.loads = loads(context.alloc, context.router, &mut pass);
+        let dialer = dialer(context.rt, context.alloc, scene);
+        let (pass, dialer, peer) = serve(&context, pass, dialer, scene);
         self.pass = Some(pass);
-        self.outcome = outcome;
+        self.outcome = outcome_of(context.alloc, &peer, &dialer).ok();
+        drop(peer);
+        drop(dialer);
     }
 }
 
@@ -77,23 +99,23 @@ fn ask(alloc: Global) -> Option<Ask> {
     })
 }
 
-/// The loads of the replicas of `web`, as a pass sees them, where a delegation is kept for it.
-fn loads<J: Naming>(alloc: Global, router: &Router<J>, pass: &mut Pass<J>) -> Option<Loads> {
-    let ask = ask(alloc)?;
-    let loads = loads_for(alloc, router, pass, &ask);
-    drop(ask);
-    loads
+/// The same, and room for the names of a replica.
+fn ask_and_names(alloc: Global) -> Option<(Ask, Names)> {
+    let names = Names::room(alloc).ok()?;
+    match ask(alloc) {
+        Some(ask) => Some((ask, names)),
+        None => {
+            drop(names);
+            None
+        }
+    }
 }
 
-/// The loads of the replicas that this asks for.
-fn loads_for<J: Naming>(
-    alloc: Global,
-    router: &Router<J>,
-    pass: &mut Pass<J>,
-    ask: &Ask,
-) -> Option<Loads> {
-    let mut names = Names::room(alloc).ok()?;
-    let peek = router.peek(pass, ask, &mut names);
+/// The loads of the replicas of `web`, as a pass sees them, where a delegation is kept for it.
+fn loads<J: Naming>(alloc: Global, router: &Router<J>, pass: &mut Pass<J>) -> Option<Loads> {
+    let (ask, mut names) = ask_and_names(alloc)?;
+    let peek = router.peek(pass, &ask, &mut names);
+    drop(ask);
     drop(names);
     match peek {
         Peek::Hit(choice) => Some((choice.first, choice.second)),
@@ -109,14 +131,8 @@ fn serve<J: Naming, R: Wait + Abort, D: Dialer>(
     scene: &Scene<'_>,
 ) -> (Pass<J>, D, MemPeer) {
     let Context { rt, alloc, .. } = *context;
-    let None = pass.holds() else {
-        panic!(rt; "a pass holds a slot")
-    };
-    let Ok(peer) = client(alloc, scene) else {
-        panic!(rt; "no memory for a client")
-    };
     let mut server = server(rt, alloc, pass, dialer);
-    let mut connection = Connection::of(peer);
+    let mut connection = Connection::of(peer(rt, alloc, scene));
     let _paused = server.serve_stay(context, &mut connection, &Free, 0, &mut NoRecorder);
     let (pass, dialer) = parts_of(server);
     (pass, dialer, connection.into_peer())
@@ -132,39 +148,6 @@ fn outcome_of(alloc: Global, peer: &MemPeer, dialer: &MemDialer) -> Mem<Outcome>
     })
 }
 
-/// Serves the client of a scene, during whose dials nothing else happens.
-fn serve_alone<J: Naming, R: Wait + Abort>(
-    context: &Context<'_, J, R>,
-    pass: Pass<J>,
-    scene: &Scene<'_>,
-) -> (Pass<J>, Option<Outcome>) {
-    let dialer = dialer(context.rt, context.alloc, scene);
-    let (pass, dialer, peer) = serve(context, pass, dialer, scene);
-    let outcome = outcome_of(context.alloc, &peer, &dialer);
-    drop(peer);
-    drop(dialer);
-    (pass, outcome.ok())
-}
-
-/// Serves the client of a scene, and the second one at its dial.
-fn serve_first<'a, J: Naming, R: Wait + Abort>(
-    context: &Context<'_, J, R>,
-    pass: Pass<J>,
-    second: Second<'a, J, R>,
-    scene: &Scene<'_>,
-) -> (Pass<J>, Second<'a, J, R>, Option<Outcome>) {
-    let meanwhile = Meanwhile {
-        dialer: dialer(context.rt, context.alloc, scene),
-        other: second,
-    };
-    let (pass, meanwhile, peer) = serve(context, pass, meanwhile, scene);
-    let Meanwhile { dialer, other } = meanwhile;
-    let outcome = outcome_of(context.alloc, &peer, &dialer);
-    drop(peer);
-    drop(dialer);
-    (pass, other, outcome.ok())
-}
-
 /// Serves two clients of a scene, each with one of these passes: the second one while the replica
 /// of the first one's request is being dialled.
 fn serve_both<J: Naming, R: Wait + Abort>(
@@ -173,21 +156,28 @@ fn serve_both<J: Naming, R: Wait + Abort>(
     second: Pass<J>,
     scene: &Scene<'_>,
 ) -> (Pass<J>, Pass<J>, Outcomes) {
-    let second = Second {
-        context: *context,
-        scene,
-        pass: Some(second),
-        loads: None,
-        outcome: None,
+    let meanwhile = Meanwhile {
+        dialer: dialer(context.rt, context.alloc, scene),
+        other: Second {
+            context: *context,
+            scene,
+            pass: Some(second),
+            loads: None,
+            outcome: None,
+        },
     };
-    let (first, second, outcome) = serve_first(context, first, second, scene);
+    let (first, meanwhile, peer) = serve(context, first, meanwhile, scene);
+    let Meanwhile { dialer, other } = meanwhile;
+    let outcome = outcome_of(context.alloc, &peer, &dialer).ok();
+    drop(peer);
+    drop(dialer);
     let Second {
         context: _,
         scene: _,
         pass,
         loads,
         outcome: other,
-    } = second;
+    } = other;
     let Some(second) = pass else {
         panic!(context.rt; "a pass is missing")
     };
@@ -236,8 +226,25 @@ fn meet_by<R: Wait + Abort>(
     rule: &Rule,
     scene: &Scene<'_>,
 ) -> Result<Outcomes, Fail> {
-    let opened = begin(rt, alloc, scene)?;
+    let settings = settings(alloc, scene)?;
+    let opened = open(rt, alloc, settings, 2)?;
     Ok(serve_named::<Brand, R>(rt, alloc, opened, rule, scene)?)
+}
+
+/// A client has to be answered by the replica that has this sign.
+fn assert_answered<R: Abort>(rt: &R, outcome: Option<&Outcome>, sign: &str) {
+    let Some(outcome) = outcome else {
+        panic!(rt; "nothing came of a client")
+    };
+    assert_eq!(rt; outcome.written.as_str(), WRITTEN);
+    assert!(rt; outcome.sent.starts_with(sign), "{}", outcome.sent);
+}
+
+/// The loads have to be these, and each client has to be answered by a replica of its own.
+fn assert_met<R: Abort>(rt: &R, outcomes: &Outcomes) {
+    assert_eq!(rt; outcomes.loads, Some((1, 0)));
+    assert_answered(rt, outcomes.first.as_ref(), "<");
+    assert_answered(rt, outcomes.second.as_ref(), "?");
 }
 
 /// While the first client's replica is being dialled, its load is 1. So the second client's request
@@ -249,21 +256,8 @@ fn a_client_is_served_while_a_replica_is_dialled(rt: HostRuntime) -> Result<(), 
         addresses: "127.0.0.1 9001~127.0.0.1 9002~",
         ..Scene::of(BOOK, GET, &[REPLY])
     };
-    let Outcomes {
-        first,
-        second,
-        loads,
-    } = meet(&rt, alloc, &scene)?;
-    assert_eq!(rt; loads, Some((1, 0)));
-    let Some(first) = first else {
-        panic!(rt; "nothing came of the first client")
-    };
-    let Some(second) = second else {
-        panic!(rt; "nothing came of the second client")
-    };
-    assert_eq!(rt; first.written.as_str(), WRITTEN);
-    assert_eq!(rt; second.written.as_str(), WRITTEN);
-    assert!(rt; first.sent.starts_with("<"), "{}", first.sent);
-    assert!(rt; second.sent.starts_with("?"), "{}", second.sent);
+    let outcomes = meet(&rt, alloc, &scene)?;
+    assert_met(&rt, &outcomes);
+    drop(outcomes);
     Ok(())
 }

@@ -1,6 +1,5 @@
 //! Connections whose listeners are closing.
-use crate::played::play;
-use crate::row::joined;
+use crate::compared::assert_replies;
 use crate::scene::Scene;
 use crate::texts::{LAST_NEGATIVE, NEGATIVE, TWO};
 use http_wire::Ended::{self, Closed, Drained, PeerEnded};
@@ -25,14 +24,12 @@ const ROWS: [(&str, u64, &[&str], Ended); 7] = [
 #[test]
 fn a_connection_is_drained(rt: HostRuntime) -> Result<(), Fail> {
     let alloc = rt.alloc();
-    for (gives, question, replies, ended) in ROWS {
+    for (gives, question, replies, ended) in ROWS.iter() {
         let scene = Scene {
-            closing: Some(question),
-            ..Scene::of("", gives, &[""])
+            closing: Some(*question),
+            ..Scene::of("", *gives, &[""])
         };
-        let wanted = joined(alloc, replies)?;
-        let played = play(&rt, alloc, &scene)?;
-        assert_eq!(rt; (played.ended, played.written), (Some(ended), wanted));
+        assert_replies(&rt, alloc, &scene, *ended, *replies)?;
     }
     Ok(())
 }

@@ -1,8 +1,8 @@
 //! Connections to replicas that are kept: over which each request goes, and behind which replies
 //! they are kept.
-use crate::played::play;
-use crate::row::{FAILED, FAILED_SINCE, Failures, GOOD, joined, text_of};
-use crate::scene::{FIXED, Failing, Mem, Scene};
+use crate::compared::assert_text;
+use crate::row::{FAILED, FAILED_SINCE, Failures, GOOD, joined, wanted};
+use crate::scene::{FIXED, Failing, NO_CALL, Scene};
 use crate::texts::{DIAL, GET, REPLY, UPSTREAM, WRITTEN};
 use http_wire::Ended::{self, Closed, PeerEnded, UpstreamCut};
 use std::alloc::Global;
@@ -280,42 +280,36 @@ const UNANSWERED: [Case; 4] = [
 ];
 
 impl Case {
-    /// What comes of the session, and what is wanted.
-    fn played<R: Wait + Abort>(&self, rt: &R, alloc: Global) -> Result<(String, String), Fail> {
-        let wanted = self.wanted(alloc)?;
-        let comes = self.comes(rt, alloc)?;
-        Ok((comes, wanted))
+    /// Plays it: what is wanted has to come.
+    fn play<R: Wait + Abort>(&self, rt: &R, alloc: Global) -> Result<(), Fail> {
+        let gives = joined(alloc, self.gives)?;
+        let played = self.play_given(rt, alloc, gives.as_str());
+        drop(gives);
+        played
     }
 
-    /// What comes of the session.
-    fn comes<R: Wait + Abort>(&self, rt: &R, alloc: Global) -> Result<String, Fail> {
-        let gives = joined(alloc, self.gives)?;
+    /// The same, where the client gives this text.
+    fn play_given<R: Wait + Abort>(&self, rt: &R, alloc: Global, gives: &str) -> Result<(), Fail> {
+        let wanted = wanted(alloc, self.written, self.sent, self.ended, self.reported)?;
         let scene = Scene {
-            failing: Failing::Dials(self.failing),
+            failing: Failing {
+                dials: self.failing,
+                ..NO_CALL
+            },
             keeping: Some(self.waiting),
             most: self.most,
-            ..Scene::of(FIXED, gives.as_str(), self.replies)
+            ..Scene::of(FIXED, gives, self.replies)
         };
-        let played = play(rt, alloc, &scene)?;
-        let comes = played.text(alloc);
-        drop(played);
-        Ok(comes?)
-    }
-
-    /// What is wanted of the session.
-    fn wanted(&self, alloc: Global) -> Mem<String> {
-        let written = joined(alloc, self.written)?;
-        let sent = joined(alloc, self.sent)?;
-        let (written, sent) = (written.as_str(), sent.as_str());
-        text_of(alloc, written, sent, Some(self.ended), self.reported)
+        let played = assert_text(rt, alloc, &scene, self.about, wanted.as_str());
+        drop(wanted);
+        played
     }
 }
 
 /// Plays each case, of which has to come what is wanted.
 fn play_cases<R: Wait + Abort>(rt: &R, alloc: Global, cases: &[Case]) -> Result<(), Fail> {
     for case in cases {
-        let (comes, wanted) = case.played(rt, alloc)?;
-        assert_eq!(rt; comes, wanted, "{}", case.about);
+        case.play(rt, alloc)?;
     }
     Ok(())
 }

@@ -8,6 +8,8 @@
 #[cfg(test)]
 mod beside;
 #[cfg(test)]
+mod compared;
+#[cfg(test)]
 mod draining;
 #[cfg(test)]
 mod hostile;

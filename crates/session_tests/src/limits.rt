@@ -1,13 +1,15 @@
 //! The last request that a connection may carry.
 use crate::played::play;
-use crate::scene::Scene;
+use crate::scene::{Mem, Scene};
 use crate::texts::{GET, LAST_NEGATIVE, NEGATIVE};
 use http_wire::Ended::Spent;
-use std::alloc::{AllocError, Global};
+use std::alloc::Global;
+use std::process::Abort;
+use std::sync::Wait;
 use std::test::Fail;
 
 /// 9,999 refusals, and the last one.
-fn refusals(alloc: Global) -> Result<String, AllocError> {
+fn refusals(alloc: Global) -> Mem<String> {
     let mut text = String::new(alloc);
     for _ in 0..9999u32 {
         text.push_str(NEGATIVE)?;
@@ -20,20 +22,33 @@ fn refusals(alloc: Global) -> Result<String, AllocError> {
 /// once; or one by one, 29 bytes each, and the connection waits behind 500 of them.
 const COMING: [(usize, &[u64]); 2] = [(usize::MAX, &[]), (29, &[1000])];
 
+/// Plays a scene, whose connection has to be spent, and whose client has to be given this.
+fn assert_spent<R: Wait + Abort>(
+    rt: &R,
+    alloc: Global,
+    scene: &Scene<'_>,
+    replies: &str,
+) -> Result<(), Fail> {
+    let played = play(rt, alloc, scene)?;
+    let comes = (played.ended, played.written.as_str() == replies);
+    drop(played);
+    assert_eq!(rt; comes, (Some(Spent), true), "the end, and the replies");
+    Ok(())
+}
+
 #[test]
 fn a_connection_is_spent(rt: HostRuntime) -> Result<(), Fail> {
     let alloc = rt.alloc();
-    let wanted = refusals(alloc)?;
-    for (most, quiet) in COMING {
+    let replies = refusals(alloc)?;
+    for (most, quiet) in COMING.iter() {
         let scene = Scene {
             times: 10001,
-            most,
-            quiet,
+            most: *most,
+            quiet: *quiet,
             ..Scene::of("", GET, &[""])
         };
-        let played = play(&rt, alloc, &scene)?;
-        assert_eq!(rt; played.ended, Some(Spent));
-        assert!(rt; played.written == wanted, "the replies");
+        assert_spent(&rt, alloc, &scene, replies.as_str())?;
     }
+    drop(replies);
     Ok(())
 }

@@ -1,7 +1,6 @@
 //! A connection that waits between two of its requests, and with which another server goes on.
-use crate::played::play;
-use crate::row::joined;
-use crate::scene::{BOOK, Failing, Scene};
+use crate::compared::assert_replies;
+use crate::scene::{BOOK, Failing, NO_CALL, Scene};
 use crate::texts::{DIAL, GET, REPLY, WRITTEN};
 use http_wire::Ended;
 use retry_budget::Tries;
@@ -16,10 +15,7 @@ const ONE: Tries = Tries {
 
 /// The calls of each server's dialer that fail, the budget of the connection, and what the second
 /// request is answered. The first one is answered by the replica, each time.
-const ROWS: [(Failing, Option<Tries>, &str); 2] = [
-    (Failing::Nothing, None, WRITTEN),
-    (Failing::Dials(&[0]), Some(ONE), DIAL),
-];
+const ROWS: [(&[u64], Option<Tries>, &str); 2] = [(&[], None, WRITTEN), (&[0], Some(ONE), DIAL)];
 
 /// The connection waits behind its first request, at question 2. What the first server saw for it,
 /// that `web` has an address, the second one sees for its second request; and the one retry of its
@@ -27,21 +23,19 @@ const ROWS: [(Failing, Option<Tries>, &str); 2] = [
 #[test]
 fn another_server_goes_on_with_a_connection(rt: HostRuntime) -> Result<(), Fail> {
     let alloc = rt.alloc();
-    for (failing, tries, second) in ROWS {
+    for (dials, tries, second) in ROWS.iter() {
         let scene = Scene {
             times: 2,
             most: 29,
             quiet: &[2],
-            failing,
-            tries,
+            failing: Failing {
+                dials: *dials,
+                ..NO_CALL
+            },
+            tries: *tries,
             ..Scene::of(BOOK, GET, &[REPLY])
         };
-        let played = play(&rt, alloc, &scene)?;
-        let wanted = joined(alloc, &[WRITTEN, second])?;
-        assert_eq!(rt;
-            (played.ended, played.written),
-            (Some(Ended::PeerEnded), wanted)
-        );
+        assert_replies(&rt, alloc, &scene, Ended::PeerEnded, &[WRITTEN, *second])?;
     }
     Ok(())
 }

@@ -1,5 +1,7 @@
 //! Sessions that are played, and what they came to.
 ghost use Rattle.std.specs.Prelude.{◌≡◌, ◌<◌, None};
+ghost use Rattle.machine.specs.Code.{change_of};
+ghost use Rattle.machine.specs.State.{IsSoundChange};
 ghost use Rattle.router.specs.Opening.{IsNamedBy, beginning_of};
 ghost use Rattle.router.specs.Passes.{slot_in};
 
@@ -34,7 +36,6 @@ impl Gate for Free {
 }
 
 /// What a session came to.
-#[derive(Drop)]
 pub(crate) struct Played {
     /// What the client was given, spelt.
     pub(crate) written: String,
@@ -52,11 +53,47 @@ pub(crate) struct Played {
     pub(crate) told: String,
 }
 
+impl Drop for Played {
+    fn drop(self) {
+        let Played {
+            written,
+            sent,
+            failed: _,
+            ended: _,
+            failures: _,
+            told,
+        } = self;
+        drop(written);
+        drop(sent);
+        drop(told);
+    }
+}
+
 impl Played {
     /// What came of the session, as one text.
     pub(crate) fn text(&self, alloc: Global) -> Mem<String> {
         let (written, sent) = (self.written.as_str(), self.sent.as_str());
         text_of(alloc, written, sent, self.ended, self.failures)
+    }
+
+    /// How the session ended, what the client was given, and what was sent.
+    pub(crate) fn seen(&self) -> (Option<Ended>, &str, &str) {
+        (self.ended, self.written.as_str(), self.sent.as_str())
+    }
+
+    /// What the client was given.
+    pub(crate) fn into_written(self) -> String {
+        let Played {
+            written,
+            sent,
+            failed: _,
+            ended: _,
+            failures: _,
+            told,
+        } = self;
+        drop(sent);
+        drop(told);
+        written
     }
 }
 
@@ -128,52 +165,89 @@ fn told(
 }
 
 /// The same, with how often the replica has failed then: once less than behind one more report.
-fn with_failures(played: Mem<Played>, count: Mem<u32>) -> Mem<Played> {
-    let failures = count?.saturating_sub(1);
+fn with_failures(played: Mem<Played>, count: u32) -> Mem<Played> {
     let mut played = played?;
-    played.failures = failures;
+    played.failures = count.saturating_sub(1);
     Ok(played)
 }
 
-/// Reports a failure of the replica at port 9001, and says how often it then has failed since it
-/// last did well.
-fn fail<J: Naming, R: Wait>(context: &Context<'_, J, R>, pass: &mut Pass<J>) -> Mem<u32> {
-    let change = Change::Report {
+/// The report that the replica at port 9001 failed.
+fn report() -> Change
+    ensures { IsSoundChange (change_of result) }
+{
+    Change::Report {
         addr: Addr {
             ip: 0x7f000001,
             port: 9001,
         },
         good: false,
         moment: 1000,
-    };
-    match context
-        .router
-        .change(context.rt, context.alloc, pass, change)?
-    {
-        Reply::Marked(mark, ..) => Ok(mark.count),
-        _ => Ok(0),
     }
 }
 
-/// A server with this pass and this dialer.
+/// The change that gives the service `web` the addresses of a scene.
+fn new_addresses<R: Abort>(rt: &R, alloc: Global, scene: &Scene<'_>) -> Change
+    ensures { IsSoundChange (change_of result) }
+{
+    match addresses(alloc, scene) {
+        Ok(change) => change,
+        Err(_why) => panic!(rt; "no addresses"),
+    }
+}
+
+/// Makes a change. Where it is a report, it says how often the replica then has failed since it
+/// last did well.
+fn count_behind<J: Naming, R: Wait + Abort>(
+    rt: &R,
+    alloc: Global,
+    router: &Router<J>,
+    pass: &mut Pass<J>,
+    change: Change,
+) -> u32
+    requires { IsSoundChange (change_of change) }
+{
+    match router.change(rt, alloc, pass, change) {
+        Ok(reply) => match reply {
+            Reply::Marked(mark, ..) => mark.count,
+            _ => 0,
+        },
+        Err(_want) => panic!(rt; "no memory for a change"),
+    }
+}
+
+/// Room for a server.
+fn room<R: Abort>(rt: &R, alloc: Global) -> Room {
+    match Room::new(alloc) {
+        Ok(room) => room,
+        Err(_want) => panic!(rt; "no memory for a server"),
+    }
+}
+
+/// The clock of a server.
+fn server_clock<R: Abort>(rt: &R, alloc: Global) -> MemClock {
+    match clock(alloc) {
+        Ok(clock) => clock,
+        Err(_want) => panic!(rt; "no memory for a clock"),
+    }
+}
+
+/// A server with this pass, which has to hold no slot, and with this dialer.
 pub(crate) fn server<J: Naming, R: Abort, D>(
     rt: &R,
     alloc: Global,
     pass: Pass<J>,
     dialer: D,
 ) -> Server<J, D, MemClock>
-    ensures { result.pass ≡ pass }
+    ensures { slot_in result.pass ≡ None }
 {
-    let Ok(room) = Room::new(alloc) else {
-        panic!(rt; "no memory for a server")
+    let None = pass.holds() else {
+        panic!(rt; "the pass holds a slot")
     };
-    let Ok(clock) = clock(alloc) else {
-        panic!(rt; "no memory for a clock")
-    };
+    let room = room(rt, alloc);
     let parts = Parts {
         pass,
         dialer,
-        clock,
+        clock: server_clock(rt, alloc),
         words: Pcg64::seed_from_u64(7),
     };
     Server::of(room, parts)
@@ -196,6 +270,14 @@ pub(crate) fn dialer<R: Abort>(rt: &R, alloc: Global, scene: &Scene<'_>) -> MemD
     match upstreams(alloc, scene) {
         Ok(dialer) => dialer,
         Err(_want) => panic!(rt; "no memory for a dialer"),
+    }
+}
+
+/// The client of a scene.
+pub(crate) fn peer<R: Abort>(rt: &R, alloc: Global, scene: &Scene<'_>) -> MemPeer {
+    match client(alloc, scene) {
+        Ok(peer) => peer,
+        Err(_want) => panic!(rt; "no memory for a client"),
     }
 }
 
@@ -224,44 +306,6 @@ fn serve_stays<J: Naming, R: Wait>(
     }
 }
 
-/// A server with a pass that holds no slot, and with the dialer of a scene.
-fn server_of<J: Naming, R: Wait + Abort>(
-    context: &Context<'_, J, R>,
-    pass: Pass<J>,
-    scene: &Scene<'_>,
-) -> Server<J, MemDialer, MemClock>
-    ensures { slot_in result.pass ≡ None }
-{
-    let None = pass.holds() else {
-        panic!(context.rt; "the pass holds a slot")
-    };
-    let dialer = dialer(context.rt, context.alloc, scene);
-    server(context.rt, context.alloc, pass, dialer)
-}
-
-/// Serves the client of a scene with two servers.
-fn serve_client<J: Naming, R: Wait + Abort>(
-    context: &Context<'_, J, R>,
-    first: &mut Server<J, MemDialer, MemClock>,
-    second: &mut Server<J, MemDialer, MemClock>,
-    scene: &Scene<'_>,
-) -> ServedClient
-    requires first { slot_in first.old.pass ≡ None }
-    requires second { slot_in second.old.pass ≡ None }
-{
-    let Ok(peer) = client(context.alloc, scene) else {
-        panic!(context.rt; "no memory for a client")
-    };
-    let mut connection = scene.connection(peer);
-    let mut keeper = Keeper::new(context.alloc);
-    let ended = serve_stays(context, first, second, &mut connection, &mut keeper);
-    ServedClient {
-        peer: connection.into_peer(),
-        keeper,
-        ended,
-    }
-}
-
 /// Serves the client of a scene with a server of each pass, and gives the passes back.
 fn serve<J: Naming, R: Wait + Abort>(
     context: &Context<'_, J, R>,
@@ -269,12 +313,26 @@ fn serve<J: Naming, R: Wait + Abort>(
     second: Pass<J>,
     scene: &Scene<'_>,
 ) -> (Pass<J>, Pass<J>, Mem<Played>) {
-    let mut first = server_of(context, first, scene);
-    let mut second = server_of(context, second, scene);
-    let client = serve_client(context, &mut first, &mut second, scene);
+    let Context { rt, alloc, .. } = *context;
+    let mut first = server(rt, alloc, first, dialer(rt, alloc, scene));
+    let mut second = server(rt, alloc, second, dialer(rt, alloc, scene));
+    let mut connection = scene.connection(peer(rt, alloc, scene));
+    let mut keeper = Keeper::new(alloc);
+    let ended = serve_stays(
+        context,
+        &mut first,
+        &mut second,
+        &mut connection,
+        &mut keeper,
+    );
+    let client = ServedClient {
+        peer: connection.into_peer(),
+        keeper,
+        ended,
+    };
     let (first, dialer) = parts_of(first);
     let (second, other) = parts_of(second);
-    let played = told(context.alloc, &client, &dialer, &other);
+    let played = told(alloc, &client, &dialer, &other);
     drop(client);
     drop(dialer);
     drop(other);
@@ -292,26 +350,13 @@ pub(crate) fn close<J: Naming, R: Wait + Abort>(
     requires { J.parts ≡ J.seats }
 {
     assert!(rt; first.number() < second.number());
-    let Ok(passes) = vec![in alloc; first, second] else {
-        panic!(rt; "no memory for the passes")
+    let passes = match vec![in alloc; first, second] {
+        Ok(passes) => passes,
+        Err(_back) => panic!(rt; "no memory for the passes"),
     };
     match router.close(rt, passes) {
         Ok(_place) => {}
         Err(_back) => panic!(rt; "not closed"),
-    }
-}
-
-/// Gives the service `web` the addresses of a scene.
-fn set_addresses<J: Naming, R: Wait + Abort>(
-    rt: &R,
-    alloc: Global,
-    router: &Router<J>,
-    pass: &mut Pass<J>,
-    scene: &Scene<'_>,
-) {
-    match addresses(alloc, scene) {
-        Ok(change) => assert!(rt; router.change(rt, alloc, pass, change).is_ok()),
-        Err(_why) => panic!(rt; "no addresses"),
     }
 }
 
@@ -325,13 +370,17 @@ pub(crate) fn named<J: Naming, R: Wait + Abort>(
     requires { IsNamedBy (beginning_of opened) J.Naming.own J.Ledger.own }
 {
     let (router, mut passes) = opened.named::<J, R>(rt, alloc)?;
-    let Some(second) = passes.pop() else {
-        panic!(rt; "a pass is missing")
+    let second = match passes.pop() {
+        Some(pass) => pass,
+        None => panic!(rt; "a pass is missing"),
     };
-    let Some(mut first) = passes.pop() else {
-        panic!(rt; "both passes are missing")
+    let mut first = match passes.pop() {
+        Some(pass) => pass,
+        None => panic!(rt; "both passes are missing"),
     };
-    set_addresses(rt, alloc, &router, &mut first, scene);
+    drop(passes);
+    let change = new_addresses(rt, alloc, scene);
+    let _count = count_behind(rt, alloc, &router, &mut first, change);
     Ok((router, first, second))
 }
 
@@ -352,16 +401,23 @@ fn play_named<J: Naming, R: Wait + Abort>(
         router: &router,
         rule,
     };
-    assert!(rt; fail(&context, &mut first).is_ok());
+    let _once = count_behind(rt, alloc, &router, &mut first, report());
     let (mut first, second, played) = serve(&context, first, second, scene);
-    let count = fail(&context, &mut first);
+    let count = count_behind(rt, alloc, &router, &mut first, report());
     close(rt, alloc, router, first, second);
     with_failures(played, count)
 }
 
-/// The router of a scene, before it has a name.
-pub(crate) fn begin<R: Wait>(rt: &R, alloc: Global, scene: &Scene<'_>) -> Result<Opened, Fail> {
-    Ok(open(rt, alloc, settings(alloc, scene)?, 2)?)
+/// Plays a scene, and gives what came of it as one text.
+pub(crate) fn play_text<R: Wait + Abort>(
+    rt: &R,
+    alloc: Global,
+    scene: &Scene<'_>,
+) -> Result<String, Fail> {
+    let played = play(rt, alloc, scene)?;
+    let text = played.text(alloc);
+    drop(played);
+    Ok(text?)
 }
 
 /// Plays a scene over a router of its own, in which the service `web` has its addresses.
@@ -383,6 +439,7 @@ fn play_by<R: Wait + Abort>(
     rule: &Rule,
     scene: &Scene<'_>,
 ) -> Result<Played, Fail> {
-    let opened = begin(rt, alloc, scene)?;
+    let settings = settings(alloc, scene)?;
+    let opened = open(rt, alloc, settings, 2)?;
     Ok(play_named::<Brand, R>(rt, alloc, opened, rule, scene)?)
 }

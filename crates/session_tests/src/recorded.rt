@@ -1,11 +1,12 @@
 //! What a recorder is told of the exchanges of a session.
-use crate::played::play;
+use crate::played::{Played, play};
 use crate::row::joined;
 use crate::scene::{FIXED, Mem, Scene, spelling};
 use exchange_record::{ConnectionStep, Exchange, Recorder};
 use http_wire::{Ended, Head};
 use name_tree::{Path, write_path};
 use std::alloc::Global;
+use std::process::Abort;
 use std::test::Fail;
 
 /// Keeps what it is told of each exchange, as text: the port of its client, its target, the path
@@ -104,12 +105,21 @@ const TOLD: [&str; 4] = [
         reply_bytes: 9, hits: 0, misses: 0, broken: None }|",
 ];
 
+/// A session has to end with a refusal, and each of its exchanges has to be told of.
+fn assert_told<R: Abort>(rt: &R, alloc: Global, played: &Played) -> Mem<()> {
+    let told = joined(alloc, &TOLD)?;
+    let comes = (played.ended, played.told.as_str());
+    assert_eq!(rt; comes, (Some(Ended::Closed), told.as_str()));
+    drop(told);
+    Ok(())
+}
+
 /// Each exchange is told of once, in order, and by its own numbers.
 #[test]
 fn each_exchange_is_told_of(rt: HostRuntime) -> Result<(), Fail> {
     let alloc = rt.alloc();
     let played = play(&rt, alloc, &Scene::of(FIXED, GIVES, &REPLIES))?;
-    let told = joined(alloc, &TOLD)?;
-    assert_eq!(rt; (played.ended, played.told), (Some(Ended::Closed), told));
-    Ok(())
+    let told = assert_told(&rt, alloc, &played);
+    drop(played);
+    Ok(told?)
 }

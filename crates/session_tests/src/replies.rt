@@ -1,6 +1,5 @@
 //! Replies of each framing, and the ways in which a try ends, with the report that each makes.
 use crate::row::{NOTHING, PASSED, REFUSED, Row, UNANSWERED, play_rows};
-use crate::scene::Failing::{Dial, Read, Write};
 use crate::texts::{
     BAD_GATEWAY, CHUNKED, CLOSE, EMPTY, GET, GET_LINES, OK, ON, POST_LINES, REPLY, TWO, UPSTREAM,
     VIA, WRITTEN, WRITTEN_EMPTY,
@@ -128,14 +127,14 @@ const CALLS: [Row; 6] = [
     Row {
         about: "a send that fails",
         replies: &[EMPTY],
-        failing: Dial(1),
+        dials: &[1],
         sent: &["<>"],
         ..UNANSWERED
     },
     Row {
         about: "a receive that fails",
         replies: &[EMPTY],
-        failing: Dial(2),
+        dials: &[2],
         ..UNANSWERED
     },
     Row {
@@ -155,14 +154,14 @@ const CALLS: [Row; 6] = [
         about: "a request's body that can't be read",
         gives: &[POST_LINES, "Content-Length: 3||a"],
         replies: &[EMPTY],
-        failing: Read(1),
+        reads: &[1],
         sent: &["<", POST_LINES, "Content-Length: 3|", ON, "a>"],
         ended: ReadFault,
         ..REFUSED
     },
     Row {
         about: "a reply that can't be written",
-        failing: Write(0),
+        writes: &[0],
         written: &[],
         ended: WriteFault,
         reported: NOTHING,
@@ -170,7 +169,7 @@ const CALLS: [Row; 6] = [
     },
     Row {
         about: "a refusal that can't be written",
-        failing: Write(0),
+        writes: &[0],
         written: &[],
         ended: WriteFault,
         ..UNANSWERED
@@ -182,20 +181,20 @@ const BEHIND: [Row; 5] = [
     Row {
         about: "a reply of no content, told before the next receive",
         replies: &["HTTP/1.1 204 No Content||"],
-        failing: Dial(3),
+        dials: &[3],
         written: &["HTTP/1.1 204 No Content|", VIA],
         ..PASSED
     },
     Row {
         about: "a length of 0, told before the next receive",
-        failing: Dial(3),
+        dials: &[3],
         ..PASSED
     },
     Row {
         about: "a request of no content that is not sent, and one behind it",
         gives: &[POST_LINES, "Content-Length: 0||", GET],
         replies: &["", REPLY],
-        failing: Dial(1),
+        dials: &[1],
         written: &[UPSTREAM, WRITTEN],
         sent: &["<><", GET_LINES, ON, ">"],
         ..PASSED
@@ -204,7 +203,7 @@ const BEHIND: [Row; 5] = [
         about: "a body that is not sent, and a request behind it",
         gives: &[POST_LINES, "Content-Length: 5||hello", GET],
         replies: &["", REPLY],
-        failing: Dial(1),
+        dials: &[1],
         written: &[
             BAD_GATEWAY,
             "upstream|Content-Length: 9|",

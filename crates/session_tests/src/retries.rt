@@ -1,7 +1,8 @@
 //! Requests that are tried again, and what their budget grants.
-use crate::played::play;
+use crate::compared::assert_same;
+use crate::played::{Played, play};
 use crate::row::joined;
-use crate::scene::{BOOK, FIXED, Failing, Scene};
+use crate::scene::{BOOK, FIXED, Failing, Mem, NO_CALL, Scene};
 use crate::texts::{DIAL, GET, REPLY, TWO, UPSTREAM, WRITTEN};
 use http_wire::Ended::{self, Closed, PeerEnded, UpstreamCut};
 use retry_budget::{Budget, Tries};
@@ -202,45 +203,61 @@ fn opened(sent: &str, sign: u8) -> usize {
 }
 
 /// What came of a session, as one text.
-fn told(
-    alloc: Global,
-    written: &str,
-    dials: (u64, usize),
-    ended: Option<Ended>,
-) -> Result<String, Fail> {
+fn told(alloc: Global, written: &str, dials: (u64, usize), ended: Option<Ended>) -> Mem<String> {
     let (failed, opened) = dials;
-    Ok(format!(in alloc; "{written} {failed} {opened} {ended:?}")?)
+    format!(in alloc; "{written} {failed} {opened} {ended:?}")
+}
+
+/// The same of a session that was played.
+fn told_of(alloc: Global, played: &Played) -> Mem<String> {
+    let dials = (played.failed, opened(played.sent.as_str(), b'<'));
+    told(alloc, played.written.as_str(), dials, played.ended)
 }
 
 impl Case {
-    /// What comes of the session, and what is wanted.
-    fn played<R: Wait + Abort>(&self, rt: &R, alloc: Global) -> Result<(String, String), Fail> {
-        let wanted = joined(alloc, self.written)?;
-        let wanted = told(alloc, wanted.as_str(), self.dials, Some(self.ended))?;
+    /// Plays it: what is wanted has to come.
+    fn play<R: Wait + Abort>(&self, rt: &R, alloc: Global) -> Result<(), Fail> {
+        let wanted = self.wanted(alloc)?;
+        let played = self.play_for(rt, alloc, wanted.as_str());
+        drop(wanted);
+        played
+    }
+
+    /// The same, where this text is wanted.
+    fn play_for<R: Wait + Abort>(&self, rt: &R, alloc: Global, wanted: &str) -> Result<(), Fail> {
         let comes = self.comes(rt, alloc)?;
-        Ok((comes, wanted))
+        assert_same(rt, self.about, comes.as_str(), wanted);
+        drop(comes);
+        Ok(())
+    }
+
+    /// What is wanted of the session.
+    fn wanted(&self, alloc: Global) -> Mem<String> {
+        let written = joined(alloc, self.written)?;
+        told(alloc, written.as_str(), self.dials, Some(self.ended))
     }
 
     /// What comes of the session.
     fn comes<R: Wait + Abort>(&self, rt: &R, alloc: Global) -> Result<String, Fail> {
         let scene = Scene {
-            failing: Failing::Dials(self.failing),
+            failing: Failing {
+                dials: self.failing,
+                ..NO_CALL
+            },
             tries: Some(self.tries),
             ..Scene::of(FIXED, self.gives, self.replies)
         };
         let played = play(rt, alloc, &scene)?;
-        let dials = (played.failed, opened(played.sent.as_str(), b'<'));
-        let comes = told(alloc, played.written.as_str(), dials, played.ended);
+        let comes = told_of(alloc, &played);
         drop(played);
-        comes
+        Ok(comes?)
     }
 }
 
 /// Plays each case, of which has to come what is wanted.
 fn play_cases<R: Wait + Abort>(rt: &R, alloc: Global, cases: &[Case]) -> Result<(), Fail> {
     for case in cases {
-        let (comes, wanted) = case.played(rt, alloc)?;
-        assert!(rt; comes == wanted, "{}", case.about);
+        case.play(rt, alloc)?;
     }
     Ok(())
 }
@@ -278,13 +295,22 @@ const METHODS: [(&str, bool); 10] = [
 /// reply.
 fn tried<R: Wait + Abort>(rt: &R, alloc: Global, method: &str) -> Result<usize, Fail> {
     let gives = format!(in alloc; "{method} / HTTP/1.1|Host: web||")?;
+    let count = opened_for(rt, alloc, gives.as_str());
+    drop(gives);
+    count
+}
+
+/// The same for this request.
+fn opened_for<R: Wait + Abort>(rt: &R, alloc: Global, gives: &str) -> Result<usize, Fail> {
     let replies = ["", "HTTP/1.1 204 No Content||"];
     let scene = Scene {
         tries: Some(USUAL),
-        ..Scene::of(FIXED, gives.as_str(), &replies)
+        ..Scene::of(FIXED, gives, &replies)
     };
     let played = play(rt, alloc, &scene)?;
-    Ok(opened(played.sent.as_str(), b'<'))
+    let count = opened(played.sent.as_str(), b'<');
+    drop(played);
+    Ok(count)
 }
 
 #[test]
@@ -306,11 +332,13 @@ fn a_retry_takes_a_hundred(rt: HostRuntime) {
         most: 3,
     });
     budget.request();
-    assert!(rt; !budget.spend());
-    assert_eq!(rt; budget.balance(), 99);
+    let first = (budget.spend(), budget.balance());
     budget.request();
-    assert!(rt; budget.spend());
-    assert_eq!(rt; (budget.balance(), budget.most()), (98, 3));
+    let second = (budget.spend(), budget.balance());
+    assert_eq!(rt;
+        (first, second, budget.most()),
+        ((false, 99), (true, 98), 3)
+    );
     assert!(rt; USUAL.is_allowed() && Tries::default().is_allowed());
 }
 
@@ -323,16 +351,18 @@ fn a_replica_that_failed_is_left_out(rt: HostRuntime) -> Result<(), Fail> {
         addresses: "127.0.0.1 9001~127.0.0.1 9002~",
         is_strict: true,
         times: 8,
-        failing: Failing::Dials(&[0]),
+        failing: Failing {
+            dials: &[0],
+            ..NO_CALL
+        },
         tries: Some(Tries::default()),
         ..Scene::of(BOOK, GET, &[REPLY; 8])
     };
     let played = play(&rt, alloc, &scene)?;
     let sent = played.sent.as_str();
     let (first, second) = (opened(sent, b'<'), opened(sent, b'?'));
-    assert_eq!(rt;
-        (played.failed, first.min(second), first.max(second)),
-        (1, 0, 8)
-    );
+    let comes = (played.failed, first.min(second), first.max(second));
+    drop(played);
+    assert_eq!(rt; comes, (1, 0, 8));
     Ok(())
 }

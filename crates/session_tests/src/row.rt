@@ -1,5 +1,5 @@
 //! Rows of tables: what goes into a session and what comes of it.
-use crate::played::play;
+use crate::compared::assert_text;
 use crate::scene::{FIXED, Failing, Mem, Scene};
 use crate::texts::{EMPTY, GET, GET_LINES, ON, UPSTREAM, WRITTEN_EMPTY};
 use http_wire::Ended;
@@ -35,7 +35,10 @@ pub(crate) struct Row {
     pub(crate) gives: &'static [&'static str],
     /// What the upstreams reply, in the order of the dials.
     pub(crate) replies: &'static [&'static str],
-    pub(crate) failing: Failing,
+    /// The reads of the client, the writes to it and the calls of the dialers that fail.
+    pub(crate) reads: &'static [u64],
+    pub(crate) writes: &'static [u64],
+    pub(crate) dials: &'static [u64],
     /// What the client is given.
     pub(crate) written: &'static [&'static str],
     /// What the tries send, each between `<` and `>`.
@@ -50,7 +53,9 @@ pub(crate) const PASSED: Row = Row {
     table: FIXED,
     gives: &[GET],
     replies: &[EMPTY],
-    failing: Failing::Nothing,
+    reads: &[],
+    writes: &[],
+    dials: &[],
     written: &[WRITTEN_EMPTY],
     sent: &["<", GET_LINES, ON, ">"],
     ended: Ended::PeerEnded,
@@ -95,41 +100,56 @@ pub(crate) fn text_of(
     format!(in alloc; "{written} {sent} {ended:?} {reported}")
 }
 
+/// What is wanted of a session, as one text: what the client is given, what the tries send, each
+/// behind one another, how the session ends, and what was reported.
+pub(crate) fn wanted(
+    alloc: Global,
+    written: &[&str],
+    sent: &[&str],
+    ended: Ended,
+    reported: Failures,
+) -> Mem<String> {
+    let written = joined(alloc, written)?;
+    let sent = joined(alloc, sent)?;
+    text_of(
+        alloc,
+        written.as_str(),
+        sent.as_str(),
+        Some(ended),
+        reported,
+    )
+}
+
 impl Row {
-    /// What comes of the session, and what is wanted.
-    fn played<R: Wait + Abort>(&self, rt: &R, alloc: Global) -> Result<(String, String), Fail> {
-        let wanted = self.wanted(alloc)?;
-        let comes = self.comes(rt, alloc)?;
-        Ok((comes, wanted))
-    }
-
-    /// What comes of the session.
-    fn comes<R: Wait + Abort>(&self, rt: &R, alloc: Global) -> Result<String, Fail> {
+    /// Plays it: what is wanted has to come.
+    fn play<R: Wait + Abort>(&self, rt: &R, alloc: Global) -> Result<(), Fail> {
         let gives = joined(alloc, self.gives)?;
-        let scene = Scene {
-            failing: self.failing,
-            ..Scene::of(self.table, gives.as_str(), self.replies)
-        };
-        let played = play(rt, alloc, &scene)?;
-        let comes = played.text(alloc);
-        drop(played);
-        Ok(comes?)
+        let played = self.play_given(rt, alloc, gives.as_str());
+        drop(gives);
+        played
     }
 
-    /// What is wanted of the session.
-    fn wanted(&self, alloc: Global) -> Mem<String> {
-        let written = joined(alloc, self.written)?;
-        let sent = joined(alloc, self.sent)?;
-        let (written, sent) = (written.as_str(), sent.as_str());
-        text_of(alloc, written, sent, Some(self.ended), self.reported)
+    /// The same, where the client gives this text.
+    fn play_given<R: Wait + Abort>(&self, rt: &R, alloc: Global, gives: &str) -> Result<(), Fail> {
+        let wanted = wanted(alloc, self.written, self.sent, self.ended, self.reported)?;
+        let scene = Scene {
+            failing: Failing {
+                reads: self.reads,
+                writes: self.writes,
+                dials: self.dials,
+            },
+            ..Scene::of(self.table, gives, self.replies)
+        };
+        let played = assert_text(rt, alloc, &scene, self.about, wanted.as_str());
+        drop(wanted);
+        played
     }
 }
 
 /// Plays each row, of which has to come what is wanted.
 pub(crate) fn play_rows<R: Wait + Abort>(rt: &R, alloc: Global, rows: &[Row]) -> Result<(), Fail> {
     for row in rows {
-        let (comes, wanted) = row.played(rt, alloc)?;
-        assert_eq!(rt; comes, wanted, "{}", row.about);
+        row.play(rt, alloc)?;
     }
     Ok(())
 }

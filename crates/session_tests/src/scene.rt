@@ -35,31 +35,21 @@ const CALLS: usize = 1000;
 /// The calls that fail. Those of each kind are counted from 0; a dial, a send and a receive are of
 /// one kind.
 #[derive(Clone, Copy)]
-pub(crate) enum Failing {
-    Nothing,
-    Read(u64),
-    Write(u64),
-    Dial(u64),
-    Dials(&'static [u64]),
+pub(crate) struct Failing<'a> {
+    /// Reads of the client.
+    pub(crate) reads: &'a [u64],
+    /// Writes to it.
+    pub(crate) writes: &'a [u64],
+    /// Calls of the dialer.
+    pub(crate) dials: &'a [u64],
 }
 
-impl Failing {
-    /// The read of the client that fails, if one does.
-    fn read(self) -> Option<u64> {
-        match self {
-            Failing::Read(call) => Some(call),
-            _ => None,
-        }
-    }
-
-    /// The write to the client that fails, if one does.
-    fn write(self) -> Option<u64> {
-        match self {
-            Failing::Write(call) => Some(call),
-            _ => None,
-        }
-    }
-}
+/// No call fails.
+pub(crate) const NO_CALL: Failing<'static> = Failing {
+    reads: &[],
+    writes: &[],
+    dials: &[],
+};
 
 /// What a session is played with. In the texts `|` is CR LF and `~` is LF.
 #[derive(Clone, Copy)]
@@ -79,7 +69,7 @@ pub(crate) struct Scene<'a> {
     pub(crate) replies: &'a [&'a str],
     /// The most bytes that a call moves.
     pub(crate) most: usize,
-    pub(crate) failing: Failing,
+    pub(crate) failing: Failing<'a>,
     /// The dialer keeps connections, and those of its calls that fail and are listed here do so
     /// because they waited for too long. `None` where it keeps none.
     pub(crate) keeping: Option<&'a [u64]>,
@@ -104,7 +94,7 @@ impl<'a> Scene<'a> {
             until: usize::MAX,
             replies,
             most: usize::MAX,
-            failing: Failing::Nothing,
+            failing: NO_CALL,
             closing: None,
             quiet: &[],
             keeping: None,
@@ -128,24 +118,6 @@ impl<'a> Scene<'a> {
             return Ok(Vec::new(alloc));
         }
         Vec::from_elem(alloc, self.most, calls)
-    }
-}
-
-/// A list of this number, if it is one.
-fn listed(alloc: Global, call: Option<u64>) -> Mem<Vec<u64>> {
-    let mut calls = Vec::new(alloc);
-    if let Some(call) = call {
-        calls.push(call)?;
-    }
-    Ok(calls)
-}
-
-/// The calls of a dialer that fail.
-fn dials(alloc: Global, failing: Failing) -> Mem<Vec<u64>> {
-    match failing {
-        Failing::Dial(call) => listed(alloc, Some(call)),
-        Failing::Dials(calls) => Vec::from_slice(alloc, calls),
-        Failing::Nothing | Failing::Read(_) | Failing::Write(_) => Ok(Vec::new(alloc)),
     }
 }
 
@@ -179,10 +151,11 @@ pub(crate) fn spelling(alloc: Global, bytes: &[u8]) -> Mem<String> {
 
 /// The rule that names a request by its host, behind `/svc`.
 pub(crate) fn by_host(alloc: Global) -> Result<Rule, Fail> {
+    let prefix = read_path(alloc, b"/svc")?;
     let name = FieldName::of(Vec::from_slice(alloc, b"Host")?);
     Ok(Rule {
         kind: Kind::Token(name),
-        prefix: read_path(alloc, b"/svc")?,
+        prefix,
         clears_context: false,
     })
 }
@@ -203,12 +176,10 @@ pub(crate) fn settings(alloc: Global, scene: &Scene<'_>) -> Result<Settings, Fai
 pub(crate) fn addresses(alloc: Global, scene: &Scene<'_>) -> Result<Change, Fail>
     ensures { IfOk result (λ change. IsSoundChange (change_of change)) }
 {
+    let service = Name::of(alloc, b"web")?;
     let text = spelt(alloc, scene.addresses)?;
     let list: AddrList = read_addrs(alloc, text.as_slice())?;
-    Ok(Change::SetAddrs {
-        service: Name::of(alloc, b"web")?,
-        list,
-    })
+    Ok(Change::SetAddrs { service, list })
 }
 
 /// The bytes that the client of a scene gives.
@@ -230,7 +201,7 @@ const CLIENT: SocketAddress = SocketAddress {
 
 /// The bytes that the client of a scene gives, in its calls.
 fn source(alloc: Global, scene: &Scene<'_>) -> Mem<MemSource> {
-    let failing = listed(alloc, scene.failing.read())?;
+    let failing = Vec::from_slice(alloc, scene.failing.reads)?;
     let sizes = scene.sizes(alloc, CALLS)?;
     let bytes = given(alloc, scene)?;
     Ok(MemSource::of(bytes, sizes, failing))
@@ -238,7 +209,7 @@ fn source(alloc: Global, scene: &Scene<'_>) -> Mem<MemSource> {
 
 /// What takes the bytes that it is given.
 fn sink(alloc: Global, scene: &Scene<'_>) -> Mem<MemSink> {
-    let failing = listed(alloc, scene.failing.write())?;
+    let failing = Vec::from_slice(alloc, scene.failing.writes)?;
     let sizes = scene.sizes(alloc, CALLS)?;
     Ok(MemSink::of(alloc, sizes, failing))
 }
@@ -269,24 +240,23 @@ fn replies(alloc: Global, scene: &Scene<'_>) -> Mem<Vec<Bytes>> {
     Ok(replies)
 }
 
-/// The calls of a scene's dialer that wait for too long, if it keeps connections.
-fn waiting(alloc: Global, scene: &Scene<'_>) -> Mem<Option<Vec<u64>>> {
-    match scene.keeping {
-        Some(waiting) => Ok(Some(Vec::from_slice(alloc, waiting)?)),
-        None => Ok(None),
-    }
+/// The upstreams of a scene, over connections that are not kept.
+fn unkept(alloc: Global, scene: &Scene<'_>) -> Mem<MemDialer> {
+    let failing = Vec::from_slice(alloc, scene.failing.dials)?;
+    let sizes = scene.sizes(alloc, CALLS)?;
+    let replies = replies(alloc, scene)?;
+    Ok(MemDialer::of(alloc, replies, sizes, failing))
 }
 
 /// The upstreams of a scene.
 pub(crate) fn upstreams(alloc: Global, scene: &Scene<'_>) -> Mem<MemDialer> {
-    let waiting = waiting(alloc, scene)?;
-    let failing = dials(alloc, scene.failing)?;
-    let sizes = scene.sizes(alloc, CALLS)?;
-    let dialer = MemDialer::of(alloc, replies(alloc, scene)?, sizes, failing);
-    Ok(match waiting {
-        Some(waiting) => dialer.keeping(true, waiting),
-        None => dialer,
-    })
+    match scene.keeping {
+        Some(calls) => {
+            let waiting = Vec::from_slice(alloc, calls)?;
+            Ok(unkept(alloc, scene)?.keeping(true, waiting))
+        }
+        None => unkept(alloc, scene),
+    }
 }
 
 /// A clock that stands still.

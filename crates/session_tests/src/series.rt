@@ -1,7 +1,7 @@
 //! One session, cut at each byte, and with each of its calls failing.
-use crate::played::play;
-use crate::scene::Failing::{self, Dial, Read, Write};
-use crate::scene::{Scene, spelt};
+use crate::compared::assert_written;
+use crate::played::{Played, play};
+use crate::scene::{Failing, NO_CALL, Scene, spelt};
 use crate::texts::{DIAL, FIELDS, SENT_FIELDS, UPSTREAM};
 use http_wire::Ended::{self, Cut, PeerEnded, ReadFault, UpstreamCut, WriteFault};
 use std::alloc::Global;
@@ -17,14 +17,55 @@ const REPLY: &str = "HTTP/1.1 200 OK|Content-Length: 50||\
 const WRITTEN: &str = "HTTP/1.1 200 OK|Content-Length: 50|Via: 1.1 linkerd||\
     01234567890123456789012345678901234567890123456789";
 
-/// What comes of the request, in calls of at most 40 bytes: how the session ended, what was written
-/// and what was sent.
+/// How a session has to end, what has to be written and what has to be sent.
+type Wanted = (Ended, &'static str, &'static str);
+
+/// A session has to come to this.
+fn assert_comes<R: Abort>(rt: &R, played: &Played, wanted: Wanted, about: &str, number: u64) {
+    let comes = played.seen();
+    let (ended, written, sent) = wanted;
+    assert_eq!(rt; comes, (Some(ended), written, sent), "{about} {number}");
+}
+
+/// Plays the request, of which so many bytes come.
+fn cut_at<R: Wait + Abort>(rt: &R, alloc: Global, until: usize) -> Result<Played, Fail> {
+    let replies = [REPLY];
+    let scene = Scene {
+        until,
+        ..Scene::of("", FIELDS, &replies)
+    };
+    play(rt, alloc, &scene)
+}
+
+/// What has to come of that, where the request has this length.
+fn wanted_of(until: usize, length: usize) -> Wanted {
+    match until {
+        0 => (PeerEnded, "", ""),
+        _ if until < length => (Cut, "", ""),
+        _ => (PeerEnded, WRITTEN, SENT_FIELDS),
+    }
+}
+
+#[test]
+fn a_request_that_is_cut_is_not_sent(rt: HostRuntime) -> Result<(), Fail> {
+    let alloc = rt.alloc();
+    let length = spelt(alloc, FIELDS)?.len();
+    for until in 0..length + 1 {
+        let played = cut_at(&rt, alloc, until)?;
+        let wanted = wanted_of(until, length);
+        assert_comes(&rt, &played, wanted, "bytes", until as u64);
+        drop(played);
+    }
+    Ok(())
+}
+
+/// Plays the request so often, in calls of at most 40 bytes, of which one fails.
 fn served<R: Wait + Abort>(
     rt: &R,
     alloc: Global,
-    failing: Failing,
+    failing: Failing<'_>,
     times: usize,
-) -> Result<(Option<Ended>, String, String), Fail> {
+) -> Result<Played, Fail> {
     let replies = [REPLY, REPLY];
     let scene = Scene {
         times,
@@ -32,67 +73,79 @@ fn served<R: Wait + Abort>(
         failing,
         ..Scene::of("", FIELDS, &replies)
     };
-    let played = play(rt, alloc, &scene)?;
-    Ok((played.ended, played.written, played.sent))
+    play(rt, alloc, &scene)
 }
 
-#[test]
-fn a_request_that_is_cut_is_not_sent(rt: HostRuntime) -> Result<(), Fail> {
-    let alloc = rt.alloc();
-    let replies = [REPLY];
-    let length = spelt(alloc, FIELDS)?.len();
-    for until in 0..length + 1 {
-        let scene = Scene {
-            until,
-            ..Scene::of("", FIELDS, &replies)
-        };
-        let played = play(&rt, alloc, &scene)?;
-        let wanted = match until {
-            0 => (PeerEnded, "", ""),
-            _ if until < length => (Cut, "", ""),
-            _ => (PeerEnded, WRITTEN, SENT_FIELDS),
-        };
-        let comes = (played.ended, played.written.as_str(), played.sent.as_str());
-        let (ended, written, sent) = wanted;
-        assert_eq!(rt; comes, (Some(ended), written, sent), "{until} bytes");
-    }
+/// Plays the request, where this read fails before all of it has come.
+fn play_unread<R: Wait + Abort>(rt: &R, alloc: Global, call: u64) -> Result<(), Fail> {
+    let reads = [call];
+    let failing = Failing {
+        reads: &reads,
+        ..NO_CALL
+    };
+    let played = served(rt, alloc, failing, 1)?;
+    assert_comes(rt, &played, (ReadFault, "", ""), "read", call);
+    drop(played);
     Ok(())
 }
 
-/// Of 5 reads the request comes, and one gives the end. The reply goes in 4 writes, of 40, 18, 40
-/// and 9 bytes: its head leaves together with the first piece of the body, which came with it in
-/// one receive.
+/// Of 5 reads the request comes, and one gives the end.
 #[test]
-fn each_call_of_the_client_fails(rt: HostRuntime) -> Result<(), Fail> {
+fn each_read_of_the_client_fails(rt: HostRuntime) -> Result<(), Fail> {
     let alloc = rt.alloc();
     for call in 0..5u64 {
-        let (ended, written, sent) = served(&rt, alloc, Read(call), 1)?;
-        let comes = (ended, written.as_str(), sent.as_str());
-        assert_eq!(rt; comes, (Some(ReadFault), "", ""), "read {call}");
+        play_unread(&rt, alloc, call)?;
     }
-    let (ended, written, _) = served(&rt, alloc, Read(5), 1)?;
+    let failing = Failing {
+        reads: &[5],
+        ..NO_CALL
+    };
+    let played = served(&rt, alloc, failing, 1)?;
+    assert_written(&rt, &played, ReadFault, WRITTEN);
+    drop(played);
+    Ok(())
+}
+
+/// The request has to be sent, and of what goes back for it a part has to be written, or nothing.
+fn assert_begun<R: Abort>(rt: &R, played: &Played, call: u64) {
+    let (ended, written, sent) = played.seen();
+    let (begins, whole) = (WRITTEN.starts_with(written), written == WRITTEN);
     assert_eq!(rt;
-        (ended, written.as_str()),
-        (Some(ReadFault), WRITTEN),
-        "the end"
+        (ended, sent, begins, whole),
+        (Some(WriteFault), SENT_FIELDS, true, false),
+        "write {call}"
     );
+}
+
+/// Plays the request, where this write fails before the whole reply has gone back.
+fn play_unwritten<R: Wait + Abort>(rt: &R, alloc: Global, call: u64) -> Result<(), Fail> {
+    let writes = [call];
+    let failing = Failing {
+        writes: &writes,
+        ..NO_CALL
+    };
+    let played = served(rt, alloc, failing, 1)?;
+    assert_begun(rt, &played, call);
+    drop(played);
+    Ok(())
+}
+
+/// The reply goes in 4 writes, of 40, 18, 40 and 9 bytes: its head leaves together with the first
+/// piece of the body, which came with it in one receive. There is no further write.
+#[test]
+fn each_write_to_the_client_fails(rt: HostRuntime) -> Result<(), Fail> {
+    let alloc = rt.alloc();
     for call in 0..4u64 {
-        let (ended, written, sent) = served(&rt, alloc, Write(call), 1)?;
-        assert_eq!(rt;
-            (ended, sent.as_str()),
-            (Some(WriteFault), SENT_FIELDS),
-            "write {call}"
-        );
-        let begins = WRITTEN.starts_with(written.as_str());
-        assert!(rt; begins && written.as_str() != WRITTEN, "write {call}");
+        play_unwritten(&rt, alloc, call)?;
     }
-    let (ended, written, sent) = served(&rt, alloc, Write(4), 1)?;
-    let comes = (ended, written.as_str(), sent.as_str());
-    assert_eq!(rt;
-        comes,
-        (Some(PeerEnded), WRITTEN, SENT_FIELDS),
-        "no further write"
-    );
+    let failing = Failing {
+        writes: &[4],
+        ..NO_CALL
+    };
+    let played = served(&rt, alloc, failing, 1)?;
+    let wanted = (PeerEnded, WRITTEN, SENT_FIELDS);
+    assert_comes(&rt, &played, wanted, "write", 4);
+    drop(played);
     Ok(())
 }
 
@@ -109,19 +162,38 @@ fn broken(call: u64) -> (&'static str, Ended) {
     }
 }
 
+/// The first request has to be answered so, and the second one well, unless the session ended.
+fn assert_broken<R: Abort>(rt: &R, played: &Played, call: u64) {
+    let (first, end) = broken(call);
+    let written = played.written.as_str();
+    let (begins, next) = (written.starts_with(first), written.ends_with(WRITTEN));
+    assert_eq!(rt;
+        (played.ended, begins, next),
+        (Some(end), true, end == PeerEnded),
+        "call {call}: {written}"
+    );
+}
+
+/// Plays two requests, where this call of the dialer fails.
+fn play_broken<R: Wait + Abort>(rt: &R, alloc: Global, call: u64) -> Result<(), Fail> {
+    let dials = [call];
+    let failing = Failing {
+        dials: &dials,
+        ..NO_CALL
+    };
+    let played = served(rt, alloc, failing, 2)?;
+    assert_broken(rt, &played, call);
+    drop(played);
+    Ok(())
+}
+
 /// The dial is one call, the request goes in 6 sends, and of 3 receives the first 1 have the
 /// reply's head.
 #[test]
 fn each_call_of_the_dialer_fails(rt: HostRuntime) -> Result<(), Fail> {
     let alloc = rt.alloc();
     for call in 0..10u64 {
-        let (ended, written, _) = served(&rt, alloc, Dial(call), 2)?;
-        let (first, end) = broken(call);
-        assert_eq!(rt; ended, Some(end), "call {call}");
-        let begins = written.as_str().starts_with(first);
-        assert!(rt; begins, "call {call}: {}", written);
-        let next = written.as_str().ends_with(WRITTEN);
-        assert_eq!(rt; next, end == PeerEnded, "call {call}: {}", written);
+        play_broken(&rt, alloc, call)?;
     }
     Ok(())
 }

@@ -32,7 +32,7 @@ impl<H: Wait + Abort + Drop> Job for Playing<'_, H> {
 
     fn run<R: Wait, G: Gate>(&mut self, _rt: &R, _gate: &G) -> String {
         match play(self.host, self.alloc, &Scene::of("", self.request, &[])) {
-            Ok(played) => played.written,
+            Ok(played) => played.into_written(),
             Err(_why) => panic!(self.host; "not played"),
         }
     }
@@ -50,10 +50,13 @@ fn serve_in_thread<R: Wait + Abort + Threads + Sync + Drop>(
         request,
     };
     let jobs = vec![in alloc; job]?;
-    let Ok(mut back) = run_workers(rt, jobs, &Free) else {
-        panic!(rt; "no memory for a thread")
+    let mut back = match run_workers(rt, jobs, &Free) {
+        Ok(back) => back,
+        Err(_jobs) => panic!(rt; "no memory for a thread"),
     };
-    match back.pop() {
+    let last = back.pop();
+    drop(back);
+    match last {
         Some((_job, written)) => Ok(written),
         None => panic!(rt; "a job is missing"),
     }
@@ -72,21 +75,26 @@ fn put_nested(text: &mut String, leaf: &str) -> Mem<()> {
     Ok(())
 }
 
-/// A request whose table nests the most unions in one another: each lookup of a chain leads to the
-/// next one by nested unions, and the last is of an address.
-fn nesting(alloc: Global) -> Mem<String> {
-    let mut text = String::new(alloc);
+/// Puts a leaf of this path behind some text, nested so, and the entry of the path begins.
+fn put_lookup(text: &mut String, path: &str) -> Mem<()> {
+    put_nested(text, path)?;
+    text.push(';')?;
+    text.push_str(path)?;
+    text.push_str("=>")
+}
+
+/// Puts a request behind some text. Its table nests the most unions in one another: each lookup of
+/// a chain leads to the next one by nested unions, and the last is of an address.
+fn put_nesting(alloc: Global, text: &mut String) -> Mem<()> {
     text.push_str("GET / HTTP/1.1|Host: web|l5d-dtab: /svc/web=>")?;
     for number in 2..LOOKUPS {
         let path = format!(in alloc; "/{number}")?;
-        put_nested(&mut text, path.as_str())?;
-        text.push(';')?;
-        text.push_str(path.as_str())?;
-        text.push_str("=>")?;
+        let put = put_lookup(text, path.as_str());
+        drop(path);
+        put?;
     }
-    put_nested(&mut text, "/$/inet/127.0.0.1/1")?;
-    text.push_str("||")?;
-    Ok(text)
+    put_nested(text, "/$/inet/127.0.0.1/1")?;
+    text.push_str("||")
 }
 
 /// The stack of a worker's thread has room for the deepest outcome that a table can make: it is
@@ -94,8 +102,11 @@ fn nesting(alloc: Global) -> Mem<String> {
 #[test]
 fn a_worker_has_the_stack_for_nested_unions(rt: HostRuntime) -> Result<(), Fail> {
     let alloc = rt.alloc();
-    let request = nesting(alloc)?;
-    let written = serve_in_thread(&rt, alloc, request.as_str())?;
+    let mut request = String::new(alloc);
+    put_nesting(alloc, &mut request)?;
+    let written = serve_in_thread(&rt, alloc, request.as_str());
+    drop(request);
+    let written = written?;
     assert_eq!(rt; written.as_str(), UPSTREAM);
     Ok(())
 }

@@ -1,7 +1,6 @@
 //! Worked exchanges.
 use crate::row::{FAILED, PASSED, REFUSED, Row, UNANSWERED, play_rows};
 use crate::scene::BOOK;
-use crate::scene::Failing::Dial;
 use crate::texts::{
     BAD_REQUEST, CHUNKED, CLOSE, DIAL, EMPTY, FIELDS, GET, GET_LINES, LAST_NEGATIVE, NEGATIVE, OK,
     ON, POST_LINES, SENT_FIELDS, TO_WEB, TWO, VIA, WRITTEN_EMPTY,
@@ -87,7 +86,7 @@ const TRIES: [Row; 6] = [
         about: "a dial that fails, and the next request",
         table: BOOK,
         gives: &[TWO],
-        failing: Dial(0),
+        dials: &[0],
         written: &[DIAL, WRITTEN_EMPTY],
         sent: &[SENT],
         ..PASSED
@@ -95,7 +94,7 @@ const TRIES: [Row; 6] = [
     Row {
         about: "a dial that fails",
         table: BOOK,
-        failing: Dial(0),
+        dials: &[0],
         written: &[DIAL],
         sent: &[],
         reported: FAILED,
