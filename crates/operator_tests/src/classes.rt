@@ -6,7 +6,7 @@ use metrics_text::{Class, bucket_of};
 use own_reply::OwnError;
 
 /// Status codes at the limits of classes.
-const CLASSES: [(Option<u16>, Class); 14] = [
+static CLASSES: [(Option<u16>, Class); 14] = [
     (None, Class::NoReply),
     (Some(100), Class::Other),
     (Some(199), Class::Other),
@@ -24,7 +24,7 @@ const CLASSES: [(Option<u16>, Class); 14] = [
 ];
 
 /// Durations at the bound of each bucket, and one past it.
-const BUCKETS: [(u64, usize); 27] = [
+static BUCKETS: [(u64, usize); 27] = [
     (0, 0),
     (1, 0),
     (2, 1),
@@ -55,7 +55,7 @@ const BUCKETS: [(u64, usize); 27] = [
 ];
 
 /// The ends of sessions, and what cut their last exchange off.
-const ENDS: [(Ended, Option<Break>); 9] = [
+static ENDS: [(Ended, Option<Break>); 9] = [
     (Ended::PeerEnded, None),
     (Ended::Closed, None),
     (Ended::Spent, None),

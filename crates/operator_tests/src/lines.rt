@@ -5,7 +5,7 @@ use addr_book::Addr;
 use line_base::SocketAddress;
 use name_tree::{Path, read_path};
 use own_reply::OwnError;
-use std::alloc::Global;
+use std::alloc::{AllocError, Global};
 use std::test::Fail;
 
 /// What an exchange was.
@@ -13,7 +13,8 @@ use std::test::Fail;
 struct Row {
     moment: u64,
     client: Option<SocketAddress>,
-    request: Option<RequestLine<'static>>,
+    /// No head was read where its method is empty.
+    request: RequestLine<'static>,
     answer: Answer,
     bytes: u64,
     milliseconds: u64,
@@ -33,14 +34,20 @@ const REPLICA: Option<Addr> = Some(Addr {
     port: 8_080,
 });
 
-const GET: Option<RequestLine<'static>> = Some(RequestLine {
+const GET: RequestLine<'static> = RequestLine {
     method: b"GET",
     target: b"/a?b",
     version: 1,
-});
+};
 
-/// Exchanges that ended with a whole reply.
-const WHOLE: [Row; 4] = [
+const UNREAD: RequestLine<'static> = RequestLine {
+    method: b"",
+    target: b"",
+    version: 0,
+};
+
+/// Exchanges that ended with a whole reply, and some that were cut off.
+static ROWS: [Row; 9] = [
     // passed on whole
     Row {
         moment: 1_795_931_281_123,
@@ -59,11 +66,11 @@ const WHOLE: [Row; 4] = [
     Row {
         moment: 946_684_799_999,
         client: None,
-        request: Some(RequestLine {
+        request: RequestLine {
             method: b"HEAD",
             target: b"/",
             version: 0,
-        }),
+        },
         answer: Answer::Own(OwnError::Upstream),
         bytes: 0,
         milliseconds: 30_000,
@@ -90,7 +97,7 @@ const WHOLE: [Row; 4] = [
     Row {
         moment: 4_107_587_400_007,
         client: CLIENT,
-        request: None,
+        request: UNREAD,
         answer: Answer::Own(OwnError::BadHead),
         bytes: 9,
         milliseconds: 0,
@@ -99,10 +106,6 @@ const WHOLE: [Row; 4] = [
         broken: None,
         line: "2100-03-01T12:30:00.007Z 10.0.0.7:51234 \"-\" 400 9 0 - - bad-head\n",
     },
-];
-
-/// Exchanges that were cut off.
-const CUT: [Row; 5] = [
     // the replica's reply was cut
     Row {
         moment: 951_782_400_000,
@@ -121,7 +124,7 @@ const CUT: [Row; 5] = [
     Row {
         moment: 0,
         client: CLIENT,
-        request: None,
+        request: UNREAD,
         answer: Answer::Nothing,
         bytes: 0,
         milliseconds: 0,
@@ -149,11 +152,11 @@ const CUT: [Row; 5] = [
     Row {
         moment: 0,
         client: None,
-        request: Some(RequestLine {
+        request: RequestLine {
             method: b"G\"T",
             target: b"/\"\\x\n\x1b\x7f\xc3\xa9 ~",
             version: 1,
-        }),
+        },
         answer: Answer::Own(OwnError::Target),
         bytes: 7,
         milliseconds: 0,
@@ -190,46 +193,50 @@ fn path_of(alloc: Global, text: &str) -> Result<Option<Path>, Fail> {
     }
 }
 
-/// The line of a row, in a buffer that held something else.
-fn line_of(alloc: Global, row: &Row) -> Result<Vec<u8>, Fail> {
-    let name = path_of(alloc, row.name)?;
-    let mut line = Vec::from_slice(alloc, b"earlier")?;
-    let entry = Entry {
+/// The request line of a row, if a head was read.
+fn request_of(row: &Row) -> Option<RequestLine<'static>> {
+    if row.request.method.is_empty() {
+        None
+    } else {
+        Some(row.request)
+    }
+}
+
+/// The entry of a row, of an exchange that has this name.
+fn entry_of<'a>(row: &Row, name: Option<&'a Path>) -> Entry<'a> {
+    Entry {
         moment: row.moment,
         client: row.client,
-        request: row.request,
+        request: request_of(row),
         answer: row.answer,
         bytes: row.bytes,
         milliseconds: row.milliseconds,
-        name: name.as_ref(),
+        name,
         replica: row.replica,
         broken: row.broken,
-    };
-    write_line(&entry, &mut line)?;
+    }
+}
+
+/// The line of an entry, in a buffer that held something else.
+fn line_of(alloc: Global, entry: &Entry<'_>) -> Result<Vec<u8>, AllocError> {
+    let mut line = Vec::from_slice(alloc, b"earlier")?;
+    write_line(entry, &mut line)?;
     Ok(line)
 }
 
-/// The first line of some rows that is written in another way, if one is.
-fn wrong_line(alloc: Global, rows: &[Row]) -> Result<Option<&'static str>, Fail> {
-    for row in rows {
-        let line = line_of(alloc, row)?;
-        if line.as_slice() != row.line.as_bytes() {
-            return Ok(Some(row.line));
-        }
+/// Whether the line of a row is as written here.
+fn is_written(alloc: Global, row: &Row) -> Result<bool, Fail> {
+    let name = path_of(alloc, row.name)?;
+    let line = line_of(alloc, &entry_of(row, name.as_ref()));
+    drop(name);
+    let line = line?;
+    Ok(line.as_slice() == row.line.as_bytes())
+}
+
+#[test]
+fn an_exchange_has_its_line(rt: HostRuntime) -> Result<(), Fail> {
+    for row in &ROWS {
+        assert!(rt; is_written(rt.alloc(), row)?, "{}", row.line);
     }
-    Ok(None)
-}
-
-#[test]
-fn a_whole_exchange_has_its_line(rt: HostRuntime) -> Result<(), Fail> {
-    let wrong = wrong_line(rt.alloc(), &WHOLE)?;
-    assert!(rt; wrong.is_none(), "{wrong:?}");
-    Ok(())
-}
-
-#[test]
-fn an_exchange_that_was_cut_off_has_its_line(rt: HostRuntime) -> Result<(), Fail> {
-    let wrong = wrong_line(rt.alloc(), &CUT)?;
-    assert!(rt; wrong.is_none(), "{wrong:?}");
     Ok(())
 }

@@ -1,4 +1,6 @@
 //! Counts that one worker publishes and another thread reads.
+ghost use Rattle.std.specs.Prelude.{◌≡◌, All};
+ghost use Rattle.count_words.specs.Seats.{HasCountedNone, IsWriterOf, Reads, size_of};
 
 use count_words::{CountReader, CountWriter, Counts, PLACES, start};
 use exchange_tally::FIGURES;
@@ -22,23 +24,44 @@ struct FoundCounts {
     of_first_writer: u64,
 }
 
-/// What the readers find.
-fn found(alloc: Global) -> Result<FoundCounts, Fail> {
-    let (counts, mut writers, mut reader) = start(alloc, 2)?;
+/// What the readers find, of whom the one was made with the words.
+fn found_by(
+    counts: &Counts,
+    writers: &mut Vec<CountWriter>,
+    reader: &mut CountReader,
+) -> Result<FoundCounts, Fail>
+    requires size { size_of counts.now ≡ 128 }
+    requires writers { All (IsWriterOf counts.now) writers.old.items }
+    requires none { All HasCountedNone writers.old.items }
+    requires reader { Reads counts.now reader.old }
+{
     let Some(mut second) = writers.pop() else {
         return Err("no writer".into());
     };
-    let first = counts.read(&mut reader, 0);
-    let last = counts.read(&mut reader, 127);
+    let first = counts.read(reader, 0);
+    let last = counts.read(reader, 127);
     counts.publish(&mut second, 47, 17);
-    let mut another = counts.another_reader(&mut reader);
+    drop(second);
+    let mut another = counts.another_reader(reader);
+    let by_another = counts.read(&mut another, 111);
+    drop(another);
     Ok(FoundCounts {
         first,
         last,
-        by_another: counts.read(&mut another, 111),
-        by_same: counts.read(&mut reader, 111),
-        of_first_writer: counts.read(&mut reader, 47),
+        by_another,
+        by_same: counts.read(reader, 111),
+        of_first_writer: counts.read(reader, 47),
     })
+}
+
+/// What the readers find.
+fn found(alloc: Global) -> Result<FoundCounts, Fail> {
+    let (counts, mut writers, mut reader) = start(alloc, 2)?;
+    let found = found_by(&counts, &mut writers, &mut reader);
+    drop(reader);
+    drop(writers);
+    drop(counts);
+    found
 }
 
 #[test]

@@ -1,6 +1,6 @@
 //! What a worker records of exchanges of each way, over a clock and a journal in memory, and what is
 //! scraped of it.
-ghost use Rattle.std.specs.Prelude.{◌≡◌};
+ghost use Rattle.std.specs.Prelude.{◌≡◌, All};
 ghost use Rattle.count_words.specs.Seats.{HasCountedNone, IsWriterOf, Reads, size_of};
 
 use access_log::{Answer, Break};
@@ -12,7 +12,7 @@ use http::Method;
 use http_wire::{FieldList, Head, Text};
 use line_base::{Clock, SocketAddress};
 use line_doubles::MemClock;
-use line_log::{Journal, Journals, MemJournals};
+use line_log::{Journal, Journals, Mem, MemJournals};
 use metrics_text::Counts as Numbers;
 use name_tree::{Path, read_path};
 use own_reply::OwnError;
@@ -97,15 +97,15 @@ const FAILED: Done = Done {
 };
 
 /// The exchanges, in order.
-const EXCHANGES: [Done; 6] = [PASSED, PASSED, UNREAD, REPLY_CUT, REQUEST_CUT, FAILED];
+static EXCHANGES: [Done; 6] = [PASSED, PASSED, UNREAD, REPLY_CUT, REQUEST_CUT, FAILED];
 
 /// The moments at which each began and had ended.
-const MOMENTS: [u64; 12] = [
+static MOMENTS: [u64; 12] = [
     1_000, 1_011, 2_000, 2_001, 5_000, 4_999, 6_000, 6_500, 7_000, 17_001, 20_000, 20_000,
 ];
 
 /// What becomes of two connections.
-const STEPS: [ConnectionStep; 5] = [
+static STEPS: [ConnectionStep; 5] = [
     ConnectionStep::Came,
     ConnectionStep::Left,
     ConnectionStep::Came,
@@ -126,7 +126,7 @@ const LINES: &str = "1970-01-01T00:00:01.000Z 10.0.0.7:51234 \"GET /a HTTP/1.1\"
 
 /// What is published of them, by places. Behind the figures stand the lines that were written and
 /// lost, and the connections that came, finished, were left and were taken up again.
-const COUNTS: [(u32, u64); 52] = [
+static COUNTS: [(u32, u64); 52] = [
     (0, 2),
     (1, 0),
     (2, 2),
@@ -210,18 +210,15 @@ fn exchange_of<'a>(head: &'a Head, name: &'a Path, done: Done) -> Exchange<'a> {
     }
 }
 
-/// Tells a recorder of all exchanges and steps.
-fn tell<K: Recorder>(alloc: Global, recorder: &mut K) -> Result<(), Fail> {
-    let head = head(alloc)?;
-    let path = path(alloc)?;
+/// Tells a recorder of all exchanges, with this head and this name, and of all steps.
+fn tell<K: Recorder>(recorder: &mut K, head: &Head, name: &Path) {
     for done in &EXCHANGES {
         recorder.begin();
-        recorder.end(&exchange_of(&head, &path, *done));
+        recorder.end(&exchange_of(head, name, *done));
     }
     for step in &STEPS {
         recorder.step(*step);
     }
-    Ok(())
 }
 
 /// Whether a worker's own counts are those of the exchanges.
@@ -229,34 +226,91 @@ fn has_counted<C: Clock, L: Journal>(record: &WorkerRecord<'_, C, L>) -> bool {
     record.count(Figure::Tries) == 9 && record.lines().lost == 1 && record.connections().came == 2
 }
 
-/// Records all exchanges, and gives the lines of the journals that were closed.
-fn lines_of(alloc: Global, counts: &Counts, writer: CountWriter) -> Result<Vec<u8>, Fail>
-    requires writer { IsWriterOf counts.now writer }
-    requires none { HasCountedNone writer }
-{
-    let clock = MemClock::of(alloc, Vec::from_slice(alloc, &MOMENTS)?)?;
-    let mut journals = MemJournals::of(alloc, Vec::from_slice(alloc, &[1])?);
-    let journal = journals.open(alloc, "access.log")?;
-    let mut record = WorkerRecord::new(alloc, clock, counts, writer, Some(journal));
-    tell(alloc, &mut record)?;
-    if !has_counted(&record) {
-        return Err("other counts".into());
-    }
-    if let Some(journal) = record.into_journal() {
-        journals.close(journal)?;
-    }
-    text_of(alloc, &journals)
+/// Records all exchanges and steps. Gives whether the worker's own counts are those of them.
+fn record<C: Clock, L: Journal>(
+    alloc: Global,
+    worker: &mut WorkerRecord<'_, C, L>,
+) -> Result<bool, Fail> {
+    let name = path(alloc)?;
+    let head = match head(alloc) {
+        Ok(head) => head,
+        Err(fail) => {
+            drop(name);
+            return Err(fail);
+        }
+    };
+    tell(worker, &head, &name);
+    drop(head);
+    drop(name);
+    Ok(has_counted(worker))
 }
 
-/// The lines of all journals that were closed.
-fn text_of(alloc: Global, journals: &MemJournals) -> Result<Vec<u8>, Fail> {
-    let mut text = Vec::new(alloc);
+/// A clock that gives these moments.
+fn clock_of(alloc: Global, moments: &[u64]) -> Mem<MemClock> {
+    MemClock::of(alloc, Vec::from_slice(alloc, moments)?)
+}
+
+/// Closes a journal, if there is one.
+fn close<J: Journals>(journals: &mut J, journal: Option<J::J>) -> Mem<()> {
+    match journal {
+        Some(journal) => journals.close(journal),
+        None => Ok(()),
+    }
+}
+
+/// Records all exchanges by the first of these writers, over one of these journals, which is closed
+/// then. Gives whether the worker's own counts are those of the exchanges.
+fn record_in(
+    alloc: Global,
+    counts: &Counts,
+    writers: &mut Vec<CountWriter>,
+    journals: &mut MemJournals,
+) -> Result<bool, Fail>
+    requires writers { All (IsWriterOf counts.now) writers.old.items }
+    requires none { All HasCountedNone writers.old.items }
+{
+    let clock = clock_of(alloc, &MOMENTS)?;
+    let journal = journals.open(alloc, "access.log")?;
+    let Some(writer) = writers.pop() else {
+        return Err("no writer".into());
+    };
+    let mut worker = WorkerRecord::new(alloc, clock, counts, writer, Some(journal));
+    let recorded = record(alloc, &mut worker);
+    let closed = close(journals, worker.into_journal());
+    let has_counted = recorded?;
+    closed?;
+    Ok(has_counted)
+}
+
+/// Whether the lines of all journals that were closed are as written here.
+fn is_logged(journals: &MemJournals) -> bool {
+    let mut left = LINES.as_bytes();
     for journal in journals.closed() {
         for line in journal.lines() {
-            text.extend_from_slice(line.as_slice())?;
+            match left.strip_prefix(line.as_slice()) {
+                Some(rest) => left = rest,
+                None => return false,
+            }
         }
     }
-    Ok(text)
+    left.is_empty()
+}
+
+/// Records all exchanges by the first of these writers. Gives whether the worker's own counts are
+/// those of the exchanges, and whether the lines are as written here.
+fn logged(
+    alloc: Global,
+    counts: &Counts,
+    writers: &mut Vec<CountWriter>,
+) -> Result<(bool, bool), Fail>
+    requires writers { All (IsWriterOf counts.now) writers.old.items }
+    requires none { All HasCountedNone writers.old.items }
+{
+    let mut journals = MemJournals::of(alloc, Vec::from_slice(alloc, &[1])?);
+    let has_counted = record_in(alloc, counts, writers, &mut journals);
+    let is_logged = is_logged(&journals);
+    drop(journals);
+    Ok((has_counted?, is_logged))
 }
 
 /// The first count that is another than is wanted, with what was found.
@@ -284,43 +338,93 @@ const STATE: State = State {
     kept: 6,
 };
 
-/// What is scraped, and when.
-fn scraped(alloc: Global, counts: &Counts, reader: CountReader) -> Result<(u64, Numbers), Fail>
+/// What is scraped: the moment, the tables that were written, the delegations that are kept, the
+/// connections that were accepted, are open and wait, the replies of the class 4xx, the own replies
+/// that say `upstream`, the misses, the lines that were written and those that were lost; and how
+/// many exchanges took how long.
+type Scraped = ([u64; 11], [u64; 14]);
+
+/// Those of the numbers scraped that are looked at, with the moment.
+fn scraped_of(moment: u64, found: &Numbers) -> Scraped {
+    let numbers = [
+        moment,
+        found.tables_written,
+        found.kept,
+        found.accepted,
+        found.open,
+        found.waiting,
+        found.requests.client_error,
+        found.own_replies.upstream,
+        found.misses,
+        found.log_lines,
+        found.lost_lines,
+    ];
+    (numbers, found.durations.buckets)
+}
+
+/// What is scraped.
+fn scraped(alloc: Global, counts: &Counts, reader: CountReader) -> Result<Scraped, Fail>
     requires reader { Reads counts.now reader }
     requires size { size_of counts.now ≡ 64 }
 {
-    let clock = MemClock::of(alloc, Vec::from_slice(alloc, &[21_000])?)?;
+    let clock = clock_of(alloc, &[21_000])?;
     let mut scraper = Scraper::new(clock, counts, reader, 1);
     let moment = scraper.moment();
-    Ok((moment, scraper.sums().counts(&STATE)))
+    let found = scraper.sums().counts(&STATE);
+    drop(scraper);
+    Ok(scraped_of(moment, &found))
+}
+
+/// What is found once all exchanges were recorded: whether the worker's own counts are those of
+/// them and the lines as written here, the first count that is another than is wanted, and what is
+/// scraped.
+type Found = ((bool, bool), Option<(u32, u64)>, Scraped);
+
+/// What is found once the first of these writers has recorded all exchanges.
+fn found_by(
+    alloc: Global,
+    counts: &Counts,
+    writers: &mut Vec<CountWriter>,
+    mut reader: CountReader,
+) -> Result<Found, Fail>
+    requires writers { All (IsWriterOf counts.now) writers.old.items }
+    requires none { All HasCountedNone writers.old.items }
+    requires reader { Reads counts.now reader }
+    requires size { size_of counts.now ≡ 64 }
+{
+    let logged = logged(alloc, counts, writers)?;
+    let wrong = wrong_count(counts, &mut reader);
+    Ok((logged, wrong, scraped(alloc, counts, reader)?))
+}
+
+/// What is found once all exchanges were recorded.
+fn found(alloc: Global) -> Result<Found, Fail> {
+    let (counts, mut writers, reader) = start(alloc, 1)?;
+    let found = found_by(alloc, &counts, &mut writers, reader);
+    drop(writers);
+    drop(counts);
+    found
 }
 
 #[test]
 fn exchanges_are_counted_and_logged(rt: HostRuntime) -> Result<(), Fail> {
-    let (counts, mut writers, mut reader) = start(rt.alloc(), 1)?;
-    let Some(writer) = writers.pop() else {
-        panic!(rt; "a writer")
-    };
-    let lines = lines_of(rt.alloc(), &counts, writer)?;
-    assert!(rt; lines.as_slice() == LINES.as_bytes());
-    let wrong = wrong_count(&counts, &mut reader);
-    assert!(rt; wrong.is_none(), "{wrong:?}");
-    let (moment, found) = scraped(rt.alloc(), &counts, reader)?;
-    assert!(rt; moment == 21_000 && found.tables_written == 4 && found.kept == 6);
-    assert!(rt; found.accepted == 2 && found.open == 1 && found.waiting == 0);
-    assert!(rt; found.requests.client_error == 2 && found.own_replies.upstream == 1);
-    assert!(rt; found.durations.buckets == [3, 0, 0, 0, 1, 0, 0, 0, 1, 0, 0, 0, 0, 1]);
-    assert!(rt; found.misses == 3 && found.log_lines == 5 && found.lost_lines == 1);
+    let numbers = [21_000, 4, 6, 2, 1, 0, 2, 1, 3, 5, 1];
+    let buckets = [3, 0, 0, 0, 1, 0, 0, 0, 1, 0, 0, 0, 0, 1];
+    assert_eq!(rt;
+        found(rt.alloc())?,
+        ((true, true), None, (numbers, buckets))
+    );
     Ok(())
 }
 
 #[test]
 fn nothing_is_scraped_where_there_are_no_words(rt: HostRuntime) -> Result<(), Fail> {
     records_add_up();
-    let clock = MemClock::of(rt.alloc(), Vec::from_slice(rt.alloc(), &[7])?)?;
-    let mut scraper = NoWords::of(clock);
+    let mut scraper = NoWords::of(clock_of(rt.alloc(), &[7])?);
+    let moment = scraper.moment();
     let found = scraper.sums().counts(&STATE);
-    assert!(rt; scraper.moment() == 7 && found.changes == 5);
-    assert!(rt; found.accepted == 0 && found.tries == 0 && found.requests.success == 0);
+    drop(scraper);
+    let counted = [found.accepted, found.tries, found.requests.success];
+    assert_eq!(rt; (moment, found.changes, counted), (7, 5, [0, 0, 0]));
     Ok(())
 }

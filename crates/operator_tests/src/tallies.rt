@@ -44,7 +44,7 @@ const REFUSED: Timed = Timed {
 };
 
 /// Each figure that is not 0 once both were added, and one of each kind that is.
-const COUNTS: [(Figure, u64); 18] = [
+static COUNTS: [(Figure, u64); 18] = [
     (Figure::Requests(Class::Success), 1),
     (Figure::Requests(Class::ClientError), 1),
     (Figure::Requests(Class::Redirection), 0),
@@ -77,7 +77,7 @@ fn exchanges_add_up(rt: HostRuntime) {
 }
 
 /// Figures by their places.
-const PLACES: [(Figure, u32); 10] = [
+static PLACES: [(Figure, u32); 10] = [
     (Figure::Requests(Class::Success), 0),
     (Figure::Requests(Class::NoReply), 5),
     (Figure::OwnReplies(OwnError::Version), 6),

@@ -15,7 +15,7 @@ struct Row {
     lost: u64,
 }
 
-const ROWS: [Row; 8] = [
+static ROWS: [Row; 8] = [
     Row {
         takes: &[9, 9, 9],
         text: "one\ntwo\nthree\n",
@@ -78,12 +78,13 @@ fn append_three<J: Journal>(journal: &mut J) {
     }
 }
 
-/// How many of three lines are written and lost.
-fn counted<R: Files>(rt: &R, path: String, takes: &'static [usize]) -> LineCounts {
-    let files = CutFiles { rt, takes };
-    let mut journal = FileJournal::at(&files, path);
+/// How many of three lines are written and lost by a log over these files.
+fn counted<F: Files>(files: &F, path: String) -> LineCounts {
+    let mut journal = FileJournal::at(files, path);
     append_three(&mut journal);
-    journal.counts()
+    let counts = journal.counts();
+    drop(journal);
+    counts
 }
 
 /// What the file of a log holds that was given three lines, and how many were written and lost.
@@ -92,7 +93,7 @@ fn logged<R: Files + AllocGlobal>(
     takes: &'static [usize],
 ) -> Result<(String, u64, u64), Fail> {
     let path = String::from_str(rt.alloc(), "torn.log")?;
-    let counts = counted(rt, path, takes);
+    let counts = counted(&CutFiles { rt, takes }, path);
     let text = taken(rt, "torn.log")?;
     Ok((text, counts.written, counts.lost))
 }
