@@ -2,8 +2,6 @@
 #![tactic(auto)]
 
 #[cfg(test)]
-mod drawn;
-#[cfg(test)]
 mod notes;
 #[cfg(test)]
 mod rows;

@@ -1,8 +1,12 @@
 //! Tables, the entries of them that are never asked, and what is left without those.
+ghost use Rattle.std.specs.Prelude.{◌≡◌};
+ghost use Rattle.dtab_table.specs.Dtab.{rules_of};
+ghost use Rattle.dtab_check.specs.Hidden.{hidden_in};
 
-use dtab_check::{Hidden, hidden, taken_out};
-use dtab_table::{read_dtab, write_dtab};
-use std::alloc::Global;
+use dtab_check::{Hidden, HiddenList, Mem, hidden, taken_out};
+use dtab_table::{Dtab, read_dtab, write_dtab};
+use std::alloc::{AllocGlobal, Global};
+use std::process::Abort;
 use std::test::Fail;
 
 /// A table, its hidden entries, and the table without them.
@@ -90,38 +94,52 @@ const CHOICES: [Row; 4] = [
     ("/a => /x; /a => ~", &[], "/a=>/x;/a=>~"),
 ];
 
-/// Whether the table of a text has these hidden entries, and this text without them.
-fn is_checked(alloc: Global, text: &str, want: &[Hidden], rest: &str) -> Result<bool, Fail> {
-    let dtab = read_dtab(alloc, text.as_bytes())?;
-    let list = hidden(alloc, &dtab)?;
-    let left = write_dtab(alloc, &taken_out(alloc, &dtab, &list)?)?;
-    Ok(list.items() == want && left.as_slice() == rest.as_bytes())
+/// The text of a table without its hidden entries.
+fn left_text(alloc: Global, dtab: &Dtab, list: &HiddenList) -> Mem<Vec<u8>>
+    requires { list.now ≡ hidden_in (rules_of dtab.now) }
+{
+    let left = taken_out(alloc, dtab, list)?;
+    let text = write_dtab(alloc, &left);
+    drop(left);
+    text
 }
 
-/// The first row that is not so.
-fn first_wrong(alloc: Global, rows: &[Row]) -> Result<Option<usize>, Fail> {
-    for (at, (text, want, rest)) in rows.iter().enumerate() {
-        if !is_checked(alloc, text, want, rest)? {
-            return Ok(Some(at));
-        }
+/// Whether a table has these hidden entries, and this text without them.
+fn has_hidden(alloc: Global, dtab: &Dtab, want: &[Hidden], rest: &str) -> Mem<bool> {
+    let list = hidden(alloc, dtab)?;
+    let is_wanted = list.items() == want;
+    let left = left_text(alloc, dtab, &list);
+    drop(list);
+    Ok(left?.as_slice() == rest.as_bytes() && is_wanted)
+}
+
+/// The same of the table of a text.
+fn is_checked(alloc: Global, text: &str, want: &[Hidden], rest: &str) -> Result<bool, Fail> {
+    let dtab = read_dtab(alloc, text.as_bytes())?;
+    let is_checked = has_hidden(alloc, &dtab, want, rest);
+    drop(dtab);
+    Ok(is_checked?)
+}
+
+/// Asserts that so it is with these rows.
+fn assert_checked<R: AllocGlobal + Abort>(rt: &R, rows: &[Row]) -> Result<(), Fail> {
+    for (text, want, rest) in rows {
+        assert!(rt; is_checked(rt.alloc(), text, want, rest)?, "{text}");
     }
-    Ok(None)
+    Ok(())
 }
 
 #[test]
 fn entries_are_hidden_by_those_that_cover_them(rt: HostRuntime) -> Result<(), Fail> {
-    assert_eq!(rt; first_wrong(rt.alloc(), &COVERS)?, None);
-    Ok(())
+    assert_checked(&rt, &COVERS)
 }
 
 #[test]
 fn leaves_are_sure_by_addresses_and_entries(rt: HostRuntime) -> Result<(), Fail> {
-    assert_eq!(rt; first_wrong(rt.alloc(), &LEAVES)?, None);
-    Ok(())
+    assert_checked(&rt, &LEAVES)
 }
 
 #[test]
 fn trees_are_sure_by_one_of_their_parts(rt: HostRuntime) -> Result<(), Fail> {
-    assert_eq!(rt; first_wrong(rt.alloc(), &CHOICES)?, None);
-    Ok(())
+    assert_checked(&rt, &CHOICES)
 }
