@@ -1,12 +1,14 @@
 //! Names, hosts, ports, address files and paths with their answers, the slots of a book from change
 //! to change, and the limits.
 
+use crate::told::assert_told;
 use addr_book::{
     Addr, AddrFault, AddrList, Book, BookFault, Cluster, Leaf, Mem, Name, NameFault, ONE_WEIGHT,
     ReadyBook, Weighted, append_addr, name_answer, read_addrs, read_ip, read_port,
 };
 use name_tree::{append_path, read_path};
-use std::alloc::Global;
+use std::alloc::{AllocGlobal, Global};
+use std::process::Abort;
 use std::test::Fail;
 use text_parts::append_number;
 
@@ -54,10 +56,15 @@ fn long_kind(alloc: Global, count: usize) -> Mem<&'static str> {
     Ok(kind(alloc, text.as_slice()))
 }
 
+/// Numbers of letters, and whether so many are a name.
+const LONG: [(usize, &str); 2] = [(255, "name"), (256, "none")];
+
 #[test]
 fn names_have_255_bytes(rt: HostRuntime) -> Result<(), Fail> {
-    assert!(rt; long_kind(rt.alloc(), 255)? == "name");
-    assert!(rt; long_kind(rt.alloc(), 256)? == "none");
+    for (count, want) in &LONG {
+        let kind = long_kind(rt.alloc(), *count)?;
+        assert!(rt; kind == *want, "{count}");
+    }
     Ok(())
 }
 
@@ -85,8 +92,62 @@ fn names_are_ordered_by_their_bytes(rt: HostRuntime) -> Result<(), Fail> {
     Ok(())
 }
 
-/// Address files, and what is read from them.
-const FILES: [(&str, &str); 41] = [
+/// Puts an address behind a text, with `*` and its weight in millionths, unless that is one whole,
+/// and a space.
+fn put_item(item: &Weighted, text: &mut Vec<u8>) -> Mem<()> {
+    append_addr(item.addr, text)?;
+    if item.weight != ONE_WEIGHT {
+        text.push(b'*')?;
+        append_number(item.weight, text)?;
+    }
+    Ok(text.push(b' ')?)
+}
+
+/// Puts addresses behind a text in words.
+fn put_list(items: &[Weighted], text: &mut Vec<u8>) -> Mem<()> {
+    for item in items {
+        put_item(item, text)?;
+    }
+    Ok(())
+}
+
+/// Addresses in words.
+fn list_text(alloc: Global, items: &[Weighted]) -> Result<Vec<u8>, Fail> {
+    let mut text = Vec::new(alloc);
+    put_list(items, &mut text)?;
+    Ok(text)
+}
+
+/// A fault of an address file in words.
+fn fault_text(alloc: Global, fault: AddrFault) -> Result<Vec<u8>, Fail> {
+    match fault {
+        AddrFault::BadLine(line) => Ok(format!(in alloc; "bad {line}")?.into_bytes()),
+        AddrFault::TooMany(count) => Ok(format!(in alloc; "too many {count}")?.into_bytes()),
+        AddrFault::OutOfMemory => Err("out of memory".into()),
+    }
+}
+
+/// What is read from an address file, in words: its addresses, or the fault.
+fn file_text(alloc: Global, text: &[u8]) -> Result<Vec<u8>, Fail> {
+    match read_addrs(alloc, text) {
+        Ok(list) => list_text(alloc, list.items()),
+        Err(fault) => fault_text(alloc, fault),
+    }
+}
+
+/// An address file, and what is read from it.
+type FileRow = (&'static str, &'static str);
+
+/// Asserts that such is read from these files.
+fn assert_files<R: AllocGlobal + Abort>(rt: &R, rows: &[FileRow]) -> Result<(), Fail> {
+    for (text, answer) in rows {
+        assert_told(rt, file_text(rt.alloc(), text.as_bytes()), answer)?;
+    }
+    Ok(())
+}
+
+/// Files with lines of all kinds, and blanks in them.
+const LINES: [FileRow; 10] = [
     ("", ""),
     (
         "127.0.0.1 1\n\nlocalhost 1\n127.0.0.1 2\n",
@@ -103,6 +164,15 @@ const FILES: [(&str, &str); 41] = [
     ("\r\n \t\n10.0.0.1 80\n", "10.0.0.1:80 "),
     ("\r", "bad 1"),
     (" \t10.0.0.1\t \t80 \n", "10.0.0.1:80 "),
+];
+
+#[test]
+fn reads_lines_of_address_files(rt: HostRuntime) -> Result<(), Fail> {
+    assert_files(&rt, &LINES)
+}
+
+/// Files with addresses of all kinds, and such as are no addresses.
+const ADDRS: [FileRow; 10] = [
     ("10.0.0.1\n", "bad 1"),
     ("10.0.0.1 80 90\n", "bad 1"),
     ("10.0.0.1:80\n", "bad 1"),
@@ -116,6 +186,15 @@ const FILES: [(&str, &str); 41] = [
         "10.0.0.2:1 10.0.0.1:1 10.0.0.1:2 ",
     ),
     ("255.0.10.1 65535\n", "255.0.10.1:65535 "),
+];
+
+#[test]
+fn reads_addresses_of_address_files(rt: HostRuntime) -> Result<(), Fail> {
+    assert_files(&rt, &ADDRS)
+}
+
+/// Files with weights.
+const WEIGHTS: [FileRow; 21] = [
     ("127.0.0.1 1 * 3\n", "127.0.0.1:1*3000000 "),
     ("127.0.0.1 1*.5\n", "127.0.0.1:1*500000 "),
     ("127.0.0.1 1 * 0.0000001\n", "bad 1"),
@@ -143,65 +222,31 @@ const FILES: [(&str, &str); 41] = [
     ),
 ];
 
-/// Puts an address behind a text, with `*` and its weight in millionths, unless that is one whole,
-/// and a space.
-fn put_item(item: &Weighted, text: &mut Vec<u8>) -> Mem<()> {
-    append_addr(item.addr, text)?;
-    if item.weight != ONE_WEIGHT {
-        text.push(b'*')?;
-        append_number(item.weight, text)?;
-    }
-    Ok(text.push(b' ')?)
-}
-
-/// Addresses in words.
-fn list_text(alloc: Global, items: &[Weighted]) -> Mem<Vec<u8>> {
-    let mut text = Vec::new(alloc);
-    for item in items {
-        put_item(item, &mut text)?;
-    }
-    Ok(text)
-}
-
-/// A fault of an address file in words.
-fn fault_text(alloc: Global, fault: AddrFault) -> Mem<Vec<u8>> {
-    match fault {
-        AddrFault::BadLine(line) => Ok(format!(in alloc; "bad {line}")?.into_bytes()),
-        AddrFault::TooMany(count) => Ok(format!(in alloc; "too many {count}")?.into_bytes()),
-        AddrFault::OutOfMemory => b"memory".to_vec(alloc),
-    }
-}
-
-/// What is read from an address file, in words: its addresses, or the fault.
-fn file_text(alloc: Global, text: &[u8]) -> Mem<Vec<u8>> {
-    match read_addrs(alloc, text) {
-        Ok(list) => list_text(alloc, list.items()),
-        Err(fault) => fault_text(alloc, fault),
-    }
-}
-
 #[test]
-fn reads_address_files(rt: HostRuntime) -> Result<(), Fail> {
-    for (text, answer) in &FILES {
-        let read = file_text(rt.alloc(), text.as_bytes())?;
-        assert!(rt; read.as_slice() == answer.as_bytes(), "{text:?}");
-    }
-    Ok(())
+fn reads_weights_of_address_files(rt: HostRuntime) -> Result<(), Fail> {
+    assert_files(&rt, &WEIGHTS)
+}
+
+/// Puts a line with a port of a host behind a text.
+fn put_line(host: &str, port: u32, text: &mut Vec<u8>) -> Mem<()> {
+    text.extend_from_slice(host.as_bytes())?;
+    text.push(b' ')?;
+    append_number(u64::from(port), text)?;
+    Ok(text.push(b'\n')?)
 }
 
 /// Lines with so many ports of a host, from this one on, and an end.
-fn lines(alloc: Global, host: &str, first: u32, count: u32, end: &str) -> Mem<String> {
-    let mut text = String::new(alloc);
+fn lines(alloc: Global, host: &str, first: u32, count: u32, end: &str) -> Mem<Vec<u8>> {
+    let mut text = Vec::new(alloc);
     for row in 0..count {
-        let port = first.saturating_add(row);
-        text.push_str(format!(in alloc; "{host} {port}\n")?.as_str())?;
+        put_line(host, first.saturating_add(row), &mut text)?;
     }
-    text.push_str(end)?;
+    text.extend_from_slice(end.as_bytes())?;
     Ok(text)
 }
 
 /// How many addresses a copy of those of a file has, or the fault.
-fn count_text(alloc: Global, text: &[u8]) -> Mem<Vec<u8>> {
+fn count_text(alloc: Global, text: &[u8]) -> Result<Vec<u8>, Fail> {
     match read_addrs(alloc, text) {
         Ok(list) => Ok(format!(in alloc; "{}", list.clone()?.items().len())?.into_bytes()),
         Err(fault) => fault_text(alloc, fault),
@@ -209,9 +254,11 @@ fn count_text(alloc: Global, text: &[u8]) -> Mem<Vec<u8>> {
 }
 
 /// The same of 1,024 lines and an end.
-fn full_text(alloc: Global, end: &str) -> Mem<Vec<u8>> {
+fn full_text(alloc: Global, end: &str) -> Result<Vec<u8>, Fail> {
     let text = lines(alloc, "127.0.0.1", 1, 1_024, end)?;
-    count_text(alloc, text.as_bytes())
+    let count = count_text(alloc, text.as_slice());
+    drop(text);
+    count
 }
 
 /// What stands behind 1,024 lines, and what is read of them.
@@ -224,8 +271,7 @@ const ENDS: [(&str, &str); 3] = [
 #[test]
 fn reads_1024_addresses(rt: HostRuntime) -> Result<(), Fail> {
     for (end, want) in &ENDS {
-        let read = full_text(rt.alloc(), end)?;
-        assert!(rt; read.as_slice() == want.as_bytes(), "{end:?}");
+        assert_told(&rt, full_text(rt.alloc(), end), want)?;
     }
     Ok(())
 }
@@ -275,10 +321,10 @@ fn prepared_set(
     alloc: Global,
     book: &Book,
     service: &str,
-    addrs: &str,
+    addrs: &[u8],
 ) -> Result<Result<ReadyBook, BookFault>, Fail> {
     let service = Name::of(alloc, service.as_bytes())?;
-    let list = read_addrs(alloc, addrs.as_bytes())?;
+    let list = read_addrs(alloc, addrs)?;
     Ok(book.prepare_set(alloc, &service, &list))
 }
 
@@ -308,7 +354,7 @@ fn set(
     alloc: Global,
     book: &mut Book,
     service: &str,
-    addrs: &str,
+    addrs: &[u8],
 ) -> Result<Option<BookFault>, Fail> {
     let prepared = prepared_set(alloc, book, service, addrs)?;
     Ok(taken(book, prepared)?)
@@ -350,10 +396,10 @@ fn slots(alloc: Global, book: &Book) -> Mem<Vec<u8>> {
 }
 
 /// Ports of 127.0.0.1, as an address file.
-fn file_of(alloc: Global, ports: &[u16]) -> Mem<String> {
-    let mut text = String::new(alloc);
+fn file_of(alloc: Global, ports: &[u16]) -> Mem<Vec<u8>> {
+    let mut text = Vec::new(alloc);
     for port in ports {
-        text.push_str(format!(in alloc; "127.0.0.1 {port}\n")?.as_str())?;
+        put_line("127.0.0.1", u32::from(*port), &mut text)?;
     }
     Ok(text)
 }
@@ -366,7 +412,7 @@ fn changed(
     ports: Option<&[u16]>,
 ) -> Result<Option<BookFault>, Fail> {
     match ports {
-        Some(ports) => set(alloc, book, service, file_of(alloc, ports)?.as_str()),
+        Some(ports) => set(alloc, book, service, file_of(alloc, ports)?.as_slice()),
         None => drop_service(alloc, book, service),
     }
 }
@@ -399,68 +445,109 @@ const CHANGES: [(&str, Option<&[u16]>, &str); 7] = [
     ("gone", None, "missing"),
 ];
 
-#[test]
-fn keeps_slots_and_frees_them(rt: HostRuntime) -> Result<(), Fail> {
-    let mut book = Book::start(rt.alloc())?;
+/// Asserts that these changes of a book leave such slots.
+fn assert_slots<R: AllocGlobal + Abort>(rt: &R, book: &mut Book) -> Result<(), Fail> {
     for (service, ports, want) in &CHANGES {
-        let slots = slots_after(rt.alloc(), &mut book, service, *ports)?;
-        assert!(rt; slots.as_slice() == want.as_bytes(), "{service}");
+        assert_told(rt, slots_after(rt.alloc(), book, service, *ports), want)?;
     }
-    assert_eq!(rt; book.count(), 2);
     Ok(())
 }
 
-/// The addresses of the service `web` in words, behind the number of services.
-fn web_text(alloc: Global, book: &Book) -> Result<Vec<u8>, Fail> {
-    let mut text = format!(in alloc; "{} ", book.count())?.into_bytes();
-    match book.cluster(&Name::of(alloc, b"web")?) {
-        Some(items) => text.append(&mut list_text(alloc, items)?)?,
-        None => text.extend_from_slice(b"none")?,
+#[test]
+fn keeps_slots_and_frees_them(rt: HostRuntime) -> Result<(), Fail> {
+    let mut book = Book::start(rt.alloc())?;
+    let asserted = assert_slots(&rt, &mut book);
+    let count = book.count();
+    drop(book);
+    asserted?;
+    assert_eq!(rt; count, 2);
+    Ok(())
+}
+
+/// Puts a service's addresses behind a text in words, if it is there.
+fn put_found(items: Option<&[Weighted]>, text: &mut Vec<u8>) -> Mem<()> {
+    match items {
+        Some(items) => put_list(items, text),
+        None => text.extend_from_slice(b"none"),
     }
-    Ok(text)
+}
+
+/// Puts behind a text how many services there are, and the addresses of `web` in words.
+fn put_web(alloc: Global, book: &Book, text: &mut Vec<u8>) -> Result<(), Fail> {
+    append_number(book.count() as u64, text)?;
+    text.push(b' ')?;
+    let web = Name::of(alloc, b"web")?;
+    let put = put_found(book.cluster(&web), text);
+    drop(web);
+    Ok(put?)
 }
 
 /// What two books say of `web`, with `|` between them.
 fn both_texts(alloc: Global, one: &Book, other: &Book) -> Result<Vec<u8>, Fail> {
-    let mut text = web_text(alloc, one)?;
+    let mut text = Vec::new(alloc);
+    put_web(alloc, one, &mut text)?;
     text.push(b'|')?;
-    text.append(&mut web_text(alloc, other)?)?;
+    put_web(alloc, other, &mut text)?;
     Ok(text)
 }
 
-/// Two books take in a change that was prepared on the first.
+/// Two books take in a change.
+fn absorb_twice(one: &mut Book, other: &mut Book, ready: &ReadyBook) -> Mem<()> {
+    one.absorb(ready)?;
+    other.absorb(ready)
+}
+
+/// Prepares a change of `web` on the first of two books. What they say before both take it in.
 fn taken_twice(
     alloc: Global,
     one: &mut Book,
     other: &mut Book,
-    addrs: &str,
+    addrs: &[u8],
 ) -> Result<Vec<u8>, Fail> {
-    if let Ok(ready) = prepared_set(alloc, one, "web", addrs)? {
-        let before = web_text(alloc, one)?;
-        if before.as_slice() == b"0 none".as_slice() {
-            one.absorb(&ready)?;
-            other.absorb(&ready)?;
-        }
-    }
-    both_texts(alloc, one, other)
+    let ready = match prepared_set(alloc, one, "web", addrs)? {
+        Ok(ready) => ready,
+        Err(fault) => return Err(fault.into()),
+    };
+    let before = both_texts(alloc, one, other);
+    let absorbed = absorb_twice(one, other, &ready);
+    drop(ready);
+    let before = before?;
+    absorbed?;
+    Ok(before)
 }
 
-/// A change that is prepared does nothing until a book absorbs it, and any book may.
+/// Asserts that a change that is prepared does nothing until a book absorbs it, and that either of
+/// two books may.
+fn assert_absorbed<R: AllocGlobal + Abort>(
+    rt: &R,
+    one: &mut Book,
+    other: &mut Book,
+) -> Result<(), Fail> {
+    let addrs = b"127.0.0.1 3\n127.0.0.1 1";
+    assert_told(
+        rt,
+        taken_twice(rt.alloc(), one, other, addrs),
+        "0 none|0 none",
+    )?;
+    let told = both_texts(rt.alloc(), one, other);
+    assert_told(
+        rt,
+        told,
+        "1 127.0.0.1:3 127.0.0.1:1 |1 127.0.0.1:3 127.0.0.1:1 ",
+    )?;
+    set(rt.alloc(), one, "web", b"")?;
+    drop_service(rt.alloc(), other, "web")?;
+    assert_told(rt, both_texts(rt.alloc(), one, other), "1 |0 none")
+}
+
 #[test]
 fn books_absorb_what_was_prepared(rt: HostRuntime) -> Result<(), Fail> {
-    let alloc = rt.alloc();
-    let mut one = Book::start(alloc)?;
-    let mut other = Book::start(alloc)?;
-    let addrs = "127.0.0.1 3\n127.0.0.1 1";
-    let told = taken_twice(alloc, &mut one, &mut other, addrs)?;
-    assert!(rt;
-        told.as_slice() == b"1 127.0.0.1:3 127.0.0.1:1 |1 127.0.0.1:3 127.0.0.1:1 ".as_slice()
-    );
-    set(alloc, &mut one, "web", "")?;
-    drop_service(alloc, &mut other, "web")?;
-    let told = both_texts(alloc, &one, &other)?;
-    assert!(rt; told.as_slice() == b"1 |0 none".as_slice());
-    Ok(())
+    let mut one = Book::start(rt.alloc())?;
+    let mut other = Book::start(rt.alloc())?;
+    let asserted = assert_absorbed(&rt, &mut one, &mut other);
+    drop(one);
+    drop(other);
+    asserted
 }
 
 /// Puts the address or the service of a leaf behind a text.
@@ -523,27 +610,55 @@ const PATHS: [(&str, &str); 14] = [
     ("/", "nothing"),
 ];
 
+/// Asserts that these paths name such in a book without services, once it has `web`; and that this
+/// one names nothing behind that.
+fn assert_named<R: AllocGlobal + Abort>(rt: &R, book: &mut Book) -> Result<(), Fail> {
+    set(rt.alloc(), book, "web", b"")?;
+    for (path, answer) in &PATHS {
+        assert_told(rt, named(rt.alloc(), book, path), answer)?;
+    }
+    drop_service(rt.alloc(), book, "web")?;
+    assert_told(rt, named(rt.alloc(), book, "/#/io.l5d.fs/web"), "nothing")
+}
+
 #[test]
 fn names_addresses_and_services(rt: HostRuntime) -> Result<(), Fail> {
     let mut book = Book::start(rt.alloc())?;
-    set(rt.alloc(), &mut book, "web", "")?;
-    for (path, answer) in &PATHS {
-        let named = named(rt.alloc(), &book, path)?;
-        assert!(rt; named.as_slice() == answer.as_bytes(), "{path}");
-    }
-    drop_service(rt.alloc(), &mut book, "web")?;
-    let named = named(rt.alloc(), &book, "/#/io.l5d.fs/web")?;
-    assert!(rt; named.as_slice() == b"nothing".as_slice());
+    let asserted = assert_named(&rt, &mut book);
+    drop(book);
+    asserted
+}
+
+/// Sets the service of a letter and a number.
+fn set_numbered(
+    alloc: Global,
+    book: &mut Book,
+    letter: &str,
+    part: u32,
+    addrs: &[u8],
+) -> Result<(), Fail> {
+    let service = format!(in alloc; "{letter}{part}")?;
+    let set = set(alloc, book, service.as_str(), addrs);
+    drop(service);
+    set?;
     Ok(())
+}
+
+/// The 1,024 first ports of the host of a number, as an address file.
+fn full_file(alloc: Global, part: u32) -> Mem<Vec<u8>> {
+    let host = format!(in alloc; "10.0.0.{part}")?;
+    let addrs = lines(alloc, host.as_str(), 1, 1_024, "");
+    drop(host);
+    addrs
 }
 
 /// Sets services, `s1` and so on, each with the 1,024 first ports of a host of its own.
 fn set_full(alloc: Global, book: &mut Book, count: u32) -> Result<(), Fail> {
     for part in 1..count.saturating_add(1) {
-        let service = format!(in alloc; "s{part}")?;
-        let host = format!(in alloc; "10.0.0.{part}")?;
-        let addrs = lines(alloc, host.as_str(), 1, 1_024, "")?;
-        set(alloc, book, service.as_str(), addrs.as_str())?;
+        let addrs = full_file(alloc, part)?;
+        let set = set_numbered(alloc, book, "s", part, addrs.as_slice());
+        drop(addrs);
+        set?;
     }
     Ok(())
 }
@@ -551,8 +666,7 @@ fn set_full(alloc: Global, book: &mut Book, count: u32) -> Result<(), Fail> {
 /// Sets services without an address, `t1` and so on.
 fn set_empty(alloc: Global, book: &mut Book, count: u32) -> Result<(), Fail> {
     for part in 1..count.saturating_add(1) {
-        let service = format!(in alloc; "t{part}")?;
-        set(alloc, book, service.as_str(), "")?;
+        set_numbered(alloc, book, "t", part, b"")?;
     }
     Ok(())
 }
@@ -566,11 +680,27 @@ type Row = (&'static str, &'static str, u32, u32, Option<BookFault>);
 fn first_wrong(alloc: Global, book: &mut Book, rows: &[Row]) -> Result<Option<usize>, Fail> {
     for (at, (service, host, first, count, want)) in rows.iter().enumerate() {
         let addrs = lines(alloc, host, *first, *count, "")?;
-        if set(alloc, book, service, addrs.as_str())? != *want {
+        let fault = set(alloc, book, service, addrs.as_slice());
+        drop(addrs);
+        if fault? != *want {
             return Ok(Some(at));
         }
     }
     Ok(None)
+}
+
+/// The same behind services with 8,192 addresses, and so many without one. How many services there
+/// were before the rows, too.
+fn first_wrong_in_full(
+    alloc: Global,
+    book: &mut Book,
+    empty: u32,
+    rows: &[Row],
+) -> Result<(usize, Option<usize>), Fail> {
+    set_full(alloc, book, 8)?;
+    set_empty(alloc, book, empty)?;
+    let count = book.count();
+    Ok((count, first_wrong(alloc, book, rows)?))
 }
 
 const FULL: Option<BookFault> = Some(BookFault::BookFull(8_193));
@@ -589,9 +719,13 @@ const ADDRESSES: [Row; 5] = [
 #[test]
 fn a_book_has_8192_addresses(rt: HostRuntime) -> Result<(), Fail> {
     let mut book = Book::start(rt.alloc())?;
-    set_full(rt.alloc(), &mut book, 8)?;
-    assert_eq!(rt; first_wrong(rt.alloc(), &mut book, &ADDRESSES)?, None);
-    assert_eq!(rt; book.slot(at_port(1)), Some(0));
+    let told = first_wrong_in_full(rt.alloc(), &mut book, 0, &ADDRESSES);
+    let slot = book.slot(at_port(1));
+    drop(book);
+    let (count, wrong) = told?;
+    assert_eq!(rt; count, 8);
+    assert_eq!(rt; wrong, None);
+    assert_eq!(rt; slot, Some(0));
     Ok(())
 }
 
@@ -608,10 +742,12 @@ const SERVICES: [Row; 5] = [
 #[test]
 fn a_book_has_4096_services(rt: HostRuntime) -> Result<(), Fail> {
     let mut book = Book::start(rt.alloc())?;
-    set_full(rt.alloc(), &mut book, 8)?;
-    set_empty(rt.alloc(), &mut book, 4_087)?;
-    assert_eq!(rt; book.count(), 4_095);
-    assert_eq!(rt; first_wrong(rt.alloc(), &mut book, &SERVICES)?, None);
-    assert_eq!(rt; book.count(), 4_096);
+    let told = first_wrong_in_full(rt.alloc(), &mut book, 4_087, &SERVICES);
+    let last = book.count();
+    drop(book);
+    let (count, wrong) = told?;
+    assert_eq!(rt; count, 4_095);
+    assert_eq!(rt; wrong, None);
+    assert_eq!(rt; last, 4_096);
     Ok(())
 }

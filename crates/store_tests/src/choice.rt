@@ -3,7 +3,7 @@ ghost use Rattle.std.specs.Prelude.{◌≡◌, ◌≤◌, ◌<◌, ◌^◌, IfOk
 ghost use Rattle.choose_core.specs.Good.{IsGood};
 
 use addr_book::{
-    Addr, Book, Bound, BoundItem, BoundList, Cluster, Leaf, Name, ReadyBook, Weighted, read_addrs,
+    Addr, Book, Bound, BoundItem, BoundList, Cluster, Leaf, Name, Weighted, read_addrs,
 };
 use choose_core::*;
 use name_tree::read_path;
@@ -70,22 +70,33 @@ fn fail(marks: &mut Marks, port: u16, times: u32) {
     }
 }
 
-/// A service `web` with these addresses, prepared.
-fn prepared_web(alloc: Global, book: &Book, addrs: &[u8]) -> Result<ReadyBook, Fail> {
+/// Sets these addresses of the service `web`, where there are some.
+fn set_web(alloc: Global, book: &mut Book, addrs: &[u8]) -> Result<(), Fail> {
+    if addrs.is_empty() {
+        return Ok(());
+    }
     let list = read_addrs(alloc, addrs)?;
     let web = Name::of(alloc, b"web")?;
-    Ok(book.prepare_set(alloc, &web, &list)?)
+    let prepared = book.prepare_set(alloc, &web, &list);
+    drop(web);
+    drop(list);
+    let ready = prepared?;
+    let absorbed = book.absorb(&ready);
+    drop(ready);
+    Ok(absorbed?)
 }
 
 /// A book with one service, `web`, with these addresses; where there are none, a book with no
 /// service.
 fn book_with(alloc: Global, addrs: &[u8]) -> Result<Book, Fail> {
     let mut book = Book::start(alloc)?;
-    if !addrs.is_empty() {
-        let ready = prepared_web(alloc, &book, addrs)?;
-        book.absorb(&ready)?;
+    match set_web(alloc, &mut book, addrs) {
+        Ok(()) => Ok(book),
+        Err(error) => {
+            drop(book);
+            Err(error)
+        }
     }
-    Ok(book)
 }
 
 /// The addresses of the book whose marks are kept, one after the other; and then how many marks
@@ -103,6 +114,14 @@ fn counts_of(marks: &Marks) -> (u32, u32, u32) {
     (marks.count(), one.count, four.count)
 }
 
+/// The same once marks are kept that the book with these addresses has.
+fn kept(alloc: Global, marks: &mut Marks, addrs: &[u8]) -> Result<(u32, u32, u32), Fail> {
+    let book = book_with(alloc, addrs)?;
+    marks.keep(&book);
+    drop(book);
+    Ok(counts_of(marks))
+}
+
 #[test]
 fn keeps_the_marks_of_the_book(rt: HostRuntime) -> Result<(), Fail> {
     let mut marks = Marks::start(rt.alloc())?;
@@ -110,9 +129,10 @@ fn keeps_the_marks_of_the_book(rt: HostRuntime) -> Result<(), Fail> {
     fail(&mut marks, 1, 1);
     assert!(rt; counts_of(&marks) == (2, 1, 2));
     for (addrs, want) in &KEPT {
-        let book = book_with(rt.alloc(), addrs.as_bytes())?;
-        marks.keep(&book);
-        assert!(rt; counts_of(&marks) == *want);
+        assert!(rt;
+            kept(rt.alloc(), &mut marks, addrs.as_bytes())? == *want,
+            "{addrs}"
+        );
     }
     Ok(())
 }
@@ -164,18 +184,27 @@ fn draws_two_places_by_weight(rt: HostRuntime) -> Result<(), Fail> {
     Ok(())
 }
 
+/// Of three addresses of which the second is dead before the moment 5,000: how many are left before
+/// it, and the port of the second that is left, before it and at it. And how many are left where
+/// all are dead: then all take part.
+fn left_alive(list: &[Weighted], marks: &mut Marks) -> (usize, u16, u16, usize) {
+    fail(marks, 2, 5);
+    let before = live_count(list, marks, 4_999, LIMITS);
+    let second = port_at(list, marks, 4_999, 1);
+    let revived = port_at(list, marks, 5_000, 1);
+    fail(marks, 1, 5);
+    fail(marks, 3, 5);
+    (before, second, revived, live_count(list, marks, 0, LIMITS))
+}
+
 #[test]
 fn leaves_dead_addresses_out(rt: HostRuntime) -> Result<(), Fail> {
     let list = read_addrs(rt.alloc(), THREE.as_bytes())?;
     let mut marks = Marks::start(rt.alloc())?;
-    fail(&mut marks, 2, 5);
-    assert!(rt; live_count(list.items(), &marks, 4_999, LIMITS) == 2);
-    assert!(rt; port_at(list.items(), &marks, 4_999, 1) == 3);
-    assert!(rt; port_at(list.items(), &marks, 5_000, 1) == 2);
-    // Where all are dead, all take part.
-    fail(&mut marks, 1, 5);
-    fail(&mut marks, 3, 5);
-    assert!(rt; live_count(list.items(), &marks, 0, LIMITS) == 3);
+    let left = left_alive(list.items(), &mut marks);
+    drop(list);
+    drop(marks);
+    assert_eq!(rt; left, (2, 3, 2, 3));
     Ok(())
 }
 
@@ -254,6 +283,16 @@ fn first_wrong(bound: &Bound, book: &Book, rows: &[(u64, u16)]) -> Option<u64>
     None
 }
 
+/// The same in a book without services.
+fn first_wrong_of(alloc: Global, bound: &Bound, rows: &[(u64, u16)]) -> Result<Option<u64>, Fail>
+    requires { IsGood bound.now }
+{
+    let book = Book::start(alloc)?;
+    let wrong = first_wrong(bound, &book, rows);
+    drop(book);
+    Ok(wrong)
+}
+
 /// A union of the port 1, of weight 0.3, and the port 2, of weight 0.7.
 fn two_ports(alloc: Global) -> Result<Bound, Fail>
     ensures { IfOk result IsGood }
@@ -263,17 +302,25 @@ fn two_ports(alloc: Global) -> Result<Bound, Fail>
     union_of_two(alloc, 300_000, one, 700_000, two)
 }
 
-/// A union of a service that is gone, with a great weight, and the two ports, with the weight 2.
-fn beside_gone(alloc: Global) -> Result<Bound, Fail>
+/// A union of a leaf and the two ports.
+fn beside_ports(
+    alloc: Global,
+    weight: u64,
+    cluster: Cluster,
+    ports_weight: u64,
+) -> Result<Bound, Fail>
+    requires weight { (1 ≤ weight) × (weight < 10 ^ 12) }
+    requires ports_weight { (1 ≤ ports_weight) × (ports_weight < 10 ^ 12) }
     ensures { IfOk result IsGood }
 {
-    let gone = leaf(alloc, Cluster::Fs(Name::of(alloc, b"gone")?))?;
+    let one = leaf(alloc, cluster)?;
     let ports = two_ports(alloc)?;
-    union_of_two(alloc, 900_000_000_000, gone, 2, ports)
+    union_of_two(alloc, weight, one, ports_weight, ports)
 }
 
-/// Words, and the ports that they choose. The weight of the branch of which nothing is left does
-/// not count. The other one, of weight 2, uses up its part of the word: twice the word, without
+/// Words, and the ports that they choose in a union of a service that is gone, with a great weight,
+/// and the two ports, with the weight 2. The weight of the branch of which nothing is left does not
+/// count. The other one, of weight 2, uses up its part of the word: twice the word, without
 /// what is above 2^64, goes on to the union below.
 const LEFT: [(u64, u16); 5] = [
     (0, 1),
@@ -285,24 +332,16 @@ const LEFT: [(u64, u16); 5] = [
 
 #[test]
 fn chooses_a_branch_of_those_that_are_left(rt: HostRuntime) -> Result<(), Fail> {
-    let book = Book::start(rt.alloc())?;
-    let bound = beside_gone(rt.alloc())?;
-    let wrong = first_wrong(&bound, &book, &LEFT);
+    let gone = Name::of(rt.alloc(), b"gone")?;
+    let bound = beside_ports(rt.alloc(), 900_000_000_000, Cluster::Fs(gone), 2)?;
+    let wrong = first_wrong_of(rt.alloc(), &bound, &LEFT);
     drop(bound);
-    assert_eq!(rt; wrong, None);
+    assert_eq!(rt; wrong?, None);
     Ok(())
 }
 
-/// A union of the port 3 and the two ports, with weights alike.
-fn beside_three(alloc: Global) -> Result<Bound, Fail>
-    ensures { IfOk result IsGood }
-{
-    let three = leaf(alloc, Cluster::Inet(at_port(3)))?;
-    let ports = two_ports(alloc)?;
-    union_of_two(alloc, 1, three, 1, ports)
-}
-
-/// Words, and the ports that they choose.
+/// Words, and the ports that they choose in a union of the port 3 and the two ports, with weights
+/// alike.
 const BELOW: [(u64, u16); 6] = [
     (0, 3),
     (HALF - 1, 3),
@@ -314,10 +353,9 @@ const BELOW: [(u64, u16); 6] = [
 
 #[test]
 fn chooses_in_the_union_below_with_what_is_left_of_the_word(rt: HostRuntime) -> Result<(), Fail> {
-    let book = Book::start(rt.alloc())?;
-    let bound = beside_three(rt.alloc())?;
-    let wrong = first_wrong(&bound, &book, &BELOW);
+    let bound = beside_ports(rt.alloc(), 1, Cluster::Inet(at_port(3)), 1)?;
+    let wrong = first_wrong_of(rt.alloc(), &bound, &BELOW);
     drop(bound);
-    assert_eq!(rt; wrong, None);
+    assert_eq!(rt; wrong?, None);
     Ok(())
 }

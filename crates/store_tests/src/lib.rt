@@ -8,3 +8,5 @@ mod book;
 mod choice;
 #[cfg(test)]
 mod store;
+#[cfg(test)]
+mod told;

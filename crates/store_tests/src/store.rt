@@ -1,10 +1,13 @@
 //! Changes of a store with their answers in order, the limits, and stores that absorb what others
 //! prepared.
+use crate::told::assert_told;
 use addr_book::Name;
 use dtab_table::{Dtab, read_dtab, write_dtab};
 use ns_store::*;
-use std::alloc::Global;
+use std::alloc::{AllocGlobal, Global};
+use std::process::Abort;
 use std::test::Fail;
+use text_parts::append_number;
 
 /// A change of a namespace.
 #[derive(Clone, Copy)]
@@ -69,21 +72,29 @@ fn first_wrong(alloc: Global, store: &mut Store, rows: &[Row]) -> Result<Option<
     Ok(None)
 }
 
-/// What a name has, its version and its table, as one text; `-` where it has nothing.
-fn held(alloc: Global, store: &Store, name: &str) -> Result<Vec<u8>, Fail> {
-    match store.get(&Name::of(alloc, name.as_bytes())?) {
-        Some((version, dtab)) => {
-            let mut text = format!(in alloc; "{version} ")?.into_bytes();
-            text.append(&mut write_dtab(alloc, dtab)?)?;
-            Ok(text)
-        }
-        None => Ok(b"-".to_vec(alloc)?),
+/// A version and a table as one text.
+fn version_text(alloc: Global, version: u64, dtab: &Dtab) -> Mem<Vec<u8>> {
+    let mut text = Vec::new(alloc);
+    append_number(version, &mut text)?;
+    text.push(b' ')?;
+    text.append(&mut write_dtab(alloc, dtab)?)?;
+    Ok(text)
+}
+
+/// The same, where there is such; or else `-`.
+fn found_text(alloc: Global, found: Option<(u64, &Dtab)>) -> Mem<Vec<u8>> {
+    match found {
+        Some((version, dtab)) => version_text(alloc, version, dtab),
+        None => b"-".to_vec(alloc),
     }
 }
 
-/// Whether a name has this.
-fn holds(alloc: Global, store: &Store, name: &str, want: &[u8]) -> Result<bool, Fail> {
-    Ok(held(alloc, store, name)?.as_slice() == want)
+/// What a name has, its version and its table, as one text; `-` where it has nothing.
+fn held(alloc: Global, store: &Store, name: &str) -> Result<Vec<u8>, Fail> {
+    let name = Name::of(alloc, name.as_bytes())?;
+    let text = found_text(alloc, store.get(&name));
+    drop(name);
+    Ok(text?)
 }
 
 const VERSIONS: [Row; 8] = [
@@ -101,14 +112,21 @@ const VERSIONS: [Row; 8] = [
     ("web", Step::Create("/svc => /c"), Ok(Some(3))),
 ];
 
+/// Asserts that a new store tells these changes so, and what it has behind them.
+fn assert_versions<R: AllocGlobal + Abort>(rt: &R, store: &mut Store) -> Result<(), Fail> {
+    assert_eq!(rt; first_wrong(rt.alloc(), store, &VERSIONS)?, None);
+    assert_eq!(rt; store.count(), 1);
+    assert!(rt; has_at(store, 0, b"web"));
+    assert_told(rt, held(rt.alloc(), store, "web"), "3 /svc=>/c")?;
+    assert_told(rt, held(rt.alloc(), store, "x"), "-")
+}
+
 #[test]
 fn gives_each_table_a_version_of_its_own(rt: HostRuntime) -> Result<(), Fail> {
     let mut store = Store::start(rt.alloc())?;
-    assert_eq!(rt; first_wrong(rt.alloc(), &mut store, &VERSIONS)?, None);
-    assert!(rt; store.count() == 1 && has_at(&store, 0, b"web"));
-    assert!(rt; holds(rt.alloc(), &store, "web", b"3 /svc=>/c")?);
-    assert!(rt; holds(rt.alloc(), &store, "x", b"-")?);
-    Ok(())
+    let asserted = assert_versions(&rt, &mut store);
+    drop(store);
+    asserted
 }
 
 /// One of 256 names of two letters, in byte order: `AA` to `AP`, `BA` to `BP`, up to `PP`.
@@ -154,14 +172,22 @@ const FULL: [Row; 5] = [
     ("web", Step::Create(""), Ok(Some(258))),
 ];
 
+/// Asserts that a store takes 256 namespaces and no more, and has them in byte order.
+fn assert_filled<R: AllocGlobal + Abort>(rt: &R, store: &mut Store) -> Result<(), Fail> {
+    assert_eq!(rt; fill(rt.alloc(), store)?, None);
+    assert_eq!(rt; store.count(), 256);
+    assert_eq!(rt; first_misplaced(store), None);
+    assert_eq!(rt; first_wrong(rt.alloc(), store, &FULL)?, None);
+    assert_eq!(rt; store.count(), 256);
+    Ok(())
+}
+
 #[test]
 fn holds_256_namespaces_in_byte_order(rt: HostRuntime) -> Result<(), Fail> {
     let mut store = Store::start(rt.alloc())?;
-    assert!(rt; fill(rt.alloc(), &mut store)? == None && store.count() == 256);
-    assert_eq!(rt; first_misplaced(&store), None);
-    assert_eq!(rt; first_wrong(rt.alloc(), &mut store, &FULL)?, None);
-    assert!(rt; store.count() == 256);
-    Ok(())
+    let asserted = assert_filled(&rt, &mut store);
+    drop(store);
+    asserted
 }
 
 /// The last version that is given.
@@ -186,32 +212,56 @@ const SPENT: [Row; 8] = [
 #[test]
 fn stops_at_the_last_version(rt: HostRuntime) -> Result<(), Fail> {
     let mut store = Store::with_next(rt.alloc(), LAST)?;
-    assert_eq!(rt; first_wrong(rt.alloc(), &mut store, &SPENT)?, None);
+    let wrong = first_wrong(rt.alloc(), &mut store, &SPENT);
+    drop(store);
+    assert_eq!(rt; wrong?, None);
     Ok(())
+}
+
+/// Two stores take in a change.
+fn absorb_both(first: &mut Store, second: &mut Store, ready: &ReadyStore) -> Mem<()> {
+    first.absorb(ready)?;
+    second.absorb(ready)
 }
 
 /// Two stores take in a new namespace `web`, which was prepared on the first.
 fn absorbed_twice(alloc: Global, first: &mut Store, second: &mut Store) -> Result<(), Fail> {
     let web = Name::of(alloc, b"web")?;
-    let ready = prepared(alloc, first, &web, Step::Create("/a => /b"))?;
-    first.absorb(&ready)?;
-    Ok(second.absorb(&ready)?)
+    let prepared = prepared(alloc, first, &web, Step::Create("/a => /b"));
+    drop(web);
+    let ready = prepared?;
+    let absorbed = absorb_both(first, second, &ready);
+    drop(ready);
+    Ok(absorbed?)
 }
 
-/// Whether a store has that namespace, and no other.
-fn holds_web(alloc: Global, store: &Store) -> Result<bool, Fail> {
-    let has_web = holds(alloc, store, "web", b"1 /a=>/b")?;
-    let has_no_mail = holds(alloc, store, "mail", b"-")?;
-    Ok(store.count() == 1 && has_web && has_no_mail)
+/// Asserts that a store has that namespace, and no other.
+fn assert_web<R: AllocGlobal + Abort>(rt: &R, store: &Store) -> Result<(), Fail> {
+    assert_eq!(rt; store.count(), 1);
+    assert_told(rt, held(rt.alloc(), store, "web"), "1 /a=>/b")?;
+    assert_told(rt, held(rt.alloc(), store, "mail"), "-")
+}
+
+/// Asserts that a store with a namespace of its own has that of another alone, once both absorbed
+/// what was prepared on the other.
+fn assert_absorbed<R: AllocGlobal + Abort>(
+    rt: &R,
+    first: &mut Store,
+    second: &mut Store,
+) -> Result<(), Fail> {
+    let mail = told(rt.alloc(), second, "mail", Step::Create("/m => /n"))?;
+    assert!(rt; mail == Ok(Some(1)), "{mail:?}");
+    absorbed_twice(rt.alloc(), first, second)?;
+    assert_web(rt, first)?;
+    assert_web(rt, second)
 }
 
 #[test]
 fn absorbs_what_another_store_prepared(rt: HostRuntime) -> Result<(), Fail> {
     let mut first = Store::start(rt.alloc())?;
     let mut second = Store::start(rt.alloc())?;
-    let mail = told(rt.alloc(), &mut second, "mail", Step::Create("/m => /n"))?;
-    assert!(rt; mail == Ok(Some(1)));
-    absorbed_twice(rt.alloc(), &mut first, &mut second)?;
-    assert!(rt; holds_web(rt.alloc(), &first)? && holds_web(rt.alloc(), &second)?);
-    Ok(())
+    let asserted = assert_absorbed(&rt, &mut first, &mut second);
+    drop(first);
+    drop(second);
+    asserted
 }

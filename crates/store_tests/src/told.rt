@@ -1,0 +1,19 @@
+//! What tests assert of what they are told.
+
+use std::process::Abort;
+use std::test::Fail;
+
+/// Asserts that a text is this one.
+pub(crate) fn assert_told<R: Abort>(
+    rt: &R,
+    told: Result<Vec<u8>, Fail>,
+    want: &str,
+) -> Result<(), Fail> {
+    let told = told?;
+    assert!(rt;
+        told.as_slice() == want.as_bytes(),
+        "{} in place of {want:?}",
+        told.as_slice().escape_ascii()
+    );
+    Ok(())
+}
