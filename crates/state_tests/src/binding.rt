@@ -38,8 +38,13 @@ impl Drop for Given {
 /// Sets the addresses of a service.
 fn set(alloc: Global, book: &mut Book, service: &str, addrs: &str) -> Result<(), Fail> {
     let name = Name::of(alloc, service.as_bytes())?;
-    let ready = book.prepare_set(alloc, &name, &read_addrs(alloc, addrs.as_bytes())?)?;
-    Ok(book.absorb(&ready)?)
+    let list = read_addrs(alloc, addrs.as_bytes())?;
+    let ready = book.prepare_set(alloc, &name, &list)?;
+    drop(name);
+    drop(list);
+    let absorbed = book.absorb(&ready);
+    drop(ready);
+    Ok(absorbed?)
 }
 
 /// A book with the services `web`, which has an address, and `idle`, which has none.
@@ -50,8 +55,10 @@ fn two_services(alloc: Global) -> Result<Book, Fail> {
     Ok(book)
 }
 
-/// These tables, and the book of two services.
-fn read_given(alloc: Global, space: &str, base: &str, local: &str) -> Result<Given, Fail> {
+/// The tables of the namespace, of the configuration and of the request, and the book of two
+/// services.
+fn read_given(alloc: Global, tables: [&[u8]; 3]) -> Result<Given, Fail> {
+    let [space, base, local] = tables;
     Ok(Given {
         book: two_services(alloc)?,
         space: table(alloc, space),
@@ -80,14 +87,27 @@ fn delegate<L: Ledger>(
     bind(alloc, &tables, &given.book, path, wanted, &mut steps)
 }
 
-/// What a path comes to.
-fn delegate_by(alloc: Global, given: &Given, path: &Path, wanted: Wanted) -> Mem<Delegated> {
-    delegate::<Brand>(alloc, given, path, wanted, Blank::new(1))
+/// What the path of a text comes to by three tables.
+fn found_by(
+    alloc: Global,
+    tables: [&[u8]; 3],
+    text: &str,
+    wanted: Wanted,
+) -> Result<Delegated, Fail> {
+    let given = read_given(alloc, tables)?;
+    let path = path(alloc, text);
+    let found = delegate::<Brand>(alloc, &given, &path, wanted, Blank::new(1));
+    drop(path);
+    drop(given);
+    Ok(found?)
 }
 
-/// What the path of a text comes to.
-fn told(alloc: Global, given: &Given, text: &str, wanted: Wanted) -> Mem<Delegated> {
-    delegate_by(alloc, given, &path(alloc, text), wanted)
+/// Puts some words behind a text.
+fn put(text: &mut Vec<u8>, words: Mem<String>) -> Mem<()> {
+    let words = words?;
+    let put = text.extend_from_slice(words.as_bytes());
+    drop(words);
+    put
 }
 
 /// A leaf in words: the address, the client path and the residual.
@@ -111,8 +131,7 @@ fn put_bound(alloc: Global, bound: &Bound, text: &mut Vec<u8>) -> Mem<()> {
         Bound::Many(list) => {
             text.push(b'[')?;
             for item in list.items() {
-                let weight = format!(in alloc; " {} * ", item.weight)?;
-                text.extend_from_slice(weight.as_bytes())?;
+                put(text, format!(in alloc; " {} * ", item.weight))?;
                 put_bound(alloc, &item.bound, text)?;
             }
             text.extend_from_slice(b" ]")
@@ -120,23 +139,24 @@ fn put_bound(alloc: Global, bound: &Bound, text: &mut Vec<u8>) -> Mem<()> {
     }
 }
 
-/// Why nothing is bound, in words; nothing where something is.
-fn unbound_words(outcome: &Outcome) -> &'static str {
+/// An outcome in a word or two.
+fn outcome_words(outcome: &Outcome) -> &'static str {
     match outcome {
         Outcome::Neg => "negative",
         Outcome::Fail => "failing",
         Outcome::Empty => "empty",
         Outcome::TooDeep => "too deep",
         Outcome::TooWide => "too wide",
-        Outcome::Bound(_) => "",
+        Outcome::Bound(_) => "bound",
     }
 }
 
 /// An outcome in words. A bound one is its bound.
 fn outcome_text(alloc: Global, outcome: &Outcome) -> Mem<Vec<u8>> {
-    let mut text = Vec::from_slice(alloc, unbound_words(outcome).as_bytes())?;
-    if let Outcome::Bound(bound) = outcome {
-        put_bound(alloc, bound, &mut text)?;
+    let mut text = Vec::new(alloc);
+    match outcome {
+        Outcome::Bound(bound) => put_bound(alloc, bound, &mut text)?,
+        _ => text.extend_from_slice(outcome_words(outcome).as_bytes())?,
     }
     Ok(text)
 }
@@ -154,9 +174,9 @@ fn ended_word(ended: LookupEnd) -> &'static str {
 
 /// Puts a lookup behind a text: the depth, the path and how it ended.
 fn put_lookup(alloc: Global, item: &TraceItem, text: &mut Vec<u8>) -> Mem<()> {
-    text.append(&mut format!(in alloc; "{} ", item.depth)?.into_bytes())?;
+    put(text, format!(in alloc; "{} ", item.depth))?;
     append_path(&item.path, text)?;
-    text.append(&mut format!(in alloc; " {};", ended_word(item.ended))?.into_bytes())
+    put(text, format!(in alloc; " {};", ended_word(item.ended)))
 }
 
 /// The first four lookups of a trace in words.
@@ -178,31 +198,24 @@ fn paths_text(alloc: Global, paths: &[Path]) -> Mem<Vec<u8>> {
     Ok(text)
 }
 
-/// `/c0 => /c1` and so on, and from the last name to an address.
-fn chain(alloc: Global, links: u32) -> Mem<String> {
-    let mut table = String::new(alloc);
+/// Puts `/c0 => /c1` and so on behind a text, and from the last name to an address.
+fn put_chain(alloc: Global, links: u32, text: &mut Vec<u8>) -> Mem<()> {
     for link in 0..links {
-        table.push_str(format!(in alloc; "/c{} => /c{};", link, link + 1)?.as_str())?;
+        put(text, format!(in alloc; "/c{} => /c{};", link, link + 1))?;
     }
-    table.push_str(format!(in alloc; "/c{} => /$/inet/127.0.0.1/80", links)?.as_str())?;
-    Ok(table)
+    put(text, format!(in alloc; "/c{links} => /$/inet/127.0.0.1/80"))
 }
 
-/// `/a0 => /a1 | /a1` and so on, with the sign that is given for `|`.
-fn doubling(alloc: Global, levels: u32, sign: &str) -> Mem<String> {
-    let mut table = String::new(alloc);
+/// Puts `/a0 => /a1 | /a1` and so on behind a text, with the sign that is given for `|`.
+fn put_doubling(alloc: Global, levels: u32, sign: &str, text: &mut Vec<u8>) -> Mem<()> {
     for level in 0..levels {
         let next = level + 1;
-        table.push_str(format!(in alloc; "/a{level} => /a{next} {sign} /a{next};")?.as_str())?;
+        put(
+            text,
+            format!(in alloc; "/a{level} => /a{next} {sign} /a{next};"),
+        )?;
     }
-    Ok(table)
-}
-
-/// `/a0 => /a1 & /a1` and so on, and from the last name to an address.
-fn doubling_unions(alloc: Global, levels: u32) -> Mem<String> {
-    let mut table = doubling(alloc, levels, "&")?;
-    table.push_str(format!(in alloc; "/a{levels} => /$/inet/127.0.0.1/80")?.as_str())?;
-    Ok(table)
+    Ok(())
 }
 
 /// A table, a path, what it comes to, and the cost.
@@ -333,24 +346,12 @@ fn counts_of(found: &Delegated) -> Counts {
     )
 }
 
-/// What a path comes to by a table.
-fn found_by(alloc: Global, table: &str, path: &str, wanted: Wanted) -> Result<Delegated, Fail> {
-    let given = read_given(alloc, table, "", "")?;
-    let found = told(alloc, &given, path, wanted);
-    drop(given);
-    Ok(found?)
-}
-
-/// What a path comes to by a table in words, with its counts.
-fn counted(
-    alloc: Global,
-    table: &str,
-    path: &str,
-    wanted: Wanted,
-) -> Result<(Vec<u8>, Counts), Fail> {
-    let found = found_by(alloc, table, path, wanted)?;
-    let text = outcome_text(alloc, &found.outcome);
+/// What a path comes to by a table, with the counts.
+fn counted(alloc: Global, table: &str, path: &str) -> Result<(Vec<u8>, Counts), Fail> {
+    let tables = [table.as_bytes(), b"", b""];
+    let found = found_by(alloc, tables, path, Wanted::Neither)?;
     let counts = counts_of(&found);
+    let text = outcome_text(alloc, &found.outcome);
     drop(found);
     Ok((text?, counts))
 }
@@ -358,11 +359,10 @@ fn counted(
 #[test]
 fn delegations(rt: HostRuntime) -> Result<(), Fail> {
     for (table, path, outcome, cost) in &ROWS {
-        let (text, counts) = counted(rt.alloc(), table, path, Wanted::Neither)?;
-        assert!(rt;
-            text.as_slice() == outcome.as_bytes() && counts == (*cost, 0, 0),
-            "{path} in {table}"
-        );
+        let (text, counts) = counted(rt.alloc(), table, path)?;
+        let is_so = (text.as_slice(), counts) == (outcome.as_bytes(), (*cost, 0, 0));
+        drop(text);
+        assert!(rt; is_so, "{path} in {table}");
     }
     Ok(())
 }
@@ -448,52 +448,36 @@ const TABLES: [(&str, &str, &str, &str, &str, &str); 9] = [
     ),
 ];
 
-/// What was found in words, with the paths that were looked up behind it.
+/// What was found in words, and the paths that were looked up.
 fn asked_text(alloc: Global, found: &Delegated) -> Mem<(Vec<u8>, Vec<u8>)> {
     let text = outcome_text(alloc, &found.outcome)?;
     Ok((text, paths_text(alloc, found.asked.items())?))
 }
 
-/// What a path comes to by three tables, with the paths that were looked up.
-fn found_in(
-    alloc: Global,
-    space: &str,
-    base: &str,
-    local: &str,
-    path: &str,
-) -> Result<Delegated, Fail> {
-    let given = read_given(alloc, space, base, local)?;
-    let found = told(alloc, &given, path, Wanted::Asked);
-    drop(given);
-    Ok(found?)
-}
-
 /// The same of a path by three tables, and whether the cost is the number of those paths.
 fn asked_by(
     alloc: Global,
-    space: &str,
-    base: &str,
-    local: &str,
+    tables: [&[u8]; 3],
     path: &str,
 ) -> Result<(Vec<u8>, Vec<u8>, bool), Fail> {
-    let found = found_in(alloc, space, base, local, path)?;
+    let found = found_by(alloc, tables, path, Wanted::Asked)?;
     let texts = asked_text(alloc, &found);
     let (cost, count, traced) = counts_of(&found);
     drop(found);
+    let is_counted = (cost as usize, traced) == (count, 0);
     let (text, asked) = texts?;
-    Ok((text, asked, cost as usize == count && traced == 0))
+    Ok((text, asked, is_counted))
 }
 
 #[test]
 fn tables_and_paths_asked(rt: HostRuntime) -> Result<(), Fail> {
     for (space, base, local, path, outcome, asked) in &TABLES {
-        let found = asked_by(rt.alloc(), space, base, local, path)?;
-        assert!(rt;
-            found.0.as_slice() == outcome.as_bytes()
-                && found.1.as_slice() == asked.as_bytes()
-                && found.2,
-            "{path}"
-        );
+        let tables = [space.as_bytes(), base.as_bytes(), local.as_bytes()];
+        let found = asked_by(rt.alloc(), tables, path)?;
+        let is_so = (found.0.as_slice(), found.1.as_slice(), found.2)
+            == (outcome.as_bytes(), asked.as_bytes(), true);
+        drop(found);
+        assert!(rt; is_so, "{path}");
     }
     Ok(())
 }
@@ -545,7 +529,7 @@ const TRACES: [(&str, &str, usize, &str); 8] = [
 
 /// The first four lookups of a path by a table in words, with the counts.
 fn traced_text(alloc: Global, table: &str, path: &str) -> Result<(Vec<u8>, Counts), Fail> {
-    let found = found_by(alloc, table, path, Wanted::Trace)?;
+    let found = found_by(alloc, [table.as_bytes(), b"", b""], path, Wanted::Trace)?;
     let text = trace_text(alloc, found.trace.items());
     let counts = counts_of(&found);
     drop(found);
@@ -555,23 +539,13 @@ fn traced_text(alloc: Global, table: &str, path: &str) -> Result<(Vec<u8>, Count
 #[test]
 fn traces(rt: HostRuntime) -> Result<(), Fail> {
     for (table, path, count, trace) in &TRACES {
-        let (text, (cost, asked, traced)) = traced_text(rt.alloc(), table, path)?;
-        assert!(rt;
-            text.as_slice() == trace.as_bytes()
-                && (cost as usize, asked, traced) == (*count, 0, *count),
-            "{path} in {table}"
-        );
+        let (text, counts) = traced_text(rt.alloc(), table, path)?;
+        let is_so = (text.as_slice(), counts.0 as usize, counts.1, counts.2)
+            == (trace.as_bytes(), *count, 0, *count);
+        drop(text);
+        assert!(rt; is_so, "{path} in {table}");
     }
     Ok(())
-}
-
-/// Whether an outcome in words is this, which is `bound` for each bound one.
-fn is_outcome(text: &[u8], outcome: &str) -> bool {
-    if outcome == "bound" {
-        text.ends_with(b" /") || text.ends_with(b" ]")
-    } else {
-        text == outcome.as_bytes()
-    }
 }
 
 /// A table that is made.
@@ -586,42 +560,55 @@ enum Made {
     Levels(&'static str),
 }
 
-/// The text of a table that is made.
-fn made_text(alloc: Global, table: Made) -> Mem<String> {
+/// Puts a table that is made behind a text.
+fn put_made(alloc: Global, table: Made, text: &mut Vec<u8>) -> Mem<()> {
     match table {
-        Made::Chain(links) => chain(alloc, links),
-        Made::Unions(levels) => doubling_unions(alloc, levels),
-        Made::Levels(entry) => twelve_levels(alloc, entry),
+        Made::Chain(links) => put_chain(alloc, links, text),
+        Made::Unions(levels) => {
+            put_doubling(alloc, levels, "&", text)?;
+            put(
+                text,
+                format!(in alloc; "/a{levels} => /$/inet/127.0.0.1/80"),
+            )
+        }
+        Made::Levels(entry) => {
+            put_doubling(alloc, 12, "|", text)?;
+            text.extend_from_slice(entry.as_bytes())
+        }
     }
 }
 
-/// The table of twelve levels, with this entry behind them.
-fn twelve_levels(alloc: Global, entry: &str) -> Mem<String> {
-    let mut table = doubling(alloc, 12, "|")?;
-    table.push_str(entry)?;
-    Ok(table)
+/// The text of a table that is made.
+fn made_text(alloc: Global, table: Made) -> Mem<Vec<u8>> {
+    let mut text = Vec::new(alloc);
+    put_made(alloc, table, &mut text)?;
+    Ok(text)
 }
 
-/// Whether a path comes to an outcome with this cost and so many paths and lookups.
-fn is_measured(
-    alloc: Global,
-    table: Made,
-    path: &str,
-    outcome: &str,
-    counts: Counts,
-) -> Result<bool, Fail> {
+/// An outcome in words, and the counts.
+type Measured = (&'static str, Counts);
+
+/// What a path comes to by a table in words, with its counts.
+fn measured(alloc: Global, table: &[u8], path: &str, wanted: Wanted) -> Result<Measured, Fail> {
+    let found = found_by(alloc, [table, b"", b""], path, wanted)?;
+    let measured = (outcome_words(&found.outcome), counts_of(&found));
+    drop(found);
+    Ok(measured)
+}
+
+/// The same by a table that is made: with how many paths are told where those are wanted, and how
+/// many lookups where these are. Before it stands the cost where paths are wanted.
+fn measured_by(alloc: Global, table: Made, path: &str) -> Result<(u32, Measured), Fail> {
     let table = made_text(alloc, table)?;
-    let (_text, asked) = counted(alloc, table.as_str(), path, Wanted::Asked)?;
-    let (text, traced) = counted(alloc, table.as_str(), path, Wanted::Trace)?;
-    let is_counted = (traced.0, asked.1, traced.2) == counts && asked.0 == traced.0;
-    Ok(is_counted && is_outcome(text.as_slice(), outcome))
+    let (_outcome, asked) = measured(alloc, table.as_slice(), path, Wanted::Asked)?;
+    let (outcome, traced) = measured(alloc, table.as_slice(), path, Wanted::Trace)?;
+    drop(table);
+    Ok((asked.0, (outcome, (traced.0, asked.1, traced.2))))
 }
 
-/// A table, a path, what it comes to, and the counts.
-type Measured = (Made, &'static str, &'static str, Counts);
-
-/// Chains of 100 lookups and 101, and unions of less than 10,000 and more.
-const LIMITS: [Measured; 4] = [
+/// Chains of 100 lookups and 101, and unions of less than 10,000 and more: a table, a path, what it
+/// comes to, and the counts.
+const LIMITS: [(Made, &str, &str, Counts); 4] = [
     (Made::Chain(98), "/c0", "bound", (100, 100, 100)),
     (Made::Chain(99), "/c0", "too deep", (100, 100, 100)),
     (Made::Unions(11), "/a0", "bound", (6_143, 0, 6_143)),
@@ -631,42 +618,30 @@ const LIMITS: [Measured; 4] = [
 #[test]
 fn limits(rt: HostRuntime) -> Result<(), Fail> {
     for (table, path, outcome, counts) in &LIMITS {
-        let is_measured = is_measured(rt.alloc(), *table, path, outcome, *counts)?;
-        assert!(rt; is_measured, "{path}: {counts:?}");
+        let seen = measured_by(rt.alloc(), *table, path)?;
+        assert!(rt; seen == (counts.0, (*outcome, *counts)), "{path}: {seen:?}");
     }
     Ok(())
 }
 
-/// With the first lookup, these sums come to 255, 256, 257, 9,999, 10,000 and 10,001.
-const SUMS: [Measured; 6] = [
+/// With the first lookup, these sums come to 255, 256, 257, 9,999, 10,000 and 10,001: an entry
+/// behind twelve levels, what its path comes to, and the counts.
+const SUMS: [(&str, &str, Counts); 6] = [
+    ("/s => /a6 | /a6", "negative", (255, 255, 255)),
+    ("/s => /a5", "negative", (256, 256, 256)),
+    ("/s => /a5 | /a12", "negative", (257, 0, 257)),
     (
-        Made::Levels("/s => /a6 | /a6"),
-        "/s",
-        "negative",
-        (255, 255, 255),
-    ),
-    (Made::Levels("/s => /a5"), "/s", "negative", (256, 256, 256)),
-    (
-        Made::Levels("/s => /a5 | /a12"),
-        "/s",
-        "negative",
-        (257, 0, 257),
-    ),
-    (
-        Made::Levels("/s => /a0 | /a3 | /a4 | /a5 | /a9 | /a11"),
-        "/s",
+        "/s => /a0 | /a3 | /a4 | /a5 | /a9 | /a11",
         "negative",
         (9_999, 0, 9_999),
     ),
     (
-        Made::Levels("/s => /a0 | /a3 | /a4 | /a5 | /a9 | /a11 | /a12"),
-        "/s",
+        "/s => /a0 | /a3 | /a4 | /a5 | /a9 | /a11 | /a12",
         "negative",
         (10_000, 0, 10_000),
     ),
     (
-        Made::Levels("/s => /a0 | /a3 | /a4 | /a5 | /a9 | /a11 | /a12 | /a12"),
-        "/s",
+        "/s => /a0 | /a3 | /a4 | /a5 | /a9 | /a11 | /a12 | /a12",
         "too wide",
         (10_001, 0, 0),
     ),
@@ -674,9 +649,12 @@ const SUMS: [Measured; 6] = [
 
 #[test]
 fn sums(rt: HostRuntime) -> Result<(), Fail> {
-    for (table, path, outcome, counts) in &SUMS {
-        let is_measured = is_measured(rt.alloc(), *table, path, outcome, *counts)?;
-        assert!(rt; is_measured, "{path}: {counts:?}");
+    for (entry, outcome, counts) in &SUMS {
+        let seen = measured_by(rt.alloc(), Made::Levels(*entry), "/s")?;
+        assert!(rt;
+            seen == (counts.0, (*outcome, *counts)),
+            "{entry}: {seen:?}"
+        );
     }
     Ok(())
 }
@@ -690,21 +668,25 @@ fn long(alloc: Global, len: usize) -> Mem<String> {
     Ok(text)
 }
 
+/// What such a path comes to without a table, with its counts.
+fn measured_long(alloc: Global, len: usize) -> Result<Measured, Fail> {
+    let path = long(alloc, len)?;
+    let measured = measured(alloc, b"", path.as_str(), Wanted::Asked);
+    drop(path);
+    measured
+}
+
 /// How many bytes the label of a path has, what the path comes to without a table, and the counts.
-const LONG: [(usize, &str, Counts); 2] = [
-    (2_047, "negative", (1, 1, 0)),
-    (2_048, "too deep", (0, 0, 0)),
+const LONG: [(usize, Measured); 2] = [
+    (2_047, ("negative", (1, 1, 0))),
+    (2_048, ("too deep", (0, 0, 0))),
 ];
 
 #[test]
 fn long_paths(rt: HostRuntime) -> Result<(), Fail> {
-    for (len, outcome, counts) in &LONG {
-        let path = long(rt.alloc(), *len)?;
-        let (text, counted) = counted(rt.alloc(), "", path.as_str(), Wanted::Asked)?;
-        assert!(rt;
-            text.as_slice() == outcome.as_bytes() && counted == *counts,
-            "{len}"
-        );
+    for (len, want) in &LONG {
+        let seen = measured_long(rt.alloc(), *len)?;
+        assert!(rt; seen == *want, "{len}: {seen:?}");
     }
     Ok(())
 }

@@ -22,8 +22,8 @@ pub(crate) fn path(alloc: Global, text: &str) -> Path {
 }
 
 /// The table of a text; the empty one where it has none.
-pub(crate) fn table(alloc: Global, text: &str) -> Dtab {
-    match read_dtab(alloc, text.as_bytes()) {
+pub(crate) fn table(alloc: Global, text: &[u8]) -> Dtab {
+    match read_dtab(alloc, text) {
         Ok(dtab) => dtab,
         Err(_) => Dtab::empty(alloc),
     }

@@ -67,11 +67,19 @@ fn tells_lines_apart(rt: HostRuntime) {
     }
 }
 
+/// Puts a byte so many times behind a line.
+fn put_times(alloc: Global, byte: u8, count: usize, line: &mut Bytes) -> Mem<()> {
+    let mut bytes = Vec::from_elem(alloc, byte, count)?;
+    let put = line.append(&mut bytes);
+    drop(bytes);
+    put
+}
+
 /// A line of a command, then so many blanks, a byte so many times, and a blank at the end.
 fn long_line(alloc: Global, command: &str, blanks: usize, byte: u8, count: usize) -> Mem<Bytes> {
     let mut line = Vec::from_slice(alloc, command.as_bytes())?;
-    line.append(&mut Vec::from_elem(alloc, b' ', blanks)?)?;
-    line.append(&mut Vec::from_elem(alloc, byte, count)?)?;
+    put_times(alloc, b' ', blanks, &mut line)?;
+    put_times(alloc, byte, count, &mut line)?;
     line.push(b' ')?;
     Ok(line)
 }
@@ -95,6 +103,7 @@ fn measures_names_and_tables(rt: HostRuntime) -> Result<(), Fail> {
     for (command, blanks, byte, count, want) in &LONG_LINES {
         let line = long_line(rt.alloc(), command, *blanks, *byte, *count)?;
         let kind = kind(rt.alloc(), line.as_slice());
+        drop(line);
         assert!(rt; kind == *want, "{command}, {count}");
     }
     Ok(())
@@ -133,7 +142,9 @@ fn addrs_by(alloc: Global, text: &[u8]) -> Result<Option<usize>, Fail> {
 /// How many addresses a service gets by a line with so many, where it is none that is bad.
 fn count_of(alloc: Global, count: usize) -> Result<Option<usize>, Fail> {
     let line = addrs_line(alloc, count)?;
-    addrs_by(alloc, line.as_slice())
+    let addrs = addrs_by(alloc, line.as_slice());
+    drop(line);
+    addrs
 }
 
 #[test]
@@ -146,7 +157,7 @@ fn takes_1024_addresses(rt: HostRuntime) -> Result<(), Fail> {
 
 /// A namespace's table of a text.
 fn named_table(alloc: Global, version: u64, text: &str) -> Said {
-    let dtab = table(alloc, text);
+    let dtab = table(alloc, text.as_bytes());
     Said::Reply(Reply::Table { version, dtab })
 }
 
@@ -171,35 +182,44 @@ fn picked(alloc: Global) -> Said {
     })
 }
 
+/// A mark of five failures.
+const MARK: Mark = Mark {
+    count: 5,
+    until: 5_000,
+};
+
 /// A kind of answer.
 #[derive(Clone, Copy)]
 enum Answer {
     /// That a line was carried out.
     Done,
-    /// How many addresses a service has.
-    Set(u32),
+    /// That a service has three addresses.
+    Set,
     /// The mark of an address.
-    Marked(Mark),
+    Marked,
     /// Two names.
     Names,
-    /// A table with this version and this text.
-    Table(u64, &'static str),
+    /// A table of version 3.
+    Table,
+    /// An empty table of version 4.
+    NoTable,
     /// A replica.
     Picked,
-    /// Why there is none.
-    None(Why),
+    /// That a path is too deep.
+    TooDeep,
 }
 
 /// An answer of a kind.
 fn said_of(alloc: Global, answer: Answer) -> Result<Said, Fail> {
     match answer {
         Answer::Done => Ok(Said::Ok),
-        Answer::Set(count) => Ok(Said::Reply(Reply::Set(count))),
-        Answer::Marked(mark) => Ok(Said::Reply(Reply::Marked(mark))),
+        Answer::Set => Ok(Said::Reply(Reply::Set(3))),
+        Answer::Marked => Ok(Said::Reply(Reply::Marked(MARK))),
         Answer::Names => names(alloc),
-        Answer::Table(version, text) => Ok(named_table(alloc, version, text)),
+        Answer::Table => Ok(named_table(alloc, 3, "/svc => /c")),
+        Answer::NoTable => Ok(named_table(alloc, 4, "")),
         Answer::Picked => Ok(picked(alloc)),
-        Answer::None(why) => Ok(Said::Chosen(Chosen::None(why))),
+        Answer::TooDeep => Ok(Said::Chosen(Chosen::None(Why::TooDeep))),
     }
 }
 
@@ -209,36 +229,35 @@ fn text_of(alloc: Global, answer: Answer) -> Result<Bytes, Fail> {
     Ok(answer_text(alloc, said)?)
 }
 
-/// A mark of five failures.
-const MARK: Mark = Mark {
-    count: 5,
-    until: 5_000,
-};
-
 /// Answers, and their texts.
 const ANSWERS: [(Answer, &str); 8] = [
     (Answer::Done, "ok"),
-    (Answer::Set(3), "ok 3"),
-    (Answer::Marked(MARK), "mark 5 5000"),
+    (Answer::Set, "ok 3"),
+    (Answer::Marked, "mark 5 5000"),
     (Answer::Names, "names a b.c"),
-    (Answer::Table(3, "/svc => /c"), "version 3 dtab /svc=>/c"),
-    (Answer::Table(4, ""), "version 4 dtab"),
+    (Answer::Table, "version 3 dtab /svc=>/c"),
+    (Answer::NoTable, "version 4 dtab"),
     (Answer::Picked, "127.0.0.1:9 /a /"),
-    (Answer::None(Why::TooDeep), "too-deep"),
+    (Answer::TooDeep, "too-deep"),
 ];
 
 #[test]
 fn writes_replies(rt: HostRuntime) -> Result<(), Fail> {
     for (answer, want) in &ANSWERS {
         let text = text_of(rt.alloc(), *answer)?;
-        assert!(rt; text.as_slice() == want.as_bytes(), "{want}");
+        let is_so = text.as_slice() == want.as_bytes();
+        drop(text);
+        assert!(rt; is_so, "{want}");
     }
     Ok(())
 }
 
 /// The line of a generated run.
 fn line_of(alloc: Global, turns: u32, seed: u64) -> Mem<Bytes> {
-    storm(alloc, &script_settings(alloc)?, turns, seed)
+    let settings = script_settings(alloc)?;
+    let line = storm(alloc, &settings, turns, seed);
+    drop(settings);
+    line
 }
 
 /// Turns, seeds, and the lines of the runs.
@@ -255,7 +274,9 @@ const RUNS: [(u32, u64, &str); 2] = [
 fn sums_generated_runs_up(rt: HostRuntime) -> Result<(), Fail> {
     for (turns, seed, want) in &RUNS {
         let line = line_of(rt.alloc(), *turns, *seed)?;
-        assert!(rt; line.as_slice() == want.as_bytes(), "{want}");
+        let is_so = line.as_slice() == want.as_bytes();
+        drop(line);
+        assert!(rt; is_so, "{want}");
     }
     Ok(())
 }

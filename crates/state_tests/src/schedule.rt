@@ -104,26 +104,36 @@ fn chosen_words(chosen: &Chosen) -> (&'static str, u64) {
     }
 }
 
-/// What a step told, in words.
+/// What a step told, in words with `; ` before them.
 fn words(alloc: Global, told: &Told) -> Mem<String> {
     let (place, (word, number)) = match told {
         Told::Reply(place, reply) => (*place, reply_words(reply)),
         Told::Chosen(place, chosen) => (*place, chosen_words(chosen)),
-        Told::Kept => return String::from_str(alloc, "kept"),
-        Told::NotKept => return String::from_str(alloc, "not kept"),
-        Told::Nothing => return String::from_str(alloc, "-"),
+        Told::Kept => return String::from_str(alloc, "; kept"),
+        Told::NotKept => return String::from_str(alloc, "; not kept"),
+        Told::Nothing => return String::from_str(alloc, "; -"),
     };
-    format!(in alloc; "at {place} {word} {number}")
+    format!(in alloc; "; at {place} {word} {number}")
+}
+
+/// Puts what steps told behind a text in words, with `; ` before each.
+fn put_told(alloc: Global, told: &[Told], text: &mut String) -> Mem<()> {
+    for said in told {
+        let words = words(alloc, said)?;
+        let put = text.push_str(words.as_str());
+        drop(words);
+        put?;
+    }
+    Ok(())
 }
 
 /// What each step told in words, with `; ` before each.
 fn told_text(alloc: Global, rows: &[Row<'_>]) -> Result<String, Fail> {
     let told = told(alloc, rows)?;
     let mut text = String::new(alloc);
-    for said in told.items() {
-        text.push_str("; ")?;
-        text.push_str(words(alloc, said)?.as_str())?;
-    }
+    let put = put_told(alloc, told.items(), &mut text);
+    drop(told);
+    put?;
     Ok(text)
 }
 
@@ -213,44 +223,44 @@ fn repeated(alloc: Global, front: &str, part: &str, count: usize, end: &str) -> 
 fn is_kept<'a>(alloc: Global, create: &'a str, pick: &'a str) -> Result<bool, Fail> {
     let rows = [(0, create), (0, pick), (0, "answer"), (0, "remember")];
     let told = told_text(alloc, &rows)?;
-    Ok(told.as_str() == "; at 0 version 1; -; at 1 port 1; kept")
+    let is_kept = told.as_str() == "; at 0 version 1; -; at 1 port 1; kept";
+    drop(told);
+    Ok(is_kept)
 }
 
-/// The pick of a path behind `/s`: of a label with so many bytes more.
-fn long_pick(alloc: Global, label: &str, bytes: usize) -> Mem<String> {
-    let front = repeated(alloc, "pick /s", label, bytes.min(1), "")?;
-    repeated(alloc, front.as_str(), "a", bytes, "")
-}
-
-/// Whether the delegation is kept of such a pick, by a table in which a part stands so often.
+/// Whether the delegation is kept of a pick that goes on with so many bytes, by a table in which a
+/// part stands so often.
 fn is_size_kept(
     alloc: Global,
     branch: &str,
     branches: usize,
-    label: &str,
+    pick: &str,
     bytes: usize,
 ) -> Result<bool, Fail> {
     let front = "create default /s => ";
     let create = repeated(alloc, front, branch, branches, "/$/inet/127.0.0.1/1")?;
-    let pick = long_pick(alloc, label, bytes)?;
-    is_kept(alloc, create.as_str(), pick.as_str())
+    let pick = repeated(alloc, pick, "a", bytes, "")?;
+    let is_kept = is_kept(alloc, create.as_str(), pick.as_str());
+    drop(create);
+    drop(pick);
+    is_kept
 }
 
-/// A part of a table and how often it stands there, a label of a path and how many bytes more it
-/// has, and whether the delegation is kept.
+/// A part of a table and how often it stands there, a pick and with how many bytes it goes on, and
+/// whether the delegation is kept.
 const SIZES: [(&str, usize, &str, usize, bool); 4] = [
-    ("/x | ", 254, "", 0, true),
-    ("/x | ", 255, "", 0, false),
-    ("/x | ", 2, "/a", 1_631, true),
-    ("/x | /xx | ", 1, "/a", 1_631, false),
+    ("/x | ", 254, "pick /s", 0, true),
+    ("/x | ", 255, "pick /s", 0, false),
+    ("/x | ", 2, "pick /s/a", 1_631, true),
+    ("/x | /xx | ", 1, "pick /s/a", 1_631, false),
 ];
 
 /// A delegation of 256 lookups is kept, and one of 8,192 bytes, which are those of the path and of
 /// each path that was looked up.
 #[test]
 fn large_delegations_are_not_kept(rt: HostRuntime) -> Result<(), Fail> {
-    for (branch, branches, label, bytes, want) in &SIZES {
-        let is_kept = is_size_kept(rt.alloc(), branch, *branches, label, *bytes)?;
+    for (branch, branches, pick, bytes, want) in &SIZES {
+        let is_kept = is_size_kept(rt.alloc(), branch, *branches, pick, *bytes)?;
         assert!(rt; is_kept == *want, "{branch}");
     }
     Ok(())
@@ -353,7 +363,9 @@ const LINES: [(u32, u64, &str); 2] = [
 fn sums_generated_schedules_up(rt: HostRuntime) -> Result<(), Fail> {
     for (turns, seed, want) in &LINES {
         let line = line_of(rt.alloc(), *turns, *seed)?;
-        assert!(rt; line.as_slice() == want.as_bytes(), "{want}");
+        let is_so = line.as_slice() == want.as_bytes();
+        drop(line);
+        assert!(rt; is_so, "{want}");
     }
     Ok(())
 }

@@ -1,7 +1,7 @@
 //! Services as a look tells them, one by one.
 
 use crate::state::{By, reply_to, told};
-use machine::{Look, Reply, State};
+use machine::{Look, Reply, ServiceState, State};
 use script::script_settings;
 use std::alloc::{AllocError, Global};
 use std::test::Fail;
@@ -31,6 +31,20 @@ fn changed(alloc: Global) -> Result<State, Fail> {
     Ok(state)
 }
 
+/// Puts a service behind some words: its addresses, and those alive.
+fn put_service(
+    alloc: Global,
+    service: &ServiceState,
+    words: &mut String,
+) -> Result<(), AllocError> {
+    let name = &service.name;
+    let (addresses, alive) = (service.addresses, service.alive);
+    let part = format!(in alloc; "; {name} {addresses} {alive}")?;
+    let put = words.push_str(part.as_str());
+    drop(part);
+    put
+}
+
 /// What a reply tells of the services, in words: each with its addresses and those alive.
 fn words(alloc: Global, reply: &Reply) -> Result<String, AllocError> {
     let Reply::Services {
@@ -47,10 +61,7 @@ fn words(alloc: Global, reply: &Reply) -> Result<String, AllocError> {
         "changes {changes} marks {marks} namespaces {namespaces} tables {tables_written}"
     )?;
     for service in services.as_slice() {
-        let name = &service.name;
-        let (addresses, alive) = (service.addresses, service.alive);
-        let part = format!(in alloc; "; {name} {addresses} {alive}")?;
-        words.push_str(part.as_str())?;
+        put_service(alloc, service, &mut words)?;
     }
     Ok(words)
 }
@@ -96,7 +107,9 @@ fn each_service_is_told_with_those_alive(rt: HostRuntime) -> Result<(), Fail> {
     let state = changed(rt.alloc())?;
     for (moment, want) in &MOMENTS {
         let told = looked(rt.alloc(), &state, *moment)?;
-        assert!(rt; told.as_str() == *want, "at {moment}");
+        let is_so = told.as_str() == *want;
+        drop(told);
+        assert!(rt; is_so, "at {moment}");
     }
     Ok(())
 }

@@ -137,9 +137,13 @@ fn choose<L: Ledger>(
 
 /// What a copy of the pick of a line comes to.
 fn chosen(alloc: Global, settings: &Settings, state: &State, line: &str) -> Result<Said, Fail> {
-    let ask = ask(alloc, line)?.copied(alloc)?;
-    let chosen = choose::<Brand>(alloc, state, settings, &ask, Blank::new(1))?;
-    Ok(Said::Chosen(chosen))
+    let ask = ask(alloc, line)?;
+    let copied = ask.copied(alloc);
+    drop(ask);
+    let copy = copied?;
+    let chosen = choose::<Brand>(alloc, state, settings, &copy, Blank::new(1));
+    drop(copy);
+    Ok(Said::Chosen(chosen?))
 }
 
 /// What a line is answered.
@@ -269,7 +273,9 @@ fn lines_are_answered(rt: HostRuntime) -> Result<(), Fail> {
     let mut state = State::start(rt.alloc())?;
     for (by, line, want) in &LINES {
         let told = told(rt.alloc(), &mut state, *by, line)?;
-        assert!(rt; told.as_slice() == want.as_bytes(), "{line}");
+        let is_so = told.as_slice() == want.as_bytes();
+        drop(told);
+        assert!(rt; is_so, "{line}");
     }
     Ok(())
 }
@@ -315,7 +321,10 @@ fn place_taken(
     let settings = script_settings(alloc)?;
     let mut ask = ask(alloc, "pick /svc/web")?;
     ask.words = [0, 0, word];
-    match taken::<Brand>(alloc, state, &settings, &ask, loads, Blank::new(1))? {
+    let taken = taken::<Brand>(alloc, state, &settings, &ask, loads, Blank::new(1));
+    drop(ask);
+    drop(settings);
+    match taken? {
         Some(taken) => Ok(Some((taken.addr.port, taken.slot))),
         None => Ok(None),
     }

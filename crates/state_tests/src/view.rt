@@ -39,9 +39,12 @@ const VIEW: &str =
 #[test]
 fn writes_a_view(rt: HostRuntime) -> Result<(), Fail> {
     let deep = viewed(rt.alloc(), &Outcome::TooDeep, &LOOKUPS)?;
-    assert!(rt; deep.as_slice() == VIEW.as_bytes());
+    let is_deep = deep.as_slice() == VIEW.as_bytes();
+    drop(deep);
     let wide = viewed(rt.alloc(), &Outcome::TooWide, &[])?;
-    assert!(rt; wide.as_slice() == b"{\"lookups\":[],\"outcome\":\"too-wide\"}".as_slice());
+    let is_wide = wide.as_slice() == b"{\"lookups\":[],\"outcome\":\"too-wide\"}".as_slice();
+    drop(wide);
+    assert_eq!(rt; (is_deep, is_wide), (true, true));
     Ok(())
 }
 
@@ -78,7 +81,9 @@ const QUERIES: [(&str, &str); 5] = [
 fn reads_queries(rt: HostRuntime) -> Result<(), Fail> {
     for (query, want) in &QUERIES {
         let asked = asked(rt.alloc(), query.as_bytes())?;
-        assert!(rt; asked.as_slice() == want.as_bytes(), "{query}");
+        let is_so = asked.as_slice() == want.as_bytes();
+        drop(asked);
+        assert!(rt; is_so, "{query}");
     }
     Ok(())
 }
