@@ -71,24 +71,31 @@ fn places<L: Listener>(listener: &mut L, ip: u32) -> Result<[Option<SocketAddres
     places
 }
 
-/// The same of two clients, one behind the other, at two addresses.
-fn places_of_two<N: Net>(net: &mut N) -> Result<[[Option<SocketAddress>; 3]; 2], Fail> {
+/// Where two clients are, one behind the other, at two addresses: each of them twice by its own
+/// socket, and twice as its peer is told.
+fn places_of_two<L: Listener>(listener: &mut L) -> Result<[[Option<SocketAddress>; 4]; 2], Fail> {
+    let [one, first, then] = places(listener, 0x7f00_0002)?;
+    let [other, second, last] = places(listener, 0x7f00_0104)?;
+    Ok([[one, one, other, other], [first, then, second, last]])
+}
+
+/// The same with a listener of this net.
+fn places_over<N: Net>(net: &mut N) -> Result<[[Option<SocketAddress>; 4]; 2], Fail> {
     let mut listeners = net.listen(LISTENING.0, LISTENING.1, 1, 0)?.into_items();
-    let Some(mut listener) = listeners.pop() else {
-        return Err(Fail::from("no listener"));
+    let told = match listeners.first_mut() {
+        Some(listener) => places_of_two(listener),
+        None => Err(Fail::from("no listener")),
     };
-    let one = places(&mut listener, 0x7f00_0002)?;
-    let other = places(&mut listener, 0x7f00_0104)?;
-    Ok([one, other])
+    drop(listeners);
+    told
 }
 
 #[test]
 fn a_client_is_where_its_own_end_is(rt: HostRuntime) -> Result<(), Fail> {
     let mut net = SocketNet::of(&rt)?;
-    let told = places_of_two(&mut net);
+    let places = places_over(&mut net);
     drop(net);
-    let [one, other] = told?;
-    assert!(rt; one[1] == one[0] && one[2] == one[0]);
-    assert!(rt; other[1] == other[0] && other[2] == other[0]);
+    let [own, told] = places?;
+    assert_eq!(rt; told, own);
     Ok(())
 }

@@ -2,8 +2,8 @@
 use crate::clients::{at, next_client};
 use line_base::{Event, Listener, Net, Next, Peer, Stop};
 use net_edge::SocketNet;
-use std::io::{self, Write};
-use std::net::TcpStream;
+use std::io::Write;
+use std::net::{self, TcpListener, TcpStream};
 use std::sync::atomic::{AtomicU64, Ordering};
 use std::test::Fail;
 use std::thread::Threads;
@@ -134,20 +134,19 @@ fn waits_for_next<R: rt::Clock + Threads + Sync, L: Listener + Send + Sync, S: S
     rt: &R,
     first: &mut L,
     second: &mut L,
-    client: io::Result<TcpStream>,
+    client: &mut TcpStream,
     stop: &mut S,
 ) -> Result<(u32, u32), Fail>
 where
     L::P: Send,
 {
-    let mut client = client?;
     client.write(b"a")?;
     let Some(peer) = next_client(first) else {
         return Err(Fail::from("no client"));
     };
     let mut peer = peer;
     let begun = peer.read(&mut [0u8; 8]);
-    let counts = waits_beside(rt, first, second, &mut peer, &mut client, stop);
+    let counts = waits_beside(rt, first, second, &mut peer, client, stop);
     first.finish(peer);
     let (prompt, paused) = counts?;
     if begun != Ok(1) {
@@ -160,7 +159,7 @@ where
 fn waits_of_two<R: rt::Clock + Threads + Sync, L: Listener + Send + Sync + Drop, S: Stop + Send>(
     rt: &R,
     listeners: &mut Vec<L>,
-    client: io::Result<TcpStream>,
+    client: &mut TcpStream,
     stop: &mut S,
 ) -> Result<(u32, u32), Fail>
 where
@@ -175,6 +174,29 @@ where
     waits_for_next(rt, &mut first, &mut second, client, stop)
 }
 
+/// The same of two listeners of this net, and of a client that connects to them.
+fn waits_over<R, N: Net>(rt: &R, net: &mut N) -> Result<(u32, u32), Fail>
+where
+    R: rt::Clock + Threads + Sync + net::Net<Listener = TcpListener, Stream = TcpStream>,
+    N::L: Sync,
+    <N::L as Listener>::P: Send,
+{
+    let mut listeners = net.listen(0x7f00_0001, PORT, 2, 0)?.into_items();
+    let mut client = match TcpStream::connect(rt, at(PORT)) {
+        Ok(client) => client,
+        Err(error) => {
+            drop(listeners);
+            return Err(Fail::from(error));
+        }
+    };
+    let mut stop = net.stopper();
+    let counts = waits_of_two(rt, &mut listeners, &mut client, &mut stop);
+    drop(stop);
+    drop(client);
+    drop(listeners);
+    counts
+}
+
 /// A client that speaks at once and behind a pause in turn, while another listener is free. One
 /// that is waited for is never found quiet sooner. But on a busy machine one that is not may be
 /// found so late, and one that speaks at once may be heard late: so not every round has to go as it
@@ -182,12 +204,7 @@ where
 #[test]
 fn only_a_prompt_client_is_waited_for(rt: HostRuntime) -> Result<(), Fail> {
     let mut net = SocketNet::of(&rt)?;
-    let mut listeners = net.listen(0x7f00_0001, PORT, 2, 0)?.into_items();
-    let mut stop = net.stopper();
-    let client = TcpStream::connect(&rt, at(PORT));
-    let counts = waits_of_two(&rt, &mut listeners, client, &mut stop);
-    drop(stop);
-    drop(listeners);
+    let counts = waits_over(&rt, &mut net);
     drop(net);
     let (prompt, paused) = counts?;
     assert!(rt; prompt > 1);

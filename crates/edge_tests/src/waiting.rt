@@ -91,20 +91,28 @@ fn told_of_two<L: Listener + Drop, S: Stop>(
     told_of_client(&mut first, &mut second, client, stop)
 }
 
-/// A client comes, says nothing for a while, and is watched; when it says something, another
-/// listener is told. After a stop both are closed.
-#[test]
-fn who_waits_is_told_by_a_number(rt: HostRuntime) -> Result<(), Fail> {
-    let mut net = SocketNet::of(&rt)?;
+/// The same of two listeners of this net and of a client that connects to them; and how many
+/// clients may wait, of a hundred.
+fn told_over<N: Net>(rt: &HostRuntime, net: &mut N) -> Result<([u8; 8], u32), Fail> {
     let mut listeners = net.listen(0x7f00_0001, 28_991, 2, 0)?.into_items();
-    let client = TcpStream::connect(&rt, at(28_991));
+    let client = TcpStream::connect(rt, at(28_991));
     let mut stop = net.stopper();
     let told = told_of_two(&mut listeners, client, &mut stop);
     let room = net.waiting_room(100);
     drop(stop);
     drop(listeners);
+    Ok((told?, room))
+}
+
+/// A client comes, says nothing for a while, and is watched; when it says something, another
+/// listener is told. After a stop both are closed.
+#[test]
+fn who_waits_is_told_by_a_number(rt: HostRuntime) -> Result<(), Fail> {
+    let mut net = SocketNet::of(&rt)?;
+    let told = told_over(&rt, &mut net);
     drop(net);
-    assert_eq!(rt; told?, [b'c', b'q', b'7', b'3', b'7', b'e', b'.', b'.']);
+    let (told, room) = told?;
+    assert_eq!(rt; told, [b'c', b'q', b'7', b'3', b'7', b'e', b'.', b'.']);
     assert_eq!(rt; room, 100);
     Ok(())
 }
