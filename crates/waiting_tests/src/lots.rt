@@ -87,24 +87,26 @@ fn play<A: Ledger, B: Ledger, R: Wait>(
     Ok(answers)
 }
 
+/// Scripts, and what their steps answer.
+const ROWS: [(&[u8], &[u8]); 10] = [
+    (b"", b"|"),
+    (b"AB", b"ww|AB"),
+    (b"AB10", b"wwBA|"),
+    (b"AB00", b"wwA-|B"),
+    (b"ABC", b"wwA|BC"),
+    (b"ABC012", b"wwA-BC|"),
+    (b"Ab1<", b"wb-A|"),
+    (b"A<B01", b"wAw-B|"),
+    (b"A,!", b"w-A|"),
+    (b"A.B!!?", b"w-wA-B|"),
+];
+
 /// What is left is taken once, by its number or as the oldest, or displaced by a newer one where
 /// there is no room, or it is there at the end. A number that is wrong or stale finds nothing.
 #[test]
 fn who_waits_is_taken_once(rt: HostRuntime) -> Result<(), Fail> {
     let alloc = rt.alloc();
-    let rows: [(&[u8], &[u8]); 10] = [
-        (b"", b"|"),
-        (b"AB", b"ww|AB"),
-        (b"AB10", b"wwBA|"),
-        (b"AB00", b"wwA-|B"),
-        (b"ABC", b"wwA|BC"),
-        (b"ABC012", b"wwA-BC|"),
-        (b"Ab1<", b"wb-A|"),
-        (b"A<B01", b"wAw-B|"),
-        (b"A,!", b"w-A|"),
-        (b"A.B!!?", b"w-wA-B|"),
-    ];
-    for (script, expected) in rows {
+    for (script, expected) in &ROWS {
         let answers = play::<Brand, Brand, HostRuntime>(
             &rt,
             alloc,
@@ -112,7 +114,7 @@ fn who_waits_is_taken_once(rt: HostRuntime) -> Result<(), Fail> {
             Blank::new(1),
             script,
         )?;
-        assert!(rt; answers.as_slice() == expected);
+        assert!(rt; answers.as_slice() == *expected);
     }
     Ok(())
 }
