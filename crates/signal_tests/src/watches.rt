@@ -1,7 +1,8 @@
 //! Watches over a folder in memory.
+use line_base::Mem;
 use line_doubles::{MemFile, MemFolder, MemStop};
 use signal_watch::{Pause, Watched, is_watchable, watch};
-use std::alloc::{AllocGlobal, Global};
+use std::alloc::{AllocError, AllocGlobal, Global};
 use std::sync::Wait;
 use std::test::Fail;
 
@@ -34,17 +35,51 @@ const ROWS: [(Option<&str>, &[u64], Watched, u64); 4] = [
     (None, &[], Watched::Blind, 0),
 ];
 
-/// The folder with this status file.
-fn folder(alloc: Global, status: Option<&str>, failing: &[u64]) -> Result<MemFolder, Fail> {
+/// A status file of this text.
+fn status_file(alloc: Global, status: &str) -> Mem<MemFile> {
+    let folder = String::from_str(alloc, "/proc/self")?;
+    let Ok(name) = String::from_str(alloc, "status") else {
+        drop(folder);
+        return Err(AllocError);
+    };
+    let Ok(text) = Vec::from_slice(alloc, status.as_bytes()) else {
+        drop(folder);
+        drop(name);
+        return Err(AllocError);
+    };
+    Ok(MemFile::of(folder, name, text))
+}
+
+/// Adds a file, if there was memory for it.
+fn add(files: &mut Vec<MemFile>, file: Mem<MemFile>) -> Mem<()> {
+    files.push(file?)?;
+    Ok(())
+}
+
+/// The status file, if there is one.
+fn files(alloc: Global, status: Option<&str>) -> Mem<Vec<MemFile>> {
     let mut files = Vec::new(alloc);
-    if let Some(status) = status {
-        files.push(MemFile::of(
-            String::from_str(alloc, "/proc/self")?,
-            String::from_str(alloc, "status")?,
-            Vec::from_slice(alloc, status.as_bytes())?,
-        ))?;
+    let added = match status {
+        Some(status) => add(&mut files, status_file(alloc, status)),
+        None => Ok(()),
+    };
+    match added {
+        Ok(()) => Ok(files),
+        Err(want) => {
+            drop(files);
+            Err(want)
+        }
     }
-    Ok(MemFolder::of(alloc, files, Vec::from_slice(alloc, failing)?))
+}
+
+/// The folder with this status file.
+pub(crate) fn folder(alloc: Global, status: Option<&str>, failing: &[u64]) -> Mem<MemFolder> {
+    let files = files(alloc, status)?;
+    let Ok(failing) = Vec::from_slice(alloc, failing) else {
+        drop(files);
+        return Err(AllocError);
+    };
+    Ok(MemFolder::of(alloc, files, failing))
 }
 
 /// What a watch comes to, and how often it calls its stop.
@@ -57,14 +92,16 @@ fn watched<R: AllocGlobal + Wait>(
     let mut pause = Counted { left: 1, heard: 0 };
     let mut stop = MemStop::new();
     let watched = watch(rt, &mut folder, &mut pause, &mut stop);
+    let calls = stop.calls();
+    drop(stop);
     drop(folder);
-    Ok((watched?, stop.calls()))
+    Ok((watched?, calls))
 }
 
 #[test]
 fn a_watch_stops_where_it_is_asked(rt: HostRuntime) -> Result<(), Fail> {
-    for (status, failing, came_to, calls) in ROWS {
-        assert_eq!(rt; watched(&rt, status, failing)?, (came_to, calls));
+    for (status, failing, came_to, calls) in &ROWS {
+        assert_eq!(rt; watched(&rt, *status, failing)?, (*came_to, *calls));
     }
     Ok(())
 }
@@ -87,8 +124,8 @@ fn held(alloc: Global, status: Option<&str>, failing: &[u64]) -> Result<bool, Fa
 
 #[test]
 fn signals_that_are_blocked_can_be_watched(rt: HostRuntime) -> Result<(), Fail> {
-    for (status, failing, expected) in HELD {
-        assert_eq!(rt; held(rt.alloc(), status, failing)?, expected);
+    for (status, failing, expected) in &HELD {
+        assert_eq!(rt; held(rt.alloc(), *status, failing)?, *expected);
     }
     Ok(())
 }
