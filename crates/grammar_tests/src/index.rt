@@ -5,21 +5,25 @@ use name_tree::read_path;
 use std::alloc::{AllocError, Global};
 use std::test::Fail;
 
-/// The labels of a text such as `/a/*`, in which `*` is any label; those of `/` are none.
-fn prefix(alloc: Global, text: &[u8]) -> Mem<Vec<Option<Vec<u8>>>> {
-    let mut labels = Vec::new(alloc);
-    for label in text.split(|byte| *byte == b'/') {
-        if label == b"*".as_slice() {
-            labels.push(None)?;
-        } else if !label.is_empty() {
-            labels.push(Some(Vec::from_slice(alloc, label)?))?;
-        }
+/// What a label of a prefix stands for: `*` for any label.
+fn pattern(alloc: Global, label: &str) -> Mem<Option<Vec<u8>>> {
+    if label == "*" {
+        return Ok(None);
     }
-    Ok(labels)
+    Ok(Some(Vec::from_slice(alloc, label.as_bytes())?))
 }
 
-/// Five prefixes, at the positions in which they stand here.
-const ADDED: [&[u8]; 5] = [b"/a", b"/*", b"/a/b", b"/*/b", b"/"];
+/// The prefix of these labels.
+fn prefix(alloc: Global, labels: &[&str]) -> Mem<Vec<Option<Vec<u8>>>> {
+    let mut prefix = Vec::new(alloc);
+    for label in labels {
+        prefix.push(pattern(alloc, label)?)?;
+    }
+    Ok(prefix)
+}
+
+/// The prefixes `/a`, `/*`, `/a/b`, `/*/b` and `/`, at the positions in which they stand here.
+const ADDED: [&[&str]; 5] = [&["a"], &["*"], &["a", "b"], &["*", "b"], &[]];
 
 /// The index of these prefixes.
 fn five(alloc: Global) -> Mem<Index> {
@@ -38,8 +42,20 @@ fn found(alloc: Global, index: &Index, text: &[u8]) -> Mem<Vec<u32>> {
     index.matching(alloc, &path)
 }
 
-/// Paths, and the positions of those that match them.
-const FOUND: [(&[u8], &[u32]); 4] = [
+/// A path, and the positions of the prefixes that match it.
+type Found = (&'static [u8], &'static [u32]);
+
+/// The first of some paths that others match.
+fn first_wrong(alloc: Global, index: &Index, rows: &[Found]) -> Mem<Option<usize>> {
+    for (at, (text, want)) in rows.iter().enumerate() {
+        if found(alloc, index, text)?.as_slice() != *want {
+            return Ok(Some(at));
+        }
+    }
+    Ok(None)
+}
+
+const FOUND: [Found; 4] = [
     (b"/a/b/c", &[4, 3, 2, 1, 0]),
     (b"/a", &[4, 1, 0]),
     (b"/c/b", &[4, 3, 1]),
@@ -49,24 +65,25 @@ const FOUND: [(&[u8], &[u32]); 4] = [
 #[test]
 fn gives_the_greatest_first(rt: HostRuntime) -> Result<(), Fail> {
     let index = five(rt.alloc())?;
-    for (text, want) in &FOUND {
-        let found = found(rt.alloc(), &index, text)?;
-        assert!(rt; found.as_slice() == *want, "{text:?}");
-    }
+    let wrong = first_wrong(rt.alloc(), &index, &FOUND);
+    drop(index);
+    assert_eq!(rt; wrong?, None);
     Ok(())
 }
 
-/// The text `/svc/s` with a number of so many behind it.
-fn numbered(alloc: Global, number: u32) -> Mem<Vec<u8>> {
-    Ok(format!(in alloc; "/svc/s{number}")?.into_bytes())
+/// The prefix `/svc/s` with a number of so many behind it.
+fn numbered(alloc: Global, number: u32) -> Mem<Vec<Option<Vec<u8>>>> {
+    let label = format!(in alloc; "s{number}")?;
+    let prefix = prefix(alloc, &["svc", label.as_str()]);
+    drop(label);
+    prefix
 }
 
 /// The index of three thousand such prefixes.
 fn thousands(alloc: Global) -> Mem<Index> {
     let mut index = Index::new(alloc);
     for at in 0..3000u32 {
-        let text = numbered(alloc, at)?;
-        index.add(prefix(alloc, text.as_slice())?, at)?;
+        index.add(numbered(alloc, at)?, at)?;
     }
     Ok(index)
 }
@@ -74,9 +91,10 @@ fn thousands(alloc: Global) -> Mem<Index> {
 /// The positions of the prefixes that match the path `/svc/s` with a number and one more label
 /// behind it.
 fn found_behind(alloc: Global, index: &Index, number: u32) -> Mem<Vec<u32>> {
-    let mut text = numbered(alloc, number)?;
-    text.extend_from_slice(b"/x")?;
-    found(alloc, index, text.as_slice())
+    let text = format!(in alloc; "/svc/s{number}/x")?;
+    let found = found(alloc, index, text.as_bytes());
+    drop(text);
+    found
 }
 
 /// The first of the three thousand numbers whose path does not find its own prefix alone.
@@ -89,12 +107,16 @@ fn first_lost(alloc: Global, index: &Index) -> Mem<Option<u32>> {
     Ok(None)
 }
 
+/// Paths that none of the three thousand match.
+const ABSENT: [Found; 2] = [(b"/svc", &[]), (b"/svc/s3000/x", &[])];
+
 #[test]
 fn finds_one_of_thousands(rt: HostRuntime) -> Result<(), Fail> {
     let index = thousands(rt.alloc())?;
-    assert_eq!(rt; first_lost(rt.alloc(), &index)?, None);
-    for text in [b"/svc".as_slice(), b"/svc/s3000/x"] {
-        assert!(rt; found(rt.alloc(), &index, text)?.is_empty());
-    }
+    let lost = first_lost(rt.alloc(), &index);
+    let wrong = first_wrong(rt.alloc(), &index, &ABSENT);
+    drop(index);
+    assert_eq!(rt; lost?, None);
+    assert_eq!(rt; wrong?, None);
     Ok(())
 }

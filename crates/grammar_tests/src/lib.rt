@@ -7,6 +7,8 @@ mod index;
 #[cfg(test)]
 mod long_paths;
 #[cfg(test)]
+mod long_texts;
+#[cfg(test)]
 mod names;
 #[cfg(test)]
 mod outside;
@@ -14,3 +16,5 @@ mod outside;
 mod tables;
 #[cfg(test)]
 mod texts;
+#[cfg(test)]
+mod told;

@@ -1,5 +1,6 @@
 //! Paths whose labels end past 65,535 bytes, their parts, and labels that are put behind these.
 
+use crate::told::assert_told;
 use name_tree::{Mem, Path};
 use std::alloc::Global;
 use std::test::Fail;
@@ -34,60 +35,66 @@ fn put_label(label: &[u8], text: &mut Vec<u8>) -> Mem<()> {
     Ok(text.push(b' ')?)
 }
 
-/// Each label of a path so.
-fn text_of(alloc: Global, path: &Path) -> Mem<Vec<u8>> {
-    let mut text = Vec::new(alloc);
+/// Puts each label of a path behind a text so, and `;`.
+fn put_labels(path: &Path, text: &mut Vec<u8>) -> Mem<()> {
     for at in 0..path.len() {
-        put_label(path.label(at), &mut text)?;
+        put_label(path.label(at), text)?;
     }
-    Ok(text)
+    Ok(text.push(b';')?)
 }
 
-/// Whether the labels of a path are these.
-fn has_labels(alloc: Global, path: &Path, want: &[u8]) -> Mem<bool> {
-    Ok(text_of(alloc, path)?.as_slice() == want)
-}
-
-/// Whether a part of a path, with `/z` behind it, has these labels.
-fn has_part(alloc: Global, path: &Path, from: usize, to: usize, want: &[u8]) -> Mem<bool> {
+/// Puts the labels of a part of a path behind a text, with `/z` behind them.
+fn put_part(alloc: Global, path: &Path, from: usize, to: usize, text: &mut Vec<u8>) -> Mem<()> {
     let to = to.min(path.len());
     let mut part = path.part(alloc, from.min(to), to)?;
     push(alloc, &mut part, b'z', 1)?;
-    has_labels(alloc, &part, want)
+    let put = put_labels(&part, text);
+    drop(part);
+    put
 }
 
-/// Parts of a path, from one label to before another, and their labels with `/z` behind them.
-type Parts = &'static [(usize, usize, &'static [u8])];
+/// Parts of a path, from one label to before another.
+type Parts = &'static [(usize, usize)];
 
-/// Whether the path of some labels has such parts, and its own labels behind that.
-fn has_parts(alloc: Global, labels: Labels<'_>, parts: Parts, want: &[u8]) -> Mem<bool> {
-    let path = path_of(alloc, labels)?;
-    for (from, to, part) in parts {
-        if !has_part(alloc, &path, *from, *to, part)? {
-            return Ok(false);
-        }
+/// Puts the labels of these parts behind a text, and those of the whole path behind them.
+fn put_parts(alloc: Global, path: &Path, parts: Parts, text: &mut Vec<u8>) -> Mem<()> {
+    for (from, to) in parts {
+        put_part(alloc, path, *from, *to, text)?;
     }
-    has_labels(alloc, &path, want)
+    put_labels(path, text)
+}
+
+/// The labels of these parts of the path of some labels, and then those of the whole path.
+fn parts_text(alloc: Global, labels: Labels<'_>, parts: Parts) -> Result<Vec<u8>, Fail> {
+    let path = path_of(alloc, labels)?;
+    let mut text = Vec::new(alloc);
+    let put = put_parts(alloc, &path, parts, &mut text);
+    drop(path);
+    put?;
+    Ok(text)
 }
 
 /// Labels that end at 65,534 bytes, at 65,535 and past these.
 const LONG: Labels<'static> = &[(b'a', 65_534), (b'b', 1), (b'c', 1), (b'd', 2)];
 
-const LONG_PARTS: Parts = &[
-    (0, 4, b"a65534a b1b c1c d2d z1z "),
-    (0, 2, b"a65534a b1b z1z "),
-    (1, 3, b"b1b c1c z1z "),
-    (2, 4, b"c1c d2d z1z "),
-];
+const LONG_PARTS: Parts = &[(0, 4), (0, 2), (1, 3), (2, 4)];
+
+const LONG_TEXT: &[u8] = b"a65534a b1b c1c d2d z1z ;a65534a b1b z1z ;b1b c1c z1z ;c1c d2d z1z ;\
+    a65534a b1b c1c d2d ;";
 
 /// Labels that all end past 65,535 bytes.
 const LONGER: Labels<'static> = &[(b'a', 65_536), (b'b', 3)];
 
-const LONGER_PARTS: Parts = &[(1, 2, b"b3b z1z "), (0, 0, b"z1z ")];
+const LONGER_PARTS: Parts = &[(1, 2), (0, 0)];
+
+const LONGER_TEXT: &[u8] = b"b3b z1z ;z1z ;a65536a b3b ;";
 
 #[test]
 fn counts_bytes_past_65_535(rt: HostRuntime) -> Result<(), Fail> {
-    assert!(rt; has_parts(rt.alloc(), LONG, LONG_PARTS, b"a65534a b1b c1c d2d ")?);
-    assert!(rt; has_parts(rt.alloc(), LONGER, LONGER_PARTS, b"a65536a b3b ")?);
-    Ok(())
+    assert_told(&rt, parts_text(rt.alloc(), LONG, LONG_PARTS), LONG_TEXT)?;
+    assert_told(
+        &rt,
+        parts_text(rt.alloc(), LONGER, LONGER_PARTS),
+        LONGER_TEXT,
+    )
 }

@@ -1,10 +1,13 @@
 //! Texts with their values and their places of refusal, each allocating call once, and the limits.
 
+use crate::long_texts::{append_repeated, repeated};
+use crate::told::assert_told;
 use name_tree::{
     Mem, Path, TextFault, Tree, append_label, append_path, read_path, read_tree, write_path,
     write_tree,
 };
 use std::alloc::Global;
+use std::process::Abort;
 use std::test::Fail;
 
 /// Places at which texts of paths leave the grammar.
@@ -97,30 +100,33 @@ fn tree_fault(alloc: Global, text: &[u8]) -> Option<TextFault> {
     read_tree(alloc, text).err()
 }
 
+/// Asserts that a text is refused so, or that it is not.
+fn assert_fault<R: Abort>(rt: &R, text: &[u8], fault: Option<TextFault>, want: Option<TextFault>) {
+    assert!(rt;
+        fault == want,
+        "{fault:?} in place of {want:?}: {}",
+        text.escape_ascii()
+    );
+}
+
 /// Each text is refused at its place, which follows from the grammar alone.
 #[test]
 fn refuses_texts_at_their_places(rt: HostRuntime) {
     for (text, at) in &PATH_FAULTS {
-        let fault = path_fault(rt.alloc(), text);
-        assert!(rt; fault == Some(TextFault::Syntax(*at)), "{text:?}");
+        assert_fault(
+            &rt,
+            text,
+            path_fault(rt.alloc(), text),
+            Some(TextFault::Syntax(*at)),
+        );
     }
     for (text, at) in &TREE_FAULTS {
-        let fault = tree_fault(rt.alloc(), text);
-        assert!(rt; fault == Some(TextFault::Syntax(*at)), "{text:?}");
-    }
-}
-
-fn path_of(alloc: Global, text: &[u8]) -> Result<Path, Fail> {
-    match read_path(alloc, text) {
-        Ok(path) => Ok(path),
-        Err(_) => Err("no path".into()),
-    }
-}
-
-fn tree_of(alloc: Global, text: &[u8]) -> Result<Tree, Fail> {
-    match read_tree(alloc, text) {
-        Ok(tree) => Ok(tree),
-        Err(_) => Err("no tree".into()),
+        assert_fault(
+            &rt,
+            text,
+            tree_fault(rt.alloc(), text),
+            Some(TextFault::Syntax(*at)),
+        );
     }
 }
 
@@ -133,7 +139,7 @@ fn text_of(alloc: Global, tree: Tree) -> Mem<Vec<u8>> {
 
 /// The text of the tree that a text stands for.
 fn tree_text(alloc: Global, text: &[u8]) -> Result<Vec<u8>, Fail> {
-    let tree = tree_of(alloc, text)?;
+    let tree = read_tree(alloc, text)?;
     Ok(text_of(alloc, tree)?)
 }
 
@@ -158,48 +164,33 @@ const WRITTEN: [(&[u8], &[u8]); 14] = [
 #[test]
 fn writes_what_was_read(rt: HostRuntime) -> Result<(), Fail> {
     for (text, want) in &WRITTEN {
-        let written = tree_text(rt.alloc(), text)?;
-        assert!(rt; written.as_slice() == *want, "{text:?}");
+        assert_told(&rt, tree_text(rt.alloc(), text), want)?;
     }
     Ok(())
 }
 
-/// A text, a part so many times, and an end.
-fn repeated(alloc: Global, front: &str, part: &str, count: usize, end: &str) -> Mem<Vec<u8>> {
-    let mut text = Vec::from_slice(alloc, front.as_bytes())?;
-    for _part in 0..count {
-        text.extend_from_slice(part.as_bytes())?;
-    }
-    text.extend_from_slice(end.as_bytes())?;
-    Ok(text)
+/// Why a tree of so many `(` and an end is refused.
+fn nested_fault(alloc: Global, opened: usize, end: &str) -> Mem<Option<TextFault>> {
+    Ok(tree_fault(alloc, repeated(alloc, "", "(", opened, end)?.as_slice()))
 }
 
-/// Why a tree of so many `(`, with a text between, and so many `)` is refused.
-fn nested_fault(
-    alloc: Global,
-    opened: usize,
-    between: &str,
-    closed: usize,
-) -> Mem<Option<TextFault>> {
-    let mut text = repeated(alloc, "", "(", opened, between)?;
-    text.append(&mut repeated(alloc, "", ")", closed, "")?)?;
-    Ok(tree_fault(alloc, text.as_slice()))
-}
+/// The tree `~`, and 64 times `)`.
+const CLOSED: &str = "~))))))))))))))))))))))))))))))))))))))))))))))))))))))))))))))))";
 
-/// How many `(` there are, a text, how many `)`, and why such a tree is refused.
-const NESTED: [(usize, &str, usize, Option<TextFault>); 5] = [
-    (65, "", 0, Some(TextFault::TooNested(64))),
-    (65, "|", 0, Some(TextFault::TooNested(64))),
-    (64, "~ (", 0, Some(TextFault::Syntax(66))),
-    (64, "~", 64, None),
-    (65_537, "", 0, Some(TextFault::TooLong(65_536))),
+/// How many `(` there are, what stands behind them, and why such a tree is refused.
+const NESTED: [(usize, &str, Option<TextFault>); 5] = [
+    (65, "", Some(TextFault::TooNested(64))),
+    (65, "|", Some(TextFault::TooNested(64))),
+    (64, "~ (", Some(TextFault::Syntax(66))),
+    (64, CLOSED, None),
+    (65_537, "", Some(TextFault::TooLong(65_536))),
 ];
 
 #[test]
 fn nests_so_deep_and_no_deeper(rt: HostRuntime) -> Result<(), Fail> {
-    for (opened, between, closed, want) in &NESTED {
-        let fault = nested_fault(rt.alloc(), *opened, between, *closed)?;
-        assert!(rt; fault == *want, "{opened} {between}");
+    for (opened, end, want) in &NESTED {
+        let fault = nested_fault(rt.alloc(), *opened, end)?;
+        assert_fault(&rt, end.as_bytes(), fault, *want);
     }
     Ok(())
 }
@@ -221,7 +212,7 @@ const LONG: [(&str, usize, Option<TextFault>); 4] = [
 fn reads_so_long_and_no_longer(rt: HostRuntime) -> Result<(), Fail> {
     for (front, count, want) in &LONG {
         let fault = long_fault(rt.alloc(), front, *count)?;
-        assert!(rt; fault == *want, "{front} {count}");
+        assert_fault(&rt, front.as_bytes(), fault, *want);
     }
     Ok(())
 }
@@ -244,7 +235,7 @@ fn odd_path(alloc: Global) -> Mem<Path> {
 }
 
 /// A path and a label behind a text.
-fn line_text(alloc: Global, front: &[u8], path: &Path, label: &[u8]) -> Mem<Vec<u8>> {
+fn line_text(alloc: Global, front: &[u8], path: &Path, label: &[u8]) -> Result<Vec<u8>, Fail> {
     let mut line = Vec::from_slice(alloc, front)?;
     append_path(path, &mut line)?;
     append_label(label, &mut line)?;
@@ -253,14 +244,27 @@ fn line_text(alloc: Global, front: &[u8], path: &Path, label: &[u8]) -> Mem<Vec<
 
 #[test]
 fn writes_paths(rt: HostRuntime) -> Result<(), Fail> {
-    let none = Path::new(rt.alloc());
-    let text = write_path(rt.alloc(), &none)?;
-    assert!(rt; none.is_empty() && text.as_slice() == b"/".as_slice());
     let path = odd_path(rt.alloc())?;
-    assert!(rt; path.len() == 2 && path.text_fits(17) && !path.text_fits(16));
-    let text = line_text(rt.alloc(), b"leaf ", &path, b"=")?;
-    assert!(rt; text.as_slice() == b"leaf /a\\x2fb/\\xffz\\x7e/\\x3d".as_slice());
+    let sizes = (path.len(), path.text_fits(17), path.text_fits(16));
+    let line = line_text(rt.alloc(), b"leaf ", &path, b"=");
+    drop(path);
+    assert_told(&rt, line, b"leaf /a\\x2fb/\\xffz\\x7e/\\x3d")?;
+    assert_eq!(rt; sizes, (2, true, false));
     Ok(())
+}
+
+/// The text of a path without labels.
+fn root_text(alloc: Global) -> Result<Vec<u8>, Fail> {
+    let root = Path::new(alloc);
+    let text = write_path(alloc, &root);
+    drop(root);
+    Ok(text?)
+}
+
+#[test]
+fn writes_the_path_without_labels(rt: HostRuntime) -> Result<(), Fail> {
+    assert!(rt; Path::new(rt.alloc()).is_empty());
+    assert_told(&rt, root_text(rt.alloc()), b"/")
 }
 
 /// The labels of a path from one place to before another, and those of a second path behind them
@@ -290,7 +294,7 @@ fn put_text(
     to: usize,
     place: usize,
 ) -> Result<Vec<u8>, Fail> {
-    let path = path_of(alloc, text)?;
+    let path = read_path(alloc, text)?;
     Ok(write_path(alloc, &put_together(alloc, &path, from, to, &path, place)?)?)
 }
 
@@ -305,15 +309,18 @@ const JOINED: [(usize, usize, usize, &[u8]); 4] = [
 #[test]
 fn takes_and_joins_labels(rt: HostRuntime) -> Result<(), Fail> {
     for (from, to, place, want) in &JOINED {
-        let text = put_text(rt.alloc(), b" /a\\x2Fb/c ", *from, *to, *place)?;
-        assert!(rt; text.as_slice() == *want, "{from} {to} {place}");
+        assert_told(
+            &rt,
+            put_text(rt.alloc(), b" /a\\x2Fb/c ", *from, *to, *place),
+            want,
+        )?;
     }
     Ok(())
 }
 
 /// The labels of the path of a text, each with a space.
 fn labels_of(alloc: Global, text: &[u8]) -> Result<Vec<u8>, Fail> {
-    let path = path_of(alloc, text)?;
+    let path = read_path(alloc, text)?;
     let mut labels = Vec::new(alloc);
     for at in 0..path.len() {
         labels.extend_from_slice(path.label(at))?;
@@ -324,14 +331,12 @@ fn labels_of(alloc: Global, text: &[u8]) -> Result<Vec<u8>, Fail> {
 
 /// Whether the paths of two texts are the same.
 fn are_same_paths(alloc: Global, text: &[u8], other: &[u8]) -> Result<bool, Fail> {
-    Ok(path_of(alloc, text)?.same(&path_of(alloc, other)?))
+    Ok(read_path(alloc, text)?.same(&read_path(alloc, other)?))
 }
 
 #[test]
 fn tells_labels(rt: HostRuntime) -> Result<(), Fail> {
-    let labels = labels_of(rt.alloc(), b" /a\\x2Fb/c ")?;
-    assert!(rt; labels.as_slice() == b"a/b c ".as_slice());
-    Ok(())
+    assert_told(&rt, labels_of(rt.alloc(), b" /a\\x2Fb/c "), b"a/b c ")
 }
 
 /// Paths, and whether they are the same as `/\x61/c`.
@@ -351,14 +356,28 @@ fn compares_labels(rt: HostRuntime) -> Result<(), Fail> {
     Ok(())
 }
 
-/// Whether the path `/a/a` and so on, and the tree of it and so many `~`, are written as they are
-/// read.
+/// Whether the path of a text has so many labels, and is written as it was read.
+fn is_path_kept(alloc: Global, text: &[u8], count: usize) -> Result<bool, Fail> {
+    let path = read_path(alloc, text)?;
+    let is_whole = path.len() == count;
+    let written = write_path(alloc, &path);
+    drop(path);
+    Ok(written?.as_slice() == text && is_whole)
+}
+
+/// Whether the path of a text, and the tree of it and so many `~`, are written as they are read.
+fn are_kept(alloc: Global, text: &mut Vec<u8>, count: usize) -> Result<bool, Fail> {
+    let is_path_kept = is_path_kept(alloc, text.as_slice(), count)?;
+    append_repeated(" | ~", count, text)?;
+    Ok(tree_text(alloc, text.as_slice())?.as_slice() == text.as_slice() && is_path_kept)
+}
+
+/// The same of the path `/a/a` and so on.
 fn are_written_as_read(alloc: Global, count: usize) -> Result<bool, Fail> {
     let mut text = repeated(alloc, "", "/a", count, "")?;
-    let path = path_of(alloc, text.as_slice())?;
-    let is_same = path.len() == count && write_path(alloc, &path)? == text;
-    text.append(&mut repeated(alloc, "", " | ~", count, "")?)?;
-    Ok(is_same && tree_text(alloc, text.as_slice())? == text)
+    let are_kept = are_kept(alloc, &mut text, count);
+    drop(text);
+    are_kept
 }
 
 /// Lengths between the limits.
@@ -393,7 +412,7 @@ const TREES: [&[u8]; 14] = [
 
 /// The text of a copy of a text's tree.
 fn copy_text(alloc: Global, text: &[u8]) -> Result<Vec<u8>, Fail> {
-    let tree = tree_of(alloc, text)?;
+    let tree = read_tree(alloc, text)?;
     let copy = tree.copied(alloc);
     drop(tree);
     Ok(text_of(alloc, copy?)?)
@@ -401,7 +420,7 @@ fn copy_text(alloc: Global, text: &[u8]) -> Result<Vec<u8>, Fail> {
 
 /// Whether the tree of a text is the same as another.
 fn is_tree(alloc: Global, text: &[u8], other: &Tree) -> Result<bool, Fail> {
-    let tree = tree_of(alloc, text)?;
+    let tree = read_tree(alloc, text)?;
     let is_same = tree.same(other);
     drop(tree);
     Ok(is_same)
@@ -409,7 +428,7 @@ fn is_tree(alloc: Global, text: &[u8], other: &Tree) -> Result<bool, Fail> {
 
 /// Whether the trees of two texts are the same.
 fn are_same_trees(alloc: Global, text: &[u8], other: &[u8]) -> Result<bool, Fail> {
-    let other = tree_of(alloc, other)?;
+    let other = read_tree(alloc, other)?;
     let is_same = is_tree(alloc, text, &other);
     drop(other);
     is_same
@@ -419,8 +438,7 @@ fn are_same_trees(alloc: Global, text: &[u8], other: &[u8]) -> Result<bool, Fail
 #[test]
 fn copies_and_compares_trees(rt: HostRuntime) -> Result<(), Fail> {
     for text in &TREES {
-        let copy = copy_text(rt.alloc(), text)?;
-        assert!(rt; copy.as_slice() == *text, "{text:?}");
+        assert_told(&rt, copy_text(rt.alloc(), text), text)?;
         for other in &TREES {
             let is_same = are_same_trees(rt.alloc(), text, other)?;
             assert!(rt; is_same == (*text == *other), "{text:?} {other:?}");
@@ -431,9 +449,10 @@ fn copies_and_compares_trees(rt: HostRuntime) -> Result<(), Fail> {
 
 /// The text of a tree with a path from its second label on behind each leaf.
 fn rest_text(alloc: Global, tree: &[u8], path: &[u8]) -> Result<Vec<u8>, Fail> {
-    let path = path_of(alloc, path)?;
-    let tree = tree_of(alloc, tree)?;
+    let path = read_path(alloc, path)?;
+    let tree = read_tree(alloc, tree)?;
     let longer = tree.with_rest(alloc, &path, path.len().min(1));
+    drop(path);
     drop(tree);
     Ok(text_of(alloc, longer?)?)
 }
@@ -441,8 +460,6 @@ fn rest_text(alloc: Global, tree: &[u8], path: &[u8]) -> Result<Vec<u8>, Fail> {
 #[test]
 fn puts_the_rest_behind_every_leaf(rt: HostRuntime) -> Result<(), Fail> {
     let tree = b"/a | ~ | 2*(! | /b) & 0*/c | $ | /";
-    let text = rest_text(rt.alloc(), tree, b"/x/y/z")?;
     let want = b"/a/y/z | ~ | 2 * (! | /b/y/z) & 0 * /c/y/z | $ | /y/z";
-    assert!(rt; text.as_slice() == want.as_slice());
-    Ok(())
+    assert_told(&rt, rest_text(rt.alloc(), tree, b"/x/y/z"), want)
 }

@@ -1,19 +1,21 @@
 //! What the objects in memory give and take, call by call.
 ghost use Rattle.std.specs.Prelude.{◌≡◌, ◌<◌};
 
+use crate::told::assert_told;
 use line_base::{
-    Clock, ConnectionPool, DialEvent, Dialer, Event, Failed, Folder, FolderFault, Found, Listener,
-    Mem, Net, NetFault, Peer, Sink, Source, Stop,
+    Clock, ConnectionPool, DialEvent, Dialer, Event, Failed, Listener, Mem, Net, NetFault, Peer,
+    Sink,
 };
 use line_doubles::{
-    MemAddress, MemClock, MemDialer, MemDials, MemFile, MemFolder, MemNet, MemPeer, MemSink,
-    MemSource, MemStop, MemVisits,
+    MemAddress, MemClock, MemDialer, MemDials, MemEnded, MemNet, MemPeer, MemSink, MemSource,
+    MemVisits,
 };
 use std::alloc::Global;
 use std::marker::Brand;
 use std::sync::ledger::{Blank, Ledger};
 use std::test::Fail;
 use step_count::Steps;
+use text_parts::append_number;
 
 /// A source of these bytes, in pieces of such sizes.
 fn source_of(alloc: Global, bytes: &[u8], sizes: &[usize], failing: &[u64]) -> Mem<MemSource> {
@@ -36,52 +38,8 @@ fn digit(gives: Result<usize, Failed>) -> u8 {
     }
 }
 
-fn read<S: Source>(source: &mut S, into: &mut [u8]) -> u8 {
-    digit(source.read(into))
-}
-
 fn write<K: Sink>(sink: &mut K, bytes: &[u8]) -> u8 {
     digit(sink.write(bytes))
-}
-
-/// So many bytes at most are read, what that gives, and the faults and the ends that were given
-/// until then.
-const READS: [(usize, u8, u64, u64); 9] = [
-    (0, b'0', 0, 0),
-    (4, b'1', 0, 0),
-    (4, b'!', 1, 0),
-    (4, b'1', 1, 0),
-    (4, b'3', 1, 0),
-    (4, b'2', 1, 0),
-    (4, b'!', 2, 0),
-    (4, b'0', 2, 1),
-    (4, b'0', 2, 2),
-];
-
-/// The first of these reads that gives something else.
-fn first_wrong_read(source: &mut MemSource, into: &mut [u8; 4]) -> Option<usize> {
-    for (at, (most, gives, faults, ends)) in READS.iter().enumerate() {
-        let most = (*most).min(4);
-        let is_given = read(source, &mut into[..most]) == *gives;
-        if !is_given || source.faults() != *faults || source.ends() != *ends {
-            return Some(at);
-        }
-    }
-    None
-}
-
-/// Three pieces of 1, at least 1 and 3 bytes; calls 1 and 5 fail; the end is given as often as it
-/// is asked for.
-#[test]
-fn source_in_pieces(rt: HostRuntime) -> Result<(), Fail> {
-    let mut source = source_of(rt.alloc(), b"abcdefg", &[1, 9, 0, 3], &[1, 5])?;
-    let mut into = [0u8; 4];
-    let wrong = first_wrong_read(&mut source, &mut into);
-    let left = source.left().len();
-    drop(source);
-    assert_eq!(rt; wrong, None);
-    assert!(rt; into == *b"fge\0" && left == 0);
-    Ok(())
 }
 
 /// Bytes that are written, and how many of them are taken.
@@ -103,14 +61,19 @@ fn first_wrong_write(sink: &mut MemSink) -> Option<usize> {
     None
 }
 
+/// Whether a sink holds these bytes, and has failed once.
+fn has_taken(sink: &MemSink, bytes: &[u8]) -> bool {
+    sink.held() == bytes && sink.faults() == 1
+}
+
 #[test]
 fn sink_in_pieces(rt: HostRuntime) -> Result<(), Fail> {
     let mut sink = sink_of(rt.alloc(), &[2, 0], &[2])?;
     let wrong = first_wrong_write(&mut sink);
-    let is_held = sink.held() == b"abcde".as_slice() && sink.faults() == 1;
+    let has_taken = has_taken(&sink, b"abcde");
     drop(sink);
     assert_eq!(rt; wrong, None);
-    assert!(rt; is_held);
+    assert!(rt; has_taken);
     Ok(())
 }
 
@@ -154,8 +117,7 @@ fn first_wrong_exchange(peer: &mut MemPeer) -> Option<usize> {
 /// Whether a peer holds these bytes, and has given one end and failed once each way.
 fn has_held(peer: &MemPeer, bytes: &[u8]) -> bool {
     let source = peer.source();
-    let sink = peer.sink();
-    sink.held() == bytes && sink.faults() == 1 && source.faults() == 1 && source.ends() == 1
+    has_taken(peer.sink(), bytes) && source.faults() == 1 && source.ends() == 1
 }
 
 #[test]
@@ -220,23 +182,36 @@ fn moved(event: &DialEvent) -> &[u8] {
     }
 }
 
-/// A log as text: a letter for each event, with the bytes that it moved.
-fn log_text(alloc: Global, log: &[DialEvent]) -> Mem<Vec<u8>> {
+/// Puts an event behind a text: its letter, with the bytes that it moved.
+fn put_event(event: &DialEvent, text: &mut Vec<u8>) -> Mem<()> {
+    text.push(letter(event))?;
+    text.extend_from_slice(moved(event))
+}
+
+/// The log of a dialer as text.
+fn log_text(alloc: Global, dialer: &MemDialer) -> Result<Vec<u8>, Fail> {
     let mut text = Vec::new(alloc);
-    for event in log {
-        text.push(letter(event))?;
-        text.extend_from_slice(moved(event))?;
+    for event in dialer.log() {
+        put_event(event, &mut text)?;
     }
     Ok(text)
 }
 
-/// A dialer with two replies.
+/// Two replies.
+fn replies(alloc: Global) -> Mem<Vec<Vec<u8>>> {
+    let mut replies = Vec::new(alloc);
+    for reply in ["abc", "xyz"] {
+        replies.push(reply.as_bytes().to_vec(alloc)?)?;
+    }
+    Ok(replies)
+}
+
+/// A dialer with these replies.
 fn dialer_of(alloc: Global, sizes: &[usize], failing: &[u64]) -> Mem<MemDialer> {
-    let mut replies = Vec::with_capacity(alloc, 2)?;
-    replies.push(b"abc".to_vec(alloc)?)?;
-    replies.push(b"xyz".to_vec(alloc)?)?;
     let sizes = Vec::from_slice(alloc, sizes)?;
-    Ok(MemDialer::of(alloc, replies, sizes, Vec::from_slice(alloc, failing)?))
+    let failing = Vec::from_slice(alloc, failing)?;
+    let replies = replies(alloc)?;
+    Ok(MemDialer::of(alloc, replies, sizes, failing))
 }
 
 /// Bytes that a connection sends, what its calls give, and the faults until then.
@@ -264,10 +239,10 @@ fn first_wrong_connection(dialer: &mut MemDialer) -> Option<usize> {
 fn dialer_keeps_a_log(rt: HostRuntime) -> Result<(), Fail> {
     let mut dialer = dialer_of(rt.alloc(), &[9, 2, 2], &[5, 8])?;
     let wrong = first_wrong_connection(&mut dialer);
-    let log = log_text(rt.alloc(), dialer.log());
+    let log = log_text(rt.alloc(), &dialer);
     drop(dialer);
+    assert_told(&rt, log, b"DSheGabGcHDGxyzGHDGGH")?;
     assert_eq!(rt; wrong, None);
-    assert!(rt; log?.as_slice() == b"DSheGabGcHDGxyzGHDGGH".as_slice());
     Ok(())
 }
 
@@ -323,11 +298,12 @@ fn keeping_dialer(alloc: Global) -> Mem<MemDialer> {
 fn dialer_keeps_connections(rt: HostRuntime) -> Result<(), Fail> {
     let mut dialer = keeping_dialer(rt.alloc())?;
     let wrong = first_wrong_visit(&mut dialer);
-    let log = log_text(rt.alloc(), dialer.log());
-    let is_late = dialer.is_late() && dialer.faults() == 1;
+    let log = log_text(rt.alloc(), &dialer);
+    let (is_late, faults) = (dialer.is_late(), dialer.faults());
     drop(dialer);
+    assert_told(&rt, log, b"DGabcKRGxyKDGKDGHDGKRGHDH")?;
     assert_eq!(rt; wrong, None);
-    assert!(rt; is_late && log?.as_slice() == b"DGabcKRGxyKDGKDGHDGKRGHDH".as_slice());
+    assert!(rt; is_late && faults == 1);
     Ok(())
 }
 
@@ -340,17 +316,12 @@ fn moments<C: Clock + Drop>(clock: &mut C) -> (u64, u64) {
     (moment, first)
 }
 
-/// A clock that tells these moments.
-fn clock_of(alloc: Global, moments: &[u64]) -> Mem<MemClock> {
-    MemClock::of(alloc, Vec::from_slice(alloc, moments)?)
-}
-
-/// What a clock of three moments and its forks tell.
-const MOMENTS: [(u64, u64); 4] = [(5, 5), (3, 5), (9, 5), (9, 5)];
+/// What a clock and its forks tell, call by call.
+type Moments = &'static [(u64, u64)];
 
 /// The first of these moments that a clock tells otherwise.
-fn first_wrong_moment(clock: &mut MemClock) -> Option<usize> {
-    for (at, gives) in MOMENTS.iter().enumerate() {
+fn first_wrong_moment(clock: &mut MemClock, want: Moments) -> Option<usize> {
+    for (at, gives) in want.iter().enumerate() {
         if moments(clock) != *gives {
             return Some(at);
         }
@@ -358,117 +329,20 @@ fn first_wrong_moment(clock: &mut MemClock) -> Option<usize> {
     None
 }
 
-/// The last moment stays, and a fork begins with the first.
+/// The same of the clock that tells these moments.
+fn first_wrong_of(alloc: Global, moments: &[u64], want: Moments) -> Mem<Option<usize>> {
+    let mut clock = MemClock::of(alloc, Vec::from_slice(alloc, moments)?)?;
+    let wrong = first_wrong_moment(&mut clock, want);
+    drop(clock);
+    Ok(wrong)
+}
+
+/// The last moment stays, and a fork begins with the first. Where there is none, 0 is told.
 #[test]
 fn clock_and_fork(rt: HostRuntime) -> Result<(), Fail> {
-    let mut clock = clock_of(rt.alloc(), &[5, 3, 9])?;
-    assert_eq!(rt; first_wrong_moment(&mut clock), None);
-    Ok(())
-}
-
-#[test]
-fn clock_of_no_moments(rt: HostRuntime) -> Result<(), Fail> {
-    let mut clock = clock_of(rt.alloc(), &[])?;
-    assert!(rt; moments(&mut clock) == (0, 0));
-    Ok(())
-}
-
-fn stop_it<S: Stop>(stop: &mut S) {
-    stop.stop();
-}
-
-#[test]
-fn stop_is_counted(rt: HostRuntime) {
-    let mut stop = MemStop::new();
-    stop_it(&mut stop);
-    stop_it(&mut stop);
-    assert!(rt; stop.calls() == 2);
-}
-
-/// Four files of bytes `x`.
-const FILES: [(&str, &str, usize); 4] = [
-    ("disco", "web", 3),
-    ("disco", "api", 0),
-    ("other", "web", 1234),
-    ("disco", "Web", 1),
-];
-
-fn file_of(alloc: Global, folder: &str, name: &str, size: usize) -> Mem<MemFile> {
-    let folder = String::from_str(alloc, folder)?;
-    let name = String::from_str(alloc, name)?;
-    Ok(MemFile::of(folder, name, Vec::from_elem(alloc, b'x', size)?))
-}
-
-/// The folders of these files, whose call 6 fails.
-fn folders_of(alloc: Global) -> Mem<MemFolder> {
-    let mut files = Vec::new(alloc);
-    for (folder, name, size) in &FILES {
-        files.push(file_of(alloc, folder, name, *size)?)?;
-    }
-    Ok(MemFolder::of(alloc, files, vec![in alloc; 6]?))
-}
-
-fn size_at<F: Folder>(
-    folder: &mut F,
-    path: &str,
-    most: usize,
-) -> Result<Option<usize>, FolderFault> {
-    match folder.read(path, most)? {
-        Found::Bytes(bytes) => Ok(Some(bytes.len())),
-        Found::Longer => Ok(Some(usize::MAX)),
-        Found::Absent => Ok(None),
-    }
-}
-
-/// Whether a folder's files have these names.
-fn are_names<F: Folder>(folder: &mut F, name: &str, want: &[&str]) -> Result<bool, FolderFault> {
-    let names = folder.names(name)?;
-    Ok(names.items().len() == want.len() && are_texts(names.items(), want))
-}
-
-/// Whether texts are these, one by one.
-fn are_texts(texts: &[String], want: &[&str]) -> bool {
-    for (text, other) in texts.iter().zip(want) {
-        if text.as_str() != *other {
-            return false;
-        }
-    }
-    true
-}
-
-/// A file, at most so many bytes of which are read, and what is found: its size, `usize::MAX` where
-/// it is longer, and `None` where it is absent.
-const FOUND: [(&str, usize, Result<Option<usize>, FolderFault>); 7] = [
-    ("disco/web", 3, Ok(Some(3))),
-    ("disco/web", 2, Ok(Some(usize::MAX))),
-    ("disco/api", 0, Ok(Some(0))),
-    ("other/web", 1_048_576, Ok(Some(1234))),
-    ("disco/we", 9, Ok(None)),
-    ("disco/web", 3, Err(FolderFault::Failed)),
-    ("disco/web", 3, Ok(Some(3))),
-];
-
-/// The first of these files that is found otherwise.
-fn first_wrong_file(folder: &mut MemFolder) -> Option<usize> {
-    for (at, (path, most, gives)) in FOUND.iter().enumerate() {
-        if size_at(folder, path, *most) != *gives {
-            return Some(at);
-        }
-    }
-    None
-}
-
-/// Names come in the order of their bytes; a file of `most` bytes is found, and one of a byte more
-/// is longer; call 6 fails.
-#[test]
-fn folder_of_files(rt: HostRuntime) -> Result<(), Fail> {
-    let mut folder = folders_of(rt.alloc())?;
-    let named = are_names(&mut folder, "disco", &["Web", "api", "web"]);
-    let wrong = first_wrong_file(&mut folder);
-    let faults = folder.faults();
-    drop(folder);
-    assert!(rt; named? && faults == 1);
+    let wrong = first_wrong_of(rt.alloc(), &[5, 3, 9], &[(5, 5), (3, 5), (9, 5), (9, 5)])?;
     assert_eq!(rt; wrong, None);
+    assert_eq!(rt; first_wrong_of(rt.alloc(), &[], &[(0, 0)])?, None);
     Ok(())
 }
 
@@ -515,7 +389,7 @@ fn answer_and_end<N: Net>(net: &mut N, listener: N::L, told: &mut Vec<u8>) -> bo
 fn answer_all<N: Net>(net: &mut N, listeners: Vec<N::L>, told: &mut Vec<u8>) -> bool {
     let mut is_well = true;
     for listener in listeners {
-        is_well = answer_and_end(net, listener, told) && is_well;
+        is_well &= answer_and_end(net, listener, told);
     }
     is_well
 }
@@ -527,17 +401,29 @@ fn listen_twice<N: Net>(net: &mut N, ip: u32, told: &mut Vec<u8>) -> Result<bool
     Ok(answer_all(net, listeners.into_items(), told))
 }
 
-/// So many peers that say nothing come to a place, and then it tells a number and a tick; its calls
-/// fail as told.
-fn visits(alloc: Global, count: u32, failing: &[u64]) -> Mem<MemVisits<MemPeer>> {
-    let mut events = Vec::new(alloc);
+/// Puts the events of a place behind others: so many peers that say nothing come, and then it tells
+/// a number and a tick.
+fn put_events(alloc: Global, count: u32, events: &mut Vec<Event<MemPeer>>) -> Mem<()> {
     for _peer in 0..count {
         events.push(Event::Came(peer_of(alloc, b"", &[])?))?;
     }
     events.push(Event::Ready(7))?;
-    events.push(Event::Tick(1))?;
+    Ok(events.push(Event::Tick(1))?)
+}
+
+/// A place with these events, whose calls fail as told.
+fn visits(alloc: Global, count: u32, failing: &[u64]) -> Mem<MemVisits<MemPeer>> {
     let failing = Vec::from_slice(alloc, failing)?;
-    Ok(MemVisits { events, failing })
+    let mut events = Vec::new(alloc);
+    let put = put_events(alloc, count, &mut events);
+    let visits = MemVisits { events, failing };
+    match put {
+        Ok(()) => Ok(visits),
+        Err(error) => {
+            drop(visits);
+            Err(error)
+        }
+    }
 }
 
 /// Port 80 of the address 7, where two peers come at the first place, whose accept 1 fails, and one
@@ -564,67 +450,71 @@ fn no_replies(alloc: Global) -> MemDials {
 
 /// A net with that address, whose call 1 fails.
 fn net_of_visits(alloc: Global) -> Mem<MemNet<MemPeer>> {
-    let addresses = vec![in alloc; address_of_visits(alloc)?]?;
+    let failing = vec![in alloc; 1]?;
     let dials = vec![in alloc; no_replies(alloc)]?;
-    Ok(MemNet::of(alloc, addresses, dials, vec![in alloc; 1]?))
+    let addresses = vec![in alloc; address_of_visits(alloc)?]?;
+    Ok(MemNet::of(alloc, addresses, dials, failing))
 }
 
-/// What a net told in words: the answers of its listeners, or `failed`.
-fn heard(net: &mut MemNet<MemPeer>, alloc: Global, ip: u32) -> Mem<Vec<u8>> {
-    let mut told = Vec::new(alloc);
-    match listen_twice(net, ip, &mut told) {
-        Ok(true) => Ok(told),
-        Ok(false) => b"broken".to_vec(alloc),
-        Err(NetFault::Failed) => b"failed".to_vec(alloc),
-        Err(NetFault::OutOfMemory) => b"memory".to_vec(alloc),
+/// What is to be told beside the answers of listeners: why there are none, or that one broke.
+fn word(heard: Result<bool, NetFault>) -> &'static [u8] {
+    match heard {
+        Ok(true) => b"",
+        Ok(false) => b"broken",
+        Err(NetFault::Failed) => b"failed",
+        Err(NetFault::OutOfMemory) => b"memory",
     }
 }
 
-/// How many peers came back with each listener, with `d` where a dialer did too, and how often its
-/// stop was called.
-fn ended_text(alloc: Global, net: &MemNet<MemPeer>) -> Mem<Vec<u8>> {
+/// Puts what is heard at an address behind a text, and then how often a call failed and how many
+/// listeners came back clean.
+fn put_heard(net: &mut MemNet<MemPeer>, ip: u32, text: &mut Vec<u8>) -> Mem<()> {
+    let heard = listen_twice(net, ip, text);
+    text.extend_from_slice(word(heard))?;
+    text.push(b' ')?;
+    append_number(net.faults(), text)?;
+    text.push(b' ')?;
+    append_number(net.clean(), text)?;
+    Ok(text.push(b';')?)
+}
+
+/// How many peers came back with a listener, `d` where a dialer did too, and how often its stop was
+/// called.
+fn ended_word(ended: &MemEnded<MemPeer>) -> [u8; 4] {
+    let returned = digit(Ok(ended.listener().returned().len()));
+    let calls = digit(Ok(ended.stop().calls().min(9) as usize));
+    let dialer = match ended.dialer() {
+        Some(_) => b'd',
+        None => b'-',
+    };
+    [returned, dialer, calls, b' ']
+}
+
+/// What is heard at some addresses, one after the other, and how each listener came back.
+fn told_of(alloc: Global, net: &mut MemNet<MemPeer>, ips: &[u32]) -> Result<Vec<u8>, Fail> {
     let mut text = Vec::new(alloc);
+    for ip in ips {
+        put_heard(net, *ip, &mut text)?;
+    }
     for ended in net.ended() {
-        text.push(digit(Ok(ended.listener().returned().len())))?;
-        text.push(if ended.dialer().is_some() { b'd' } else { b'-' })?;
-        text.push(digit(Ok(ended.stop().calls().min(9) as usize)))?;
-        text.push(b' ')?;
+        text.extend_from_slice(&ended_word(ended))?;
     }
     Ok(text)
 }
 
-/// An address, what is heard there, and then how often a call failed and how many listeners came
-/// back clean.
-const HEARD: [(u32, &str, u64, u64); 4] = [
-    (7, "p!prtprt--", 0, 1),
-    (7, "failed", 1, 1),
-    (7, "----------", 1, 3),
-    (8, "----------", 1, 5),
-];
-
-/// The first of these addresses where something else is heard.
-fn first_wrong_heard(net: &mut MemNet<MemPeer>, alloc: Global) -> Mem<Option<usize>> {
-    for (at, (ip, told, faults, clean)) in HEARD.iter().enumerate() {
-        let heard = heard(net, alloc, *ip)?;
-        let is_told = heard.as_slice() == told.as_bytes();
-        if !is_told || net.faults() != *faults || net.clean() != *clean {
-            return Ok(Some(at));
-        }
-    }
-    Ok(None)
-}
+/// What is heard at four addresses, and the six listeners that came back.
+const HEARD: &[u8] = b"p!prtprt-- 0 1;failed 1 1;---------- 1 3;---------- 1 5;\
+    2d0 1d0 0d0 0d0 0d0 0d0 ";
 
 /// Two peers come to the first place of an address and one to the second; the accept 1 of the first
 /// fails. A later call goes on behind them, the call 1 fails, and to another address nobody comes.
 #[test]
 fn net_of_listeners(rt: HostRuntime) -> Result<(), Fail> {
     let mut net = net_of_visits(rt.alloc())?;
-    let wrong = first_wrong_heard(&mut net, rt.alloc());
+    let told = told_of(rt.alloc(), &mut net, &[7, 7, 7, 8]);
     let stops = net.stops();
-    let ended = ended_text(rt.alloc(), &net);
     drop(net);
-    assert_eq!(rt; wrong?, None);
-    assert!(rt; stops == (6, 6));
-    assert!(rt; ended?.as_slice() == b"2d0 1d0 0d0 0d0 0d0 0d0 ".as_slice());
+    assert_told(&rt, told, HEARD)?;
+    assert!(rt; stops == (6, 6), "{stops:?}");
     Ok(())
 }

@@ -2,6 +2,8 @@
 //! paths to, and the limits.
 ghost use Rattle.std.specs.Prelude.{◌≡◌, ◌<◌};
 
+use crate::long_texts::repeated;
+use crate::told::assert_told;
 use dtab_table::{
     Dtab, DtabFault, Entry, EntryList, Mem, Prefix, PrefixFault, PrefixLabel, joined, read_dtab,
     read_prefix, write_dtab, write_prefix,
@@ -73,63 +75,39 @@ fn refuses_texts_at_their_places(rt: HostRuntime) {
 }
 
 /// Texts, and why each is no path and no table.
-const REASONS: [(&[u8], &str, &str); 2] = [
+const REASONS: [(&[u8], &str); 2] = [
     (
         b"/a/",
-        "the text leaves the grammar at byte 3",
-        "table syntax 3",
+        "the text leaves the grammar at byte 3; table syntax 3",
     ),
     (
         b"/*",
-        "the text leaves the grammar at byte 1",
-        "table syntax 2",
+        "the text leaves the grammar at byte 1; table syntax 2",
     ),
 ];
 
 /// Why a text is no path, and why it is no table.
-fn reasons(alloc: Global, text: &[u8]) -> Result<(String, String), Fail> {
+fn reasons(alloc: Global, text: &[u8]) -> Result<Vec<u8>, Fail> {
     let path = read_path(alloc, text).err().ok_or("a path")?;
     let table = table_fault(alloc, text).ok_or("a table")?;
-    Ok((path.to_string(alloc)?, table.to_string(alloc)?))
+    Ok(format!(in alloc; "{path}; {table}")?.into_bytes())
 }
 
 #[test]
 fn tells_why_texts_are_refused(rt: HostRuntime) -> Result<(), Fail> {
-    for (text, of_path, of_table) in &REASONS {
-        let (path, table) = reasons(rt.alloc(), text)?;
-        assert!(rt;
-            path.as_str() == *of_path && table.as_str() == *of_table,
-            "{text:?}"
-        );
+    for (text, want) in &REASONS {
+        assert_told(&rt, reasons(rt.alloc(), text), want.as_bytes())?;
     }
     Ok(())
 }
 
-fn table_of(alloc: Global, text: &[u8]) -> Result<Dtab, Fail> {
-    match read_dtab(alloc, text) {
-        Ok(dtab) => Ok(dtab),
-        Err(_) => Err("no table".into()),
-    }
-}
-
-fn prefix_of(alloc: Global, text: &[u8]) -> Result<Prefix, Fail> {
-    match read_prefix(alloc, text) {
-        Ok(prefix) => Ok(prefix),
-        Err(_) => Err("no prefix".into()),
-    }
-}
-
-fn path_of(alloc: Global, text: &[u8]) -> Result<Path, Fail> {
-    match read_path(alloc, text) {
-        Ok(path) => Ok(path),
-        Err(_) => Err("no path".into()),
-    }
-}
-
-/// How many entries the table of a text has, and its text.
-fn table_text(alloc: Global, text: &[u8]) -> Result<(usize, Vec<u8>), Fail> {
-    let dtab = table_of(alloc, text)?;
-    Ok((dtab.len(), write_dtab(alloc, &dtab)?))
+/// Whether the table of a text has so many entries, and is written so.
+fn is_written(alloc: Global, text: &[u8], count: usize, want: &[u8]) -> Result<bool, Fail> {
+    let dtab = read_dtab(alloc, text)?;
+    let is_whole = dtab.len() == count;
+    let written = write_dtab(alloc, &dtab);
+    drop(dtab);
+    Ok(written?.as_slice() == want && is_whole)
 }
 
 /// Texts of tables, how many entries they have, and what is written for them.
@@ -150,15 +128,17 @@ const WRITTEN: [(&[u8], usize, &[u8]); 7] = [
 #[test]
 fn writes_tables_that_were_read(rt: HostRuntime) -> Result<(), Fail> {
     for (text, count, want) in &WRITTEN {
-        let (len, written) = table_text(rt.alloc(), text)?;
-        assert!(rt; len == *count && written.as_slice() == *want, "{text:?}");
+        assert!(rt; is_written(rt.alloc(), text, *count, want)?, "{text:?}");
     }
     Ok(())
 }
 
 /// The text of the prefix of a text.
 fn prefix_text(alloc: Global, text: &[u8]) -> Result<Vec<u8>, Fail> {
-    Ok(write_prefix(alloc, &prefix_of(alloc, text)?)?)
+    let prefix = read_prefix(alloc, text)?;
+    let written = write_prefix(alloc, &prefix);
+    drop(prefix);
+    Ok(written?)
 }
 
 /// Texts of prefixes, and what is written for them.
@@ -172,23 +152,12 @@ const PREFIXES: [(&[u8], &[u8]); 4] = [
 #[test]
 fn writes_prefixes_that_were_read(rt: HostRuntime) -> Result<(), Fail> {
     for (text, want) in &PREFIXES {
-        let written = prefix_text(rt.alloc(), text)?;
-        assert!(rt; written.as_slice() == *want, "{text:?}");
+        assert_told(&rt, prefix_text(rt.alloc(), text), want)?;
     }
     Ok(())
 }
 
-/// A text, a part so many times, and an end.
-fn repeated(alloc: Global, front: &str, part: &str, count: usize, end: &str) -> Mem<Vec<u8>> {
-    let mut text = Vec::from_slice(alloc, front.as_bytes())?;
-    for _part in 0..count {
-        text.extend_from_slice(part.as_bytes())?;
-    }
-    text.extend_from_slice(end.as_bytes())?;
-    Ok(text)
-}
-
-/// How many entries are read of such a text, or why it is refused.
+/// How many entries are read of a text, a part so many times and an end, or why that is refused.
 fn count_of(
     alloc: Global,
     front: &str,
@@ -245,8 +214,12 @@ fn keeps_the_limits(rt: HostRuntime) -> Result<(), Fail> {
 /// Whether a table of so many entries is written as it is read.
 fn is_written_as_read(alloc: Global, count: usize) -> Result<bool, Fail> {
     let text = repeated(alloc, "/a=>/b", ";/svc/*=>/c", count, "")?;
-    let (len, written) = table_text(alloc, text.as_slice())?;
-    Ok(len == count.saturating_add(1) && written == text)
+    is_written(
+        alloc,
+        text.as_slice(),
+        count.saturating_add(1),
+        text.as_slice(),
+    )
 }
 
 /// Numbers of entries between the limits.
@@ -262,7 +235,25 @@ fn reads_middle_sizes(rt: HostRuntime) -> Result<(), Fail> {
     Ok(())
 }
 
-/// The leaves that a table rewrites a path to, each behind a blank; `?` stands for any other tree.
+/// Puts a leaf behind a text and a blank; `?` stands for any other tree.
+fn put_leaf(tree: &Tree, text: &mut Vec<u8>) -> Mem<()> {
+    text.push(b' ')?;
+    match tree {
+        Tree::Leaf(path) => append_path(path, text),
+        _ => Ok(text.push(b'?')?),
+    }
+}
+
+/// Leaves, each behind a blank.
+fn leaves_text(alloc: Global, trees: &[Tree]) -> Mem<Vec<u8>> {
+    let mut text = Vec::new(alloc);
+    for tree in trees {
+        put_leaf(tree, &mut text)?;
+    }
+    Ok(text)
+}
+
+/// The leaves that a table rewrites a path to.
 fn leaves<L: Ledger>(alloc: Global, dtab: &Dtab, path: &Path, blank: Blank) -> Mem<Vec<u8>>
     requires name { blank.name ≡ L.name }
     requires parts { blank.parts ≡ L.parts }
@@ -270,20 +261,14 @@ fn leaves<L: Ledger>(alloc: Global, dtab: &Dtab, path: &Path, blank: Blank) -> M
 {
     let mut steps = Steps::<L>::start(blank);
     let trees = dtab.lookup(alloc, path, &mut steps)?;
-    let mut out = Vec::new(alloc);
-    for tree in trees.items() {
-        out.push(b' ')?;
-        match tree {
-            Tree::Leaf(path) => append_path(path, &mut out)?,
-            _ => out.push(b'?')?,
-        }
-    }
-    Ok(out)
+    let text = leaves_text(alloc, trees.items());
+    drop(trees);
+    text
 }
 
 /// The same of the path of a text.
 fn rewritten(alloc: Global, dtab: &Dtab, text: &[u8]) -> Result<Vec<u8>, Fail> {
-    let path = path_of(alloc, text)?;
+    let path = read_path(alloc, text)?;
     Ok(leaves::<Brand>(alloc, dtab, &path, Blank::new(1))?)
 }
 
@@ -311,28 +296,47 @@ const LOOKED_UP: [Rewritten; 5] = [
 #[test]
 fn looks_up(rt: HostRuntime) -> Result<(), Fail> {
     let text = b"/svc => /a ; /svc/web => /b ; /svc/mail => /c ; / => /d ; /svc/web => ~";
-    let dtab = table_of(rt.alloc(), text)?;
-    assert_eq!(rt; first_wrong(rt.alloc(), &dtab, &LOOKED_UP)?, None);
-    let none = Dtab::empty(rt.alloc());
-    assert!(rt; rewritten(rt.alloc(), &none, b"/svc")?.is_empty());
+    let dtab = read_dtab(rt.alloc(), text)?;
+    let wrong = first_wrong(rt.alloc(), &dtab, &LOOKED_UP);
+    drop(dtab);
+    assert_eq!(rt; wrong?, None);
     Ok(())
 }
 
-/// A table of one entry, whose tree is `/s`.
-fn table_of_entry(alloc: Global, prefix: Prefix) -> Result<Dtab, Fail> {
-    let Ok(tree) = read_tree(alloc, b"/s") else {
-        return Err("no tree".into());
-    };
-    let entry = Entry { prefix, tree };
-    Ok(Dtab::of(alloc, EntryList::of(vec![in alloc; entry]?))?)
+#[test]
+fn finds_nothing_in_the_empty_table(rt: HostRuntime) -> Result<(), Fail> {
+    let none = Dtab::empty(rt.alloc());
+    let leaves = rewritten(rt.alloc(), &none, b"/svc");
+    drop(none);
+    assert_told(&rt, leaves, b"")
 }
 
 /// The prefix `/*/web`.
 fn any_web(alloc: Global) -> Mem<Prefix> {
-    let mut labels = Vec::new(alloc);
-    labels.push(PrefixLabel::Star)?;
-    labels.push(PrefixLabel::Label(Vec::from_slice(alloc, b"web")?))?;
+    let web = Vec::from_slice(alloc, b"web")?;
+    let labels = vec![in alloc; PrefixLabel::Star, PrefixLabel::Label(web)]?;
     Ok(Prefix::of(labels))
+}
+
+/// A table of one entry, whose prefix is `/*/web`, and whose tree is `/s`.
+fn table_of_entry(alloc: Global) -> Result<Dtab, Fail> {
+    let prefix = any_web(alloc)?;
+    let tree = read_tree(alloc, b"/s")?;
+    let entries = vec![in alloc; Entry { prefix, tree }]?;
+    Ok(Dtab::of(alloc, EntryList::of(entries))?)
+}
+
+/// The text of a table.
+fn dtab_text(alloc: Global, dtab: &Dtab) -> Result<Vec<u8>, Fail> {
+    Ok(write_dtab(alloc, dtab)?)
+}
+
+#[test]
+fn makes_a_table_of_an_entry(rt: HostRuntime) -> Result<(), Fail> {
+    let dtab = table_of_entry(rt.alloc())?;
+    let text = dtab_text(rt.alloc(), &dtab);
+    drop(dtab);
+    assert_told(&rt, text, b"/*/web=>/s")
 }
 
 const OF_ENTRY: [Rewritten; 3] = [
@@ -342,46 +346,49 @@ const OF_ENTRY: [Rewritten; 3] = [
 ];
 
 #[test]
-fn makes_a_table_of_an_entry(rt: HostRuntime) -> Result<(), Fail> {
-    let dtab = table_of_entry(rt.alloc(), any_web(rt.alloc())?)?;
-    let text = write_dtab(rt.alloc(), &dtab)?;
-    assert!(rt; text.as_slice() == b"/*/web=>/s".as_slice());
-    assert_eq!(rt; first_wrong(rt.alloc(), &dtab, &OF_ENTRY)?, None);
+fn looks_up_in_a_table_of_an_entry(rt: HostRuntime) -> Result<(), Fail> {
+    let dtab = table_of_entry(rt.alloc())?;
+    let wrong = first_wrong(rt.alloc(), &dtab, &OF_ENTRY);
+    drop(dtab);
+    assert_eq!(rt; wrong?, None);
     Ok(())
 }
 
-/// The labels of the prefix of a text, `any` for `*`, each with a space.
-fn labels_of(alloc: Global, text: &[u8]) -> Result<Vec<u8>, Fail> {
-    let prefix = prefix_of(alloc, text)?;
-    let mut labels = Vec::new(alloc);
-    for label in prefix.labels() {
-        match label {
-            PrefixLabel::Star => labels.extend_from_slice(b"any ")?,
-            PrefixLabel::Label(label) => {
-                labels.extend_from_slice(label.as_slice())?;
-                labels.push(b' ')?;
-            }
-        }
+/// Puts a label of a prefix behind a text, `any` for `*`, and a space.
+fn put_label(label: &PrefixLabel, text: &mut Vec<u8>) -> Mem<()> {
+    match label {
+        PrefixLabel::Star => text.extend_from_slice(b"any")?,
+        PrefixLabel::Label(label) => text.extend_from_slice(label.as_slice())?,
     }
-    Ok(labels)
+    Ok(text.push(b' ')?)
+}
+
+/// The labels of a prefix so.
+fn labels_text(alloc: Global, prefix: &Prefix) -> Result<Vec<u8>, Fail> {
+    let mut text = Vec::new(alloc);
+    for label in prefix.labels() {
+        put_label(label, &mut text)?;
+    }
+    Ok(text)
 }
 
 #[test]
 fn tells_the_labels_of_a_prefix(rt: HostRuntime) -> Result<(), Fail> {
-    let labels = labels_of(rt.alloc(), b" /svc/* ")?;
-    assert!(rt; labels.as_slice() == b"svc any ".as_slice());
-    Ok(())
+    let prefix = read_prefix(rt.alloc(), b" /svc/* ")?;
+    let labels = labels_text(rt.alloc(), &prefix);
+    drop(prefix);
+    assert_told(&rt, labels, b"svc any ")
 }
 
-/// A copy of the tables of two texts, joined.
-fn joined_copy(alloc: Global, first: &[u8], second: &[u8]) -> Result<Dtab, Fail> {
-    let first = table_of(alloc, first)?;
-    let second = table_of(alloc, second)?;
+/// A copy of two tables, joined.
+fn joined_copy(alloc: Global, first: &Dtab, second: &Dtab) -> Result<Dtab, Fail> {
     if first.len() > 1_024 || second.len() > 1_024 {
         return Err("too many entries".into());
     }
-    let both = joined(alloc, &first, &second)?;
-    Ok(both.copied(alloc)?)
+    let both = joined(alloc, first, second)?;
+    let copy = both.copied(alloc);
+    drop(both);
+    Ok(copy?)
 }
 
 /// Whether an entry from one place to before another matches the path of a text.
@@ -392,7 +399,7 @@ fn is_matched(
     to: usize,
     text: &[u8],
 ) -> Result<bool, Fail> {
-    let path = path_of(alloc, text)?;
+    let path = read_path(alloc, text)?;
     let to = to.min(dtab.len());
     Ok(dtab.matches_any(from.min(to), to, &path))
 }
@@ -415,18 +422,42 @@ const SAME: [(usize, usize, Option<bool>); 5] = [
     (3, 0, None),
 ];
 
-#[test]
-fn joins_copies_and_compares(rt: HostRuntime) -> Result<(), Fail> {
-    let both = joined_copy(rt.alloc(), b"/a => /b; /c/* => /d", b"/a => /e | ~")?;
-    let text = write_dtab(rt.alloc(), &both)?;
-    assert!(rt; text.as_slice() == b"/a=>/b;/c/*=>/d;/a=>/e | ~".as_slice());
-    let other = table_of(rt.alloc(), b"/a => /e | ~; /a => /b")?;
-    for (at, place, want) in &SAME {
-        assert!(rt;
-            are_same(&both, *at, &other, *place) == *want,
-            "{at} {place}"
-        );
+/// The first of these places whose entries compare otherwise.
+fn first_unlike(one: &Dtab, other: &Dtab) -> Option<usize> {
+    for (row, (at, place, want)) in SAME.iter().enumerate() {
+        if are_same(one, *at, other, *place) != *want {
+            return Some(row);
+        }
     }
+    None
+}
+
+/// The table `/a=>/b;/c/*=>/d;/a=>/e | ~`, as a copy of two that are joined.
+fn joined_of_two(alloc: Global) -> Result<Dtab, Fail> {
+    let first = read_dtab(alloc, b"/a => /b; /c/* => /d")?;
+    let second = read_dtab(alloc, b"/a => /e | ~")?;
+    let both = joined_copy(alloc, &first, &second);
+    drop(first);
+    drop(second);
+    both
+}
+
+#[test]
+fn joins_and_copies(rt: HostRuntime) -> Result<(), Fail> {
+    let both = joined_of_two(rt.alloc())?;
+    let text = dtab_text(rt.alloc(), &both);
+    drop(both);
+    assert_told(&rt, text, b"/a=>/b;/c/*=>/d;/a=>/e | ~")
+}
+
+#[test]
+fn compares_entries(rt: HostRuntime) -> Result<(), Fail> {
+    let both = joined_of_two(rt.alloc())?;
+    let other = read_dtab(rt.alloc(), b"/a => /e | ~; /a => /b")?;
+    let unlike = first_unlike(&both, &other);
+    drop(both);
+    drop(other);
+    assert_eq!(rt; unlike, None);
     Ok(())
 }
 
@@ -446,13 +477,22 @@ const MATCHED: [(usize, usize, &[u8], bool); 12] = [
     (0, 6, b"/", false),
 ];
 
+/// The first of these rows of which a table tells otherwise.
+fn first_mismatched(alloc: Global, dtab: &Dtab) -> Result<Option<usize>, Fail> {
+    for (row, (from, to, text, want)) in MATCHED.iter().enumerate() {
+        if is_matched(alloc, dtab, *from, *to, text)? != *want {
+            return Ok(Some(row));
+        }
+    }
+    Ok(None)
+}
+
 #[test]
 fn matches_between_two_places(rt: HostRuntime) -> Result<(), Fail> {
     let text = b"/a => /1; /b/* => /2; /a/x => /3; /c => /4; /d => /5; /e/f => /6";
-    let dtab = table_of(rt.alloc(), text)?;
-    for (from, to, text, want) in &MATCHED {
-        let is_matched = is_matched(rt.alloc(), &dtab, *from, *to, text)?;
-        assert!(rt; is_matched == *want, "{from} {to} {text:?}");
-    }
+    let dtab = read_dtab(rt.alloc(), text)?;
+    let wrong = first_mismatched(rt.alloc(), &dtab);
+    drop(dtab);
+    assert_eq!(rt; wrong?, None);
     Ok(())
 }

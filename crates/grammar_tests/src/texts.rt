@@ -1,7 +1,8 @@
 //! Hashes, and the texts that are written behind others.
+use crate::told::assert_told;
 use std::alloc::Global;
 use std::test::Fail;
-use text_parts::{Bytes, Mem, append_json_string, append_number, append_spaced, fnv_hash};
+use text_parts::{Bytes, append_json_string, append_number, append_spaced, fnv_hash};
 
 /// Texts and their hashes, of the list that comes with the reference code of FNV.
 const HASHES: [(&str, u64); 3] = [
@@ -29,7 +30,7 @@ const WRITTEN: [(u64, &str, &str); 3] = [
 ];
 
 /// The number, the text behind a space, and the text as a JSON string.
-fn written(alloc: Global, number: u64, text: &str) -> Mem<Bytes> {
+fn written(alloc: Global, number: u64, text: &str) -> Result<Bytes, Fail> {
     let mut out = Vec::new(alloc);
     append_number(number, &mut out)?;
     append_spaced(text.as_bytes(), &mut out)?;
@@ -40,8 +41,7 @@ fn written(alloc: Global, number: u64, text: &str) -> Mem<Bytes> {
 #[test]
 fn writes_numbers_and_texts(rt: HostRuntime) -> Result<(), Fail> {
     for (number, text, want) in &WRITTEN {
-        let out = written(rt.alloc(), *number, text)?;
-        assert!(rt; out.as_slice() == want.as_bytes(), "{text}");
+        assert_told(&rt, written(rt.alloc(), *number, text), want.as_bytes())?;
     }
     Ok(())
 }
