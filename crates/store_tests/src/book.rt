@@ -404,16 +404,24 @@ fn file_of(alloc: Global, ports: &[u16]) -> Mem<Vec<u8>> {
     Ok(text)
 }
 
+/// What is done with a service.
+#[derive(Clone, Copy)]
+enum Act {
+    Set,
+    Remove,
+}
+
 /// Sets a service's ports, or drops it.
 fn changed(
     alloc: Global,
     book: &mut Book,
     service: &str,
-    ports: Option<&[u16]>,
+    act: Act,
+    ports: &[u16],
 ) -> Result<Option<BookFault>, Fail> {
-    match ports {
-        Some(ports) => set(alloc, book, service, file_of(alloc, ports)?.as_slice()),
-        None => drop_service(alloc, book, service),
+    match act {
+        Act::Set => set(alloc, book, service, file_of(alloc, ports)?.as_slice()),
+        Act::Remove => drop_service(alloc, book, service),
     }
 }
 
@@ -422,33 +430,38 @@ fn slots_after(
     alloc: Global,
     book: &mut Book,
     service: &str,
-    ports: Option<&[u16]>,
+    act: Act,
+    ports: &[u16],
 ) -> Result<Vec<u8>, Fail> {
-    match changed(alloc, book, service, ports)? {
+    match changed(alloc, book, service, act, ports)? {
         None => Ok(slots(alloc, book)?),
         Some(BookFault::Missing) => Ok(b"missing".to_vec(alloc)?),
         Some(_) => Ok(b"refused".to_vec(alloc)?),
     }
 }
 
-/// Each change, and the slots behind it.
-const CHANGES: [(&str, Option<&[u16]>, &str); 7] = [
-    ("web", Some(&[30, 10, 20]), "1 2 0 - - - - "),
+/// Each change, with the ports of a service that is set, and the slots behind it.
+const CHANGES: [(&str, Act, &[u16], &str); 7] = [
+    ("web", Act::Set, &[30, 10, 20], "1 2 0 - - - - "),
     // 10 leaves, 20 and 30 stay in another order, and two come, of which the first takes the slot
     // of 10.
-    ("web", Some(&[50, 20, 40, 30]), "- 2 0 3 1 - - "),
+    ("web", Act::Set, &[50, 20, 40, 30], "- 2 0 3 1 - - "),
     // An address of two services stays until both are gone.
-    ("mail", Some(&[20, 60]), "- 2 0 3 1 4 - "),
-    ("web", None, "- 2 - - - 4 - "),
-    ("chat", Some(&[70, 30]), "- 2 1 - - 4 0 "),
-    ("mail", Some(&[]), "- - 1 - - - 0 "),
-    ("gone", None, "missing"),
+    ("mail", Act::Set, &[20, 60], "- 2 0 3 1 4 - "),
+    ("web", Act::Remove, &[], "- 2 - - - 4 - "),
+    ("chat", Act::Set, &[70, 30], "- 2 1 - - 4 0 "),
+    ("mail", Act::Set, &[], "- - 1 - - - 0 "),
+    ("gone", Act::Remove, &[], "missing"),
 ];
 
 /// Asserts that these changes of a book leave such slots.
 fn assert_slots<R: AllocGlobal + Abort>(rt: &R, book: &mut Book) -> Result<(), Fail> {
-    for (service, ports, want) in &CHANGES {
-        assert_told(rt, slots_after(rt.alloc(), book, service, *ports), want)?;
+    for (service, act, ports, want) in &CHANGES {
+        assert_told(
+            rt,
+            slots_after(rt.alloc(), book, service, *act, ports),
+            want,
+        )?;
     }
     Ok(())
 }
@@ -723,9 +736,7 @@ fn a_book_has_8192_addresses(rt: HostRuntime) -> Result<(), Fail> {
     let slot = book.slot(at_port(1));
     drop(book);
     let (count, wrong) = told?;
-    assert_eq!(rt; count, 8);
-    assert_eq!(rt; wrong, None);
-    assert_eq!(rt; slot, Some(0));
+    assert_eq!(rt; (count, wrong, slot), (8, None, Some(0)));
     Ok(())
 }
 
@@ -746,8 +757,6 @@ fn a_book_has_4096_services(rt: HostRuntime) -> Result<(), Fail> {
     let last = book.count();
     drop(book);
     let (count, wrong) = told?;
-    assert_eq!(rt; count, 4_095);
-    assert_eq!(rt; wrong, None);
-    assert_eq!(rt; last, 4_096);
+    assert_eq!(rt; (count, wrong, last), (4_095, None, 4_096));
     Ok(())
 }
