@@ -211,9 +211,7 @@ fn serve_all<J: Naming, R: Wait>(
 
 /// A clock whose moments are 5,999, and then 6,000.
 fn clock(alloc: Global) -> Mem<MemClock> {
-    let mut moments = Vec::new(alloc);
-    moments.push(5_999)?;
-    moments.push(6_000)?;
+    let moments = Vec::from_slice(alloc, &[5_999, 6_000])?;
     MemClock::of(alloc, moments)
 }
 

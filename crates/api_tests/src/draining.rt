@@ -1,7 +1,7 @@
 //! Connections whose listeners are closing.
 use crate::connections::{Connection, Mem};
-use crate::rows::ADMIN;
-use crate::wanted::{Wanted, check};
+use crate::rows::{ADMIN, Row, play};
+use crate::wanted::Wanted;
 use http_wire::Ended::{self, Drained, PeerEnded};
 use std::alloc::Global;
 use std::test::Fail;
@@ -23,33 +23,31 @@ const READY_TWICE: &str = "\
     200 OK\r\nContent-Type: text/plain\r\nContent-Length: 6\r\n\r\nready\n\
     HTTP/1.1 200 OK\r\nContent-Type: text/plain\r\nContent-Length: 6\r\n\r\nready\n";
 
-/// From which question on the connection says that its listeners are closing, the replies, and the
-/// end. The questions are: a wait for the first request, whether it is the last, whether the second
-/// is, and a wait for a third.
-const ROWS: [(u64, &str, Ended); 5] = [
-    (0, "no reply", Drained),
-    (1, LAST, Drained),
-    (2, READY_AND_LAST, Drained),
-    (3, READY_TWICE, Drained),
-    (4, READY_TWICE, PeerEnded),
-];
+/// From which question on a connection on which both come says that its listeners are closing, the
+/// replies, and the end. The questions are: a wait for the first request, whether it is the last,
+/// whether the second is, and a wait for a third.
+struct Drain(u64, &'static str, Ended);
 
-/// A connection for each row.
-fn connections(alloc: Global) -> Mem<Vec<Connection>> {
-    let mut all = Vec::new(alloc);
-    for (question, replies, ended) in &ROWS {
+impl Row for Drain {
+    fn connection(&self, alloc: Global) -> Mem<Connection> {
+        let Drain(question, replies, ended) = self;
         let bytes = Vec::from_slice(alloc, TWO.as_bytes())?;
         let wanted = Wanted::reply(*replies).and_left(Some(*ended), 0);
-        all.push(Connection {
-            closing: Some(*question),
-            ..Connection::of(ADMIN, bytes, wanted)
-        })?;
+        let mut connection = Connection::of(ADMIN, bytes, wanted);
+        connection.closing = Some(*question);
+        Ok(connection)
     }
-    Ok(all)
 }
+
+const ROWS: [Drain; 5] = [
+    Drain(0, "no reply", Drained),
+    Drain(1, LAST, Drained),
+    Drain(2, READY_AND_LAST, Drained),
+    Drain(3, READY_TWICE, Drained),
+    Drain(4, READY_TWICE, PeerEnded),
+];
 
 #[test]
 fn a_connection_is_drained(rt: HostRuntime) -> Result<(), Fail> {
-    check(&rt, rt.alloc(), connections(rt.alloc())?.as_slice())?;
-    Ok(())
+    play(&rt, rt.alloc(), &ROWS)
 }

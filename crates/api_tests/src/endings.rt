@@ -1,7 +1,7 @@
 //! Connections with several requests: each has its reply, in order, and how the connection ends.
 use crate::connections::{Connection, Mem};
-use crate::rows::ADMIN;
-use crate::wanted::{Wanted, check};
+use crate::rows::{ADMIN, Row, play};
+use crate::wanted::Wanted;
 use api_sessions::Which::{self, Namerd};
 use http_wire::Ended;
 use std::alloc::Global;
@@ -9,7 +9,7 @@ use std::test::Fail;
 
 /// What comes on a connection, which of its reads and its writes fails, what is given behind
 /// `HTTP/1.1 `, how it ends, and how often the program is stopped.
-type Row = (
+struct Ending(
     Which,
     &'static str,
     Option<u64>,
@@ -19,10 +19,30 @@ type Row = (
     u64,
 );
 
+impl Row for Ending {
+    fn connection(&self, alloc: Global) -> Mem<Connection> {
+        let Ending(to, comes, read_fails, write_fails, gives, ended, stops) = self;
+        let bytes = Vec::from_slice(alloc, comes.as_bytes())?;
+        let wanted = Wanted::reply(*gives).and_left(Some(*ended), *stops);
+        let mut connection = Connection::of(*to, bytes, wanted);
+        connection.read_fails = *read_fails;
+        connection.write_fails = *write_fails;
+        Ok(connection)
+    }
+}
+
 const PONG: &str = "200 OK\r\nContent-Type: text/plain\r\nContent-Length: 5\r\n\r\npong\n";
 
-const ROWS: [Row; 23] = [
-    (
+/// The same where the connection closes behind it.
+const LAST_PONG: &str =
+    "200 OK\r\nContent-Type: text/plain\r\nContent-Length: 5\r\nConnection: close\r\n\r\npong\n";
+
+/// The refusal of a body that is too long.
+const TOO_LONG: &str =
+    "413 Content Too Large\r\nContent-Type: text/plain\r\nl5d-err: too-long\r\nContent-Length: 9\r\nConnection: close\r\n\r\ntoo-long\n";
+
+const ROWS: [Ending; 23] = [
+    Ending(
         ADMIN,
         "\r\nGET /admin/ping HTTP/1.1\r\nHost: n\r\n\r\n\r\n",
         None,
@@ -31,9 +51,9 @@ const ROWS: [Row; 23] = [
         Ended::PeerEnded,
         0,
     ),
-    (ADMIN, "", None, None, "no reply", Ended::PeerEnded, 0),
+    Ending(ADMIN, "", None, None, "no reply", Ended::PeerEnded, 0),
     // One behind the other, each with its body, and a last one that is cut.
-    (
+    Ending(
         Namerd,
         "POST /api/1/dtabs/a HTTP/1.1\r\nHost: n\r\nTransfer-Encoding: chunked\r\n\r\n2\r\n/a\r\n4\r\n=>/b\r\n0\r\n\r\nGET /api/1/dtabs HTTP/1.1\r\nHost: n\r\nContent-Length: 3\r\n\r\nxyzPUT /api/1/dtabs/a HTTP/1.1\r\nHost: n\r\nContent-Length: 4\r\n\r\n/a=",
         None,
@@ -42,7 +62,7 @@ const ROWS: [Row; 23] = [
         Ended::Cut,
         0,
     ),
-    (
+    Ending(
         ADMIN,
         "GET /admin/ping HTTP/1.1\r\nHo",
         None,
@@ -52,26 +72,26 @@ const ROWS: [Row; 23] = [
         0,
     ),
     // Nothing is answered behind a reply that closes.
-    (
+    Ending(
         ADMIN,
         "GET /admin/ping HTTP/1.1\r\nHost: n\r\nConnection: close\r\n\r\nGET /admin/ping HTTP/1.1\r\nHost: n\r\n\r\n",
         None,
         None,
-        "200 OK\r\nContent-Type: text/plain\r\nContent-Length: 5\r\nConnection: close\r\n\r\npong\n",
+        LAST_PONG,
         Ended::Closed,
         0,
     ),
-    (
+    Ending(
         ADMIN,
         "GET /admin/ping HTTP/1.0\r\n\r\n",
         None,
         None,
-        "200 OK\r\nContent-Type: text/plain\r\nContent-Length: 5\r\nConnection: close\r\n\r\npong\n",
+        LAST_PONG,
         Ended::Closed,
         0,
     ),
     // A shutdown is answered, and then done; on the other port it is no path.
-    (
+    Ending(
         ADMIN,
         "POST /admin/shutdown HTTP/1.1\r\nHost: n\r\n\r\nGET /admin/ping HTTP/1.1\r\nHost: n\r\n\r\n",
         None,
@@ -80,7 +100,7 @@ const ROWS: [Row; 23] = [
         Ended::Closed,
         1,
     ),
-    (
+    Ending(
         Namerd,
         "POST /admin/shutdown HTTP/1.1\r\nHost: n\r\n\r\n",
         None,
@@ -89,7 +109,7 @@ const ROWS: [Row; 23] = [
         Ended::PeerEnded,
         0,
     ),
-    (
+    Ending(
         ADMIN,
         "POST /admin/shutdown HTTP/1.1\r\nHost: n\r\n\r\n",
         None,
@@ -99,7 +119,7 @@ const ROWS: [Row; 23] = [
         0,
     ),
     // Heads and bodies that are refused.
-    (
+    Ending(
         ADMIN,
         "GET /admin/ping HTTP/2.0\r\n\r\n",
         None,
@@ -108,7 +128,7 @@ const ROWS: [Row; 23] = [
         Ended::Closed,
         0,
     ),
-    (
+    Ending(
         ADMIN,
         "HEAD /admin/ping HTTP/1.1\r\n\r\n",
         None,
@@ -117,7 +137,7 @@ const ROWS: [Row; 23] = [
         Ended::Closed,
         0,
     ),
-    (
+    Ending(
         ADMIN,
         "CONNECT n:1 HTTP/1.1\r\nHost: n\r\n\r\n",
         None,
@@ -126,16 +146,16 @@ const ROWS: [Row; 23] = [
         Ended::Closed,
         0,
     ),
-    (
+    Ending(
         Namerd,
         "PUT /api/1/dtabs/a HTTP/1.1\r\nHost: n\r\nContent-Length: 1048577\r\n\r\n/a=>/c",
         None,
         None,
-        "413 Content Too Large\r\nContent-Type: text/plain\r\nl5d-err: too-long\r\nContent-Length: 9\r\nConnection: close\r\n\r\ntoo-long\n",
+        TOO_LONG,
         Ended::Closed,
         0,
     ),
-    (
+    Ending(
         Namerd,
         "PUT /api/1/dtabs/a HTTP/1.1\r\nHost: n\r\nTransfer-Encoding: chunked\r\n\r\n6\r\n/a=>/c 0\r\n\r\n",
         None,
@@ -145,53 +165,53 @@ const ROWS: [Row; 23] = [
         0,
     ),
     // A body that says that it is too long is refused before the next read.
-    (
+    Ending(
         Namerd,
         "POST /api/1/dtabs/a HTTP/1.1\r\nHost: n\r\nContent-Length: 1048577\r\n\r\n",
         Some(1),
         None,
-        "413 Content Too Large\r\nContent-Type: text/plain\r\nl5d-err: too-long\r\nContent-Length: 9\r\nConnection: close\r\n\r\ntoo-long\n",
+        TOO_LONG,
         Ended::Closed,
         0,
     ),
-    (
+    Ending(
         ADMIN,
         "PUT /api/1/addrs/web HTTP/1.1\r\nHost: n\r\nContent-Length: 1048577\r\n\r\n",
         Some(1),
         None,
-        "413 Content Too Large\r\nContent-Type: text/plain\r\nl5d-err: too-long\r\nContent-Length: 9\r\nConnection: close\r\n\r\ntoo-long\n",
+        TOO_LONG,
         Ended::Closed,
         0,
     ),
-    (
+    Ending(
         Namerd,
         "POST /api/1/dtabs/a HTTP/1.1\r\nHost: n\r\nTransfer-Encoding: chunked\r\n\r\n100001\r\n",
         Some(1),
         None,
-        "413 Content Too Large\r\nContent-Type: text/plain\r\nl5d-err: too-long\r\nContent-Length: 9\r\nConnection: close\r\n\r\ntoo-long\n",
+        TOO_LONG,
         Ended::Closed,
         0,
     ),
     // Its length is tested before the host.
-    (
+    Ending(
         Namerd,
         "PUT /api/1/dtabs/a HTTP/1.1\r\nContent-Length: 1048577\r\n\r\n",
         Some(1),
         None,
-        "413 Content Too Large\r\nContent-Type: text/plain\r\nl5d-err: too-long\r\nContent-Length: 9\r\nConnection: close\r\n\r\ntoo-long\n",
+        TOO_LONG,
         Ended::Closed,
         0,
     ),
-    (
+    Ending(
         ADMIN,
         "PUT /api/1/addrs/web HTTP/1.1\r\nContent-Length: 1048577\r\n\r\n",
         Some(1),
         None,
-        "413 Content Too Large\r\nContent-Type: text/plain\r\nl5d-err: too-long\r\nContent-Length: 9\r\nConnection: close\r\n\r\ntoo-long\n",
+        TOO_LONG,
         Ended::Closed,
         0,
     ),
-    (
+    Ending(
         Namerd,
         "PUT /api/1/dtabs/a HTTP/1.1\r\nContent-Length: 1048576\r\n\r\n",
         Some(1),
@@ -201,7 +221,7 @@ const ROWS: [Row; 23] = [
         0,
     ),
     // None of them altered anything.
-    (
+    Ending(
         Namerd,
         "GET /api/1/dtabs/a HTTP/1.1\r\nHost: n\r\nAccept: application/dtab\r\n\r\n",
         None,
@@ -211,7 +231,7 @@ const ROWS: [Row; 23] = [
         0,
     ),
     // A call that fails ends the connection.
-    (
+    Ending(
         ADMIN,
         "GET /admin/ping HTTP/1.1\r\nHost: n\r\n\r\n",
         Some(0),
@@ -220,7 +240,7 @@ const ROWS: [Row; 23] = [
         Ended::ReadFault,
         0,
     ),
-    (
+    Ending(
         ADMIN,
         "GET /admin/ping HTTP/1.1\r\nHost: n\r\n\r\nGET /admin/ping HTTP/1.1\r\nHost: n\r\n\r\n",
         None,
@@ -231,23 +251,7 @@ const ROWS: [Row; 23] = [
     ),
 ];
 
-/// The connections of the rows.
-fn connections(alloc: Global) -> Mem<Vec<Connection>> {
-    let mut all = Vec::new(alloc);
-    for (to, comes, read_fails, write_fails, gives, ended, stops) in &ROWS {
-        let bytes = Vec::from_slice(alloc, comes.as_bytes())?;
-        let wanted = Wanted::reply(*gives).and_left(Some(*ended), *stops);
-        all.push(Connection {
-            read_fails: *read_fails,
-            write_fails: *write_fails,
-            ..Connection::of(*to, bytes, wanted)
-        })?;
-    }
-    Ok(all)
-}
-
 #[test]
 fn each_request_has_its_reply_and_each_connection_its_end(rt: HostRuntime) -> Result<(), Fail> {
-    check(&rt, rt.alloc(), connections(rt.alloc())?.as_slice())?;
-    Ok(())
+    play(&rt, rt.alloc(), &ROWS)
 }

@@ -1,18 +1,16 @@
 //! Bodies at their limits, and the last request of a connection.
 use crate::connections::{Bytes, Connection, Mem};
-use crate::rows::{ADMIN, request};
-use crate::wanted::{Wanted, check_alone};
+use crate::rows::{ADMIN, BAD_DTAB, DONE, Row, play, put, request};
+use crate::wanted::{Wanted, given_alone};
 use api_sessions::Which::{self, Namerd};
 use http_wire::Ended;
 use std::alloc::Global;
 use std::process::Abort;
+use std::slice;
 use std::sync::Wait;
 use std::test::Fail;
 
 const MADE: &str = "204 No Content\r\nETag: \"1\"\r\n\r\n";
-
-const NO_TABLE: &str =
-    "400 Bad Request\r\nContent-Type: text/plain\r\nContent-Length: 5\r\n\r\ndtab\n";
 
 const TOO_LONG: &str =
     "413 Content Too Large\r\nContent-Type: text/plain\r\nl5d-err: too-long\r\nContent-Length: 9\r\nConnection: close\r\n\r\ntoo-long\n";
@@ -22,7 +20,7 @@ const NO_ADDRS: &str =
 
 /// A body: a front, one part so many times, and an end. The reply to a POST of it as a new table,
 /// in JSON or not; or to a PUT of it as addresses.
-type Row = (
+struct Body(
     Which,
     &'static str,
     &'static str,
@@ -31,13 +29,41 @@ type Row = (
     &'static str,
 );
 
-const ROWS: [Row; 12] = [
-    (Namerd, "", "(", 1_048_576, "", NO_TABLE),
-    (Namerd, "", "(", 1_048_577, "", TOO_LONG),
-    (ADMIN, "", "10.0.0.1 1\n", 95_326, "", TOO_LONG),
-    (Namerd, "/a=>/b", " ", 65_530, "", MADE),
-    (Namerd, "/a=>/b", " ", 65_531, "", NO_TABLE),
-    (
+impl Row for Body {
+    fn connection(&self, alloc: Global) -> Mem<Connection> {
+        let Body(to, front, part, times, end, reply) = self;
+        let body = repeated(alloc, front, part, *times, end)?;
+        let bytes = request(alloc, asks_of(*to), fields_of(front), body.as_slice());
+        drop(body);
+        Ok(Connection::of(*to, bytes?, Wanted::reply(*reply)))
+    }
+}
+
+/// The method and target of a body's request.
+fn asks_of(to: Which) -> &'static str {
+    match to {
+        Namerd => "POST /api/1/dtabs/web",
+        Which::Admin { .. } => "PUT /api/1/addrs/web",
+        Which::Feed { .. } => "GET /feed/web",
+    }
+}
+
+/// The further fields of the request of a body that begins so.
+fn fields_of(front: &str) -> &'static str {
+    if front.starts_with("[") {
+        "Content-Type: application/json\r\n"
+    } else {
+        ""
+    }
+}
+
+const ROWS: [Body; 12] = [
+    Body(Namerd, "", "(", 1_048_576, "", BAD_DTAB),
+    Body(Namerd, "", "(", 1_048_577, "", TOO_LONG),
+    Body(ADMIN, "", "10.0.0.1 1\n", 95_326, "", TOO_LONG),
+    Body(Namerd, "/a=>/b", " ", 65_530, "", MADE),
+    Body(Namerd, "/a=>/b", " ", 65_531, "", BAD_DTAB),
+    Body(
         Namerd,
         "[{\"dst\":\"~\",\"prefix\":\"/\"}",
         ",{\"dst\":\"~\",\"prefix\":\"/\"}",
@@ -45,15 +71,15 @@ const ROWS: [Row; 12] = [
         "]",
         MADE,
     ),
-    (
+    Body(
         Namerd,
         "[{\"dst\":\"~\",\"prefix\":\"/\"}",
         ",{\"dst\":\"~\",\"prefix\":\"/\"}",
         1024,
         "]",
-        NO_TABLE,
+        BAD_DTAB,
     ),
-    (
+    Body(
         Namerd,
         "[{\"prefix\":\"/\",\"dst\":\"~",
         "\\u0020",
@@ -61,31 +87,24 @@ const ROWS: [Row; 12] = [
         "\"}]",
         MADE,
     ),
-    (
+    Body(
         Namerd,
         "[{\"prefix\":\"/\",\"dst\":\"~",
         "\\u0020",
         65_535,
         "\"}]",
-        NO_TABLE,
+        BAD_DTAB,
     ),
-    (
+    Body(
         Namerd,
         "[{\"prefix\":\"/\",\"dst\":\"",
         "(",
         65_535,
         "\"}]",
-        NO_TABLE,
+        BAD_DTAB,
     ),
-    (
-        ADMIN,
-        "",
-        "10.0.0.1 1\n",
-        1024,
-        "",
-        "204 No Content\r\n\r\n",
-    ),
-    (ADMIN, "", "10.0.0.1 1\n", 1025, "", NO_ADDRS),
+    Body(ADMIN, "", "10.0.0.1 1\n", 1024, "", DONE),
+    Body(ADMIN, "", "10.0.0.1 1\n", 1025, "", NO_ADDRS),
 ];
 
 /// So many parts between two texts.
@@ -96,23 +115,6 @@ fn repeated(alloc: Global, front: &str, part: &str, times: usize, end: &str) -> 
     }
     bytes.extend_from_slice(end.as_bytes())?;
     Ok(bytes)
-}
-
-/// The bytes of a row's request.
-fn request_of(alloc: Global, row: &Row) -> Mem<Bytes> {
-    let (to, front, part, times, end, _reply) = row;
-    let body = repeated(alloc, front, part, *times, end)?;
-    let json = if front.starts_with("[") {
-        "Content-Type: application/json\r\n"
-    } else {
-        ""
-    };
-    let asks = match to {
-        Namerd => "POST /api/1/dtabs/web",
-        Which::Admin { .. } => "PUT /api/1/addrs/web",
-        Which::Feed { .. } => "GET /feed/web",
-    };
-    request(alloc, asks, json, body.as_slice())
 }
 
 /// How many requests of a kind a new router takes, how many addresses each has, and the reply to
@@ -144,22 +146,46 @@ const FULL: [Most; 3] = [
 fn addresses(alloc: Global, number: usize, count: usize) -> Mem<Bytes> {
     let mut lines = Vec::new(alloc);
     for at in 0..count {
-        let line = format!(in alloc; "10.{}.{}.{} 1\n", number, at / 256, at % 256)?;
-        lines.extend_from_slice(line.as_bytes())?;
+        let (high, low) = (at / 256, at % 256);
+        put(
+            &mut lines,
+            format!(in alloc; "10.{number}.{high}.{low} 1\n"),
+        )?;
     }
     Ok(lines)
 }
 
-/// The request of this number: a new namespace, or a new service with so many addresses.
-fn numbered(alloc: Global, to: Which, number: usize, count: usize) -> Mem<Bytes> {
-    let target = match to {
+/// The method and target, without a number, of a request that is numbered.
+fn target_of(to: Which) -> &'static str {
+    match to {
         Namerd => "POST /api/1/dtabs/n",
         Which::Admin { .. } => "PUT /api/1/addrs/s",
         Which::Feed { .. } => "GET /feed/n",
-    };
-    let asks = format!(in alloc; "{}{}", target, number)?;
+    }
+}
+
+/// The request of this number: a new namespace, or a new service with so many addresses.
+fn numbered(alloc: Global, to: Which, number: usize, count: usize) -> Mem<Bytes> {
+    let asks = format!(in alloc; "{}{}", target_of(to), number)?;
     let body = addresses(alloc, number, count)?;
-    request(alloc, asks.as_str(), "", body.as_slice())
+    let bytes = request(alloc, asks.as_str(), "", body.as_slice());
+    drop(asks);
+    drop(body);
+    bytes
+}
+
+/// Puts the request of this number behind some bytes.
+fn put_numbered(
+    alloc: Global,
+    to: Which,
+    number: usize,
+    count: usize,
+    bytes: &mut Bytes,
+) -> Mem<()> {
+    let mut request = numbered(alloc, to, number, count)?;
+    let put = bytes.append(&mut request);
+    drop(request);
+    put
 }
 
 /// The requests that are taken, and one more, which has one address where each of them has many.
@@ -167,42 +193,55 @@ fn one_too_many(alloc: Global, most: &Most) -> Mem<Bytes> {
     let (to, taken, count, _refusal) = most;
     let mut bytes = Vec::new(alloc);
     for number in 0..*taken {
-        bytes.extend_from_slice(numbered(alloc, *to, number, *count)?.as_slice())?;
+        put_numbered(alloc, *to, number, *count, &mut bytes)?;
     }
-    let one = if *count == 0 { 0 } else { 1 };
-    bytes.extend_from_slice(numbered(alloc, *to, *taken, one)?.as_slice())?;
+    put_numbered(alloc, *to, *taken, (*count).min(1), &mut bytes)?;
     Ok(bytes)
 }
 
-/// The replies to them: a new namespace has the next version.
+/// Puts the reply to the request of this number behind some bytes: a new namespace has the next
+/// version.
+fn put_reply(alloc: Global, to: Which, number: usize, bytes: &mut Bytes) -> Mem<()> {
+    match to {
+        Namerd => {
+            let version = number.saturating_add(1);
+            put(
+                bytes,
+                format!(in alloc; "HTTP/1.1 204 No Content\r\nETag: \"{version}\"\r\n\r\n"),
+            )
+        }
+        Which::Admin { .. } | Which::Feed { .. } => {
+            bytes.extend_from_slice(b"HTTP/1.1 204 No Content\r\n\r\n")
+        }
+    }
+}
+
+/// The replies to them.
 fn replies_to(alloc: Global, most: &Most) -> Mem<Bytes> {
     let (to, taken, _count, refusal) = most;
     let mut replies = Vec::new(alloc);
     for number in 0..*taken {
-        let reply = match to {
-            Namerd => {
-                format!(in alloc;
-                    "HTTP/1.1 204 No Content\r\nETag: \"{}\"\r\n\r\n",
-                    number.saturating_add(1)
-                )?
-            }
-            Which::Admin { .. } | Which::Feed { .. } => {
-                String::from_str(alloc, "HTTP/1.1 204 No Content\r\n\r\n")?
-            }
-        };
-        replies.extend_from_slice(reply.as_bytes())?;
+        put_reply(alloc, *to, number, &mut replies)?;
     }
     replies.extend_from_slice(refusal.as_bytes())?;
     Ok(replies)
 }
 
-/// Whether a new router replies to them so, and the connection ends behind them.
-fn is_full<R: Wait + Abort>(rt: &R, alloc: Global, most: &Most) -> Result<bool, Fail> {
-    let replies = replies_to(alloc, most)?;
+/// What a new router gives to a connection with them, which ends behind them.
+fn given_full<R: Wait + Abort>(rt: &R, alloc: Global, most: &Most) -> Result<Bytes, Fail> {
     let bytes = one_too_many(alloc, most)?;
     let wanted = Wanted::between("204 No Content", most.3).and_left(Some(Ended::PeerEnded), 0);
-    let served = check_alone(rt, alloc, Connection::of(most.0, bytes, wanted))?;
-    Ok(served.given.as_slice() == replies.as_slice())
+    given_alone(rt, alloc, Connection::of(most.0, bytes, wanted))
+}
+
+/// Whether that is what is to be replied to them.
+fn is_full<R: Wait + Abort>(rt: &R, alloc: Global, most: &Most) -> Result<bool, Fail> {
+    let given = given_full(rt, alloc, most)?;
+    let replies = replies_to(alloc, most)?;
+    let is_full = given.as_slice() == replies.as_slice();
+    drop(given);
+    drop(replies);
+    Ok(is_full)
 }
 
 #[test]
@@ -213,16 +252,10 @@ fn a_full_router_takes_no_more(rt: HostRuntime) -> Result<(), Fail> {
     Ok(())
 }
 
-/// The connection of a row.
-fn connection_of(alloc: Global, row: &Row) -> Mem<Connection> {
-    let bytes = request_of(alloc, row)?;
-    Ok(Connection::of(row.0, bytes, Wanted::reply(row.5)))
-}
-
 #[test]
 fn bodies_end_at_their_limits(rt: HostRuntime) -> Result<(), Fail> {
     for row in &ROWS {
-        check_alone(&rt, rt.alloc(), connection_of(rt.alloc(), row)?)?;
+        play(&rt, rt.alloc(), slice::from_ref(row))?;
     }
     Ok(())
 }
@@ -232,17 +265,18 @@ fn pings(alloc: Global, count: usize) -> Mem<Connection> {
     let ping = "GET /admin/ping HTTP/1.1\r\nHost: n\r\n\r\n";
     let bytes = repeated(alloc, "", ping, count, "")?;
     let wanted = Wanted::between("200 OK", "pong\n").and_left(Some(Ended::Spent), 0);
-    Ok(Connection {
-        sizes: &[37],
-        quiet: &[2],
-        ..Connection::of(ADMIN, bytes, wanted)
-    })
+    let mut connection = Connection::of(ADMIN, bytes, wanted);
+    connection.sizes = &[37];
+    connection.quiet = &[2];
+    Ok(connection)
 }
 
 #[test]
 fn a_connection_carries_ten_thousand_requests(rt: HostRuntime) -> Result<(), Fail> {
-    let served = check_alone(&rt, rt.alloc(), pings(rt.alloc(), 10_001)?)?;
+    let given = given_alone(&rt, rt.alloc(), pings(rt.alloc(), 10_001)?)?;
+    let length = given.len();
+    drop(given);
     // A reply has 69 bytes, and the last one says `Connection: close`, which is 19 more.
-    assert!(rt; served.given.len() == 10_000 * 69 + 19);
+    assert_eq!(rt; length, 10_000 * 69 + 19);
     Ok(())
 }

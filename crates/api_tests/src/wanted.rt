@@ -1,8 +1,9 @@
 //! What is to come of connections, and what came of them.
-use crate::connections::{Connection, Mem, Served, run};
+use crate::connections::{Bytes, Connection, Mem, Served, run};
 use http_wire::Ended;
 use std::alloc::Global;
 use std::process::Abort;
+use std::slice;
 use std::sync::Wait;
 use std::test::Fail;
 
@@ -127,16 +128,19 @@ pub(crate) fn check<R: Wait + Abort>(
     Ok(served)
 }
 
-/// Serves one connection on a new router: what is wanted has to come of it.
-pub(crate) fn check_alone<R: Wait + Abort>(
+/// Serves one connection on a new router: what is wanted has to come of it. What it was given.
+pub(crate) fn given_alone<R: Wait + Abort>(
     rt: &R,
     alloc: Global,
     connection: Connection,
-) -> Result<Served, Fail> {
-    let mut connections = Vec::new(alloc);
-    connections.push(connection)?;
-    match check(rt, alloc, connections.as_slice())?.pop() {
-        Some(served) => Ok(served),
+) -> Result<Bytes, Fail> {
+    let served = check(rt, alloc, slice::from_ref(&connection));
+    drop(connection);
+    let mut served = served?;
+    let only = served.pop();
+    drop(served);
+    match only {
+        Some(served) => Ok(served.given),
         None => Err("no connection was served".into()),
     }
 }
