@@ -58,13 +58,15 @@ fn detach_through(
     ensures none { IfNone result (Refused reader.old reader.new) }
 {
     let call = Call::Looked(Snapshot::of(look));
-    let guard = reader.enter(Some(Snapshot::of(&call)))?;
-    let current = guard.get();
+    let entered = reader.take(Some(Snapshot::of(&call)))?;
+    let current = entered.get();
     let point = Point {
         place: current.place(),
         kept: current.kept(),
     };
-    Some((point, current.detach(alloc)))
+    let detached = current.detach(alloc);
+    reader.put_back(entered);
+    Some((point, detached))
 }
 
 /// Enters, and answers a look at that point: what the point has, and the reply. `None` where the
@@ -126,9 +128,12 @@ fn find_through(
     ensures slot { slot_of seat.new ≡ slot_of seat.old }
 {
     let call = Call::Asked(Snapshot::of(ask));
-    let guard = reader.enter(Some(Snapshot::of(&call)))?;
-    let current = guard.get();
-    Some((current.place(), current.pick(alloc, ask, loads, seat)))
+    let entered = reader.take(Some(Snapshot::of(&call)))?;
+    let current = entered.get();
+    let place = current.place();
+    let found = current.pick(alloc, ask, loads, seat);
+    reader.put_back(entered);
+    Some((place, found))
 }
 
 /// Enters, and answers a pick at that point: the place there, and the answer. `None` where the
@@ -198,6 +203,8 @@ pub(crate) fn peek_through(
     ensures slot { slot_of seat.new ≡ slot_of seat.old }
 {
     let call = Call::Asked(Snapshot::of(ask));
-    let guard = reader.enter(Some(Snapshot::of(&call)))?;
-    Some(guard.get().peek(ask, loads, seat, names))
+    let entered = reader.take(Some(Snapshot::of(&call)))?;
+    let peeked = entered.get().peek(ask, loads, seat, names);
+    reader.put_back(entered);
+    Some(peeked)
 }

@@ -78,8 +78,10 @@ fn success_through(
     ensures there { IfSome result (λ r. IsThere reader.new) }
     ensures none { IfNone result (Refused reader.old reader.new) }
 {
-    let guard = reader.enter(None)?;
-    Some(guard.get().idle_reply(addr))
+    let entered = reader.take(None)?;
+    let reply = entered.get().idle_reply(addr);
+    reader.put_back(entered);
+    Some(reply)
 }
 
 impl<J: Naming> Router<J> {

@@ -22,6 +22,15 @@ abbrev pub value_in : {V O Q S H T C : Type 0} {g : Ghosts (Entered V O Q S) H T
     → Guard (Entered V O Q S) H T C g → V
 value_in x = x.stay.reading.reading.part.value.value
 
+module _ {V O Q S : Type 0} where
+  -- the value that a reader entered, in the hands of whoever puts it back
+  abbrev pub entered_value : Entered V O Q S → V
+  entered_value e = e.reading.reading.part.value.value
+
+  -- of which cell that reader is
+  abbrev pub cell_left : Entered V O Q S → Option (Origin V O)
+  cell_left e = view e.reading.reading.place
+
 module _ {V O S : Type 0} where
   -- the value that the writer's own reader entered
   abbrev pub whole_value : Whole V O S → V

@@ -39,7 +39,7 @@ module _ {V O Q S : Type 0} where
   abbrev pub readers_of : Reader V O Q S → ℕ
   readers_of r = r.origin.readers
 
-  -- the reader is at its place in the cell, from where it may enter, and not away in a guard
+  -- the reader is at its place in the cell, from where it may enter, and not away
   abbrev pub IsThere : Reader V O Q S → Type 0
   IsThere r = IsSome r.door
 

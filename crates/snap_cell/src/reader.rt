@@ -22,7 +22,7 @@ pub use enter::Entered;
 ///
 /// The lists exist in proofs alone. What runs is a place in the cell and three numbers.
 pub struct Reader<V: Published<O>, O: Operation, Q> {
-    // Away while a guard has it.
+    // Away while what was entered is out.
     pub(crate) door: Option<Door<V, O>>,
     pub(crate) origin: Origin<V, O>,
     pub(crate) known: Prefix<O>,

@@ -4,10 +4,11 @@ ghost use Rattle.left_right.specs.Sides.{view};
 ghost use mathlib.Core.List.{IsPrefix};
 ghost use Rattle.snap_cell.specs.Items.{added, InOrder};
 ghost use Rattle.snap_cell.specs.Legal.{Legal};
+ghost use Rattle.snap_cell.specs.Guards.{cell_left, entered_value};
 ghost use Rattle.snap_cell.specs.Rule.{Sound};
 ghost use Rattle.snap_cell.specs.Views.{seen_of, items_of, number_of, refusals_of, opening_of};
-ghost use Rattle.snap_cell.specs.Views.{readers_of, IsThere, SameReader, Unmoved, Returned};
-ghost use Rattle.snap_cell.specs.Views.{Refused};
+ghost use Rattle.snap_cell.specs.Views.{cell_of, readers_of, IsThere, SameReader, Unmoved};
+ghost use Rattle.snap_cell.specs.Views.{Returned, Refused};
 
 use super::Reader;
 use crate::guard::{Guard, Stay};
@@ -21,10 +22,21 @@ use std::marker::PhantomData;
 use std::mem;
 use std::snapshot::Snapshot;
 
-/// What a guard has of a reader that entered.
+/// What a reader entered: the value, in the reader's place, from which the reader is away. A
+/// [`Guard`] has it and puts it back; or its holder does ([`Reader::take`]). It is not `Drop`:
+/// [`Reader::put_back`] ends it.
 pub struct Entered<V: Published<O>, O: Operation, Q> {
     pub(crate) reading: Reading<V, O>,
     pub(crate) marker: PhantomData<Q>,
+}
+
+impl<V: Published<O>, O: Operation, Q> Entered<V, O, Q> {
+    /// The value.
+    pub fn get(&self) -> &V
+        ensures { result.now ≡ entered_value self.now }
+    {
+        &self.reading.get().value
+    }
 }
 
 impl<V: Published<O>, O: Operation, Q> Stay for Entered<V, O, Q> {
@@ -43,12 +55,11 @@ impl<V: Published<O>, O: Operation, Q> Stay for Entered<V, O, Q> {
     ghost returned = { Returned };
 
     fn value(&self) -> &V {
-        &self.reading.get().value
+        self.get()
     }
 
     fn put_back(self, home: &mut Reader<V, O, Q>) {
-        let Entered { reading, marker: _ } = self;
-        home.door = Some(reading.leave());
+        home.put_back(self);
     }
 }
 
@@ -106,15 +117,46 @@ impl<V: Published<O>, O: Operation, Q> Reader<V, O, Q> {
         ensures order { IfSome result
             (λ g. InOrder (items_of (reader_in g)) (length (seen_of (reader_in g)))) }
     {
+        let stay = self.take(item)?;
+        Some(Guard { home: self, stay })
+    }
+
+    /// Enters as [`Reader::enter`] does, and hands out what was entered, for a caller that puts it
+    /// back itself ([`Reader::put_back`]). Until then the reader is let in nowhere.
+    ///
+    /// # Errors
+    /// As [`Reader::enter`].
+    pub fn take(&mut self, item: Option<Snapshot<Q>>) -> Option<Entered<V, O, Q>>
+        ensures none { IfNone result (Refused self.old self.new) }
+        ensures same { IfSome result (λ _. SameReader self.old self.new
+            × (refusals_of self.new ≡ refusals_of self.old)) }
+        ensures cell { IfSome result (λ e. cell_left e ≡ Some (cell_of self.new)) }
+        ensures before { IfSome result (λ _. IsPrefix (seen_of self.old) (seen_of self.new)) }
+        ensures value { IfSome result (λ e. V.state (entered_value e)
+            ≡ fold V.applied (V.state (opening_of self.old)) (seen_of self.new)) }
+        ensures legal { IfSome result
+            (λ _. Legal V.applied V.fits O.caller (V.state (opening_of self.old))
+            (readers_of self.old) (seen_of self.new)) }
+        ensures item { IfSome result (λ _. items_of self.new
+            ≡ added (items_of self.old) item (length (seen_of self.new))) }
+        ensures order { IfSome result
+            (λ _. InOrder (items_of self.new) (length (seen_of self.new))) }
+    {
         let reading = self.take_reading()?;
         self.see(&reading.get().known, item);
-        Some(Guard {
-            home: self,
-            stay: Entered {
-                reading,
-                marker: PhantomData,
-            },
+        Some(Entered {
+            reading,
+            marker: PhantomData,
         })
+    }
+
+    /// Puts back what it entered: the reader is at its place again, and nothing else moves.
+    pub fn put_back(&mut self, entered: Entered<V, O, Q>)
+        requires { cell_left entered ≡ Some (cell_of self.old) }
+        ensures { Returned self.old self.new }
+    {
+        let Entered { reading, marker: _ } = entered;
+        self.door = Some(reading.leave());
     }
 
     // Takes the copy that was published last, if it has all that this reader knows of.
