@@ -11,6 +11,7 @@ pub mod Depth
 pub mod FlatPaths
 pub mod Frames
 pub mod Fronts
+pub mod Growing
 pub mod LabelLists
 pub mod LongestTexts
 pub mod Leaning

@@ -4,12 +4,12 @@ use Rattle.std.specs.Prelude.{◌↔◌, IsTrue, slice_get, Some}
 use Rattle.std.proofs.lemmas.List.{take_all, take_more, map-append, length-map, get_or-map}
 use Rattle.std.proofs.lemmas.Option.{get_or_from_slice_get}
 use mathlib.Core.Bool.{not}
-use Rattle.name_tree.specs.declared.tree.Tree.{Tree, Alt}
+use Rattle.name_tree.specs.declared.tree.Tree.{Tree, Alt, Union}
 use Rattle.name_tree.specs.declared.tree.Trees.{Trees}
 use Rattle.name_tree.specs.declared.tree.Branch.{Branch}
 use Rattle.name_tree.specs.declared.tree.Branches.{Branches as BranchList, out-Branches}
 use Rattle.name_tree.specs.Path.{Label, Labels}
-use Rattle.name_tree.specs.Value.{TreeValue, TreeValues, none, more, tree_values, alt, Branches, no_branch, branch}
+use Rattle.name_tree.specs.Value.{TreeValue, TreeValues, none, more, tree_values, alt, union, Branches, no_branch, branch}
 use Rattle.name_tree.specs.Tree.{value_of, trees_in, branches_of, branch_value, listed}
 use Rattle.name_tree.proofs.Bridge.{value_of-Alt, branches_of-out}
 
@@ -84,6 +84,15 @@ same_choices b t u ts us is are tells =
       λ yes. left ∙ (ap (λ (vs : List TreeValue). alt (tree_values vs)) (tells.0 yes) ∙ sym right),
       λ same. tells.1 (same_values _ _ (same_alternatives _ _ (sym left ∙ (same ∙ right)))),
     )
+
+same_parts : (bs cs : Branches) → union bs ≡ union cs → bs ≡ cs
+same_parts bs cs same = cc
+
+pub same_joined : (b : Bool) (t u : Tree) (bs cs : BranchList) → t ≡ Union bs → u ≡ Union cs → IsTrue b ↔ (branches_of bs ≡ branches_of cs) → IsTrue b ↔ (value_of t ≡ value_of u)
+same_joined b t u bs cs is are tells =
+    let left : value_of t ≡ union (branches_of bs) = ap value_of is in
+    let right : value_of u ≡ union (branches_of cs) = ap value_of are in
+    (λ yes. left ∙ (ap union (tells.0 yes) ∙ sym right), λ same. tells.1 (same_parts _ _ (sym left ∙ (same ∙ right))))
 
 pub same_unions : (b : Bool) (bs cs : BranchList) (xs ys : List Branch) → xs ≡ (out-Branches bs).items.items → ys ≡ (out-Branches cs).items.items
     → IsTrue b ↔ (map branch_value xs ≡ map branch_value ys) → IsTrue b ↔ (branches_of bs ≡ branches_of cs)

@@ -1,16 +1,16 @@
 -- One alternative or branch more is written.
-use Rattle.std.proofs.Common.{◌≡◌, ℕ, ◌+◌, ◌<◌, ◌≤◌, arith, Bool, List, [], ◌∷◌, ◌++◌, length, map, take, get_or, sym, ap, ◌∙◌, append_assoc, length-take}
+use Rattle.std.proofs.Common.{◌≡◌, ℕ, ◌+◌, ◌<◌, ◌≤◌, arith, Bool, ◌||◌, List, [], ◌∷◌, ◌++◌, length, map, take, get_or, sym, ap, ◌∙◌, append_assoc, length-take, subst, Result, OnOk}
 use Rattle.std.specs.Prelude.{codes}
+use Rattle.std.specs.declared.alloc.AllocError.{AllocError}
 use Rattle.std.proofs.lemmas.List.{take_more, take_all, map-append, length-map, append-nil}
-use Rattle.name_tree.specs.declared.tree.Tree.{Tree, Alt}
-use Rattle.name_tree.specs.declared.tree.Trees.{Trees}
+use Rattle.name_tree.specs.declared.tree.Tree.{Tree}
 use Rattle.name_tree.specs.declared.tree.Branch.{Branch}
 use Rattle.name_tree.specs.declared.tree.Branches.{Branches as BranchList, out-Branches}
 use Rattle.name_tree.specs.Value.{TreeValue, tree_values}
-use Rattle.name_tree.specs.Canon.{is_alt, grouped, canon, canon_alts, canon_more_alts, branch_text, canon_branches, canon_more_branches}
+use Rattle.name_tree.specs.Canon.{canon_weight, is_alt, is_union, grouped, canon, canon_alts, canon_more_alts, branch_text, canon_branches, canon_more_branches}
 use Rattle.name_tree.specs.Separated.{separated}
 use Rattle.name_tree.specs.Tree.{value_of, branches_of, listed}
-use Rattle.name_tree.proofs.Bridge.{value_of-Alt, branches_of-out}
+use Rattle.name_tree.proofs.Bridge.{branches_of-out}
 
 length-take-le : {A : Type 0} (k : ℕ) (xs : List A) → k < length xs → length (take k xs) ≡ k
 length-take-le k xs h = omega (arith, length-take k xs)
@@ -66,5 +66,14 @@ pub branches_written : (branches : BranchList) (items : List Branch) (k : ℕ) (
 branches_written branches items k old out all seen e =
     e ∙ ap (λ x. old ++ canon_branches x) (ap listed (take_all k items all ∙ seen) ∙ sym (branches_of-out branches))
 
-pub alts_written : (tree : Tree) (trees : Trees) (old out : List ℕ) → tree ≡ Alt trees → out ≡ old ++ canon_alts (tree_values (map value_of trees.items.items)) → out ≡ old ++ canon (value_of tree)
-alts_written tree trees old out is e = e ∙ ap (λ x. old ++ canon x) (sym (ap value_of is ∙ value_of-Alt trees))
+-- a tree's text is put
+pub tree_put : (tree : Tree) (value : TreeValue) (done : Result (Unit {0}) AllocError) (old new text : List ℕ) → value_of tree ≡ value → text ≡ canon value
+    → OnOk done (new ≡ old ++ text) → OnOk done (new ≡ old ++ canon (value_of tree))
+tree_put tree value done old new text is same put = subst (λ (bytes : List ℕ). OnOk done (new ≡ old ++ bytes)) (same ∙ ap canon (sym is)) put
+
+-- and that of a branch
+pub branch_put : (weight : ℕ) (value : TreeValue) (group : Bool) (done : Result (Unit {0}) AllocError) (old one two new : List ℕ) → one ≡ old ++ canon_weight weight → two ≡ one ++ codes " * "
+    → group ≡ (is_alt value || is_union value) → OnOk done (new ≡ two ++ grouped group (canon value)) → OnOk done (new ≡ old ++ branch_text weight value)
+branch_put weight value group done old one two new first second is put =
+    let all : two ++ grouped group (canon value) ≡ old ++ branch_text weight value = rw (second, first, is) (simp append_assoc) in
+    subst (λ (bytes : List ℕ). OnOk done (new ≡ bytes)) all put

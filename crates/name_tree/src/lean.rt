@@ -92,6 +92,7 @@ fn put_alternative(left: &mut Vec<Tree>, tree: Tree) -> Mem<bool>
         ≡ values_then (map value_of left.old.items) (tried_before (value_of tree) ts)) }
 {
     if tree.is_neg() {
+        drop(tree);
         return Ok(true);
     }
     let ends = ends_choice(&tree);
@@ -141,13 +142,16 @@ impl LeanUnion {
             ≡ joined_parts (parts_in self.old) (part_before weight (value_of tree) p)) }
     {
         if tree.is_neg() {
+            drop(tree);
             return Ok(());
         }
         if tree.is_fail() {
+            drop(tree);
             self.fails = true;
             return Ok(());
         }
         if tree.is_empty() {
+            drop(tree);
             self.lacks = true;
             return Ok(());
         }
@@ -175,6 +179,7 @@ fn put_mark_if(wanted: bool, tree: Tree, branches: &mut Vec<Branch>) -> Mem<()>
         ≡ branches_then (listed branches.old.items) (mark_if wanted (value_of tree) bs)) }
 {
     if !wanted {
+        drop(tree);
         return Ok(());
     }
     branches.push(Branch { weight: 1, tree })?;

@@ -91,7 +91,10 @@ impl PathTextReader {
         ensures { Ends (λ path. path) (end_path (path_at_of self)) result }
     {
         match self.place {
-            PathPlace::Before => Err(TakeError::Byte),
+            PathPlace::Before => {
+                drop(self);
+                Err(TakeError::Byte)
+            }
             PathPlace::Inside => self.reader.end(),
             PathPlace::Behind => Ok(self.path),
         }

@@ -70,8 +70,14 @@ fn path_in(alloc: Global, text: &[u8]) -> Result<Path, TextFault>
     for (at, byte) in text.iter().enumerate() {
         match reader.take(alloc, *byte) {
             Ok(()) => {}
-            Err(TakeError::Byte) => return Err(TextFault::Syntax(at)),
-            Err(TakeError::OutOfMemory) => return Err(TextFault::OutOfMemory),
+            Err(TakeError::Byte) => {
+                drop(reader);
+                return Err(TextFault::Syntax(at));
+            }
+            Err(TakeError::OutOfMemory) => {
+                drop(reader);
+                return Err(TextFault::OutOfMemory);
+            }
         }
     }
     match reader.end() {
@@ -114,10 +120,17 @@ fn tree_in(alloc: Global, text: &[u8]) -> Result<Tree, TextFault>
     for (at, byte) in text.iter().enumerate() {
         match reader.take(alloc, *byte) {
             Ok(()) => {}
-            Err(TakeError::Byte) => return Err(TextFault::Syntax(at)),
-            Err(TakeError::OutOfMemory) => return Err(TextFault::OutOfMemory),
+            Err(TakeError::Byte) => {
+                drop(reader);
+                return Err(TextFault::Syntax(at));
+            }
+            Err(TakeError::OutOfMemory) => {
+                drop(reader);
+                return Err(TextFault::OutOfMemory);
+            }
         }
         if reader.depth() > MOST_OPEN {
+            drop(reader);
             return Err(TextFault::TooNested(at));
         }
     }

@@ -56,12 +56,17 @@ impl PathReader {
     {
         let PathReader { mut path, label } = self;
         if path.is_empty() && label.is_new() {
+            drop(label);
             return Ok(path);
         }
         let Some(label) = label.end() else {
+            drop(path);
             return Err(TakeError::Byte);
         };
-        path.push(label)?;
+        let Ok(()) = path.push(label) else {
+            drop(path);
+            return Err(TakeError::OutOfMemory);
+        };
         Ok(path)
     }
 }

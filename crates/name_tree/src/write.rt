@@ -1,5 +1,5 @@
 //! Canonical texts, as the Finagle user guide writes paths and trees.
-ghost use Rattle.std.specs.Prelude.{◌≡◌, ◌+◌, ◌*◌, ◌<◌, ◌++◌, IfOk, OnErr, OnOk, map};
+ghost use Rattle.std.specs.Prelude.{◌≡◌, ◌+◌, ◌*◌, ◌<◌, [], ◌∷◌, ◌++◌, IfOk, OnErr, OnOk, map};
 ghost use Rattle.std.specs.Fmt.{decimal};
 ghost use Rattle.name_tree.specs.Path.{canon_byte, canon_label, canon_path};
 ghost use Rattle.name_tree.specs.Growth.{Grows};
@@ -165,6 +165,15 @@ fn put_separator(at: usize, separator: &[u8], out: &mut Bytes) -> Mem<()>
     Ok(())
 }
 
+/// Puts the mark that a tree is behind some bytes.
+fn put_mark(mark: u8, out: &mut Bytes) -> Mem<()>
+    ensures ok { OnOk result (out.new.items ≡ out.old.items ++ mark ∷ []) }
+    ensures grows { Grows out.old.items out.new.items }
+{
+    out.push(mark)?;
+    Ok(())
+}
+
 /// Puts the canonical text of a tree behind some bytes, in parentheses or not. An `Err` may leave a
 /// part of it there.
 #[cycle(put)]
@@ -189,14 +198,13 @@ fn put_tree(tree: &Tree, out: &mut Bytes) -> Mem<()>
     ensures grows { Grows out.old.items out.new.items }
 {
     match tree {
-        Tree::Leaf(path) => append_path(path, out)?,
-        Tree::Neg => out.push(b'~')?,
-        Tree::Fail => out.push(b'!')?,
-        Tree::Empty => out.push(b'$')?,
-        Tree::Alt(trees) => put_alts(trees, out)?,
-        Tree::Union(branches) => put_branches(branches, out)?,
+        Tree::Leaf(path) => put_path(path, out),
+        Tree::Neg => put_mark(b'~', out),
+        Tree::Fail => put_mark(b'!', out),
+        Tree::Empty => put_mark(b'$', out),
+        Tree::Alt(trees) => put_alts(trees, out),
+        Tree::Union(branches) => put_branches(branches, out),
     }
-    Ok(())
 }
 
 /// Puts the alternatives of a choice behind some bytes. An `Err` may leave a part of them there.

@@ -3,7 +3,8 @@ use Rattle.std.specs.Prelude.{◌↔◌, IsTrue}
 use Rattle.name_tree.specs.declared.tree.Tree.{Tree}
 use Rattle.name_tree.specs.declared.tree.Branches.{out-Branches}
 use Rattle.name_tree.specs.Tree.{value_of, branch_value}
-use Rattle.name_tree.proofs.Same.{of_other_length, one_more, other_member, all_same, same_choices, same_unions}
+use Rattle.name_tree.proofs.Apart.{apart}
+use Rattle.name_tree.proofs.Same.{of_other_length, one_more, other_member, all_same, same_choices, same_joined, same_unions}
 use Rattle.name_tree.proofs.tree.+same.Goals as goal
 
 pub Branches::same-returns-then-len : goal.Branches::same-returns-then-len
@@ -65,3 +66,36 @@ Trees::same-returns t c =
     let as_many : length c.deref-tree-items.result.now ≡ length ys.items = ap length c.deref-tree-items.ensures.value ∙ (sym xs.ok.0 ∙ (sym c.len.ensures ∙ (c.if-len.false ∙ (c.len-2.ensures ∙ ys.ok.0)))) in
     subst (λ (ts : List Tree). IsTrue true ↔ (map value_of ts ≡ map value_of c.args.other.now.items.items)) c.deref-tree-items.ensures.value
     (all_same value_of c.deref-tree-items.result.now ys.items c.loop-at.at c.loop-at-test.false as_many c.loop-at.invariant)
+
+pub Tree::same-returns-in-Leaf-other : goal.Tree::same-returns-in-Leaf-other
+Tree::same-returns-in-Leaf-other t c = apart _ _ _ _ (ap value_of c.in-Alt.is) (ap value_of c.in-Leaf-other.is) refl
+
+pub Tree::same-returns-in-Neg-other : goal.Tree::same-returns-in-Neg-other
+Tree::same-returns-in-Neg-other t c = apart _ _ _ _ (ap value_of c.in-Alt.is) (ap value_of c.in-Neg-other.is) refl
+
+pub Tree::same-returns-in-Fail-other : goal.Tree::same-returns-in-Fail-other
+Tree::same-returns-in-Fail-other t c = apart _ _ _ _ (ap value_of c.in-Alt.is) (ap value_of c.in-Fail-other.is) refl
+
+pub Tree::same-returns-in-Empty-other : goal.Tree::same-returns-in-Empty-other
+Tree::same-returns-in-Empty-other t c = apart _ _ _ _ (ap value_of c.in-Alt.is) (ap value_of c.in-Empty-other.is) refl
+
+pub Tree::same-returns-in-Union-other : goal.Tree::same-returns-in-Union-other
+Tree::same-returns-in-Union-other t c = apart _ _ _ _ (ap value_of c.in-Alt.is) (ap value_of c.in-Union-other.is) refl
+
+pub Tree::same-returns-in-Leaf-other-2 : goal.Tree::same-returns-in-Leaf-other-2
+Tree::same-returns-in-Leaf-other-2 t c = apart _ _ _ _ (ap value_of c.in-Union.is) (ap value_of c.in-Leaf-other-2.is) refl
+
+pub Tree::same-returns-in-Neg-other-2 : goal.Tree::same-returns-in-Neg-other-2
+Tree::same-returns-in-Neg-other-2 t c = apart _ _ _ _ (ap value_of c.in-Union.is) (ap value_of c.in-Neg-other-2.is) refl
+
+pub Tree::same-returns-in-Fail-other-2 : goal.Tree::same-returns-in-Fail-other-2
+Tree::same-returns-in-Fail-other-2 t c = apart _ _ _ _ (ap value_of c.in-Union.is) (ap value_of c.in-Fail-other-2.is) refl
+
+pub Tree::same-returns-in-Empty-other-2 : goal.Tree::same-returns-in-Empty-other-2
+Tree::same-returns-in-Empty-other-2 t c = apart _ _ _ _ (ap value_of c.in-Union.is) (ap value_of c.in-Empty-other-2.is) refl
+
+pub Tree::same-returns-in-Alt-other-2 : goal.Tree::same-returns-in-Alt-other-2
+Tree::same-returns-in-Alt-other-2 t c = apart _ _ _ _ (ap value_of c.in-Union.is) (ap value_of c.in-Alt-other-2.is) refl
+
+pub Tree::same-returns-in-Union-other-2 : goal.Tree::same-returns-in-Union-other-2
+Tree::same-returns-in-Union-other-2 t c = same_joined _ _ _ c.in-Union.branches c.in-Union-other-2.own c.in-Union.is c.in-Union-other-2.is c.same-in-Union-other-2.ensures
