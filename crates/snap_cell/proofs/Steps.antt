@@ -1,5 +1,5 @@
 -- Each step keeps the rule over the copies.
-use Rattle.std.proofs.Common.{◌≡◌, ℕ, zero, suc, ◌<◌, ◌≢◌, List, [], ◌∷◌, ◌++◌, fold, set, Option, Some, None, Result, Ok, Err, MatchResult, refl, sym, ap, ◌∙◌, subst, ⊎_elim}
+use Rattle.std.proofs.Common.{◌≡◌, ℕ, zero, suc, ◌<◌, ◌≢◌, ◌⊎◌, List, [], ◌∷◌, ◌++◌, fold, set, Option, Some, None, Result, Ok, Err, MatchResult, refl, sym, ap, ◌∙◌, subst, ⊎_elim, inl, inr}
 use Rattle.std.proofs.lemmas.List.Elements.{All-append, All-cons, All-nil}
 use Rattle.std.proofs.lemmas.List.Sums.{fold-append}
 use mathlib.Core.Option.{some}
@@ -142,8 +142,21 @@ module _ {V S O : Type 0} (state : V → S) (applied : S → O → S) (Fits : S 
         one_list = rw (origin, known) h.one_list;
       }) origin
 
+  -- so does the publish of what is pending
+  pub publishes_pending : (seat : ℕ) (v : Option (Origin V O)) (x y : Kept V O) (pending : List (Entry O)) → IsReady Fits caller applied state x pending ⊎ Opens x pending
+      → (state y.value, (y.origin, y.known)) ≡ fold (after_entry applied) (state x.value, (x.origin, x.known)) pending
+      → TurnsAt (Holds state applied Fits caller) seat v x y (Shows state applied Fits caller)
+  publishes_pending seat v x y pending (inl ready) is = publishes state applied Fits caller seat v x y pending ready is
+  publishes_pending seat v x y pending (inr opening) is = opens seat v x y pending opening is
+
 -- what the publish of one entry tells
 pub entry_follows : {V O E : Type 0} (x x' y : Kept V O) (e : Entry O) (v v' w : Option (Origin V O)) (pending : List (Entry O)) (P : Type 0) (r : Result (Unit {0}) E)
     → x' ≡ x → v' ≡ v → pending ≡ e ∷ [] → MatchResult r (λ _. Follows x' pending y w × P) (λ _. (y ≡ x') × (w ≡ v')) → MatchResult r (λ _. Stands x.origin e.known y w × P) (λ _. (y ≡ x) × (w ≡ v))
 entry_follows x x' y e v v' w pending P (Ok u) same view one m = (subst (λ z. Stands z.origin e.known y w) same (m.0 e one), m.1)
 entry_follows x x' y e v v' w pending P (Err f) same view one m = (m.0 ∙ same, m.1 ∙ view)
+
+-- what the publish of the opening entry tells
+pub opening_follows : {V O E : Type 0} (x y : Kept V O) (v w : Option (Origin V O)) (pending : List (Entry O)) (P : Type 0) (r : Result (Unit {0}) E)
+    → Opens x pending → MatchResult r (λ _. Follows x pending y w × P) (λ _. (y ≡ x) × (w ≡ v)) → MatchResult r (λ _. Stands x.origin x.known y w × P) (λ _. y ≡ x)
+opening_follows x y v w pending P (Ok u) one m = (m.0 (record { operation = None; known = x.known }) one, m.1)
+opening_follows x y v w pending P (Err f) one m = m.0

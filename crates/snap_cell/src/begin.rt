@@ -10,7 +10,7 @@ ghost use Rattle.snap_cell.specs.Writers.{reader_count, IsReadable};
 
 use crate::history::Prefix;
 use crate::kept::{Entry, Kept, Origin};
-use crate::rule::{Desk, Door, Names, OneList, Show, View};
+use crate::rule::{Desk, Door, Names, OneList, View, show_pending};
 use crate::trail::Trail;
 use crate::{Mem, Operation, Published, Reader, Writer};
 use left_right::{reader, writer};
@@ -59,7 +59,7 @@ fn open_now<V: Published<O>, O: Operation, R: Wait>(
         × (drop result.0.behind result.0.log.items ≡ []))
         (λ _. result.0.desk.shown.value ≡ desk.desk.shown.value) }
 {
-    desk.publish_as::<Show, R>(rt)
+    show_pending(desk, rt)
 }
 
 // The two copies. What a first publish has to allocate is allocated here.

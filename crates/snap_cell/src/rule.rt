@@ -1,7 +1,7 @@
 //! The rule over the copies, as `left_right` keeps it, and an entry under it.
-ghost use Rattle.std.specs.Prelude.{◌≡◌, ◌≤◌, None, Some, IfOk, MatchResult, length};
+ghost use Rattle.std.specs.Prelude.{◌≡◌, ◌≤◌, ◌⊎◌, [], None, Some, IfOk, MatchResult, drop, length};
 ghost use Rattle.left_right.specs.Sides.{view};
-ghost use Rattle.snap_cell.specs.Rule.{Holds, Sound, Enters, Shows};
+ghost use Rattle.snap_cell.specs.Rule.{Holds, Sound, Enters, Shows, IsReady, Opens, Follows};
 
 use crate::history::Prefix;
 use crate::kept::{Entry, Kept, Origin};
@@ -9,6 +9,8 @@ use crate::{Operation, Published};
 use atomic_table::{Join, Split};
 use crossbeam_utils::rule::{Outcome, Protocol};
 use left_right::{reader, writer};
+use std::alloc::AllocError;
+use std::sync::Wait;
 
 /// What a handle knows: of which cell it is. No value of it is made.
 pub type View<V, O> = Option<Origin<V, O>>;
@@ -34,6 +36,24 @@ impl<V: Published<O>, O: Operation> Outcome<Kept<V, O>, View<V, O>> for Show {
 }
 
 pub(crate) type Desk<V, O> = writer::Writer<Kept<V, O>, Entry<O>, View<V, O>, OneList>;
+
+/// Shows the copy that has what is pending: an operation, or the entry that opens the cell.
+pub(crate) fn show_pending<V: Published<O>, O: Operation, R: Wait>(
+    desk: Desk<V, O>,
+    rt: &R,
+) -> (Desk<V, O>, Result<(), AllocError>)
+    requires { IsReady V.fits O.caller V.applied V.state desk.desk.shown.value
+        (drop desk.behind desk.log.items)
+        ⊎ Opens desk.desk.shown.value (drop desk.behind desk.log.items) }
+    ensures { MatchResult result.1
+        (λ _. Follows desk.desk.shown.value (drop desk.behind desk.log.items)
+        result.0.desk.shown.value (view result.0.desk.place)
+        × (drop result.0.behind result.0.log.items ≡ []))
+        (λ _. (result.0.desk.shown.value ≡ desk.desk.shown.value)
+        × (view result.0.desk.place ≡ view desk.desk.place)) }
+{
+    desk.publish_as::<Show, R>(rt)
+}
 
 /// How the writer names the cell to a new reader.
 pub(crate) struct Names;

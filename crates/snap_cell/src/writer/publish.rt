@@ -2,7 +2,7 @@
 ghost use Rattle.std.specs.Prelude.{◌≡◌, ◌<◌, ◌++◌, [], ◌∷◌, drop, fold, length, Some, MatchResult};
 ghost use mathlib.Core.List.{IsPrefix};
 ghost use Rattle.left_right.specs.Sides.{view};
-ghost use Rattle.snap_cell.specs.Rule.{IsReady, Stands, Follows};
+ghost use Rattle.snap_cell.specs.Rule.{IsReady, Stands};
 ghost use Rattle.snap_cell.specs.Items.{added, InOrder};
 ghost use Rattle.snap_cell.specs.Views.{list_of, cell_of, number_of, refusals_of, seen_of};
 ghost use Rattle.snap_cell.specs.Views.{items_of, SameReader, IsThere};
@@ -11,28 +11,11 @@ ghost use Rattle.snap_cell.specs.Writers.{reader_count, told_by, list_told, IsRe
 
 use super::{Note, Writer};
 use crate::kept::Entry;
-use crate::rule::{Desk, Show};
+use crate::rule::{Desk, show_pending};
 use crate::{Mem, Operation, Published, Reader};
 use std::alloc::AllocError;
 use std::snapshot::Snapshot;
 use std::sync::Wait;
-
-// Shows the copy that has the operation which is pending.
-fn publish_now<V: Published<O>, O: Operation, R: Wait>(
-    desk: Desk<V, O>,
-    rt: &R,
-) -> (Desk<V, O>, Result<(), AllocError>)
-    requires { IsReady V.fits O.caller V.applied V.state desk.desk.shown.value
-        (drop desk.behind desk.log.items) }
-    ensures { MatchResult result.1
-        (λ _. Follows desk.desk.shown.value (drop desk.behind desk.log.items)
-        result.0.desk.shown.value (view result.0.desk.place)
-        × (drop result.0.behind result.0.log.items ≡ []))
-        (λ _. (result.0.desk.shown.value ≡ desk.desk.shown.value)
-        × (view result.0.desk.place ≡ view desk.desk.place)) }
-{
-    desk.publish_as::<Show, R>(rt)
-}
 
 // Publishes an entry. At `Err` readers see what they saw.
 fn publish_entry<V: Published<O>, O: Operation, R: Wait>(
@@ -49,7 +32,7 @@ fn publish_entry<V: Published<O>, O: Operation, R: Wait>(
         × (view result.0.desk.place ≡ view desk.desk.place)) }
 {
     match desk.append(entry) {
-        Ok(()) => publish_now(desk, rt),
+        Ok(()) => show_pending(desk, rt),
         Err(_) => (desk, Err(AllocError)),
     }
 }

@@ -1,7 +1,12 @@
-use Rattle.std.proofs.Common.{drop}
-use Rattle.snap_cell.proofs.Steps.{opens}
+use Rattle.std.proofs.Common.{drop, inr}
+use Rattle.left_right.specs.Sides.{view}
+use Rattle.snap_cell.proofs.Steps.{opening_follows}
 use Rattle.snap_cell.proofs.begin.open_now.Goals as goal
 
-pub publish_as-requires : goal.publish_as-requires
-publish_as-requires g c next is = opens g.V.Absorb.state g.V.Absorb.applied g.V.Published.fits g.O.Operation.caller _ _ c.args.desk.desk.shown.value next
-    (drop c.args.desk.behind c.args.desk.log.items) c.requires is
+pub show_pending-requires : goal.show_pending-requires
+show_pending-requires g c = inr c.requires
+
+pub returns : goal.returns
+returns g c =
+    opening_follows c.args.desk.desk.shown.value c.show_pending.result.0.desk.shown.value (view c.args.desk.desk.place) (view c.show_pending.result.0.desk.place)
+    (drop c.args.desk.behind c.args.desk.log.items) _ c.show_pending.result.1 c.requires c.show_pending.ensures
