@@ -63,50 +63,60 @@ minor_of b fit = by_test (eqb b 48) refl fit
     by_test true test holds = (0, omega arith, grind (arith, nat_tests, test))
     by_test false test holds = (1, omega arith, grind (arith, nat_tests, holds))
 
+-- the first four of them
+first_four : (place n : ℕ) (bytes : List ℕ) → length bytes ≡ suc (suc (suc (suc n))) → AllFit place bytes
+    → (a : ℕ) × (b : ℕ) × (c : ℕ) × (d : ℕ) × (rest : List ℕ) × (bytes ≡ a ∷ b ∷ c ∷ d ∷ rest)
+    × IsTrue (fits place a) × IsTrue (fits (place + 1) b) × IsTrue (fits (place + 1 + 1) c) × IsTrue (fits (place + 1 + 1 + 1) d)
+    × AllFit (place + 1 + 1 + 1 + 1) rest × (length rest ≡ n)
+first_four place n bytes long all =
+    let p0 = first_fits place (suc (suc (suc n))) bytes long all in
+    let p1 = first_fits (place + 1) (suc (suc n)) p0.1 p0.5 p0.4 in
+    let p2 = first_fits (place + 1 + 1) (suc n) p1.1 p1.5 p1.4 in
+    let p3 = first_fits (place + 1 + 1 + 1) n p2.1 p2.5 p2.4 in (
+      p0.0,
+      p1.0,
+      p2.0,
+      p3.0,
+      p3.1,
+      p0.2 ∙ ap (λ (xs : List ℕ). p0.0 ∷ xs) (p1.2 ∙ ap (λ (xs : List ℕ). p1.0 ∷ xs) (p2.2 ∙ ap (λ (xs : List ℕ). p2.0 ∷ xs) p3.2)),
+      p0.3,
+      p1.3,
+      p2.3,
+      p3.3,
+      p3.4,
+      p3.5,
+    )
+
 -- and twelve bytes that fit are a version, a blank and a status code
 code_of : (bytes : List ℕ) → length bytes ≡ 12 → AllFit 0 bytes
     → (minor : ℕ) × (a : ℕ) × (b : ℕ) × (c : ℕ) × (minor ≤ 1) × (bytes ≡ print_version minor ++ 32 ∷ a ∷ b ∷ c ∷ []) × AllPass is_ascii_digit (a ∷ b ∷ c ∷ [])
 unfolding fits
 code_of bytes long all =
-    let p0 = first_fits 0 11 bytes long all in
-    let p1 = first_fits 1 10 p0.1 p0.5 p0.4 in
-    let p2 = first_fits 2 9 p1.1 p1.5 p1.4 in
-    let p3 = first_fits 3 8 p2.1 p2.5 p2.4 in
-    let p4 = first_fits 4 7 p3.1 p3.5 p3.4 in
-    let p5 = first_fits 5 6 p4.1 p4.5 p4.4 in
-    let p6 = first_fits 6 5 p5.1 p5.5 p5.4 in
-    let p7 = first_fits 7 4 p6.1 p6.5 p6.4 in
-    let p8 = first_fits 8 3 p7.1 p7.5 p7.4 in
-    let p9 = first_fits 9 2 p8.1 p8.5 p8.4 in
-    let p10 = first_fits 10 1 p9.1 p9.5 p9.4 in
-    let p11 = first_fits 11 0 p10.1 p10.5 p10.4 in
-    let m = minor_of p7.0 p7.3 in
-    let e0 : p0.0 ≡ 72 = fit_is 0 p0.0 72 (λ x. refl) p0.3 in
-    let e1 : p1.0 ≡ 84 = fit_is 1 p1.0 84 (λ x. refl) p1.3 in
-    let e2 : p2.0 ≡ 84 = fit_is 2 p2.0 84 (λ x. refl) p2.3 in
-    let e3 : p3.0 ≡ 80 = fit_is 3 p3.0 80 (λ x. refl) p3.3 in
-    let e4 : p4.0 ≡ 47 = fit_is 4 p4.0 47 (λ x. refl) p4.3 in
-    let e5 : p5.0 ≡ 49 = fit_is 5 p5.0 49 (λ x. refl) p5.3 in
-    let e6 : p6.0 ≡ 46 = fit_is 6 p6.0 46 (λ x. refl) p6.3 in
-    let e8 : p8.0 ≡ 32 = fit_is 8 p8.0 32 (λ x. refl) p8.3 in
-    let none : p11.1 ≡ [] = nothing p11.1 p11.5 in
-    let tail3 : p8.1 ≡ p9.0 ∷ p10.0 ∷ p11.0 ∷ [] =
-    p9.2 ∙ ap (λ (xs : List ℕ). p9.0 ∷ xs) (p10.2 ∙ ap (λ (xs : List ℕ). p10.0 ∷ xs) (p11.2 ∙ ap (λ (xs : List ℕ). p11.0 ∷ xs) none)) in
-    let tail8 : p7.1 ≡ 32 ∷ p9.0 ∷ p10.0 ∷ p11.0 ∷ [] = p8.2 ∙ (λ k. e8 k ∷ tail3 k) in
-    let tail7 : p6.1 ≡ (48 + m.0) ∷ 32 ∷ p9.0 ∷ p10.0 ∷ p11.0 ∷ [] = p7.2 ∙ (λ k. m.2 k ∷ tail8 k) in
-    let tail4 : p3.1 ≡ 47 ∷ 49 ∷ 46 ∷ (48 + m.0) ∷ 32 ∷ p9.0 ∷ p10.0 ∷ p11.0 ∷ [] =
-    p4.2 ∙ (λ k. e4 k ∷ (p5.2 ∙ (λ j. e5 j ∷ (p6.2 ∙ (λ i. e6 i ∷ tail7 i)) j)) k) in
-    let tail0 : bytes ≡ 72 ∷ 84 ∷ 84 ∷ 80 ∷ 47 ∷ 49 ∷ 46 ∷ (48 + m.0) ∷ 32 ∷ p9.0 ∷ p10.0 ∷ p11.0 ∷ [] =
-    p0.2 ∙ (λ k. e0 k ∷ (p1.2 ∙ (λ j. e1 j ∷ (p2.2 ∙ (λ i. e2 i ∷ (p3.2 ∙ (λ h. e3 h ∷ tail4 h)) i)) j)) k) in (
+    let p = first_four 0 8 bytes long all in
+    let q = first_four 4 4 p.4 p.11 p.10 in
+    let r = first_four 8 0 q.4 q.11 q.10 in
+    let m = minor_of q.3 q.9 in
+    let e0 : p.0 ≡ 72 = fit_is 0 p.0 72 (λ x. refl) p.6 in
+    let e1 : p.1 ≡ 84 = fit_is 1 p.1 84 (λ x. refl) p.7 in
+    let e2 : p.2 ≡ 84 = fit_is 2 p.2 84 (λ x. refl) p.8 in
+    let e3 : p.3 ≡ 80 = fit_is 3 p.3 80 (λ x. refl) p.9 in
+    let e4 : q.0 ≡ 47 = fit_is 4 q.0 47 (λ x. refl) q.6 in
+    let e5 : q.1 ≡ 49 = fit_is 5 q.1 49 (λ x. refl) q.7 in
+    let e6 : q.2 ≡ 46 = fit_is 6 q.2 46 (λ x. refl) q.8 in
+    let e8 : r.0 ≡ 32 = fit_is 8 r.0 32 (λ x. refl) r.6 in
+    let none : r.4 ≡ [] = nothing r.4 r.11 in
+    let tail8 : q.4 ≡ 32 ∷ r.1 ∷ r.2 ∷ r.3 ∷ [] = r.5 ∙ (λ k. e8 k ∷ r.1 ∷ r.2 ∷ r.3 ∷ none k) in
+    let tail4 : p.4 ≡ 47 ∷ 49 ∷ 46 ∷ (48 + m.0) ∷ 32 ∷ r.1 ∷ r.2 ∷ r.3 ∷ [] = q.5 ∙ (λ k. e4 k ∷ e5 k ∷ e6 k ∷ m.2 k ∷ tail8 k) in
+    let tail0 : bytes ≡ 72 ∷ 84 ∷ 84 ∷ 80 ∷ 47 ∷ 49 ∷ 46 ∷ (48 + m.0) ∷ 32 ∷ r.1 ∷ r.2 ∷ r.3 ∷ [] = p.5 ∙ (λ k. e0 k ∷ e1 k ∷ e2 k ∷ e3 k ∷ tail4 k) in (
       m.0,
-      p9.0,
-      p10.0,
-      p11.0,
+      r.1,
+      r.2,
+      r.3,
       m.1,
       tail0,
-      All-cons (λ b. IsTrue (is_ascii_digit b)) p9.0 (p10.0 ∷ p11.0 ∷ []) p9.3
-          (All-cons (λ b. IsTrue (is_ascii_digit b)) p10.0 (p11.0 ∷ []) p10.3
-          (All-cons (λ b. IsTrue (is_ascii_digit b)) p11.0 [] p11.3 (All-nil (λ b. IsTrue (is_ascii_digit b))))),
+      All-cons (λ b. IsTrue (is_ascii_digit b)) r.1 (r.2 ∷ r.3 ∷ []) r.7
+          (All-cons (λ b. IsTrue (is_ascii_digit b)) r.2 (r.3 ∷ []) r.8
+          (All-cons (λ b. IsTrue (is_ascii_digit b)) r.3 [] r.9 (All-nil (λ b. IsTrue (is_ascii_digit b))))),
     )
   where
     nothing : (xs : List ℕ) → length xs ≡ 0 → xs ≡ []

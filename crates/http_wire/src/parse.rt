@@ -44,13 +44,21 @@ pub(crate) fn parse(alloc: Global, bytes: &[u8]) -> Mem<Parsed>
     }
 }
 
-/// The same, with room for as many fields as there are line feeds: a field ends in one, so that
-/// there is room for every field, and each refusal is for good.
+/// The same, with room for as many fields as there are line feeds.
 fn parse_many(alloc: Global, bytes: &[u8]) -> Mem<Parsed>
     ensures { IfOk result (Parses bytes.now) }
 {
     let mut spans = Vec::from_elem(alloc, EMPTY_HEADER_SPAN, line_feeds(bytes))?;
-    match parse_request(bytes, spans.as_mut_slice()) {
+    parse_into(alloc, bytes, spans.as_mut_slice())
+}
+
+/// The same, into as many spans as there are line feeds: a field ends in one, so that there is room
+/// for every field, and each refusal is for good.
+fn parse_into(alloc: Global, bytes: &[u8], spans: &mut [HeaderSpan]) -> Mem<Parsed>
+    requires { length spans.old ≡ count_by (λ b. b == 10) bytes.now }
+    ensures { IfOk result (Parses bytes.now) }
+{
+    match parse_request(bytes, spans) {
         Ok(Status::Complete(parts)) => {
             let head = head_of(alloc, bytes, &parts, &spans[..parts.headers])?;
             Ok(Parsed::Whole(head, parts.len))

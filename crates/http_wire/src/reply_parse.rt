@@ -1,5 +1,5 @@
 //! Parsing the head of a reply where it lies.
-ghost use Rattle.std.specs.Prelude.{◌≤◌, All, length, IfOk};
+ghost use Rattle.std.specs.Prelude.{◌≡◌, ◌==◌, ◌≤◌, All, count_by, length, IfOk};
 ghost use Rattle.httparse.specs.Spans.{IsHeaderWithin, IsWithin};
 ghost use Rattle.http_wire.specs.ReplyReading.{IsReplyAt, ParsesReply};
 
@@ -39,13 +39,21 @@ pub(crate) fn parse_reply(alloc: Global, bytes: &[u8]) -> Mem<ParsedReply>
     }
 }
 
-/// The same, with room for as many fields as there are line feeds: a field ends in one, so that
-/// there is room for every field, and each refusal is for good.
+/// The same, with room for as many fields as there are line feeds.
 fn parse_many(alloc: Global, bytes: &[u8]) -> Mem<ParsedReply>
     ensures { IfOk result (ParsesReply bytes.now) }
 {
     let mut spans = Vec::from_elem(alloc, EMPTY_HEADER_SPAN, line_feeds(bytes))?;
-    match parse_response(bytes, spans.as_mut_slice()) {
+    parse_into(alloc, bytes, spans.as_mut_slice())
+}
+
+/// The same, into as many spans as there are line feeds: a field ends in one, so that there is room
+/// for every field, and each refusal is for good.
+fn parse_into(alloc: Global, bytes: &[u8], spans: &mut [HeaderSpan]) -> Mem<ParsedReply>
+    requires { length spans.old ≡ count_by (λ b. b == 10) bytes.now }
+    ensures { IfOk result (ParsesReply bytes.now) }
+{
+    match parse_response(bytes, spans) {
         Ok(Status::Complete(parts)) => {
             let head = head_of(alloc, bytes, &parts, &spans[..parts.headers])?;
             Ok(ParsedReply::Whole(head, parts.len))
