@@ -14,8 +14,8 @@ module _ {J B K : Type 0} (is : J → B → Type 0) (comes : J → K → Type 0)
     pub parts : jobs ≡ done ++ left
     pub each : AllZip is done begun
 
-  pub none_begun : AreBegun [] jobs
-  none_begun = record { done = []; parts = refl; each = tt }
+  pub none_begun : (begun : List B) (left : List J) → begun ≡ [] → left ≡ jobs → AreBegun begun left
+  none_begun begun left none all = rw (none, all) (record { done = []; parts = refl; each = tt })
 
   pub begun_more : (begun more : List B) (b : B) (j : J) (left rest : List J) → AreBegun begun left → left ≡ j ∷ rest → is j b → more ≡ begun ++ b ∷ [] → AreBegun more rest
   begun_more begun more b j left rest before next here put = record {

@@ -1,8 +1,17 @@
 use Rattle.std.proofs.Common.{[], ◌∷◌, length, ap, arith, length-append}
 use Rattle.std.specs.Vec.Iter.{into_iter_items}
 use Rattle.workers.specs.Runs.{ComesBack}
-use Rattle.workers.proofs.Beginning.{begun_more, all_begun, none_back, back_more, all_back}
+use Rattle.workers.proofs.Beginning.{none_begun, begun_more, all_begun, none_back, back_more, all_back}
 use Rattle.workers.proofs.jobs.run_all.Goals as goal
+
+pub loop-job-init : goal.loop-job-init
+loop-job-init g c =
+    let given = c.into_iter-job-iterator.ensures.into_iter_gives.0 in
+    record {
+      begun = none_begun _ (ComesBack g.J.Job.runs) c.args.jobs.items c.args.begun.items (into_iter_items c.into_iter-job-iterator.result) c.requires.empty.0 given;
+      room = omega (arith, ap length c.requires.empty.0, ap length given, c.requires.room.0);
+      all = omega (arith, ap length c.requires.empty.0, ap length given);
+    }
 
 pub loop-job-preserved : goal.loop-job-preserved
 loop-job-preserved g c = record {
