@@ -62,7 +62,7 @@ pub fn is_blank_byte(byte: u8) -> bool
 }
 
 /// What a hexadecimal digit stands for.
-#[derive(Clone, Copy, Debug, PartialEq, Eq)]
+#[derive(Clone, Copy, PartialEq, Eq)]
 pub(crate) struct HexDigit {
     pub(crate) value: u8,
     ghost below: { value < 16 },
@@ -82,7 +82,7 @@ pub(crate) fn hex_digit(byte: u8) -> Option<HexDigit>
 }
 
 /// How far the next byte of a label is read.
-#[derive(Clone, Copy, Debug, PartialEq, Eq)]
+#[derive(Clone, Copy, PartialEq, Eq)]
 pub(crate) enum InLabel {
     /// Not at all.
     Bytes,
@@ -95,7 +95,6 @@ pub(crate) enum InLabel {
 }
 
 /// A label that was read in part.
-#[derive(Debug)]
 pub struct LabelReader {
     bytes: Vec<u8>,
     place: InLabel,

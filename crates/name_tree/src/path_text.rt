@@ -10,7 +10,7 @@ use std::alloc::Global;
 use std::mem::replace;
 
 /// Where in a path's text a reader stands.
-#[derive(Clone, Copy, PartialEq, Eq)]
+#[derive(Clone, Copy)]
 pub(crate) enum PathPlace {
     /// In the blanks before it.
     Before,

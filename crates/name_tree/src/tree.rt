@@ -8,7 +8,7 @@ use std::alloc::Global;
 /// What a name stands for: a path, a mark, alternatives or a union, as in the name trees of the
 /// Finagle user guide.
 #[cycle(tree)]
-#[derive(Debug, Drop)]
+#[derive(Drop)]
 pub enum Tree {
     /// A path, which is looked up.
     Leaf(Path),
@@ -26,14 +26,14 @@ pub enum Tree {
 
 /// Some trees, in order.
 #[cycle(tree)]
-#[derive(Debug, Drop)]
+#[derive(Drop)]
 pub struct Trees {
     pub(crate) items: Vec<Tree>,
 }
 
 /// A branch of a union.
 #[cycle(tree)]
-#[derive(Debug, Drop)]
+#[derive(Drop)]
 pub struct Branch {
     /// Its weight, in millionths.
     pub weight: u64,
@@ -43,7 +43,7 @@ pub struct Branch {
 
 /// Some branches, in order.
 #[cycle(tree)]
-#[derive(Debug, Drop)]
+#[derive(Drop)]
 pub struct Branches {
     pub(crate) items: Vec<Branch>,
 }

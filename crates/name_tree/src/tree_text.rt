@@ -24,7 +24,7 @@ use std::mem::replace;
 
 /// An open parenthesis: the alternatives before it, the branches before it in its union, and the
 /// weight before it.
-#[derive(Debug, Drop)]
+#[derive(Drop)]
 pub(crate) struct Frame {
     alts: Vec<Tree>,
     parts: Vec<WrittenBranch>,
@@ -32,7 +32,7 @@ pub(crate) struct Frame {
 }
 
 /// Where in a branch a reader stands.
-#[derive(Clone, Copy, Debug, PartialEq, Eq)]
+#[derive(Clone, Copy)]
 pub(crate) enum Mode {
     /// Before it.
     Start,
@@ -53,7 +53,6 @@ pub(crate) enum Mode {
 }
 
 /// A tree's text that was read in part.
-#[derive(Debug)]
 pub struct TreeReader {
     outer: Vec<Frame>,
     alts: Vec<Tree>,

@@ -10,7 +10,7 @@ use crate::weight::ONE;
 use std::alloc::Global;
 
 /// A branch of a union as it is written.
-#[derive(Debug, Drop)]
+#[derive(Drop)]
 pub(crate) struct WrittenBranch {
     /// Its weight in millionths, if one is written.
     pub(crate) weight: Option<u64>,

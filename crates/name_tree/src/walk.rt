@@ -8,7 +8,6 @@ use std::alloc::Global;
 use std::mem::replace;
 
 /// A path that was read in part, from behind its first `/` on.
-#[derive(Debug)]
 pub(crate) struct PathReader {
     path: Path,
     label: LabelReader,

@@ -8,7 +8,7 @@ const MOST_DIGITS: u8 = 6;
 pub(crate) const ONE: u64 = 1_000_000;
 
 /// The digits before a weight's point.
-#[derive(Clone, Copy, Debug, PartialEq, Eq)]
+#[derive(Clone, Copy)]
 pub(crate) struct Whole {
     pub(crate) value: u32,
     pub(crate) digits: u8,
@@ -65,7 +65,7 @@ impl Whole {
 }
 
 /// A weight with its decimals, in millionths, and what the next decimal is worth.
-#[derive(Clone, Copy, Debug, PartialEq, Eq)]
+#[derive(Clone, Copy)]
 pub(crate) struct Decimals {
     pub(crate) millionths: u64,
     pub(crate) unit: u64,
