@@ -9,7 +9,6 @@ use std::alloc::Global;
 
 /// A journal in memory, which loses the lines whose numbers are listed, counted from 0 over all
 /// that it was given.
-#[derive(Debug)]
 pub struct MemJournal {
     alloc: Global,
     lines: Vec<Vec<u8>>,
@@ -97,7 +96,6 @@ impl Journal for MemJournal {
 
 /// Makes journals in memory, and keeps those that it is given back. Each loses the lines of the
 /// same numbers, whatever its path.
-#[derive(Debug)]
 pub struct MemJournals {
     losing: Vec<u64>,
     closed: Vec<MemJournal>,
