@@ -20,7 +20,7 @@ fn noted(alloc: Global, text: &str) -> Result<NoteList, Fail> {
 fn assert_noted<R: AllocGlobal + Abort>(rt: &R, rows: &[Row]) -> Result<(), Fail> {
     for (text, want) in rows {
         let list = noted(rt.alloc(), text)?;
-        assert!(rt; list.items() == *want, "{list:?} on {text}");
+        assert!(rt; list.items() == *want, "{:?} on {text}", list.items());
     }
     Ok(())
 }
