@@ -6,7 +6,7 @@ use line_base::SocketAddress;
 use name_tree::Path;
 
 /// The request line of a head that was read.
-#[derive(Clone, Copy, Debug)]
+#[derive(Clone, Copy)]
 pub struct RequestLine<'a> {
     /// The method.
     pub method: &'a [u8],
@@ -18,7 +18,7 @@ pub struct RequestLine<'a> {
 
 /// What an exchange was, as its line says it. It owns nothing: the head and the path that it names
 /// are at hand where an exchange ends.
-#[derive(Clone, Copy, Debug)]
+#[derive(Clone, Copy)]
 pub struct Entry<'a> {
     /// When the request's head had been read, in milliseconds since 1970 (UTC). One past the year
     /// 9999 is written as the last millisecond of that year.

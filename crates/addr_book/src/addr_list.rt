@@ -14,7 +14,6 @@ pub const MOST_ADDRS: usize = 1024;
 
 /// At most 1,024 addresses, no two alike, each with a weight of 1 to 999,999,999,999 millionths, in
 /// an order that counts. Contracts see the list.
-#[derive(Debug)]
 pub struct AddrList {
     items: Vec<Weighted>,
 }

@@ -28,7 +28,6 @@ type Shards = Vec<Option<Arc<AddrShard>>>;
 /// ports in a row. A look-up finds the shard, and in its `n` addresses takes about `log n`
 /// comparisons. A copy shares the shards, and a change copies its shard where another map shares
 /// it.
-#[derive(Debug)]
 pub(crate) struct AddrMap {
     shards: Shards,
 }

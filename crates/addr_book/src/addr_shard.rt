@@ -14,7 +14,7 @@ use std::marker::Model;
 const SPARE: usize = 8;
 
 /// An address and its number.
-#[derive(Clone, Copy, Debug)]
+#[derive(Clone, Copy)]
 struct Numbered {
     addr: Addr,
     number: u32,
@@ -25,7 +25,6 @@ struct Numbered {
 ///
 /// They lie in the order of the addresses. A look-up takes about `log n` comparisons; a new
 /// address, and one that goes, moves those behind it; a copy takes one piece of memory.
-#[derive(Debug)]
 pub(crate) struct AddrShard {
     items: Vec<Numbered>,
 }

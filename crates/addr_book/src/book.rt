@@ -26,7 +26,6 @@ use std::sync::Arc;
 /// A change is prepared first, which copies what it needs and may be refused, and is then made by
 /// [`absorb`](Book::absorb), which copies nothing. An address keeps its slot for as long as some
 /// service has it; a new one takes the lowest slot that is free.
-#[derive(Debug)]
 pub struct Book {
     parts: Arc<Parts>,
 }
@@ -54,7 +53,6 @@ impl Model for Book {
 }
 
 /// A book with a change made, prepared for [`Book::absorb`]. Contracts see what that book has.
-#[derive(Debug)]
 pub struct ReadyBook {
     next: Book,
 }

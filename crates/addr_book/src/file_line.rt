@@ -12,7 +12,7 @@ use name_tree::read_weight;
 use text_parts::{cut_at, single_word, split_word, without_gap};
 
 /// What a line of an address file says.
-#[derive(Clone, Copy, PartialEq, Eq)]
+#[derive(Clone, Copy)]
 pub(crate) enum FileLine {
     /// Nothing: it has only spaces and tabs.
     Blank,

@@ -23,7 +23,6 @@ pub const MOST_SERVICES: usize = 4096;
 pub const MOST_SLOTS: usize = 8192;
 
 /// The parts of a book, which its copies share.
-#[derive(Debug)]
 pub(crate) struct Parts {
     pub(crate) services: Services,
     pub(crate) seats: Seats,

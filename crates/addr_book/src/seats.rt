@@ -16,7 +16,6 @@ use crate::slots::{count_in, count_out, release};
 use std::alloc::Global;
 
 /// The slot of each address, and the number of services that have it.
-#[derive(Debug)]
 pub(crate) struct Seats {
     pub(crate) slots: SlotMap,
     pub(crate) uses: AddrMap,

@@ -18,7 +18,6 @@ use std::sync::Arc;
 const SPARE: usize = 2;
 
 /// A service and its addresses.
-#[derive(Debug)]
 struct Service {
     name: Name,
     list: Arc<AddrList>,
@@ -37,7 +36,6 @@ impl Drop for Service {
 ///
 /// They lie in the order of the names. A look-up takes about `log n` comparisons of names; a new
 /// service, and one that goes, moves those behind it.
-#[derive(Debug)]
 pub(crate) struct ServiceShard {
     items: Vec<Service>,
 }

@@ -26,7 +26,6 @@ type Shards = Vec<Option<Arc<ServiceShard>>>;
 /// The services are spread over 61 shards by a hash of the name, so that 4,096 are about 67 a
 /// shard. A copy shares the shards, and a change copies its shard where other services share it:
 /// about as many counts go up for the shards as for the services of one shard.
-#[derive(Debug)]
 pub(crate) struct Services {
     shards: Shards,
     len: usize,

@@ -13,7 +13,6 @@ use std::alloc::Global;
 use std::marker::Model;
 
 /// A slot below 8,192 for each of some addresses, no two the same. Contracts see a finite map.
-#[derive(Debug)]
 pub(crate) struct SlotMap {
     slots: AddrMap,
     taken: SlotSet,

@@ -15,7 +15,6 @@ const WORD_SLOTS: usize = 64;
 const WORDS: usize = 128;
 
 /// Some slots below 8,192, as bits. Contracts see the words. A copy takes a kilobyte.
-#[derive(Debug)]
 pub(crate) struct SlotSet {
     words: Vec<u64>,
 }

@@ -22,7 +22,7 @@ use machine::{Change, Look};
 use std::alloc::{AllocError, Global};
 
 /// What a request of the admin interface asks for. `admin_value` is how contracts see it.
-#[derive(Debug, Drop)]
+#[derive(Drop)]
 pub enum AdminDemand {
     /// The text of all metrics.
     Metrics,

@@ -11,7 +11,7 @@ use machine::{Change, Look};
 use std::alloc::Global;
 
 /// What a request asks for. `demand_value` is how contracts see it.
-#[derive(Debug, Drop)]
+#[derive(Drop)]
 pub enum Demand {
     /// This response, whatever the state is.
     Answer(Response),

@@ -9,7 +9,6 @@ use crate::{Bytes, Mem};
 use std::alloc::Global;
 
 /// What is written to the client, and whether the program is to stop then.
-#[derive(Debug)]
 pub struct ApiReply {
     /// The whole reply.
     pub bytes: Bytes,

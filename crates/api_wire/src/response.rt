@@ -42,7 +42,6 @@ impl Media {
 }
 
 /// A body and what it is.
-#[derive(Debug)]
 pub struct Content {
     /// Its media type.
     pub media: Media,
@@ -58,7 +57,6 @@ impl Drop for Content {
 }
 
 /// What a request is answered. `response_value` is how contracts see it.
-#[derive(Debug)]
 pub struct Response {
     /// The status.
     pub status: StatusCode,

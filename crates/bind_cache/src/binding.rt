@@ -21,7 +21,6 @@ use std::alloc::Global;
 /// What a path came to in the proxy's tables and its book, with a request's own table behind them.
 ///
 /// Contracts see it as `kept_of binding`.
-#[derive(Debug)]
 pub struct Binding {
     path: Path,
     local: Dtab,

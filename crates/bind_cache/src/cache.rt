@@ -37,7 +37,6 @@ pub const MOST_COST: u32 = 256;
 ///
 /// Contracts see them as `bindings_of cache`, a list, the oldest first. Beside them it keeps chains
 /// of their hashes, so that a look-up compares those of one hash alone.
-#[derive(Debug)]
 pub struct Cache {
     bindings: HeapCircularBuffer<Arc<Binding>>,
     chains: Chains,

@@ -15,7 +15,7 @@ const BUCKETS: u64 = 2_048;
 
 /// A hash, and the number of the one before it in its chain: less than the number of the first
 /// where there is none.
-#[derive(Clone, Copy, Debug)]
+#[derive(Clone, Copy)]
 pub(crate) struct Link {
     hash: u64,
     before: u64,
@@ -26,7 +26,6 @@ pub(crate) struct Link {
 ///
 /// Each number stays as it is while others come and go, and a number below the first says that
 /// nothing is left of a chain. So the first hash goes without a look at the chains.
-#[derive(Debug)]
 pub(crate) struct Chains {
     newest: Vec<u64>,
     links: HeapCircularBuffer<Link>,

@@ -34,7 +34,6 @@ pub enum Wanted {
 }
 
 /// An outcome, and what it took.
-#[derive(Debug)]
 pub struct Delegated {
     /// What the path comes to.
     pub outcome: Outcome,

@@ -38,7 +38,6 @@ impl LookupEnd {
 }
 
 /// A lookup that a delegation made.
-#[derive(Debug)]
 pub struct TraceItem {
     /// How many lookups came before it in its chain: 0 for the path that was asked for.
     pub depth: u32,
@@ -74,7 +73,6 @@ impl TraceItem {
 }
 
 /// The lookups of a delegation, in the order in which they began. Contracts see the list of them.
-#[derive(Debug)]
 pub struct Trace {
     items: Vec<TraceItem>,
 }
@@ -112,7 +110,6 @@ impl Trace {
 }
 
 /// Some paths, in order. Contracts see the list of them.
-#[derive(Debug)]
 pub struct PathList {
     items: Vec<Path>,
 }

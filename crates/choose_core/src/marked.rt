@@ -14,7 +14,7 @@ use addr_book::Addr;
 use std::cmp::Ordering;
 
 /// An address that has failures, and its mark.
-#[derive(Clone, Copy, Debug)]
+#[derive(Clone, Copy)]
 pub(crate) struct Marked {
     pub(crate) addr: Addr,
     pub(crate) mark: Mark,

@@ -29,7 +29,6 @@ pub const MOST_MARKS: usize = 8192;
 ///
 /// A moment is kept beside them from which on none of them leaves its address out, so a choice at
 /// that moment or later looks none up. It only moves on where a failure leaves an address out.
-#[derive(Debug)]
 pub struct Marks {
     items: Vec<Marked>,
     until: u64,

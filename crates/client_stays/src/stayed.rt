@@ -2,7 +2,6 @@
 use http_wire::Ended;
 
 /// How a stay of a connection came out.
-#[derive(Debug)]
 pub enum Stayed<S, P> {
     /// It has nothing to say for now, and can wait.
     Waits(S),

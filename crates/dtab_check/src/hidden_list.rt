@@ -12,7 +12,6 @@ pub struct Hidden {
 }
 
 /// The entries of a table that are never asked, in the table's order.
-#[derive(Debug)]
 pub struct HiddenList {
     items: Vec<Hidden>,
 }

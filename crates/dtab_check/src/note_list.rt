@@ -23,7 +23,6 @@ pub struct Note {
 }
 
 /// The notes on a table, in the order of its entries.
-#[derive(Debug)]
 pub struct NoteList {
     items: Vec<Note>,
 }

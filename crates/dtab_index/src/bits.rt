@@ -13,7 +13,7 @@ pub(crate) const WORD_PLACES: usize = 64;
 pub(crate) const WORDS: usize = 16;
 
 /// Some of 1,024 places. It takes no memory. Contracts see the words.
-#[derive(Clone, Copy, Debug)]
+#[derive(Clone, Copy)]
 pub(crate) struct Bits {
     pub(crate) words: [u64; WORDS],
 }

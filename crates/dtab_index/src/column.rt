@@ -16,7 +16,6 @@ use std::collections::HashMap;
 pub(crate) type Rows = HashMap<Vec<u8>, Bits>;
 
 /// Of one position of labels, which prefixes have which label there. Prefixes go by their places.
-#[derive(Debug)]
 pub(crate) struct Column {
     /// The prefixes that have a label here, or `*`.
     pub(crate) reached: Bits,

@@ -9,7 +9,6 @@ use std::marker::Model;
 
 /// Some prefixes of paths, each with its position, which contracts see as the list of what was
 /// added.
-#[derive(Debug)]
 pub struct Index {
     parts: Vec<Part>,
 }

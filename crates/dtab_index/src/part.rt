@@ -15,8 +15,6 @@ use crate::column::Column;
 use crate::columns::{left_by, put_prefix};
 use name_tree::Path;
 use std::alloc::Global;
-use std::fmt;
-use std::fmt::{Debug, Formatter};
 use std::snapshot::Snapshot;
 
 /// A prefix and its position. The labels of the prefix stand in the columns alone, and contracts
@@ -33,15 +31,8 @@ impl Drop for Entry {
     }
 }
 
-impl Debug for Entry {
-    fn fmt<W: fmt::Write>(&self, f: &mut Formatter<W>) -> fmt::Result {
-        self.at.fmt(f)
-    }
-}
-
 /// Some prefixes, at most 1,024. The place of the first that was added is 1,023, and of each later
 /// one it is one less, so that the lowest place is that of the last.
-#[derive(Debug)]
 pub(crate) struct Part {
     /// `None` stands for a prefix for which there was no memory.
     pub(crate) entries: Vec<Option<Entry>>,

@@ -21,7 +21,6 @@ use step_count::Steps;
 /// Contracts see what it says as `rules_of dtab`, the list of its prefixes and trees. Its entries
 /// never change, and it shares them with its copies. Beside the entries it keeps what there is to
 /// try of their trees, and where there are more than a few, an index of their prefixes.
-#[derive(Debug)]
 pub struct Dtab {
     /// `None` stands for no entry.
     parts: Option<Arc<Parts>>,

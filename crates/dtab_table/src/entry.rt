@@ -9,7 +9,6 @@ use std::marker::Model;
 
 /// An entry of a table: a path that begins with the prefix is rewritten to the tree, with its rest
 /// behind every leaf.
-#[derive(Debug)]
 pub struct Entry {
     /// What a path must begin with.
     pub prefix: Prefix,
@@ -47,7 +46,6 @@ impl Entry {
 
 /// Some entries, in order, which contracts see as their list. It is made from a `Vec` and gives it
 /// back without taking memory.
-#[derive(Debug)]
 pub struct EntryList {
     items: Vec<Entry>,
 }

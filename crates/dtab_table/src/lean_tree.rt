@@ -13,7 +13,7 @@ use name_tree::Tree;
 use std::alloc::Global;
 
 /// A tree that a path is rewritten to, without what makes no lookup. A table lends it.
-#[derive(Clone, Copy, Debug)]
+#[derive(Clone, Copy)]
 pub struct LeanTree<'a> {
     /// The tree. The labels of the path that its prefix didn't take stand behind every leaf of it.
     pub tree: &'a Tree,

@@ -17,7 +17,6 @@ use std::marker::Model;
 
 /// Some entries, which contracts see as their list. Beside them stand what there is to try of their
 /// trees, and an index of their prefixes, in which the position of an entry is its place.
-#[derive(Debug)]
 pub(crate) struct Parts {
     entries: Vec<Entry>,
     leaner: Vec<Option<Tree>>,

@@ -9,7 +9,7 @@ use std::alloc::Global;
 use std::marker::Model;
 
 /// One label of a prefix.
-#[derive(Debug, PartialEq, Eq, Drop)]
+#[derive(PartialEq, Eq, Drop)]
 pub enum PrefixLabel {
     /// `*`, which matches every label.
     Star,
@@ -22,7 +22,6 @@ pub enum PrefixLabel {
 ///
 /// Contracts see the list of its labels, where `None` is `*`. It is made from a `Vec` and lends its
 /// labels without taking memory.
-#[derive(Debug)]
 pub struct Prefix {
     labels: Vec<PrefixLabel>,
 }

@@ -6,7 +6,6 @@ use std::marker::Model;
 
 /// Some trees, in order, which contracts see as their list. It is made from a `Vec` and gives it
 /// back without taking memory.
-#[derive(Debug)]
 pub struct TreeList {
     items: Vec<Tree>,
 }

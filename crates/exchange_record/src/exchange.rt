@@ -6,7 +6,7 @@ use line_base::SocketAddress;
 use name_tree::Path;
 
 /// One exchange, once it has ended.
-#[derive(Clone, Copy, Debug)]
+#[derive(Clone, Copy)]
 pub struct Exchange<'a> {
     /// The client's address, if it is known.
     pub client: Option<SocketAddress>,

@@ -43,7 +43,7 @@ pub trait Recorder {
 }
 
 /// Records nothing.
-#[derive(Clone, Copy, Debug)]
+#[derive(Clone, Copy)]
 pub struct NoRecorder;
 
 impl Recorder for NoRecorder {

@@ -30,7 +30,7 @@ pub struct Done {
 }
 
 /// An exchange, and when it was.
-#[derive(Clone, Copy, Debug)]
+#[derive(Clone, Copy)]
 pub struct Timed {
     /// What it was.
     pub done: Done,

@@ -9,7 +9,7 @@ use access_log::Answer;
 use metrics_text::{BUCKETS, Class, bucket_of};
 
 /// The counts of all exchanges of one worker.
-#[derive(Clone, Copy, Debug)]
+#[derive(Clone, Copy)]
 pub struct Tally {
     requests: [u64; CLASSES],
     own_replies: [u64; WORDS],

@@ -13,7 +13,7 @@ use http_wire::Head;
 use std::alloc::{AllocError, Global};
 
 /// What a request for a feed asks for. `feed_demand_value` is how contracts see it.
-#[derive(Debug, Drop)]
+#[derive(Drop)]
 pub enum FeedDemand {
     /// This response, whatever the state is.
     Answer(Response),

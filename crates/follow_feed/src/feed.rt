@@ -2,7 +2,6 @@
 use dtab_table::Dtab;
 
 /// A table, and its version.
-#[derive(Debug)]
 pub struct Versioned {
     /// The version that the leader gave it.
     pub version: u64,
@@ -21,7 +20,6 @@ impl Drop for Versioned {
 ///
 /// A version alone does not order two feeds, since a namespace may be deleted between them, and
 /// since versions begin anew with each run of the leader. The pair of run and place does.
-#[derive(Debug)]
 pub struct Feed {
     /// The number of the run of the leader, greater than those of its earlier runs.
     pub run: u64,

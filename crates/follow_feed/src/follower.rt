@@ -18,7 +18,6 @@ pub enum Taken {
 /// Holds the latest of the feeds that it takes, in whatever order they come: the one with the
 /// greatest run and, within that, the greatest place. `held_in` is how contracts see it: the feed
 /// that is held, if one is.
-#[derive(Debug)]
 pub struct Follower {
     held: Option<Feed>,
 }

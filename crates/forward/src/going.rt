@@ -20,7 +20,7 @@ use std::alloc::Global;
 /// head as it is given here. So a text that has other bytes than may stand there gives a head that
 /// is read as another one, or as none; `IsPlainWay` of `specs/Laws.antt` says of which texts it is
 /// read as it was meant.
-#[derive(Clone, Copy, Debug)]
+#[derive(Clone, Copy)]
 pub struct Going<'a> {
     /// The value of the Host field: whom the request asks, or the address that is dialled where it
     /// names nobody.

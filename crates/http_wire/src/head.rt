@@ -8,7 +8,6 @@ use http::Method;
 use std::marker::Model;
 
 /// A field of a head: its name and its value, without the blanks around the value.
-#[derive(Debug)]
 pub struct Field {
     /// The name, as received.
     pub name: FieldName,
@@ -25,7 +24,6 @@ impl Drop for Field {
 }
 
 /// Fields, in the order in which they were received. Contracts see it as the list of them.
-#[derive(Debug)]
 pub struct FieldList {
     fields: Vec<Field>,
 }
@@ -116,7 +114,6 @@ fn find_named<'a>(fields: &'a [Field], name: &[u8]) -> Option<&'a Field>
 }
 
 /// The head of a request (RFC 9112 sections 2 to 5).
-#[derive(Debug)]
 pub struct Head {
     /// The method.
     pub method: Method,
@@ -158,7 +155,6 @@ impl Head {
 }
 
 /// The head of a reply (RFC 9112 sections 2, 4 and 5).
-#[derive(Debug)]
 pub struct ReplyHead {
     /// 0 for HTTP/1.0 and 1 for HTTP/1.1.
     pub version: u8,

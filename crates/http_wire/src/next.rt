@@ -10,7 +10,7 @@ use line_base::{Next, Peer};
 use std::alloc::Global;
 
 /// What a connection that waits for its next request came to.
-#[derive(Debug, Drop)]
+#[derive(Drop)]
 pub enum NextHead {
     /// The head of the next request.
     Head(Head),

@@ -19,7 +19,6 @@ use std::marker::Model;
 /// They lie in one room, in which a connection's reads go straight behind them. It has 16,384 bytes
 /// from the start, which is all that bodies use, grows where an unfinished head needs more, and
 /// never passes 69,632 bytes, however many heads come through it.
-#[derive(Debug)]
 pub struct Rest {
     room: Room,
 }

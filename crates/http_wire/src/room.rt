@@ -20,7 +20,6 @@ pub(crate) const MOST_ROOM: usize = 69632;
 
 /// Bytes in a room: those from `at` to `end` are held, and reads go behind them. Nothing is moved
 /// but to make room.
-#[derive(Debug)]
 pub(crate) struct Room {
     bytes: Vec<u8>,
     at: usize,

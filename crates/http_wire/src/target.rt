@@ -15,7 +15,6 @@ use std::alloc::Global;
 use thiserror::Error;
 
 /// A request target that is served (RFC 9112 section 3.2).
-#[derive(Debug)]
 pub struct Target {
     /// What stands in the request line that goes on: a path with its query, or `*`.
     pub line: Bytes,

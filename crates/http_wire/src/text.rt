@@ -6,7 +6,6 @@ use crate::Bytes;
 use std::marker::Model;
 
 /// The bytes of a target or of a field's value. Contracts see it as the list of them.
-#[derive(Debug)]
 pub struct Text {
     bytes: Vec<u8>,
 }
@@ -44,7 +43,6 @@ impl Text {
 
 /// The name of a field, as received: names are compared without case (RFC 9110 section 5.1).
 /// Contracts see it as the list of its bytes.
-#[derive(Debug)]
 pub struct FieldName {
     bytes: Vec<u8>,
 }

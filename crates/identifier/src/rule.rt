@@ -5,7 +5,7 @@ use name_tree::Path;
 
 /// What a request is named by: which labels stand behind the prefix. The names of fields are
 /// compared without the case of ASCII letters, and of several fields of one name the first counts.
-#[derive(Debug, Drop)]
+#[derive(Drop)]
 pub enum Kind {
     /// One label: the value of the first field of this name, as received. For the name `Host` it is
     /// the host of the request in place of that field's value, its ASCII letters in lower case.
@@ -28,7 +28,6 @@ pub enum Kind {
 }
 
 /// How a router names its requests, and whether it hears what they say of their context.
-#[derive(Debug)]
 pub struct Rule {
     /// What stands behind the prefix.
     pub kind: Kind,

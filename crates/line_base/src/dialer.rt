@@ -8,7 +8,7 @@ use crate::outside::Failed;
 use crate::piece::Piece;
 
 /// What a dialer did.
-#[derive(Debug, Drop)]
+#[derive(Drop)]
 pub enum DialEvent {
     /// It opened a connection to this IPv4 address, whose first byte is the highest, and this port.
     Dialed(u32, u16),

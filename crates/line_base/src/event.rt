@@ -1,7 +1,7 @@
 //! What a listener tells.
 
 /// What a listener tells: that a peer came, or that one that waits may have something to say.
-#[derive(Debug, Drop)]
+#[derive(Drop)]
 pub enum Event<P> {
     /// A new peer.
     Came(P),

@@ -6,7 +6,6 @@ use crate::Bytes;
 use std::marker::Model;
 
 /// Names of files. Contracts see the list of them, each as its bytes.
-#[derive(Debug)]
 pub struct NameList {
     items: Vec<String>,
 }
@@ -44,7 +43,7 @@ impl NameList {
 }
 
 /// What is at a path.
-#[derive(Debug, Drop)]
+#[derive(Drop)]
 pub enum Found {
     /// A file of these bytes.
     Bytes(Bytes),

@@ -4,7 +4,6 @@ ghost use Rattle.std.specs.Prelude.{◌≡◌};
 use std::marker::Model;
 
 /// The bytes that one call moved. Contracts see it as the list of them.
-#[derive(Debug)]
 pub struct Piece {
     bytes: Vec<u8>,
 }

@@ -15,7 +15,7 @@ use std::alloc::Global;
 const MOST_CONFIG: usize = 1_048_576;
 
 /// Why there is no configuration.
-#[derive(Debug, Drop)]
+#[derive(Drop)]
 pub enum ConfigEnd {
     /// It has a fault, or there is none: this line tells so, with its line feed.
     Wrong(Bytes),
@@ -26,7 +26,6 @@ pub enum ConfigEnd {
 }
 
 /// What is told of a configuration or a table.
-#[derive(Debug)]
 pub struct Verdict {
     /// Whether it is right.
     pub is_right: bool,
@@ -42,7 +41,7 @@ impl Drop for Verdict {
 }
 
 /// Why nothing is told of a configuration or a table.
-#[derive(Clone, Copy, Debug, PartialEq, Eq)]
+#[derive(Clone, Copy)]
 pub enum CheckEnd {
     /// The folder could not be read.
     Fault,

@@ -12,7 +12,7 @@ use std::alloc::Global;
 const PIECE: usize = 65_536;
 
 /// Why a source was not read to its end.
-#[derive(Clone, Copy, Debug, PartialEq, Eq)]
+#[derive(Clone, Copy)]
 pub enum ReadEnd {
     /// A read failed.
     Fault,

@@ -23,7 +23,7 @@ use text_parts::cut_line;
 const FLUSH: usize = 65_536;
 
 /// Whether a script goes on behind a line.
-#[derive(Clone, Copy, Debug, PartialEq, Eq)]
+#[derive(Clone, Copy)]
 pub enum Turn {
     /// It goes on.
     Next,
@@ -32,7 +32,7 @@ pub enum Turn {
 }
 
 /// How the play of a script ends.
-#[derive(Clone, Copy, Debug, PartialEq, Eq)]
+#[derive(Clone, Copy)]
 pub enum PlayEnd {
     /// Every line was answered.
     Done,

@@ -15,7 +15,7 @@ use text_parts::read_number;
 const MOST_TURNS: u64 = 1_000_000;
 
 /// What the words ask for.
-#[derive(Clone, Copy, Debug, PartialEq, Eq)]
+#[derive(Clone, Copy, PartialEq, Eq)]
 pub enum Command<'a> {
     /// `replay`: carry out the script on the input.
     Replay,
@@ -36,7 +36,7 @@ pub enum Command<'a> {
 }
 
 /// What is followed, and how often the leader is asked.
-#[derive(Clone, Copy, Debug, PartialEq, Eq)]
+#[derive(Clone, Copy, PartialEq, Eq)]
 pub struct Following<'a> {
     /// Where the leader serves its feed.
     pub leader: Addr,

@@ -19,7 +19,6 @@ pub struct Port {
 }
 
 /// A text of a configuration. Contracts see the list of its bytes.
-#[derive(Debug)]
 pub struct Text {
     text: String,
 }
@@ -66,7 +65,7 @@ pub struct FeedAt {
 }
 
 /// What a router is configured to do.
-#[derive(Debug, Drop)]
+#[derive(Drop)]
 pub struct Config {
     /// Where the administrator's interface listens.
     pub admin: Port,

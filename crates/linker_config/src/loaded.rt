@@ -7,7 +7,7 @@ use std::marker::Model;
 use thiserror::Error;
 
 /// A service and its addresses.
-#[derive(Debug, Drop)]
+#[derive(Drop)]
 pub struct LoadedItem {
     /// The name of the service.
     pub service: Name,
@@ -16,7 +16,6 @@ pub struct LoadedItem {
 }
 
 /// Services with their addresses. Contracts see the list of them.
-#[derive(Debug)]
 pub struct Loaded {
     items: Vec<LoadedItem>,
 }

@@ -9,7 +9,6 @@ use name_tree::Path;
 use std::alloc::Global;
 
 /// A path to pick a replica for. Its own table is sound, as every table that is read from text.
-#[derive(Debug)]
 pub struct Ask {
     /// The path.
     pub path: Path,

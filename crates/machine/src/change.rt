@@ -9,7 +9,6 @@ use std::alloc::Global;
 
 /// A change that is asked of a state, which accepts it or refuses it with a
 /// [`Reply`](crate::Reply).
-#[derive(Debug)]
 pub enum Change {
     /// A new namespace with this table.
     Create {

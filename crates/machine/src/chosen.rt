@@ -3,7 +3,6 @@ use addr_book::Addr;
 use name_tree::Path;
 
 /// The answer to a pick.
-#[derive(Debug)]
 pub enum Chosen {
     /// A replica.
     Picked {

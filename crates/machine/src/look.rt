@@ -9,7 +9,6 @@ use name_tree::Path;
 use std::alloc::Global;
 
 /// A question that alters nothing.
-#[derive(Debug)]
 pub enum Look {
     /// The version and the table of a namespace.
     Get {

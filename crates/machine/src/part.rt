@@ -4,7 +4,6 @@ use choose_core::Limits;
 use ns_store::ReadyStore;
 
 /// What is prepared of a change.
-#[derive(Debug)]
 pub(crate) enum Part {
     /// The namespaces after it.
     Store(ReadyStore),
@@ -25,7 +24,7 @@ impl Drop for Part {
 }
 
 /// A report on an address, and the limits that it is judged by.
-#[derive(Clone, Copy, Debug)]
+#[derive(Clone, Copy)]
 pub(crate) struct Report {
     pub(crate) addr: Addr,
     pub(crate) good: bool,

@@ -7,7 +7,6 @@ use crate::part::Part;
 /// see it as `ready_of ready`.
 ///
 /// It shares what was prepared with each state that absorbs it.
-#[derive(Debug)]
 pub struct Ready {
     pub(crate) part: Part,
     /// The place after the change.

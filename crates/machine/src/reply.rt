@@ -8,7 +8,6 @@ use dtab_table::Dtab;
 use std::marker::Model;
 
 /// The answer to a change or a look.
-#[derive(Debug)]
 pub enum Reply {
     /// A namespace was created or its table replaced: its version.
     Version(u64),
@@ -141,7 +140,6 @@ impl Reply {
 }
 
 /// How many addresses a service has at a moment.
-#[derive(Debug)]
 pub struct ServiceState {
     /// The service.
     pub name: Name,
@@ -164,7 +162,6 @@ impl Drop for ServiceState {
 }
 
 /// Some names, in order. Contracts see the list of their bytes.
-#[derive(Debug)]
 pub struct NameList {
     items: Vec<Name>,
 }

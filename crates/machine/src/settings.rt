@@ -12,7 +12,6 @@ use dtab_table::Dtab;
 ///
 /// Its table is sound, as every table that is read from text, and its limits count at least one
 /// failure.
-#[derive(Debug)]
 pub struct Settings {
     /// The namespace whose table comes first in each request's table.
     pub space: Name,

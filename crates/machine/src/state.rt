@@ -16,7 +16,6 @@ use std::alloc::Global;
 /// their addresses, and how many changes it has accepted. Contracts see it as `state_of state`.
 ///
 /// The table of each namespace is sound, and each marked address is one of a service.
-#[derive(Debug)]
 pub struct State {
     pub(crate) store: Store,
     pub(crate) book: Book,

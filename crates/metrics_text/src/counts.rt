@@ -5,7 +5,7 @@ use crate::duration::Durations;
 
 /// How many replies of its own a router gave, by their words: each field has those of the
 /// [`OwnError`](own_reply::OwnError) of its name.
-#[derive(Clone, Copy, Debug, PartialEq, Eq)]
+#[derive(Clone, Copy, PartialEq, Eq)]
 pub struct OwnReplies {
     /// Those that say `version`.
     pub version: u64,
@@ -48,7 +48,7 @@ pub struct OwnReplies {
 }
 
 /// What a router has done since it began, and what it holds now.
-#[derive(Clone, Copy, Debug)]
+#[derive(Clone, Copy)]
 pub struct Counts {
     /// The changes that were accepted.
     pub changes: u64,

@@ -3,7 +3,7 @@ ghost use Rattle.std.specs.Prelude.{◌≡◌};
 ghost use Rattle.metrics_text.specs.Metrics.{figure_of};
 
 /// The numbers of a service.
-#[derive(Clone, Copy, Debug)]
+#[derive(Clone, Copy)]
 pub struct ServiceCounts<'a> {
     /// Its name.
     pub name: &'a [u8],

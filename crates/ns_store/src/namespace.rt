@@ -4,7 +4,6 @@ use dtab_table::Dtab;
 use std::sync::Arc;
 
 /// A namespace. Stores share its table.
-#[derive(Debug)]
 pub(crate) struct Namespace {
     /// Its name.
     pub(crate) name: Name,

@@ -14,7 +14,6 @@ use std::sync::Arc;
 
 /// Some namespaces, no two with one name, in the byte order of their names. Contracts see them as
 /// the finite map `spaces_of`.
-#[derive(Debug)]
 pub(crate) struct Spaces {
     items: Vec<Namespace>,
     ghost sorted: { IsTrue (is_sorted (slice_cmp nat_cmp) (map entry_of items.items)) },

@@ -23,7 +23,6 @@ pub const MOST_NAMES: usize = 256;
 /// A change is prepared first, which may be refused, and is then made by [`absorb`](Store::absorb).
 /// Preparing copies the list of namespaces, for each two counts that go up by one, and no table:
 /// stores share the tables, and the list too once one absorbs the other.
-#[derive(Debug)]
 pub struct Store {
     spaces: Arc<Spaces>,
     next: u64,
@@ -39,7 +38,6 @@ impl Drop for Store {
 
 /// A store with a change made, prepared for [`Store::absorb`]. Contracts see what that store has as
 /// `prepared_of ready`.
-#[derive(Debug)]
 pub struct ReadyStore {
     next: Store,
 }

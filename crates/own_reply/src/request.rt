@@ -9,7 +9,7 @@ use http_wire::{
 use std::alloc::Global;
 
 /// What the tests of a request read of it.
-#[derive(Debug, Drop)]
+#[derive(Drop)]
 pub struct Tested {
     /// Its target, in the form in which it goes on.
     pub target: Target,

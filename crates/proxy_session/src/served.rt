@@ -5,7 +5,7 @@ use http_wire::Ended;
 use name_tree::Path;
 
 /// What became of one request.
-#[derive(Debug, Drop)]
+#[derive(Drop)]
 pub struct Served {
     /// How the connection ends after it; `None` where it goes on.
     pub end: Option<Ended>,

@@ -10,7 +10,7 @@ use body_wire::BodyEnd;
 /// How a try of a replica went, with how much of both bodies moved until then. `Tries` of
 /// `specs/Trying.antt` says for each outcome what was sent and received, and what moved on the
 /// client's connection.
-#[derive(Clone, Copy, Debug, PartialEq, Eq)]
+#[derive(Clone, Copy, PartialEq, Eq)]
 pub enum Tried {
     /// Its address could not be dialled.
     NotDialed,

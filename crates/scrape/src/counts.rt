@@ -6,7 +6,7 @@ use crate::sums::Sums;
 use metrics_text::{BUCKETS, Classes, Counts, Durations, OwnReplies};
 
 /// What a router's state tells.
-#[derive(Clone, Copy, Debug)]
+#[derive(Clone, Copy)]
 pub struct State {
     /// The changes that were accepted.
     pub changes: u64,

@@ -6,7 +6,7 @@ ghost use Rattle.scrape.specs.Sums.{AreSums, IsReading, with_sum};
 use count_words::{CountReader, Counts, PLACES};
 
 /// The counts of all workers, summed by their places.
-#[derive(Clone, Copy, Debug)]
+#[derive(Clone, Copy)]
 pub struct Sums {
     pub(crate) counts: [u64; PLACES as usize],
 }

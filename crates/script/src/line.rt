@@ -18,7 +18,7 @@ use std::alloc::Global;
 use text_parts::{read_number, split_word, without_gap};
 
 /// What a line of a script says.
-#[derive(Debug, Drop)]
+#[derive(Drop)]
 pub enum Line {
     /// Nothing: it has only blanks.
     Blank,
@@ -200,7 +200,7 @@ fn read_long_pick(alloc: Global, text: &[u8]) -> Result<Line, LineFault>
 }
 
 /// The moment of a pick, and its three words.
-#[derive(Clone, Copy, Debug, PartialEq, Eq)]
+#[derive(Clone, Copy)]
 pub struct Numbers {
     /// The moment.
     pub moment: u64,

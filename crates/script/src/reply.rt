@@ -25,7 +25,6 @@ use text_parts::append_spaced;
 const ROOM: usize = 128;
 
 /// What a line is answered.
-#[derive(Debug)]
 pub enum Said {
     /// A table was set.
     Ok,

@@ -19,7 +19,6 @@ use step_count::Steps;
 use turn_parts::first_change;
 
 /// How a run stands.
-#[derive(Debug)]
 struct Run {
     state: State,
     /// How many changes were refused.

@@ -13,7 +13,7 @@ use std::alloc::Global;
 use turn_parts::{addrs_change, draw_ask, local_addr, service_name, table_change};
 
 /// What a turn asks of a state.
-#[derive(Debug, Drop)]
+#[derive(Drop)]
 pub(crate) enum Turn {
     /// A change.
     Change(Change),

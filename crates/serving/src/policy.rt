@@ -7,7 +7,6 @@ use line_base::ConnectionPool;
 use retry_budget::Tries;
 
 /// How requests are handled, whatever connection they come on.
-#[derive(Debug)]
 pub struct Policy {
     /// How they are named.
     pub rule: Rule,

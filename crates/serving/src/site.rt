@@ -23,7 +23,6 @@ pub struct Feeding {
 
 /// Where a router and its interfaces listen, how requests are handled, how many connections are
 /// served at a time, and what the random words begin with.
-#[derive(Debug)]
 pub struct Site {
     /// Where the router listens.
     pub server: Port,

@@ -1,7 +1,6 @@
 //! What comes of a connection that is left.
 
 /// What came of a connection that was left.
-#[derive(Debug)]
 pub enum Left<C> {
     /// It waits.
     Waits,

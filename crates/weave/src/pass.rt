@@ -9,7 +9,7 @@ use std::sync::Arc;
 
 /// A question that is not answered yet: the place of its call among the calls of its pass, the
 /// answer, and what was worked out for it.
-#[derive(Debug, Drop)]
+#[derive(Drop)]
 pub(crate) struct Flight {
     pub(crate) item: usize,
     pub(crate) told: Told,

@@ -2,7 +2,6 @@
 use machine::{Ask, Change, Chosen, Look, Reply};
 
 /// What a pass asks without changing anything.
-#[derive(Debug)]
 pub enum Asked {
     /// For a replica.
     Pick(Ask),
@@ -20,7 +19,6 @@ impl Drop for Asked {
 }
 
 /// A step of one pass, or a meeting of two. Passes go by their numbers, from 0 on.
-#[derive(Debug)]
 pub enum Step {
     /// A pass asks for a change, which is published where the state accepts it.
     Publish(u32, Change),
@@ -48,7 +46,6 @@ impl Drop for Step {
 }
 
 /// What a step tells.
-#[derive(Debug)]
 pub enum Told {
     /// The answer to a change or a look, with how many changes stood before it.
     Reply(u64, Reply),
@@ -76,7 +73,6 @@ impl Drop for Told {
 }
 
 /// What steps told, in their order. Contracts see it as `told_list list`.
-#[derive(Debug)]
 pub struct ToldList {
     items: Vec<Told>,
 }

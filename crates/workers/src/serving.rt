@@ -5,7 +5,6 @@ use line_base::{Gate, Peer};
 use std::sync::Wait;
 
 /// What came of a turn of a connection.
-#[derive(Debug)]
 pub enum Turned<S, P> {
     /// It has nothing to say for a while, and can wait.
     Waits(S),
