@@ -37,10 +37,10 @@ use client_stays::Handling;
 use exchange_record::Recorder;
 use line_base::{Clock, Listener, Net, NetFault, Peer};
 use linker_config::Loaded;
-use proxy_session::Mem;
+use proxy_session::{Mem, Room};
 use router::{Naming, Opened, Pass, Router};
 use scrape::Scrape;
-use std::alloc::Global;
+use std::alloc::{AllocError, Global};
 use std::marker::Brand;
 use std::sync::Wait;
 use std::sync::ledger::Ledger;
@@ -273,12 +273,49 @@ struct Stock<P: Peer, J: Handling, K, X, A: Ledger, B: Ledger, E: Ledger, F: Led
     supplies: Supplies<K, X, A, B, E, F>,
 }
 
+/// Rooms for bytes, room for jobs of a net, and room for their parts, once they have ended.
+type NetMemory<'a, J, N, C, K, X, A, B, E, F> = (
+    Vec<Room>,
+    Jobs<'a, J, N, C, K, X, A, B, E, F>,
+    NetApart<J, N, K, A, B, E, F>,
+);
+
 /// The stock of a net's jobs, room for their parts, once they have ended, and room for the jobs.
 type NetStock<'a, J, N, C, K, X, A, B, E, F> = (
     Stock<<<N as Net>::L as Listener>::P, J, K, X, A, B, E, F>,
     NetApart<J, N, K, A, B, E, F>,
     Jobs<'a, J, N, C, K, X, A, B, E, F>,
 );
+
+/// Takes the memory for so many jobs and for their parts, once they have ended, and a room for
+/// bytes for each worker that serves clients.
+fn make_memory<
+    'a,
+    J: Handling,
+    N: Net,
+    C: Drop,
+    K: Drop,
+    X: Drop,
+    A: Ledger,
+    B: Ledger,
+    E: Ledger,
+    F: Ledger,
+>(plan: &Plan<'_, J>, count: usize) -> Mem<NetMemory<'a, J, N, C, K, X, A, B, E, F>>
+    ensures rooms { IfOk result (λ m. length m.0.items ≡ plan.now.site.now.workers) }
+    ensures jobs { IfOk result (λ m. (m.1.items ≡ []) × (count ≤ vec_capacity m.1)) }
+    ensures apart { IfOk result (λ m. IsEmpty m.2 × HasRoom m.2 count) }
+{
+    let rooms = make_rooms(plan.alloc, plan.site.workers as usize)?;
+    let jobs = Vec::with_capacity(plan.alloc, count)?;
+    match Apart::with_room(plan.alloc, count) {
+        Ok(apart) => Ok((rooms, jobs, apart)),
+        Err(failed) => {
+            drop(rooms);
+            drop(jobs);
+            Err(failed)
+        }
+    }
+}
 
 /// Takes all memory that so many jobs need, so that they can be taken apart once they have run:
 /// rooms for bytes, lots where as many connections may wait as the net has room for, and room for
@@ -311,18 +348,30 @@ fn make_stock<
     ensures jobs { IfOk result (λ s. (s.2.items ≡ []) × (count ≤ vec_capacity s.2)) }
     ensures kept { (N.state net.new ≡ N.state net.old) × (N.faults net.new ≡ N.faults net.old) }
 {
-    let apart = Apart::with_room(plan.alloc, count)?;
-    let jobs = Vec::with_capacity(plan.alloc, count)?;
-    let rooms = make_rooms(plan.alloc, plan.site.workers as usize)?;
+    let Ok((rooms, jobs, apart)) = make_memory::<J, N, C, K, X, A, B, E, F>(plan, count) else {
+        drop(blanks);
+        drop(instruments);
+        return Err(AllocError);
+    };
     let room = net.waiting_room(MOST_CLIENTS).max(LEAST_CLIENTS);
     let callers = plan.site.interface_jobs();
-    let (lots, hands) = Lots::open(plan.alloc, room, blanks, plan.site.workers, callers)?;
-    let supplies = Supplies {
-        rooms,
-        instruments,
-        hands,
-    };
-    Ok((Stock { lots, supplies }, apart, jobs))
+    match Lots::open(plan.alloc, room, blanks, plan.site.workers, callers) {
+        Ok((lots, hands)) => {
+            let supplies = Supplies {
+                rooms,
+                instruments,
+                hands,
+            };
+            Ok((Stock { lots, supplies }, apart, jobs))
+        }
+        Err(failed) => {
+            drop(rooms);
+            drop(jobs);
+            drop(apart);
+            drop(instruments);
+            Err(failed)
+        }
+    }
 }
 
 /// What the jobs of a router are made from: its listeners, what else each job gets, and its passes.
