@@ -7,7 +7,7 @@ ghost use Rattle.bind_core.specs.Tables.{rules_in};
 use crate::Mem;
 use dtab_table::{Dtab, LeanTree};
 use name_tree::Path;
-use std::alloc::Global;
+use std::alloc::{AllocError, Global};
 use std::sync::ledger::Ledger;
 use step_count::Steps;
 
@@ -64,13 +64,15 @@ fn append_matching<'a, L: Ledger>(
     if table.len() == 0 {
         return Ok(());
     }
-    let more = table.lean_matching(alloc, path, steps)?;
+    let mut more = table.lean_matching(alloc, path, steps)?;
     if found.is_empty() {
         *found = more;
         return Ok(());
     }
-    for lent in more {
-        found.push(lent)?;
-    }
+    let Ok(()) = found.append(&mut more) else {
+        drop(more);
+        return Err(AllocError);
+    };
+    drop(more);
     Ok(())
 }

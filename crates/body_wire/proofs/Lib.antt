@@ -7,5 +7,6 @@ pub mod Passes
 pub mod Places
 pub mod Sent
 pub mod Stopping
+pub mod Telling
 pub mod Trails
 pub mod Turning

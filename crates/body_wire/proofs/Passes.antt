@@ -18,7 +18,7 @@ use Rattle.body_wire.specs.Passing.{most_piece, is_at_end, runs_to_end, Ends, Is
 use Rattle.body_wire.specs.Passing.{LastPiece, InTurn, PassesOn}
 use Rattle.body_wire.specs.Places.{CanEnd}
 use Rattle.body_wire.specs.Stands.{Holds, HoldsAt, Stops, most_left}
-use Rattle.body_wire.specs.Turns.{Turns, answer_of, end_answer}
+use Rattle.body_wire.specs.Turns.{Turns, TurnSends, answer_of, end_answer}
 use Rattle.body_wire.proofs.Fronts.{front_body}
 use Rattle.body_wire.proofs.Stopping.{no_bytes}
 
@@ -412,6 +412,14 @@ module _ (framing : Framing) (form : Form) (limit : ℕ) (d0 d1 : Decoder) (head
 
   pub on_no_fault : turn ≢ Err TurnFault.Failed
   on_no_fault failed = cc
+
+-- where a turn wants more, more may come
+pub turn_waits : (d0 d1 : Decoder) (rest0 rest1 waiting now : List ℕ) (turn : Result StopCause TurnFault)
+    → Turns d0 d1 rest0 rest1 waiting now turn → turn ≡ Ok More → length rest1 < most_left d1
+turn_waits d0 d1 rest0 rest1 waiting now turn t more =
+    let sends : TurnSends (waiting ++ t.put) now d1 rest1 (Ok More) =
+    subst (λ (r : Result StopCause TurnFault). TurnSends (waiting ++ t.put) now d1 rest1 r) more t.sends in
+    sends.1.waits.1
 
 -- the bytes of one turn are fewer than those that may come
 pub turn_smaller : (d0 d1 : Decoder) (rest0 rest1 waiting now : List ℕ)

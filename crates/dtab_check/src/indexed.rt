@@ -12,7 +12,7 @@ use crate::prefixes::{are_same, matched_path, patterns_of};
 use dtab_index::Index;
 use dtab_table::{Entry, Prefix};
 use name_tree::Path;
-use std::alloc::Global;
+use std::alloc::{AllocError, Global};
 
 /// The entries of a table, and their prefixes in an index.
 ///
@@ -114,7 +114,11 @@ fn find(alloc: Global, entries: &[Entry], index: &Index, prefix: &Prefix) -> Mem
         → Contains index.now (prefix.now, place)) }
 {
     let path = matched_path(alloc, prefix)?;
-    let covers = index.matching(alloc, &path)?;
+    let Ok(covers) = index.matching(alloc, &path) else {
+        drop(path);
+        return Err(AllocError);
+    };
+    drop(path);
     for cover in &covers {
         let place = *cover as usize;
         if are_same(&entries[place].prefix, prefix) {

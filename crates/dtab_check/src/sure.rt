@@ -12,7 +12,7 @@ use crate::indexed::IndexedEntries;
 use crate::live::live_in;
 use dtab_table::Entry;
 use name_tree::Tree;
-use std::alloc::Global;
+use std::alloc::{AllocError, Global};
 
 /// Which entries of a table have a sure tree, entry by entry.
 ///
@@ -49,7 +49,13 @@ fn put_links(
         ++ reached_by (leaves_in (value_of tree.now)) (map rule_of indexed.now.entries.now) ∷ []) }
 {
     let live = live_in(alloc, tree)?;
-    own.push(live.stops)?;
-    rows.push(indexed.reached_by(alloc, live.leaves.as_slice())?)?;
+    let Ok(row) = indexed.reached_by(alloc, live.leaves.as_slice()) else {
+        drop(live);
+        return Err(AllocError);
+    };
+    let stops = live.stops;
+    drop(live);
+    own.push(stops)?;
+    rows.push(row)?;
     Ok(())
 }

@@ -12,8 +12,9 @@ use std::alloc::Global;
 
 /// The texts of some entries, in their order.
 pub(crate) fn texts_of(alloc: Global, entries: &[Entry]) -> Mem<Vec<EntryText>>
-    ensures { IfOk result (λ texts. texts_in texts.items
+    ensures texts { IfOk result (λ texts. texts_in texts.items
         ≡ map canon_rule (map rule_of entries.now)) }
+    ensures many { IfOk result (λ texts. length texts.items ≡ length entries.now) }
 {
     let mut texts = Vec::with_capacity(alloc, entries.len())?;
     for entry in entries {

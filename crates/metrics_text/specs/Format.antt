@@ -10,6 +10,10 @@ kind_text Counter = codes "counter"
 kind_text Gauge = codes "gauge"
 kind_text Histogram = codes "histogram"
 
+-- a line that says something of a metric, behind a mark
+abbrev pub comment_line : List ℕ → List ℕ → List ℕ → List ℕ
+comment_line mark name text = mark ++ name ++ codes " " ++ text ++ codes "\n"
+
 -- what a metric is, and its type
 unfoldable pub head_lines : List ℕ → Kind → List ℕ → List ℕ
 head_lines name kind help =

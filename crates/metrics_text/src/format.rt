@@ -2,8 +2,8 @@
 ghost use Rattle.std.specs.Prelude.{◌≡◌, ◌++◌, OnOk};
 ghost use Rattle.std.specs.Fmt.{decimal};
 ghost use Rattle.std.specs.List.{flat_map};
-ghost use Rattle.metrics_text.specs.Format.{escaped, escaped_byte, head_lines, kind_text};
-ghost use Rattle.metrics_text.specs.Format.{labelled_line, single_text, value_line};
+ghost use Rattle.metrics_text.specs.Format.{comment_line, escaped, escaped_byte, head_lines};
+ghost use Rattle.metrics_text.specs.Format.{kind_text, labelled_line, single_text, value_line};
 
 use crate::{Bytes, Mem};
 use itoa::Buffer;
@@ -38,14 +38,20 @@ impl Kind {
 pub(crate) fn put_head(name: &str, kind: Kind, help: &str, out: &mut Bytes) -> Mem<()>
     ensures { OnOk result (out.new.items ≡ out.old.items ++ head_lines name.now kind help.now) }
 {
-    out.extend_from_slice(b"# HELP ")?;
+    put_comment(b"# HELP ", name, help.as_bytes(), out)?;
+    put_comment(b"# TYPE ", name, kind.text().as_bytes(), out)?;
+    Ok(())
+}
+
+/// Puts a line after some bytes that says something of a metric, behind this mark.
+fn put_comment(mark: &[u8], name: &str, text: &[u8], out: &mut Bytes) -> Mem<()>
+    ensures { OnOk result
+        (out.new.items ≡ out.old.items ++ comment_line mark.now name.now text.now) }
+{
+    out.extend_from_slice(mark)?;
     out.extend_from_slice(name.as_bytes())?;
     out.push(b' ')?;
-    out.extend_from_slice(help.as_bytes())?;
-    out.extend_from_slice(b"\n# TYPE ")?;
-    out.extend_from_slice(name.as_bytes())?;
-    out.push(b' ')?;
-    out.extend_from_slice(kind.text().as_bytes())?;
+    out.extend_from_slice(text)?;
     out.push(b'\n')?;
     Ok(())
 }

@@ -1,13 +1,14 @@
-use Rattle.std.proofs.Common.{[], ◌∷◌, ◌++◌, refl, sym, ap, ◌∙◌}
+use Rattle.std.proofs.Common.{◌<◌, [], ◌∷◌, ◌++◌, length, refl, sym, ap, ◌∙◌, arith}
 use Rattle.line_base.proofs.Links.{links_on, links_same}
 use Rattle.std.proofs.KnownBytes.{Appends-nil, Appends-trans, Consumes-nil, Consumes-kept}
 use Rattle.std.proofs.KnownBytes.{Keeps-refl, Keeps-trans}
 use Rattle.body_wire.specs.declared.end.BodyEnd.{BodyEnd}
 use Rattle.body_wire.specs.Passing.{form_of, most_passed}
 use Rattle.body_wire.proofs.Passes.{begins, answered, answer_not_at_end, no_answer, on_piece}
-use Rattle.body_wire.proofs.Passes.{on_end, on_fault}
+use Rattle.body_wire.proofs.Passes.{on_end, on_fault, turn_smaller, turn_waits}
 use Rattle.body_wire.proofs.Sent.{Receives-nil, received_more, received_same, came_piece}
 use Rattle.body_wire.proofs.Stopping.{no_bytes}
+use Rattle.body_wire.proofs.Telling.{answers_none, answers_own, ends_with_none}
 use Rattle.body_wire.proofs.back.pass_back.Goals as goal
 
 pub pieces-init : goal.pieces-init
@@ -143,3 +144,50 @@ returns-in-Err-clause-body g c =
       (λ at. absurd (let no : ⊥ = cc in no)),
       faults.1,
     )
+
+pub returns-in-Some-clause-receives : goal.returns-in-Some-clause-receives
+returns-in-Some-clause-receives g c = record {
+  here = λ at. absurd (answers_none c.write_turn-turn.new.decoder.count BodyEnd.WriteFault BodyEnd.RecvFault c.write_turn-turn.result c.in-Some.end (sym c.answer.ensures ∙ c.in-Some.is) refl (λ e. cc) at);
+  others = λ other. c.pieces.invariant.faults;
+}
+
+pub returns-in-Some-clause-writes : goal.returns-in-Some-clause-writes
+returns-in-Some-clause-writes g c =
+    answers_own c.write_turn-turn.new.decoder.count BodyEnd.WriteFault c.write_turn-turn.result c.in-Some.end (g.P.Peer.line c.args.peer.now).write_faults (g.P.Peer.line c.pieces.peer).write_faults
+    (g.P.Peer.line c.write_turn-turn.new.peer).write_faults (sym c.answer.ensures ∙ c.in-Some.is) refl c.pieces.invariant.writes c.write_turn-turn.ensures.cause
+
+pub returns-in-Some-clause-never : goal.returns-in-Some-clause-never
+returns-in-Some-clause-never g c =
+    let answer = sym c.answer.ensures ∙ c.in-Some.is in (
+      answers_none c.write_turn-turn.new.decoder.count BodyEnd.WriteFault BodyEnd.ReadFault c.write_turn-turn.result c.in-Some.end answer refl (λ e. cc),
+      answers_none c.write_turn-turn.new.decoder.count BodyEnd.WriteFault BodyEnd.SendFault c.write_turn-turn.result c.in-Some.end answer refl (λ e. cc),
+    )
+
+pub returns-in-Ok-eq0-clause-receives : goal.returns-in-Ok-eq0-clause-receives
+returns-in-Ok-eq0-clause-receives g c = record {
+  here = λ at. absurd (ends_with_none c.args.framing c.write_turn-turn.new.decoder.count BodyEnd.RecvFault c.at_end.result c.at_end.ensures refl at);
+  others = λ other. c.in-Ok-eq0.ensures.cause.kept ∙ c.pieces.invariant.faults;
+}
+
+pub returns-in-Ok-eq0-clause-writes : goal.returns-in-Ok-eq0-clause-writes
+returns-in-Ok-eq0-clause-writes g c =
+    let more = no_answer c.write_turn-turn.new.decoder.count BodyEnd.WriteFault c.write_turn-turn.result (sym c.answer.ensures ∙ c.in-None.is) in
+    record {
+      here = λ at. absurd (ends_with_none c.args.framing c.write_turn-turn.new.decoder.count BodyEnd.WriteFault c.at_end.result c.at_end.ensures refl at);
+      others = λ other. c.write_turn-turn.ensures.cause.others (λ failed. cc) ∙ c.pieces.invariant.writes;
+    }
+
+pub returns-in-Ok-eq0-clause-never : goal.returns-in-Ok-eq0-clause-never
+returns-in-Ok-eq0-clause-never g c = (
+  ends_with_none c.args.framing c.write_turn-turn.new.decoder.count BodyEnd.ReadFault c.at_end.result c.at_end.ensures refl,
+  ends_with_none c.args.framing c.write_turn-turn.new.decoder.count BodyEnd.SendFault c.at_end.result c.at_end.ensures refl,
+)
+
+pub pieces-smaller : goal.pieces-smaller
+pieces-smaller g c =
+    let t = c.write_turn-turn.ensures.bytes in
+    let b = c.in-Ok.ensures.bytes in
+    let more = no_answer c.write_turn-turn.new.decoder.count BodyEnd.WriteFault c.write_turn-turn.result (sym c.answer.ensures ∙ c.in-None.is) in
+    let some : 0 < length b.0 = omega (arith, b.3, c.in-Ok.field-0-test) in
+    turn_smaller c.pieces.decoder c.write_turn-turn.new.decoder c.pieces.rest c.write_turn-turn.new.rest c.pieces.out.items t.0 c.write_turn-turn.result b.0 c.pull_from.new.self t.2
+    (turn_waits c.pieces.decoder c.write_turn-turn.new.decoder c.pieces.rest c.write_turn-turn.new.rest c.pieces.out.items t.0 c.write_turn-turn.result t.2 more) some b.5

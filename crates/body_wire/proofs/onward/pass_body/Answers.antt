@@ -1,12 +1,13 @@
-use Rattle.std.proofs.Common.{◌<◌, [], ◌∷◌, ◌++◌, refl, sym, ◌∙◌, arith}
+use Rattle.std.proofs.Common.{◌<◌, [], ◌∷◌, ◌++◌, length, refl, sym, ◌∙◌, arith}
 use Rattle.line_base.proofs.Links.{links_on, links_same}
 use Rattle.std.proofs.KnownBytes.{Consumes-nil, Consumes-kept, Keeps-refl, Keeps-trans}
 use Rattle.body_wire.specs.declared.end.BodyEnd.{BodyEnd}
 use Rattle.body_wire.specs.declared.form.Form.{Form}
 use Rattle.body_wire.specs.Passing.{most_passed}
 use Rattle.body_wire.proofs.Passes.{begins, answered, answer_not_at_end, no_answer, on_piece}
-use Rattle.body_wire.proofs.Passes.{on_end, on_fault}
+use Rattle.body_wire.proofs.Passes.{on_end, on_fault, turn_smaller, turn_waits}
 use Rattle.body_wire.proofs.Sent.{Sends-nil, Sends-trans, came_piece}
+use Rattle.body_wire.proofs.Telling.{answers_none, answers_own, ends_with_none}
 use Rattle.body_wire.proofs.onward.pass_body.Goals as goal
 
 pub pieces-init : goal.pieces-init
@@ -152,3 +153,50 @@ returns-in-Err-clause-body g c =
           (g.D.Dialer.upstream c.send_turn-turn.new.dialer).log w.1 t.0 w.3 t.1,
       faults.0,
     )
+
+pub returns-in-Some-clause-reads : goal.returns-in-Some-clause-reads
+returns-in-Some-clause-reads g c = record {
+  here = λ at. absurd (answers_none c.send_turn-turn.new.decoder.count BodyEnd.SendFault BodyEnd.ReadFault c.send_turn-turn.result c.in-Some.end (sym c.answer.ensures ∙ c.in-Some.is) refl (λ e. cc) at);
+  others = λ other. c.pieces.invariant.reads;
+}
+
+pub returns-in-Some-clause-sends : goal.returns-in-Some-clause-sends
+returns-in-Some-clause-sends g c =
+    answers_own c.send_turn-turn.new.decoder.count BodyEnd.SendFault c.send_turn-turn.result c.in-Some.end (g.D.Dialer.upstream c.args.dialer.now).faults (g.D.Dialer.upstream c.pieces.dialer).faults
+    (g.D.Dialer.upstream c.send_turn-turn.new.dialer).faults (sym c.answer.ensures ∙ c.in-Some.is) refl c.pieces.invariant.faults c.send_turn-turn.ensures.cause
+
+pub returns-in-Some-clause-never : goal.returns-in-Some-clause-never
+returns-in-Some-clause-never g c =
+    let answer = sym c.answer.ensures ∙ c.in-Some.is in (
+      answers_none c.send_turn-turn.new.decoder.count BodyEnd.SendFault BodyEnd.WriteFault c.send_turn-turn.result c.in-Some.end answer refl (λ e. cc),
+      answers_none c.send_turn-turn.new.decoder.count BodyEnd.SendFault BodyEnd.RecvFault c.send_turn-turn.result c.in-Some.end answer refl (λ e. cc),
+    )
+
+pub returns-in-Ok-eq0-clause-reads : goal.returns-in-Ok-eq0-clause-reads
+returns-in-Ok-eq0-clause-reads g c = record {
+  here = λ at. absurd (ends_with_none c.args.framing c.send_turn-turn.new.decoder.count BodyEnd.ReadFault c.at_end.result c.at_end.ensures refl at);
+  others = λ other. c.in-Ok-eq0.ensures.cause.kept ∙ c.pieces.invariant.reads;
+}
+
+pub returns-in-Ok-eq0-clause-sends : goal.returns-in-Ok-eq0-clause-sends
+returns-in-Ok-eq0-clause-sends g c =
+    let more = no_answer c.send_turn-turn.new.decoder.count BodyEnd.SendFault c.send_turn-turn.result (sym c.answer.ensures ∙ c.in-None.is) in
+    record {
+      here = λ at. absurd (ends_with_none c.args.framing c.send_turn-turn.new.decoder.count BodyEnd.SendFault c.at_end.result c.at_end.ensures refl at);
+      others = λ other. c.send_turn-turn.ensures.cause.others (λ failed. cc) ∙ c.pieces.invariant.faults;
+    }
+
+pub returns-in-Ok-eq0-clause-never : goal.returns-in-Ok-eq0-clause-never
+returns-in-Ok-eq0-clause-never g c = (
+  ends_with_none c.args.framing c.send_turn-turn.new.decoder.count BodyEnd.WriteFault c.at_end.result c.at_end.ensures refl,
+  ends_with_none c.args.framing c.send_turn-turn.new.decoder.count BodyEnd.RecvFault c.at_end.result c.at_end.ensures refl,
+)
+
+pub pieces-smaller : goal.pieces-smaller
+pieces-smaller g c =
+    let t = c.send_turn-turn.ensures.bytes in
+    let b = c.in-Ok.ensures.bytes in
+    let more = no_answer c.send_turn-turn.new.decoder.count BodyEnd.SendFault c.send_turn-turn.result (sym c.answer.ensures ∙ c.in-None.is) in
+    let some : 0 < length b.0 = omega (arith, b.2, c.in-Ok.field-0-test) in
+    turn_smaller c.pieces.decoder c.send_turn-turn.new.decoder c.pieces.rest c.send_turn-turn.new.rest c.pieces.out.items t.0 c.send_turn-turn.result b.0 c.pull.new.self t.2
+    (turn_waits c.pieces.decoder c.send_turn-turn.new.decoder c.pieces.rest c.send_turn-turn.new.rest c.pieces.out.items t.0 c.send_turn-turn.result t.2 more) some b.4

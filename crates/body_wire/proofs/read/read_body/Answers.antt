@@ -1,4 +1,4 @@
-use Rattle.std.proofs.Common.{◌<◌, ℕ, ◌++◌, refl, sym, subst, ◌∙◌, arith, Result}
+use Rattle.std.proofs.Common.{◌<◌, ℕ, ◌++◌, length, refl, sym, subst, ◌∙◌, arith, Result}
 use Rattle.std.proofs.KnownBytes.{Consumes-kept, Consumes-trans, Keeps-trans}
 use Rattle.std.specs.declared.vec.Vec.{Vec}
 use Rattle.std.specs.declared.alloc.Global.{Global}
@@ -7,7 +7,7 @@ use Rattle.body_wire.specs.declared.end.BodyEnd.{BodyEnd}
 use Rattle.body_wire.specs.Passing.{ReadsBody}
 use Rattle.body_wire.specs.Stands.{Stops}
 use Rattle.body_wire.proofs.Collected.{goes_on, piece_came, whole, bad, too_long, no_memory, fault}
-use Rattle.body_wire.proofs.Collected.{at_end}
+use Rattle.body_wire.proofs.Collected.{at_end, smaller}
 use Rattle.body_wire.proofs.Passes.{whole_not_to_end}
 use Rattle.body_wire.proofs.read.read_body.Goals as goal
 
@@ -156,3 +156,13 @@ returns-in-Err-pull-clause-body g c =
       fault c.args.framing c.take_all.new.decoder c.args.rest.now r.0 c.take_all.new.out.items
           c.take_all.new.rest on c.pull.new.self b.1 stops,
     )
+
+pub pieces-smaller : goal.pieces-smaller
+pieces-smaller g c =
+    let e = c.in-Ok-More.ensures in
+    let b = c.in-Ok.ensures.bytes in
+    let some : 0 < length b.0 = omega (arith, b.2, c.in-Ok.field-0-test) in
+    let stops = subst (λ (stop : StopCause). Stops c.take_all.new.decoder c.take_all.new.rest stop)
+    c.in-Ok-More.field-0-is e.1 in
+    smaller c.pieces.decoder c.take_all.new.decoder c.pieces.rest c.take_all.new.rest
+    c.pieces.content.items c.take_all.new.out.items b.0 c.pull.new.self e.0 stops.waits.1 some b.4

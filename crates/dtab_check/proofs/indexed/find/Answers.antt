@@ -10,7 +10,7 @@ bounds-entries-place c =
     let there = stands-at c.args.entries.now c.args.index.now c.in_ok-path.path
     c.deref-cover-items.result.now c.loop-cover.cover-index
     (get_or c.deref-cover-items.result.now c.loop-cover.cover-index 0) c.requires
-    (c.deref-cover-items.ensures.value ∙ c.in_ok-covers.ensures) c.loop-cover-test.true refl in
+    (c.deref-cover-items.ensures.value ∙ c.in-Ok.ensures) c.loop-cover-test.true refl in
     there.0
 
 pub returns-then-are_same : goal.returns-then-are_same
@@ -18,7 +18,7 @@ returns-then-are_same c = λ place is.
     let found = get_or c.deref-cover-items.result.now c.loop-cover.cover-index 0 in
     let there = stands-at c.args.entries.now c.args.index.now c.in_ok-path.path
     c.deref-cover-items.result.now c.loop-cover.cover-index found c.requires
-    (c.deref-cover-items.ensures.value ∙ c.in_ok-covers.ensures) c.loop-cover-test.true refl in
+    (c.deref-cover-items.ensures.value ∙ c.in-Ok.ensures) c.loop-cover-test.true refl in
     let same = prefix_at-read c.args.entries.now found c.index-entries-place.result there.0
     ∙ c.are_same.ensures.0 c.if-are_same.true in
     let here = subst (λ (prefix : List Pattern). Contains c.args.index.now (prefix, found)) same there.1 in

@@ -14,8 +14,8 @@ pub returns-clause-rows : goal.returns-clause-rows
 returns-clause-rows c =
     let rules : List Rule = map rule_of c.args.indexed.now.entries.now in
     let items : Vec Bool Global → List Bool = λ row. row.items in
-    let row : c.in_ok-reached_by.field-0.items ≡ reached_by (leaves_in (value_of c.args.tree.now)) rules =
-    c.in_ok-reached_by.ensures
+    let row : c.in-Ok.row.items ≡ reached_by (leaves_in (value_of c.args.tree.now)) rules =
+    c.in-Ok.ensures
     ∙ (ap (λ (ls : List (Bor Path)). reached_by (paths_of ls) rules) c.as_slice.ensures.value ∙ ap (λ (ls : List Labels). reached_by ls rules) c.in_ok-live.ensures.leaves) in
     ap (map items) c.in_ok-push-2.ensures.items
-    ∙ (map-append items c.args.rows.now.items (c.in_ok-reached_by.field-0 ∷ []) ∙ ap (λ (reached : List Bool). map items c.args.rows.now.items ++ reached ∷ []) row)
+    ∙ (map-append items c.args.rows.now.items (c.in-Ok.row ∷ []) ∙ ap (λ (reached : List Bool). map items c.args.rows.now.items ++ reached ∷ []) row)

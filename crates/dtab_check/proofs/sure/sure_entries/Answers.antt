@@ -1,4 +1,5 @@
-use Rattle.std.proofs.Common.{◌≡◌, ◌++◌, [], ◌∷◌, Bor, List, Bool, Vec, Global, length, map, refl, ap, ◌∙◌}
+use Rattle.std.proofs.Common.{◌≡◌, ◌++◌, [], ◌∷◌, Bor, List, Bool, Vec, Global, length, map, take, refl, sym, ap, ◌∙◌}
+use Rattle.std.proofs.lemmas.List.{length-map}
 use Rattle.name_tree.specs.Tree.{value_of}
 use Rattle.dtab_table.specs.declared.entry.Entry.{Entry}
 use Rattle.dtab_table.specs.Rules.{Rule, rule_of}
@@ -24,6 +25,18 @@ loop-entry-preserved c =
           (c.in_ok-put_links.ensures.rows
           ∙ ap (λ (table : List Rule). map items c.loop-entry.rows.items ++ reached_by (leaves_in (value_of c.entry-item.result.tree)) table ∷ []) of_table) c.loop-entry.invariant.rows;
     }
+
+pub leading_to-requires : goal.leading_to-requires
+leading_to-requires c =
+    let rules : List Rule = map rule_of c.args.entries.now in
+    let seen : List Rule = map rule_of (take c.loop-entry.entry-index c.args.entries.now) in
+    let items : Vec Bool Global → List Bool = λ row. row.items in
+    let own : length c.as_slice.result.now ≡ length seen =
+    ap length c.as_slice.ensures.value ∙ (ap length c.loop-entry.invariant.own ∙ length-map seen (λ (r : Rule). stops_in r.tree)) in
+    let rows : length c.as_slice-2.result.now ≡ length seen =
+    ap length c.as_slice-2.ensures.value
+    ∙ (sym (length-map c.loop-entry.rows.items items) ∙ (ap length c.loop-entry.invariant.rows ∙ length-map seen (λ (r : Rule). reached_by (leaves_in r.tree) rules))) in
+    rows ∙ sym own
 
 pub returns : goal.returns
 returns c =

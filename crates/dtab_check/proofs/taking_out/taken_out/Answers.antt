@@ -22,6 +22,18 @@ loop-at-preserved c =
       few = kept_few c.loop-at.kept.items c.put_unless.new.kept.items (rule_of c.index-entries-at.result) c.is_entry_of-is_hidden.result c.loop-at.at c.in_ok-put_unless.ensures c.loop-at.invariant.few;
     }
 
+pub returns-clause-entries : goal.returns-clause-entries
+returns-clause-entries c =
+    let entries = c.in_ok-entries.entries.now in
+    let rules : List Rule = rules_of c.args.dtab.now in
+    let kept : map rule_of c.loop-at.kept.items ≡ without c.args.list.now (map rule_of entries) =
+    kept_end c.args.list.now entries c.loop-at.at (map rule_of c.loop-at.kept.items) (without c.args.list.now (map rule_of entries)) c.loop-at-test.false c.loop-at.invariant.kept in
+    let left : map rule_of c.of.result ≡ without c.args.list.now rules =
+    ap (λ (es : List Entry). map rule_of es) c.of.ensures ∙ (kept ∙ ap (λ (rs : List Rule). without c.args.list.now rs) c.in_ok-entries.ensures.entries) in
+    let P : Dtab → Type 0 = λ rest. rules_of rest ≡ map rule_of c.of.result in
+    let Q : Dtab → Type 0 = λ rest. rules_of rest ≡ without c.args.list.now rules in
+    ok_with P Q c.of-2.result c.of-2.ensures (λ rest is. is ∙ left)
+
 pub returns-clause-same : goal.returns-clause-same
 returns-clause-same c =
     let entries = c.in_ok-entries.entries.now in

@@ -4,6 +4,12 @@ use Rattle.http_wire.proofs.Sound.{sound_answer}
 use Rattle.http_wire.proofs.Turning.{causes_after, reads_after, reads_on, trusts_first}
 use Rattle.http_wire.proofs.reading.read_request_head.Goals as goal
 
+pub returns-in-Answered-clause-head : goal.returns-in-Answered-clause-head
+returns-in-Answered-clause-head g c = c.in-Answered.ensures.bytes.0
+
+pub returns-in-Answered-clause-causes : goal.returns-in-Answered-clause-causes
+returns-in-Answered-clause-causes g c = c.in-Answered.ensures.bytes.1
+
 pub returns-in-Answered-clause-sound : goal.returns-in-Answered-clause-sound
 returns-in-Answered-clause-sound g c = sound_answer _ c.first_look.new.rest c.in-Answered.answer c.in-Answered.ensures.bytes.0.answers
 
@@ -49,3 +55,14 @@ pub returns-in-Answered-take_turn-clause-causes : goal.returns-in-Answered-take_
 returns-in-Answered-take_turn-clause-causes g c =
     causes_after _ _ _ _ _ _ c.in-Answered-take_turn.answer c.loop-answer.invariant.ends c.loop-answer.invariant.faults
     c.in-Answered-take_turn.ensures.bytes.causes
+
+pub returns-in-Answered-take_turn-clause-others : goal.returns-in-Answered-take_turn-clause-others
+returns-in-Answered-take_turn-clause-others g c =
+    let before = c.loop-answer.invariant in
+    let turn = c.in-Answered-take_turn.ensures.others in
+    record {
+      given = Keeps-trans _ _ _ before.given turn.given;
+      write_faults = turn.write_faults ∙ before.write_faults;
+      closings = turn.closings ∙ before.closings;
+      quiets = turn.quiets ∙ before.quiets;
+    }
