@@ -137,10 +137,12 @@ def in_lanes(tasks, lanes, commands):
     has them by their keys, each behind those that it waits for.
 
     The one with the longest chain of others behind it comes first, since the whole takes no less
-    time than that chain: it may use up to four processors, before all others. Where it does not use
-    them all, as at the end of a check, when its longest proof is left, those beside it do. They are
-    as many as there is memory for. Without one that comes first, processors that no other task can
-    use go to one task. What waits for one that did not go well isn't done.
+    time than that chain: it may use two processors, before all others, and up to four where no
+    other task can use them. (It has no more while others wait, since a check reads the libraries
+    below on each of its processors.) Where it does not use its own, as at the end of a check, when
+    its longest proof is left, those beside it do. They are as many as there is memory for. Without
+    one that comes first, processors that no other task can use go to one task. What waits for one
+    that did not go well isn't done.
     """
     chain = dict.fromkeys(tasks, 0)
     for key in reversed(list(tasks)):
@@ -163,7 +165,8 @@ def in_lanes(tasks, lanes, commands):
                     if not all(went_well[below] for below in tasks[key].waits_for):
                         went_well[key] = False
                     elif not first and all(chain[key] >= chain[other] for other in others):
-                        running[pool.submit(tasks[key].call, most, FIRST)] = key, most, FIRST
+                        jobs = min(most, max(2, lanes - len(ready) + 1 - len(running)))
+                        running[pool.submit(tasks[key].call, jobs, FIRST)] = key, jobs, FIRST
                     elif idle > 0:
                         jobs = max(1, min(4, idle // (len(ready) - at)))
                         running[pool.submit(tasks[key].call, jobs, BESIDE)] = key, jobs, BESIDE
