@@ -1,7 +1,10 @@
 -- What the names of a folder come to, name by name.
-use Rattle.std.proofs.Common.{◌≡◌, ℕ, ◌<◌, nat_le, Bool, true, false, if◌then◌else◌, List, [], ◌∷◌, ◌++◌, length, Option, Some, None, Result, Ok, Err, Vec, Global, refl, sym, ap, ◌∙◌, subst, arith, append_assoc}
+use Rattle.std.proofs.Common.{◌≡◌, ℕ, ◌+◌, ◌<◌, ◌≤◌, nat_le, Bool, true, false, if◌then◌else◌, List, [], ◌∷◌, ◌++◌, length, map, drop, get_or, Option, Some, None, Result, Ok, Err, Vec, Global}
+use Rattle.std.proofs.Common.{refl, sym, ap, ◌∙◌, subst, arith, append_assoc, add-one, drop-cons}
 use Rattle.std.specs.Bool.{⊤}
 use Rattle.std.proofs.lemmas.Bool.Decides.{nat_tests}
+use Rattle.std.proofs.lemmas.List.{append-nil, drop_all}
+use Rattle.line_base.specs.Counts.{raised}
 use Rattle.line_base.specs.Files.{File, Finds, FindsAt, file_at}
 use Rattle.line_base.specs.declared.folder.Found.{Found}
 use Rattle.line_base.specs.declared.folder.Found.TheVariants.{Bytes, Absent, Longer}
@@ -10,8 +13,8 @@ use Rattle.linker_config.specs.declared.loaded.LoadedItem.{LoadedItem}
 use Rattle.linker_config.specs.declared.loaded.LoadFault.{LoadFault}
 use Rattle.linker_config.specs.declared.loaded.LoadFault.TheVariants.{BadFile, FolderFault, LongFile, OutOfMemory}
 use Rattle.linker_config.specs.Listening.{is_name}
-use Rattle.linker_config.specs.Folder.{Services, before_others, file_told, path_in, with_file, with_item, with_name}
-use Rattle.linker_config.specs.Loading.{Adds, Steps, behind}
+use Rattle.linker_config.specs.Folder.{Services, before_others, file_told, path_in, services_told, with_file, with_item, with_name}
+use Rattle.linker_config.specs.Loading.{Adds, Comes, HasLoadCause, Steps, behind}
 use Rattle.linker_config.proofs.Names.{is_name-IsName, IsName-is_name}
 
 chosen : (b : Bool) (first second : Services) → b ≡ true → (if b then first else second) ≡ first
@@ -93,3 +96,40 @@ steps_bytes files root name v old new (Err (BadFile n line)) h found told = λ o
     ∙ ap (λ (t : Result LoadedItem LoadFault). before_others t others) told
 steps_bytes files root name v old new (Err FolderFault) h found told = tt
 steps_bytes files root name v old new (Err OutOfMemory) h found told = tt
+
+names_cut : {A : Type 0} (names : List A) (at : ℕ) (name : A) → at < length names → name ≡ get_or names at name → drop at names ≡ name ∷ drop (at + 1) names
+names_cut names at name within is = rw (drop-cons names at name, ← is, add-one) refl
+
+-- the services so far, and what the names from a place on come to, are what all names come to
+module _ {A : Type 0} (bytes_of : A → List ℕ) (files : List File) (root : List ℕ) (names : List A) (at : ℕ) (total : Services) where
+  abbrev rest_from : ℕ → Services
+  rest_from from = services_told files root (map bytes_of (drop from names))
+
+  module _ (name : A) (text : List ℕ) (old : List LoadedItem) (within : at < length names) (is : name ≡ get_or names at name) (same : text ≡ bytes_of name) (told : behind old (rest_from at) ≡ total) where
+    one_told : behind old (with_name files root text (rest_from (at + 1))) ≡ total
+    one_told =
+        ap (λ (t : List ℕ). behind old (with_name files root t (rest_from (at + 1)))) same
+        ∙ (sym (ap (λ (ns : List A). behind old (services_told files root (map bytes_of ns))) (names_cut names at name within is)) ∙ told)
+
+    -- one name more is looked at
+    pub told_next : (new : List LoadedItem) → ((others : Services) → behind old (with_name files root text others) ≡ behind new others) → behind new (rest_from (at + 1)) ≡ total
+    told_next new step = sym (step (rest_from (at + 1))) ∙ one_told
+
+    -- a name is refused
+    pub told_refused : (new : List LoadedItem) (fault : LoadFault) → Steps files root text old new (Err fault) → Comes total (Err fault)
+    told_refused new (LongFile n) step = sym one_told ∙ ap (behind old) (step (rest_from (at + 1)))
+    told_refused new (BadFile n line) step = sym one_told ∙ ap (behind old) (step (rest_from (at + 1)))
+    told_refused new FolderFault step = tt
+    told_refused new OutOfMemory step = tt
+
+  -- all names were looked at
+  pub told_end : (all : List LoadedItem) → length names ≤ at → behind all (rest_from at) ≡ total → total ≡ Ok all
+  told_end all past told =
+      sym told ∙ (ap (λ (ns : List A). behind all (services_told files root (map bytes_of ns))) (drop_all at names past) ∙ ap Ok (append-nil all))
+
+-- a refusal has its cause, whatever it was that was to be loaded
+pub refused_cause : {S T : Type 0} (start before now : ℕ) (fault : LoadFault) → before ≡ start → HasLoadCause {T = S} before now (Err fault) → HasLoadCause {T = T} start now (Err fault)
+refused_cause start before now (LongFile n) same cause = record { later = omega (arith, same, cause.later); count = cause.count ∙ same }
+refused_cause start before now (BadFile n line) same cause = record { later = omega (arith, same, cause.later); count = cause.count ∙ same }
+refused_cause start before now FolderFault same cause = record { later = omega (arith, same, cause.later); count = cause.count ∙ ap raised same }
+refused_cause start before now OutOfMemory same cause = record { later = omega (arith, same, cause.later); count = cause.count ∙ same }
