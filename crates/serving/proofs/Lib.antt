@@ -4,6 +4,8 @@ mod Chains
 mod Counting
 mod Finishing
 mod Handing
+mod Meeting
+mod Moving
 mod Outcome
 mod Parting
 mod Posting
@@ -11,5 +13,7 @@ mod Refusing
 mod Returning
 mod Sending
 mod Services
+mod Sharing
 mod Shifts
+mod Taking
 mod Zipping

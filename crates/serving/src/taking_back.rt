@@ -63,7 +63,7 @@ fn take_apart<
             apart.passes.push_reserved(pass);
             apart.recorders.push_reserved(recorder);
             apart.client_hands.push_reserved(hand);
-            apart.lacked_memory = apart.lacked_memory || lacked_memory;
+            apart.lacked_memory |= lacked_memory;
         }
         ServingJob::Api(job) => {
             let ApiJob {
@@ -91,7 +91,7 @@ fn take_apart<
             });
             apart.passes.push_reserved(pass);
             apart.caller_hands.push_reserved(hand);
-            apart.lacked_memory = apart.lacked_memory || lacked_memory;
+            apart.lacked_memory |= lacked_memory;
         }
     }
 }

@@ -1,13 +1,19 @@
 use Rattle.std.proofs.Common.{◌≡◌, ◌+◌, ◌++◌, List, ap, sym, subst, ◌∙◌, arith, length}
 use Rattle.std.specs.Prelude.{Option}
 use Rattle.std.specs.List.{AllZip}
+use Rattle.std.specs.Vec.Iter.{into_iter_items}
 use Rattle.line_base.specs.Nets.{Returns}
 use Rattle.line_base.specs.Dials.{Upstream}
 use Rattle.serving.specs.Hands.{AreNewHands}
-use Rattle.serving.specs.Jobs.{IsPosted, RouterJob, recorders_of_jobs}
+use Rattle.serving.specs.Jobs.{IsPosted, RouterJob, passes_of_jobs, recorders_of_jobs}
 use Rattle.serving.specs.Posts.{jobs_of, main_posts, posts_of}
 use Rattle.serving.specs.Running.{AreNewFeed, AreNewFrom}
+use Rattle.serving.proofs.Moving.{as_few}
 use Rattle.serving.proofs.Posting.{all_stops, main_posted, told_kept}
+use Rattle.serving.proofs.Sharing.{all_posted, all_shared, at_least, few_of, first_called}
+use Rattle.serving.proofs.Sharing.{first_fits, first_shared, fourth_fits, fourth_shared, second_called}
+use Rattle.serving.proofs.Sharing.{second_fits, second_shared, third_called, third_fits}
+use Rattle.serving.proofs.Sharing.{third_shared}
 use Rattle.serving.proofs.jobs.add_jobs.Goals as goal
 
 pub returns-clause-posted : goal.returns-clause-posted
@@ -69,3 +75,139 @@ returns-clause-recorders g c =
     let fourth = c.add_feed_jobs.ensures in
     fourth.recorders ∙ (third.recorders ∙ (second.recorders ∙ (first.recorders
     ∙ ap (λ (js : List (RouterJob g.row.N-L-P.Denot g.row.J.Denot g.row.N-L.Denot g.row.N-D.Denot g.row.C.Denot g.row.K.Denot g.row.N-S.Denot g.row.X.Denot g.row.A.Denot g.row.B.Denot g.row.E.Denot g.row.F.Denot g.J.Handling g.J.Naming)). recorders_of_jobs js ++ c.args.supplies.instruments.recorders.items) c.requires.none_yet)))
+
+pub add_proxy_jobs-requires-clause-enough : goal.add_proxy_jobs-requires-clause-enough
+add_proxy_jobs-requires-clause-enough g c κs within =
+    first_shared c.args.setup.now.site.now c.args.bound _ c.requires.listens.count
+    c.requires.enough
+
+pub add_proxy_jobs-requires-clause-rooms : goal.add_proxy_jobs-requires-clause-rooms
+add_proxy_jobs-requires-clause-rooms g c κs within =
+    let count = c.requires.listens.count in
+    as_few _ _ _ count.0 c.requires.supplied.rooms
+
+pub add_proxy_jobs-requires-clause-recorders : goal.add_proxy_jobs-requires-clause-recorders
+add_proxy_jobs-requires-clause-recorders g c κs within =
+    let count = c.requires.listens.count in
+    c.requires.supplied.instruments.recorders ∙ sym count.0
+
+pub add_proxy_jobs-requires-clause-hands : goal.add_proxy_jobs-requires-clause-hands
+add_proxy_jobs-requires-clause-hands g c κs within =
+    let count = c.requires.listens.count in
+    as_few _ _ _ count.0 c.requires.supplied.clients
+
+pub add_proxy_jobs-requires-clause-room : goal.add_proxy_jobs-requires-clause-room
+add_proxy_jobs-requires-clause-room g c κs within =
+    first_fits c.args.setup.now.site.now c.args.bound _ _ c.requires.listens.count c.requires.room
+
+pub add_proxy_jobs-requires-clause-few : goal.add_proxy_jobs-requires-clause-few
+add_proxy_jobs-requires-clause-few g c κs within =
+    let count = c.requires.listens.count in
+    few_of _ _ _ count.0 c.requires.listens.few
+
+pub add_api_jobs-requires-clause-enough : goal.add_api_jobs-requires-clause-enough
+add_api_jobs-requires-clause-enough g c κs within =
+    second_shared c.args.setup.now.site.now c.args.bound _ _ c.requires.listens.count
+    c.requires.enough c.add_proxy_jobs.ensures.rest
+
+pub add_api_jobs-requires-clause-hands : goal.add_api_jobs-requires-clause-hands
+add_api_jobs-requires-clause-hands g c κs within =
+    first_called c.args.setup.now.site.now c.args.bound _ _ c.requires.listens.count
+    (ap length c.into_iter-hands.ensures.rest) c.requires.supplied.callers
+
+pub add_api_jobs-requires-clause-scrapers : goal.add_api_jobs-requires-clause-scrapers
+add_api_jobs-requires-clause-scrapers g c κs within =
+    first_called c.args.setup.now.site.now c.args.bound _ _ c.requires.listens.count
+    (ap length c.into_iter-scrapers.ensures.rest)
+    (at_least _ _ c.requires.supplied.instruments.scrapers)
+
+pub add_api_jobs-requires-clause-room : goal.add_api_jobs-requires-clause-room
+add_api_jobs-requires-clause-room g c κs within =
+    second_fits c.args.setup.now.site.now c.args.bound _ _ _ _ c.requires.listens.count
+    c.requires.room c.add_proxy_jobs.ensures.count c.add_proxy_jobs.ensures.room
+
+pub add_api_jobs-requires-2-clause-enough : goal.add_api_jobs-requires-2-clause-enough
+add_api_jobs-requires-2-clause-enough g c κs within =
+    third_shared c.args.setup.now.site.now c.args.bound _ _ _ c.requires.listens.count
+    c.requires.enough c.add_proxy_jobs.ensures.rest c.add_api_jobs.ensures.rest
+
+pub add_api_jobs-requires-2-clause-hands : goal.add_api_jobs-requires-2-clause-hands
+add_api_jobs-requires-2-clause-hands g c κs within =
+    second_called c.args.setup.now.site.now c.args.bound _ _ _ c.requires.listens.count
+    (ap length c.into_iter-hands.ensures.rest) c.requires.supplied.callers
+    c.add_api_jobs.ensures.hands
+
+pub add_api_jobs-requires-2-clause-scrapers : goal.add_api_jobs-requires-2-clause-scrapers
+add_api_jobs-requires-2-clause-scrapers g c κs within =
+    second_called c.args.setup.now.site.now c.args.bound _ _ _ c.requires.listens.count
+    (ap length c.into_iter-scrapers.ensures.rest)
+    (at_least _ _ c.requires.supplied.instruments.scrapers) c.add_api_jobs.ensures.scrapers
+
+pub add_api_jobs-requires-2-clause-room : goal.add_api_jobs-requires-2-clause-room
+add_api_jobs-requires-2-clause-room g c κs within =
+    third_fits c.args.setup.now.site.now c.args.bound _ _ _ _ _ c.requires.listens.count
+    c.requires.room c.add_proxy_jobs.ensures.count c.add_api_jobs.ensures.count
+    (c.add_api_jobs.ensures.room ∙ c.add_proxy_jobs.ensures.room)
+
+pub add_feed_jobs-requires-clause-enough : goal.add_feed_jobs-requires-clause-enough
+add_feed_jobs-requires-clause-enough g c κs within =
+    fourth_shared c.args.setup.now.site.now c.args.bound _ _ _ _ c.requires.listens.count
+    c.requires.enough c.add_proxy_jobs.ensures.rest c.add_api_jobs.ensures.rest
+    c.add_api_jobs-2.ensures.rest
+
+pub add_feed_jobs-requires-clause-hands : goal.add_feed_jobs-requires-clause-hands
+add_feed_jobs-requires-clause-hands g c κs within =
+    third_called c.args.setup.now.site.now c.args.bound _ _ _ _ c.requires.listens.count
+    (ap length c.into_iter-hands.ensures.rest) c.requires.supplied.callers
+    c.add_api_jobs.ensures.hands c.add_api_jobs-2.ensures.hands
+
+pub add_feed_jobs-requires-clause-scrapers : goal.add_feed_jobs-requires-clause-scrapers
+add_feed_jobs-requires-clause-scrapers g c κs within =
+    third_called c.args.setup.now.site.now c.args.bound _ _ _ _ c.requires.listens.count
+    (ap length c.into_iter-scrapers.ensures.rest)
+    (at_least _ _ c.requires.supplied.instruments.scrapers) c.add_api_jobs.ensures.scrapers
+    c.add_api_jobs-2.ensures.scrapers
+
+pub add_feed_jobs-requires-clause-room : goal.add_feed_jobs-requires-clause-room
+add_feed_jobs-requires-clause-room g c κs within =
+    fourth_fits c.args.setup.now.site.now c.args.bound _ _ _ _ _ _ c.requires.listens.count
+    c.requires.room c.add_proxy_jobs.ensures.count c.add_api_jobs.ensures.count
+    c.add_api_jobs-2.ensures.count
+    (c.add_api_jobs-2.ensures.room ∙ (c.add_api_jobs.ensures.room ∙ c.add_proxy_jobs.ensures.room))
+
+pub returns-clause-passes : goal.returns-clause-passes
+returns-clause-passes g c =
+    let first = c.add_proxy_jobs.ensures in
+    let second = c.add_api_jobs.ensures in
+    let third = c.add_api_jobs-2.ensures in
+    let fourth = c.add_feed_jobs.ensures in
+    fourth.passes ∙ (third.passes ∙ (second.passes ∙ (first.passes
+    ∙ ap (λ (js : List (RouterJob g.row.N-L-P.Denot g.row.J.Denot g.row.N-L.Denot g.row.N-D.Denot g.row.C.Denot g.row.K.Denot g.row.N-S.Denot g.row.X.Denot g.row.A.Denot g.row.B.Denot g.row.E.Denot g.row.F.Denot g.J.Handling g.J.Naming)). passes_of_jobs js ++ into_iter_items c.args.passes.now) c.requires.none_yet)))
+
+pub returns-clause-rest : goal.returns-clause-rest
+returns-clause-rest g c =
+    all_shared c.args.setup.now.site.now c.args.bound _ _ _ _ _ c.requires.listens.count
+    c.add_proxy_jobs.ensures.rest c.add_api_jobs.ensures.rest c.add_api_jobs-2.ensures.rest
+    c.add_feed_jobs.ensures.rest
+
+pub returns-clause-room : goal.returns-clause-room
+returns-clause-room g c =
+    let first = c.add_proxy_jobs.ensures in
+    let second = c.add_api_jobs.ensures in
+    let third = c.add_api_jobs-2.ensures in
+    let fourth = c.add_feed_jobs.ensures in
+    fourth.room ∙ (third.room ∙ (second.room ∙ first.room))
+
+pub returns-clause-kept : goal.returns-clause-kept
+returns-clause-kept g c =
+    let first = c.add_proxy_jobs.ensures in
+    let second = c.add_api_jobs.ensures in
+    let third = c.add_api_jobs-2.ensures in
+    let fourth = c.add_feed_jobs.ensures in
+    fourth.kept ∙ (third.kept ∙ (second.kept ∙ first.kept))
+
+pub returns-clause-count : goal.returns-clause-count
+returns-clause-count g c =
+    all_posted c.args.setup.now.site.now c.args.bound _ _ _ _ _ c.requires.listens.count
+    (c.args.jobs.now.ok.0 ∙ ap length c.requires.none_yet) c.add_proxy_jobs.ensures.count
+    c.add_api_jobs.ensures.count c.add_api_jobs-2.ensures.count c.add_feed_jobs.ensures.count
