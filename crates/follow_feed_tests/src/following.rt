@@ -1,8 +1,9 @@
 //! The lines that following a leader writes.
-use addr_book::{Addr, Name};
+use crate::dialing::{LEADER, dialer, failing};
+use addr_book::Name;
 use follow_feed::{FollowEnd, follow_all};
 use line_doubles::{MemDialer, MemSink};
-use std::alloc::Global;
+use std::alloc::{AllocError, Global};
 use std::test::Fail;
 
 /// A namespace with one rule.
@@ -16,109 +17,128 @@ const EMPTY: &str = "HTTP/1.1 200 OK\r\nContent-Length: 41\r\n\r\n\
 /// No such namespace, in a later run.
 const GONE: &str = "HTTP/1.1 200 OK\r\nContent-Length: 19\r\n\r\n{\"place\":0,\"run\":8}";
 
-/// What the leader replies to the dials that it answers; how many polls are made; which call of the
-/// dialer and which of the sink fails; and how it ends, with the lines.
-type Row = (
-    [&'static str; 3],
-    u32,
-    Option<u64>,
-    Option<u64>,
-    &'static str,
-);
+/// What a leader replies, and what following it writes.
+struct Row {
+    /// The replies to the first three dials that it answers.
+    first: &'static str,
+    second: &'static str,
+    third: &'static str,
+    /// How many polls are made.
+    polls: u32,
+    /// Which call of the dialer fails, and which of the sink.
+    failing_call: Option<u64>,
+    failing_write: Option<u64>,
+    /// The lines, and how it ends.
+    told: &'static str,
+}
 
 const ROWS: [Row; 6] = [
-    (
-        [FULL, "", ""],
-        0,
-        None,
-        None,
-        "polls 0 newer 0 lost 0\ndone",
-    ),
+    Row {
+        first: FULL,
+        second: "",
+        third: "",
+        polls: 0,
+        failing_call: None,
+        failing_write: None,
+        told: "polls 0 newer 0 lost 0\ndone",
+    },
     // The first dial fails.
-    (
-        [FULL, "", ""],
-        2,
-        Some(0),
-        None,
-        "run 7 place 1 version 1 dtab /svc=>/#/io.l5d.fs\npolls 2 newer 1 lost 1\ndone",
-    ),
+    Row {
+        first: FULL,
+        second: "",
+        third: "",
+        polls: 2,
+        failing_call: Some(0),
+        failing_write: None,
+        told: "run 7 place 1 version 1 dtab /svc=>/#/io.l5d.fs\npolls 2 newer 1 lost 1\ndone",
+    },
     // A reply that comes again, and one that comes late, change nothing.
-    (
-        [FULL, FULL, EMPTY],
-        3,
-        None,
-        None,
-        "run 7 place 1 version 1 dtab /svc=>/#/io.l5d.fs\nrun 7 place 2 version 2 dtab\npolls 3 newer 2 lost 0\ndone",
-    ),
-    (
-        [EMPTY, FULL, "HTTP/1.1 503 No\r\n\r\n"],
-        3,
-        None,
-        None,
-        "run 7 place 2 version 2 dtab\npolls 3 newer 1 lost 1\ndone",
-    ),
+    Row {
+        first: FULL,
+        second: FULL,
+        third: EMPTY,
+        polls: 3,
+        failing_call: None,
+        failing_write: None,
+        told: "run 7 place 1 version 1 dtab /svc=>/#/io.l5d.fs\n\
+            run 7 place 2 version 2 dtab\npolls 3 newer 2 lost 0\ndone",
+    },
+    Row {
+        first: EMPTY,
+        second: FULL,
+        third: "HTTP/1.1 503 No\r\n\r\n",
+        polls: 3,
+        failing_call: None,
+        failing_write: None,
+        told: "run 7 place 2 version 2 dtab\npolls 3 newer 1 lost 1\ndone",
+    },
     // The leader starts again between two polls.
-    (
-        [EMPTY, GONE, FULL],
-        3,
-        None,
-        None,
-        "run 7 place 2 version 2 dtab\nrun 8 place 0 gone\npolls 3 newer 2 lost 0\ndone",
-    ),
+    Row {
+        first: EMPTY,
+        second: GONE,
+        third: FULL,
+        polls: 3,
+        failing_call: None,
+        failing_write: None,
+        told: "run 7 place 2 version 2 dtab\nrun 8 place 0 gone\npolls 3 newer 2 lost 0\ndone",
+    },
     // The second line can't be written.
-    (
-        [EMPTY, GONE, FULL],
-        3,
-        None,
-        Some(1),
-        "run 7 place 2 version 2 dtab\nfault",
-    ),
+    Row {
+        first: EMPTY,
+        second: GONE,
+        third: FULL,
+        polls: 3,
+        failing_call: None,
+        failing_write: Some(1),
+        told: "run 7 place 2 version 2 dtab\nfault",
+    },
 ];
 
-/// The numbers of the calls that fail.
-fn failing(alloc: Global, call: Option<u64>) -> Result<Vec<u64>, Fail> {
-    let mut calls = Vec::new(alloc);
-    if let Some(call) = call {
-        calls.push(call)?;
-    }
-    Ok(calls)
-}
-
 /// The dialer of a row.
-fn dialer_of(alloc: Global, row: &Row) -> Result<MemDialer, Fail> {
-    let mut replies = Vec::new(alloc);
-    for reply in row.0 {
-        replies.push(Vec::from_slice(alloc, reply.as_bytes())?)?;
-    }
-    Ok(MemDialer::of(alloc, replies, Vec::new(alloc), failing(alloc, row.2)?))
+fn dialer_of(alloc: Global, row: &Row) -> Result<MemDialer, AllocError> {
+    let replies = [
+        row.first.as_bytes(),
+        row.second.as_bytes(),
+        row.third.as_bytes(),
+    ];
+    dialer(alloc, &replies, Vec::new(alloc), row.failing_call)
 }
 
-/// The address of the leader.
-const LEADER: Addr = Addr {
-    ip: 0x7f00_0001,
-    port: 4181,
-};
+/// The sink of a row.
+fn sink_of(alloc: Global, row: &Row) -> Result<MemSink, AllocError> {
+    Ok(MemSink::of(alloc, Vec::new(alloc), failing(alloc, row.failing_write)?))
+}
 
 /// What following the leader of a row writes, and how it ends.
 fn followed(alloc: Global, row: &Row) -> Result<String, Fail> {
-    let space = Name::of(alloc, b"default")?;
-    let mut sink = MemSink::of(alloc, Vec::new(alloc), failing(alloc, row.3)?);
     let mut dialer = dialer_of(alloc, row)?;
-    let end = follow_all(alloc, &mut dialer, LEADER, &space, row.1, &mut sink);
+    let mut sink = sink_of(alloc, row)?;
+    let told = told(alloc, &mut dialer, row.polls, &mut sink);
     drop(dialer);
-    let told = told(alloc, sink.held(), end);
     drop(sink);
     told
 }
 
-/// What was written, and how it ended.
-fn told(alloc: Global, written: &[u8], end: FollowEnd) -> Result<String, Fail> {
-    let mut text = Vec::from_slice(alloc, written)?;
-    text.extend_from_slice(name_of(end).as_bytes())?;
-    match String::from_utf8(text) {
-        Ok(text) => Ok(text),
-        Err(_bytes) => Err(Fail::from("no text")),
+/// What so many polls write, and how they end.
+fn told(
+    alloc: Global,
+    dialer: &mut MemDialer,
+    polls: u32,
+    sink: &mut MemSink,
+) -> Result<String, Fail> {
+    let space = Name::of(alloc, b"default")?;
+    let end = follow_all(alloc, dialer, LEADER, &space, polls, sink);
+    drop(space);
+    match std::str::from_utf8(sink.held()) {
+        Ok(lines) => Ok(with_end(alloc, lines, end)?),
+        Err(_) => Err(Fail::from("no text")),
     }
+}
+
+/// These lines, and how it ended.
+fn with_end(alloc: Global, lines: &str, end: FollowEnd) -> Result<String, AllocError> {
+    let name = name_of(end);
+    format!(in alloc; "{lines}{name}")
 }
 
 /// The name of an end.
@@ -132,9 +152,10 @@ fn name_of(end: FollowEnd) -> &'static str {
 
 #[test]
 fn each_later_feed_has_its_line(rt: HostRuntime) -> Result<(), Fail> {
-    for row in ROWS {
-        let told = followed(rt.alloc(), &row)?;
-        assert_eq!(rt; told.as_str(), row.4);
+    for row in &ROWS {
+        let told = followed(rt.alloc(), row)?;
+        assert_eq!(rt; told.as_str(), row.told);
+        drop(told);
     }
     Ok(())
 }

@@ -1,43 +1,62 @@
 //! Which of some feeds is held.
 use dtab_table::read_dtab;
 use follow_feed::{Feed, Follower, Taken, Versioned};
-use std::alloc::Global;
+use std::alloc::{AllocGlobal, Global};
+use std::process::Abort;
 use std::test::Fail;
 
-/// A feed: its run, its place, and the text of its table, if it has one; and how it is taken.
-type Row = (u64, u64, Option<&'static str>, Taken);
+/// A feed: its run, its place, and the text of its table, which is empty where it has none; and how
+/// it is taken.
+type Row = (u64, u64, &'static str, Taken);
 
 /// One after another, to one follower.
 const ROWS: [Row; 5] = [
-    (1, 1, Some("/svc => /a"), Taken::Newer),
-    (1, 3, Some("/svc => /b"), Taken::Newer),
-    (1, 2, Some("/svc => /c"), Taken::Older),
-    (2, 0, None, Taken::Newer),
-    (1, 9, Some("/svc => /d"), Taken::Older),
+    (1, 1, "/svc => /a", Taken::Newer),
+    (1, 3, "/svc => /b", Taken::Newer),
+    (1, 2, "/svc => /c", Taken::Older),
+    (2, 0, "", Taken::Newer),
+    (1, 9, "/svc => /d", Taken::Older),
 ];
 
-/// A feed whose table, if it has one, has the version 1.
-fn feed(alloc: Global, run: u64, place: u64, table: Option<&str>) -> Result<Feed, Fail> {
-    let table = match table {
-        Some(text) => Some(Versioned {
-            version: 1,
-            dtab: read_dtab(alloc, text.as_bytes())?,
-        }),
-        None => None,
-    };
-    Ok(Feed { run, place, table })
+/// The table of this text with the version 1, and none where there is no text.
+fn table_of(alloc: Global, text: &str) -> Result<Option<Versioned>, Fail> {
+    if text.is_empty() {
+        return Ok(None);
+    }
+    let dtab = read_dtab(alloc, text.as_bytes())?;
+    Ok(Some(Versioned { version: 1, dtab }))
+}
+
+/// How a follower takes the feed of a row.
+fn taken(alloc: Global, follower: &mut Follower, row: &Row) -> Result<Taken, Fail> {
+    let (run, place, text, _) = *row;
+    let table = table_of(alloc, text)?;
+    Ok(follower.take(Feed { run, place, table }))
+}
+
+/// Asserts how a follower takes the feeds of the rows.
+fn assert_taken<R: AllocGlobal + Abort>(rt: &R, follower: &mut Follower) -> Result<(), Fail> {
+    for row in &ROWS {
+        let (run, place, _, wanted) = *row;
+        let taken = taken(rt.alloc(), follower, row)?;
+        assert_eq!(rt; taken, wanted, "{run} {place}");
+    }
+    Ok(())
+}
+
+/// The run and the place of the feed that is held, if one is, and whether it has a table.
+fn held(follower: &Follower) -> Option<(u64, u64, bool)> {
+    let feed = follower.held()?;
+    Some((feed.run, feed.place, feed.table.is_some()))
 }
 
 #[test]
 fn the_greatest_run_and_place_is_held(rt: HostRuntime) -> Result<(), Fail> {
     let mut follower = Follower::start();
-    for (run, place, table, want) in ROWS {
-        let taken = follower.take(feed(rt.alloc(), run, place, table)?);
-        assert_eq!(rt; taken, want, "{run} {place}");
-    }
-    let Some(held) = follower.held() else {
-        return Err(Fail::from("nothing is held"));
-    };
-    assert!(rt; held.run == 2 && held.place == 0 && held.table.is_none());
+    let all = assert_taken(&rt, &mut follower);
+    let held = held(&follower);
+    drop(follower);
+    all?;
+    assert_eq!(rt; held, Some((2, 0, false)));
     Ok(())
 }

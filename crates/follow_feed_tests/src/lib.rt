@@ -3,6 +3,8 @@
 #![tactic(auto)]
 
 #[cfg(test)]
+mod dialing;
+#[cfg(test)]
 mod following;
 #[cfg(test)]
 mod holding;

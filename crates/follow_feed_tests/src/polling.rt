@@ -1,8 +1,11 @@
 //! What a poll makes of a reply.
-use addr_book::{Addr, Name};
+use crate::dialing::{LEADER, dialer};
+use addr_book::Name;
 use follow_feed::{Feed, PollEnd, poll};
 use line_doubles::MemDialer;
-use std::alloc::Global;
+use std::alloc::{AllocError, AllocGlobal, Global};
+use std::fmt::Debug;
+use std::process::Abort;
 use std::test::Fail;
 
 /// A good reply, whose table is that of a new namespace.
@@ -53,14 +56,8 @@ const PIECE: usize = 40;
 
 /// What a poll gives to which this is replied, in pieces, where this call of its dialer fails.
 fn polled(alloc: Global, reply: &[u8], failing: Option<u64>) -> Result<String, Fail> {
-    let mut replies = Vec::new(alloc);
-    replies.push(Vec::from_slice(alloc, reply)?)?;
-    let mut calls = Vec::new(alloc);
-    if let Some(call) = failing {
-        calls.push(call)?;
-    }
     let sizes = Vec::from_elem(alloc, PIECE, 64)?;
-    let mut dialer = MemDialer::of(alloc, replies, sizes, calls);
+    let mut dialer = dialer(alloc, &[reply], sizes, failing)?;
     let told = told(alloc, &mut dialer);
     drop(dialer);
     told
@@ -68,82 +65,86 @@ fn polled(alloc: Global, reply: &[u8], failing: Option<u64>) -> Result<String, F
 
 /// What a poll of this dialer gives, and how often its calls failed.
 fn told(alloc: Global, dialer: &mut MemDialer) -> Result<String, Fail> {
-    let leader = Addr {
-        ip: 0x7f00_0001,
-        port: 4181,
-    };
     let space = Name::of(alloc, b"default")?;
-    match poll(alloc, dialer, leader, &space) {
-        Ok(feed) => {
-            let words = said(alloc, &feed);
-            drop(feed);
-            words
-        }
-        Err(PollEnd::Lost) => faults(alloc, dialer.faults()),
-        Err(PollEnd::Strange) => Ok(String::from_str(alloc, "strange")?),
-        Err(PollEnd::OutOfMemory) => Ok(String::from_str(alloc, "memory")?),
+    let polled = poll(alloc, dialer, LEADER, &space);
+    drop(space);
+    match polled {
+        Ok(feed) => Ok(said_of(alloc, feed)?),
+        Err(end) => Ok(said_of_none(alloc, end, dialer.faults())?),
     }
 }
 
-/// A lost poll, with how often calls failed.
-fn faults(alloc: Global, faults: u64) -> Result<String, Fail> {
-    Ok(format!(in alloc; "lost {faults}")?)
+/// What is said of a poll that gives no feed, and where it is lost, how often calls failed.
+fn said_of_none(alloc: Global, end: PollEnd, faults: u64) -> Result<String, AllocError> {
+    match end {
+        PollEnd::Lost => format!(in alloc; "lost {faults}"),
+        PollEnd::Strange => String::from_str(alloc, "strange"),
+        PollEnd::OutOfMemory => String::from_str(alloc, "memory"),
+    }
+}
+
+/// What is said of a feed.
+fn said_of(alloc: Global, feed: Feed) -> Result<String, AllocError> {
+    let said = said(alloc, &feed);
+    drop(feed);
+    said
 }
 
 /// What a feed says.
-fn said(alloc: Global, feed: &Feed) -> Result<String, Fail> {
+fn said(alloc: Global, feed: &Feed) -> Result<String, AllocError> {
     let run = feed.run;
     let place = feed.place;
     match &feed.table {
         Some(table) => {
             let version = table.version;
-            Ok(format!(in alloc; "run {run} place {place} version {version}")?)
+            format!(in alloc; "run {run} place {place} version {version}")
         }
-        None => Ok(format!(in alloc; "run {run} place {place} gone")?),
+        None => format!(in alloc; "run {run} place {place} gone"),
     }
+}
+
+/// Asserts what a poll gives to which this is replied, where this call of its dialer fails.
+fn assert_polled<R: AllocGlobal + Abort, D: Debug>(
+    rt: &R,
+    reply: &[u8],
+    failing: Option<u64>,
+    wanted: &str,
+    row: &D,
+) -> Result<(), Fail> {
+    let told = polled(rt.alloc(), reply, failing)?;
+    assert_eq!(rt; told.as_str(), wanted, "of {row:?}");
+    drop(told);
+    Ok(())
 }
 
 #[test]
 fn good_replies_are_taken(rt: HostRuntime) -> Result<(), Fail> {
-    for (reply, want) in &TAKEN {
-        let told = polled(rt.alloc(), reply.as_bytes(), None)?;
-        assert!(rt; told.as_str() == *want, "{reply}: {told}");
+    for (reply, wanted) in &TAKEN {
+        assert_polled(&rt, reply.as_bytes(), None, wanted, reply)?;
     }
     Ok(())
 }
 
-/// The first of some replies that a poll does not find strange, if there is one.
-fn first_not_strange(
-    alloc: Global,
-    replies: &[&'static str],
-) -> Result<Option<&'static str>, Fail> {
-    for reply in replies {
-        if polled(alloc, reply.as_bytes(), None)?.as_str() != "strange" {
-            return Ok(Some(*reply));
-        }
-    }
-    Ok(None)
-}
-
 #[test]
 fn replies_with_strange_heads_are_not_taken(rt: HostRuntime) -> Result<(), Fail> {
-    let taken = first_not_strange(rt.alloc(), &STRANGE_HEADS)?;
-    assert!(rt; taken.is_none(), "{taken:?}");
+    for reply in &STRANGE_HEADS {
+        assert_polled(&rt, reply.as_bytes(), None, "strange", reply)?;
+    }
     Ok(())
 }
 
 #[test]
 fn replies_with_strange_bodies_are_not_taken(rt: HostRuntime) -> Result<(), Fail> {
-    let taken = first_not_strange(rt.alloc(), &STRANGE_BODIES)?;
-    assert!(rt; taken.is_none(), "{taken:?}");
+    for reply in &STRANGE_BODIES {
+        assert_polled(&rt, reply.as_bytes(), None, "strange", reply)?;
+    }
     Ok(())
 }
 
 #[test]
 fn a_reply_that_ends_early_is_strange(rt: HostRuntime) -> Result<(), Fail> {
     for at in 0..GOOD.len() {
-        let told = polled(rt.alloc(), &GOOD.as_bytes()[..at], None)?;
-        assert_eq!(rt; told.as_str(), "strange", "{at}");
+        assert_polled(&rt, &GOOD.as_bytes()[..at], None, "strange", &at)?;
     }
     Ok(())
 }
@@ -152,10 +153,7 @@ fn a_reply_that_ends_early_is_strange(rt: HostRuntime) -> Result<(), Fail> {
 fn a_poll_whose_call_fails_is_lost(rt: HostRuntime) -> Result<(), Fail> {
     // A dial, two sends and four receives.
     for call in 0..7 {
-        let told = polled(rt.alloc(), GOOD.as_bytes(), Some(call))?;
-        assert_eq!(rt; told.as_str(), "lost 1", "{call}");
+        assert_polled(&rt, GOOD.as_bytes(), Some(call), "lost 1", &call)?;
     }
-    let told = polled(rt.alloc(), GOOD.as_bytes(), Some(7))?;
-    assert_eq!(rt; told.as_str(), "run 7 place 1 version 1");
-    Ok(())
+    assert_polled(&rt, GOOD.as_bytes(), Some(7), "run 7 place 1 version 1", &7)
 }
