@@ -2,15 +2,15 @@
 //! call, and limits.
 mod exchange;
 
-use crate::bodies::exchange::{Calls, Way, onward, pass, unsent, whole, written};
-use crate::requests::{room_of, spelled};
+use crate::bodies::exchange::{Calls, Way, is_read, onward, pass, unsent, written};
+use crate::requests::spelled;
 use body_wire::BodyEnd::{
     self, BadChunk, Cut, ReadFault, RecvFault, SendFault, TooLong, WriteFault,
 };
 use body_wire::{Bytes, Mem};
 use http_wire::Framing::{self, Chunked, Length, Nothing, ToEnd};
-use http_wire::Rest;
 use std::alloc::Global;
+use std::process::Abort;
 use std::test::Fail;
 
 /// A body up to the byte that ends it: its framing, its text and the number of bytes that `%`
@@ -24,7 +24,7 @@ type Row = (
     Result<u64, BodyEnd>,
 );
 
-const ROWS: [Row; 32] = [
+static ROWS: [Row; 32] = [
     (
         Chunked,
         "A|0123456789|0||",
@@ -94,11 +94,12 @@ const ROWS: [Row; 32] = [
     (ToEnd, "%", 70000, "%", "%", Ok(70000)),
 ];
 
-/// The connection ends where the body does.
-fn is_at_end(framing: Framing, answer: Result<u64, BodyEnd>) -> bool {
+/// What lies behind a body: nothing where the connection ends with it.
+fn bytes_behind(framing: Framing, answer: Result<u64, BodyEnd>) -> &'static [u8] {
     match framing {
-        ToEnd => true,
-        _ => answer == Err(Cut),
+        ToEnd => b"".as_slice(),
+        _ if answer == Err(Cut) => b"".as_slice(),
+        _ => b"behind".as_slice(),
     }
 }
 
@@ -107,9 +108,7 @@ fn is_at_end(framing: Framing, answer: Result<u64, BodyEnd>) -> bool {
 fn comes_of(alloc: Global, row: &Row) -> Mem<(Bytes, usize)> {
     let mut comes = spelled(alloc, row.1, "x", row.2)?;
     let ends = comes.len();
-    if !is_at_end(row.0, row.5) {
-        comes.extend_from_slice(b"behind")?;
-    }
+    comes.extend_from_slice(bytes_behind(row.0, row.5))?;
     Ok((comes, ends))
 }
 
@@ -124,11 +123,21 @@ fn went_of(alloc: Global, row: &Row, way: Way) -> Mem<Bytes> {
 /// Whether a row's body is passed this way as the row says, in calls of so many bytes at most, and
 /// no byte behind it is taken by calls of one byte.
 fn is_row_passed(alloc: Global, row: &Row, way: Way, most: usize) -> Result<bool, Fail> {
-    let (comes, ends) = comes_of(alloc, row)?;
-    let calls = Calls::by(most);
-    let passed = pass(alloc, way, row.0, comes.as_slice(), calls, calls)?;
     let went = went_of(alloc, row, way)?;
-    Ok(passed.came_to(row.5, went.as_slice()) && (passed.got == ends || most > 1))
+    let (comes, ends) = match comes_of(alloc, row) {
+        Ok(comes) => comes,
+        Err(fault) => {
+            drop(went);
+            return Err(Fail::from(fault));
+        }
+    };
+    let (calls, count) = (Calls::by(most), went.len());
+    let (gives, wanted) = (comes.as_slice(), went.as_slice());
+    let passed = pass(alloc, way, row.0, gives, wanted, calls, calls);
+    drop(comes);
+    drop(went);
+    let passed = passed?;
+    Ok(passed.came_to(row.5, count) && (passed.got == ends || most > 1))
 }
 
 /// Back in chunks.
@@ -140,12 +149,17 @@ const BARE: Way = Way::Back { chunked: false };
 /// All ways.
 const WAYS: [Way; 3] = [Way::Onward, BACK, BARE];
 
-#[test]
-fn bodies_end_at_their_byte(rt: HostRuntime) -> Result<(), Fail> {
-    for row in &ROWS {
-        for way in WAYS {
-            for most in [1, 2, 7, 4096, usize::MAX] {
-                let is_passed = is_row_passed(rt.alloc(), row, way, most)?;
+/// Passes the bodies of some rows all ways, in calls of each of these sizes.
+fn assert_passed(
+    rt: &impl Abort,
+    alloc: Global,
+    rows: &[Row],
+    sizes: &[usize],
+) -> Result<(), Fail> {
+    for row in rows {
+        for way in &WAYS {
+            for most in sizes {
+                let is_passed = is_row_passed(alloc, row, *way, *most)?;
                 assert!(rt; is_passed, "{:?} by {most}", row.1);
             }
         }
@@ -153,8 +167,13 @@ fn bodies_end_at_their_byte(rt: HostRuntime) -> Result<(), Fail> {
     Ok(())
 }
 
+#[test]
+fn bodies_end_at_their_byte(rt: HostRuntime) -> Result<(), Fail> {
+    assert_passed(&rt, rt.alloc(), &ROWS, &[1, 2, 7, 4096, usize::MAX])
+}
+
 /// Long bodies.
-const LONG: [Row; 2] = [
+static LONG: [Row; 2] = [
     (Length(3000000), "%", 3000000, "%", "%", Ok(3000000)),
     (
         Chunked,
@@ -168,33 +187,31 @@ const LONG: [Row; 2] = [
 
 #[test]
 fn long_bodies_go_on_whole(rt: HostRuntime) -> Result<(), Fail> {
-    for row in &LONG {
-        for way in WAYS {
-            let is_passed = is_row_passed(rt.alloc(), row, way, usize::MAX)?;
-            assert!(rt; is_passed, "{:?}", row.1);
-        }
-    }
-    Ok(())
+    assert_passed(&rt, rt.alloc(), &LONG, &[usize::MAX])
 }
 
-/// How many bytes of a long body go on whose read 62 fails, the head among them: 62 reads give
-/// 1,000,000 bytes.
+/// How many bytes of a long body go on behind the head whose read 62 fails: 62 reads give 1,000,000
+/// bytes.
 fn went_before_fault(alloc: Global) -> Result<usize, Fail> {
     let comes = Vec::from_elem(alloc, b'x', 1000000)?;
     let gives = Calls {
         most: usize::MAX,
         failing: 62,
     };
+    let bytes = comes.as_slice();
     let passed = onward(
         alloc,
         Length(3000000),
         b"",
-        comes.as_slice(),
+        bytes,
+        bytes,
         gives,
         Calls::WHOLE,
-    )?;
+    );
+    drop(comes);
+    let passed = passed?;
     Ok(if passed.answer == Err(ReadFault) {
-        passed.went.len()
+        passed.went.unwrap_or(0)
     } else {
         0
     })
@@ -216,7 +233,7 @@ enum Part {
 }
 
 /// A body in two chunks, with extensions and trailers, part by part.
-const PARTS: [Part; 7] = [
+static PARTS: [Part; 7] = [
     Part::Frame("D;n=v\r\n", "d\r\n"),
     Part::Content("hello, world\n"),
     Part::Frame("\r\n", "\r\n"),
@@ -226,29 +243,30 @@ const PARTS: [Part; 7] = [
     Part::Frame("0;last\r\nX-Sum: 1\r\n\r\n", "0\r\n\r\n"),
 ];
 
+/// The bytes of that body.
+const BODY: &[u8] = b"D;n=v\r\nhello, world\n\r\n03 \r\n\r\n0\r\n0;last\r\nX-Sum: 1\r\n\r\n";
+
+/// What goes on for it in chunks.
+const CHUNKS: &[u8] = b"d\r\nhello, world\n\r\n3\r\n\r\n0\r\n0\r\n\r\n";
+
+/// Its content.
+const ALONE: &[u8] = b"hello, world\n\r\n0";
+
 /// How many bytes of content it has.
 const CONTENT: u64 = 16;
 
-/// The bytes of that body.
-fn body(alloc: Global) -> Mem<Bytes> {
-    let mut body = Vec::new(alloc);
-    for part in &PARTS {
-        match part {
-            Part::Content(text) | Part::Frame(text, _) => body.extend_from_slice(text.as_bytes())?,
-        }
-    }
-    Ok(body)
-}
-
 /// What goes on this way for its first bytes, so many.
-fn goes(alloc: Global, way: Way, count: usize) -> Mem<Bytes> {
-    let mut goes = Vec::new(alloc);
-    let mut left = count;
+fn goes(way: Way, count: usize) -> &'static [u8] {
+    let all = match way {
+        Way::Back { chunked: false } => ALONE,
+        _ => CHUNKS,
+    };
+    let (mut gone, mut left) = (0usize, count);
     for part in &PARTS {
-        goes.extend_from_slice(goes_for(*part, way, left))?;
+        gone = gone.saturating_add(goes_for(*part, way, left));
         left = left.saturating_sub(length_of(*part));
     }
-    Ok(goes)
+    &all[..gone.min(all.len())]
 }
 
 /// How many bytes a part has.
@@ -258,13 +276,13 @@ fn length_of(part: Part) -> usize {
     }
 }
 
-/// What goes on this way for the first bytes of a part, so many.
-fn goes_for(part: Part, way: Way, left: usize) -> &'static [u8] {
+/// How many bytes go on this way for the first bytes of a part, so many.
+fn goes_for(part: Part, way: Way, left: usize) -> usize {
     match (part, way) {
-        (Part::Content(text), _) => &text.as_bytes()[..left.min(text.len())],
-        (Part::Frame(_, _), Way::Back { chunked: false }) => b"".as_slice(),
-        (Part::Frame(text, whole), _) if text.len() <= left => whole.as_bytes(),
-        (Part::Frame(_, _), _) => b"".as_slice(),
+        (Part::Content(text), _) => left.min(text.len()),
+        (Part::Frame(_, _), Way::Back { chunked: false }) => 0,
+        (Part::Frame(text, whole), _) if text.len() <= left => whole.len(),
+        (Part::Frame(_, _), _) => 0,
     }
 }
 
@@ -281,52 +299,46 @@ fn is_passed(
     gives: Calls,
     answer: Result<u64, BodyEnd>,
 ) -> Result<bool, Fail> {
-    let went = goes(alloc, way, count)?;
-    let passed = pass(alloc, way, Chunked, comes, gives, Calls::WHOLE)?;
-    Ok(passed.came_to(answer, went.as_slice()))
+    let went = goes(way, count);
+    let passed = pass(alloc, way, Chunked, comes, went, gives, Calls::WHOLE)?;
+    Ok(passed.came_to(answer, went.len()))
 }
 
-/// How long the content of such a body is that is read.
-fn read_length(alloc: Global, comes: &[u8], gives: Calls) -> Mem<Result<u64, BodyEnd>> {
-    let mut rest = Rest::room(alloc)?;
-    match whole(alloc, Chunked, comes, &mut rest, gives)? {
-        Ok(content) => Ok(Ok(content.len() as u64)),
-        Err(end) => Ok(Err(end)),
-    }
-}
-
-/// Whether such a body is passed on so all ways, and read: it comes to the one answer where it is
+/// Whether such a body is passed on so each way, and read: it comes to the one answer where it is
 /// read off a peer, and to the other where it is received.
-fn is_moved(
+fn moved(
     alloc: Global,
     comes: &[u8],
     count: usize,
     gives: Calls,
     ends: Ends,
-) -> Result<bool, Fail> {
+) -> Result<[bool; 4], Fail> {
     let (read, received) = ends;
-    Ok(
-        is_passed(alloc, Way::Onward, comes, count, gives, read)?
-            && is_passed(alloc, BACK, comes, count, gives, received)?
-            && is_passed(alloc, BARE, comes, count, gives, received)?
-            && read_length(alloc, comes, gives)? == read,
-    )
+    let onward = is_passed(alloc, Way::Onward, comes, count, gives, read)?;
+    let back = is_passed(alloc, BACK, comes, count, gives, received)?;
+    let bare = is_passed(alloc, BARE, comes, count, gives, received)?;
+    let is_read = is_read(alloc, Chunked, b"", comes, gives, read.err(), ALONE)?;
+    Ok([onward, back, bare, is_read])
 }
 
-/// What the body comes to where so many of its bytes come, of all, and then the end.
-fn end_at(count: usize, all: usize) -> Result<u64, BodyEnd> {
-    if count == all { Ok(CONTENT) } else { Err(Cut) }
+/// What the body comes to where so many of its bytes come, and then the end.
+fn end_at(count: usize) -> Result<u64, BodyEnd> {
+    if count == BODY.len() {
+        Ok(CONTENT)
+    } else {
+        Err(Cut)
+    }
 }
 
 #[test]
 fn a_body_may_be_cut_at_each_byte(rt: HostRuntime) -> Result<(), Fail> {
-    let body = body(rt.alloc())?;
+    let body = BODY;
     for count in 0..body.len() + 1 {
-        let end = end_at(count, body.len());
-        for most in [1, 5, usize::MAX] {
-            let gives = Calls::by(most);
-            let is_moved = is_moved(rt.alloc(), &body[..count], count, gives, (end, end))?;
-            assert!(rt; is_moved, "{count} by {most}");
+        let end = end_at(count);
+        for most in &[1, 5, usize::MAX] {
+            let gives = Calls::by(*most);
+            let moved = moved(rt.alloc(), &body[..count], count, gives, (end, end))?;
+            assert!(rt; moved == [true; 4], "{count} by {most}: {moved:?}");
         }
     }
     Ok(())
@@ -334,63 +346,53 @@ fn a_body_may_be_cut_at_each_byte(rt: HostRuntime) -> Result<(), Fail> {
 
 #[test]
 fn each_read_fails_in_turn(rt: HostRuntime) -> Result<(), Fail> {
-    let body = body(rt.alloc())?;
-    for call in 0..body.len() {
+    for call in 0..BODY.len() {
         let ends = (Err(ReadFault), Err(RecvFault));
-        let gives = Calls::until(call);
-        let is_moved = is_moved(rt.alloc(), body.as_slice(), call, gives, ends)?;
-        assert!(rt; is_moved, "{call}");
+        let moved = moved(rt.alloc(), BODY, call, Calls::until(call), ends)?;
+        assert!(rt; moved == [true; 4], "{call}: {moved:?}");
     }
     Ok(())
 }
 
 /// Whether the body goes on whole where its first bytes are kept, so many.
-fn is_passed_behind(alloc: Global, body: &[u8], count: usize) -> Result<bool, Fail> {
+fn is_passed_behind(alloc: Global, count: usize) -> Result<bool, Fail> {
+    let body = BODY;
     let (kept, comes) = body.split_at(count.min(body.len()));
-    let went = goes(alloc, Way::Onward, body.len())?;
-    let passed = onward(alloc, Chunked, kept, comes, Calls::WHOLE, Calls::WHOLE)?;
-    Ok(passed.came_to(Ok(CONTENT), went.as_slice()))
+    let (gives, takes) = (Calls::WHOLE, Calls::WHOLE);
+    let passed = onward(alloc, Chunked, kept, comes, CHUNKS, gives, takes)?;
+    Ok(passed.came_to(Ok(CONTENT), CHUNKS.len()))
 }
 
 #[test]
 fn each_front_of_a_body_may_be_kept(rt: HostRuntime) -> Result<(), Fail> {
-    let body = body(rt.alloc())?;
-    for count in 0..body.len() {
-        let is_passed = is_passed_behind(rt.alloc(), body.as_slice(), count)?;
-        assert!(rt; is_passed, "{count}");
+    for count in 0..BODY.len() {
+        assert!(rt; is_passed_behind(rt.alloc(), count)?, "{count}");
     }
     Ok(())
 }
 
 /// Whether the body goes on this way as far as the call goes that fails at the other end. The first
 /// call takes the head.
-fn is_passed_until(
-    alloc: Global,
-    way: Way,
-    body: &[u8],
-    went: &[u8],
-    end: BodyEnd,
-) -> Result<bool, Fail> {
-    let takes = Calls::until(went.len().saturating_add(1));
-    let passed = pass(alloc, way, Chunked, body, Calls::WHOLE, takes)?;
-    Ok(passed.came_to(Err(end), went))
+fn is_passed_until(alloc: Global, way: Way, call: usize, end: BodyEnd) -> Result<bool, Fail> {
+    let chunks = CHUNKS;
+    let went = &chunks[..call.min(chunks.len())];
+    let takes = Calls::until(call.saturating_add(1));
+    let passed = pass(alloc, way, Chunked, BODY, went, Calls::WHOLE, takes)?;
+    Ok(passed.came_to(Err(end), went.len()))
 }
 
 #[test]
 fn each_send_fails_in_turn(rt: HostRuntime) -> Result<(), Fail> {
-    let body = body(rt.alloc())?;
-    let all = goes(rt.alloc(), Way::Onward, body.len())?;
-    for call in 0..all.len() {
-        for (way, end) in [(Way::Onward, SendFault), (BACK, WriteFault)] {
-            let is_passed = is_passed_until(rt.alloc(), way, body.as_slice(), &all[..call], end)?;
-            assert!(rt; is_passed, "{call}");
-        }
+    for call in 0..CHUNKS.len() {
+        let sent = is_passed_until(rt.alloc(), Way::Onward, call, SendFault)?;
+        let written = is_passed_until(rt.alloc(), BACK, call, WriteFault)?;
+        assert!(rt; sent && written, "{call}: {sent} {written}");
     }
     Ok(())
 }
 
 /// Bodies, and their lengths.
-const KEPT: [(Framing, &[u8], u64); 3] = [
+static KEPT: [(Framing, &[u8], u64); 3] = [
     (Nothing, b"", 0),
     (Length(5), b"hello", 5),
     (Chunked, b"3\r\nabc\r\n2\r\nde\r\n0\r\n\r\n", 5),
@@ -400,7 +402,7 @@ const KEPT: [(Framing, &[u8], u64); 3] = [
 fn a_head_leaves_with_what_is_kept(rt: HostRuntime) -> Result<(), Fail> {
     for (framing, kept, count) in &KEPT {
         let (alloc, once) = (rt.alloc(), Calls::WHOLE);
-        let passed = onward(alloc, *framing, kept, b"", once, once)?;
+        let passed = onward(alloc, *framing, kept, b"", kept, once, once)?;
         assert!(rt;
             passed.answer == Ok(*count) && passed.sends == 1,
             "{kept:?}"
@@ -421,7 +423,7 @@ type Read = (
     &'static str,
 );
 
-const READ: [Read; 11] = [
+static READ: [Read; 11] = [
     (Length(1048576), "", "%", 1048576, 99, None, "%"),
     (Length(1048577), "", "", 0, 99, Some(TooLong), ""),
     (Chunked, "", "100000|%|0||", 1048576, 99, None, "%"),
@@ -444,43 +446,38 @@ const READ: [Read; 11] = [
     (Chunked, "100001\r\n", "", 0, 0, Some(TooLong), ""),
 ];
 
-/// Whether the content of a body that was read is this; or it was refused so.
-fn is_content(read: Result<Bytes, BodyEnd>, end: Option<BodyEnd>, content: &[u8]) -> bool {
-    match read {
-        Ok(bytes) => end == None && bytes.as_slice() == content,
-        Err(refused) => end == Some(refused),
-    }
-}
-
-/// Reads a body of which these bytes come, as a row says.
-fn read(alloc: Global, row: &Read, comes: &[u8]) -> Mem<Result<Bytes, BodyEnd>> {
-    let (framing, kept, _, _, failing, _, _) = row;
+/// Whether a body is read as a row says.
+fn is_row_read(alloc: Global, row: &Read) -> Mem<bool> {
+    let (framing, kept, comes, count, failing, end, content) = *row;
     let calls = Calls {
         most: usize::MAX,
-        failing: *failing,
+        failing,
     };
-    let mut rest = room_of(alloc, kept.as_bytes())?;
-    whole(alloc, *framing, comes, &mut rest, calls)
-}
-
-/// Whether a body is read as a row says.
-fn is_read(alloc: Global, row: &Read) -> Mem<bool> {
-    let comes = spelled(alloc, row.2, "x", row.3)?;
-    let content = spelled(alloc, row.6, "x", row.3)?;
-    let read = read(alloc, row, comes.as_slice())?;
-    Ok(is_content(read, row.5, content.as_slice()))
+    let comes = spelled(alloc, comes, "x", count)?;
+    let content = match spelled(alloc, content, "x", count) {
+        Ok(content) => content,
+        Err(fault) => {
+            drop(comes);
+            return Err(fault);
+        }
+    };
+    let (gives, wanted) = (comes.as_slice(), content.as_slice());
+    let is_read = is_read(alloc, framing, kept.as_bytes(), gives, calls, end, wanted);
+    drop(content);
+    drop(comes);
+    is_read
 }
 
 #[test]
 fn a_body_is_read_up_to_its_limit(rt: HostRuntime) -> Result<(), Fail> {
     for row in &READ {
-        assert!(rt; is_read(rt.alloc(), row)?, "{:?} {:?}", row.1, row.2);
+        assert!(rt; is_row_read(rt.alloc(), row)?, "{:?} {:?}", row.1, row.2);
     }
     Ok(())
 }
 
 /// Bodies, each with what is kept, and what lies behind the body there.
-const BEHIND: [(Framing, &[u8], &[u8]); 4] = [
+static BEHIND: [(Framing, &[u8], &[u8]); 4] = [
     (Nothing, b"GET / HTTP/1.1\n\n", b"GET / HTTP/1.1\n\n"),
     (Length(0), b"GET", b"GET"),
     (Length(5), b"helloGET", b"GET"),
@@ -490,18 +487,14 @@ const BEHIND: [(Framing, &[u8], &[u8]); 4] = [
 #[test]
 fn what_lies_behind_an_unsent_body_is_kept(rt: HostRuntime) -> Result<(), Fail> {
     for (framing, kept, behind) in &BEHIND {
-        let mut rest = room_of(rt.alloc(), kept)?;
-        let answer = unsent(rt.alloc(), *framing, &mut rest)?;
-        assert!(rt;
-            answer == Err(SendFault) && rest.kept().ends_with(behind),
-            "{kept:?}"
-        );
+        let (answer, is_kept) = unsent(rt.alloc(), *framing, kept, behind)?;
+        assert!(rt; answer == Err(SendFault) && is_kept, "{kept:?}");
     }
     Ok(())
 }
 
 /// Calls of 3 bytes, and what is given of `hello`.
-const WRITTEN: [(u64, bool, &[u8]); 2] = [(99, true, b"hello"), (1, false, b"hel")];
+static WRITTEN: [(u64, bool, &[u8]); 2] = [(99, true, b"hello"), (1, false, b"hel")];
 
 #[test]
 fn bytes_are_written_up_to_a_fault(rt: HostRuntime) -> Result<(), Fail> {
@@ -510,11 +503,8 @@ fn bytes_are_written_up_to_a_fault(rt: HostRuntime) -> Result<(), Fail> {
             most: 3,
             failing: *failing,
         };
-        let (whole, bytes) = written(rt.alloc(), b"hello", takes)?;
-        assert!(rt;
-            whole == *is_whole && bytes.as_slice() == *given,
-            "{failing}"
-        );
+        let (whole, is_given) = written(rt.alloc(), b"hello", takes, given)?;
+        assert!(rt; whole == *is_whole && is_given, "{failing}");
     }
     Ok(())
 }

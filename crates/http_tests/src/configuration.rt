@@ -5,13 +5,12 @@ use identifier::Kind;
 use line_base::ConnectionPool;
 use line_doubles::{MemFile, MemFolder};
 use linker_config::{
-    Bytes, Config, ConfigFault, FeedAt, LoadedItem, Mem, Port, check_line, fault_line, load_folder,
+    Config, ConfigFault, FeedAt, LoadedItem, Mem, Port, check_line, fault_line, load_folder,
     read_config,
 };
-use name_tree::append_path;
+use name_tree::{Path, write_path};
 use retry_budget::Tries;
 use std::alloc::Global;
-use std::process::Abort;
 use std::test::Fail;
 
 /// Whole texts, and what is told of each.
@@ -185,153 +184,91 @@ const IDENTIFIER: &str = r#"[] => routers[0].identifier bad
 {"kind":"io.l5d.static","path":"a//b"} => routers[0].identifier.path bad
 "#;
 
-/// What is told of a text: `ok`, or the line of its fault, which is `error ` and the fault as it is
-/// shown.
-fn told(alloc: Global, text: &[u8]) -> Mem<Bytes> {
+/// Whether the line of a fault is the one that a case's line ends in.
+fn is_line_of(line: &[u8], end: &str) -> bool {
+    let Some(rest) = line.strip_prefix(b"error config ") else {
+        return false;
+    };
+    match rest.strip_suffix(b"\n") {
+        Some(told) => told == end.as_bytes(),
+        None => false,
+    }
+}
+
+/// Whether the line of a fault is the one that a case's line ends in, and is `error ` and the fault
+/// as it is shown.
+fn is_told_of(alloc: Global, fault: &ConfigFault, end: &str) -> Mem<bool> {
+    let line = fault_line(alloc, fault)?;
+    let is_line = is_line_of(line.as_slice(), end);
+    drop(line);
+    let shown = format!(in alloc; "error {fault}\n")?;
+    Ok(is_line && is_line_of(shown.as_bytes(), end))
+}
+
+/// Whether this is told of a text: `ok`, or the line of its fault.
+fn is_told(alloc: Global, text: &[u8], end: &str) -> Mem<bool> {
     match read_config(alloc, text) {
         Ok(config) => {
             drop(config);
-            Vec::from_slice(alloc, b"ok")
+            Ok(end == "ok")
         }
         Err(fault) => {
-            let told = told_of(alloc, &fault);
+            let is_told = is_told_of(alloc, &fault, end);
             drop(fault);
-            told
+            is_told
         }
     }
 }
 
-/// The line of a fault, if it is as the fault is shown.
-fn told_of(alloc: Global, fault: &ConfigFault) -> Mem<Bytes> {
-    let line = fault_line(alloc, fault)?;
-    let shown = format!(in alloc; "error {fault}\n")?;
-    if line.as_slice() == shown.as_bytes() {
-        return Ok(line);
-    }
-    Vec::from_slice(alloc, b"two texts")
+/// Whether what a case says is told of its text, between a beginning and an end.
+fn is_case_told(alloc: Global, front: &str, case: &str, back: &str) -> Mem<bool> {
+    let Some((text, end)) = case.rsplit_once(" => ") else {
+        return Ok(false);
+    };
+    let whole = format!(in alloc; "{front}{text}{back}")?;
+    let is_told = is_told(alloc, whole.as_bytes(), end);
+    drop(whole);
+    is_told
 }
 
-/// What is to be told, by the end of a case's line.
-fn wanted(alloc: Global, end: &str) -> Mem<String> {
-    if end == "ok" {
-        return String::from_str(alloc, end);
-    }
-    format!(in alloc; "error config {end}\n")
-}
+/// The beginning of a configuration with members beside a good router.
+const BESIDE: &str = r#"{"routers":[{"protocol":"http"}],"#;
 
-/// Tells each case, between a beginning and an end.
-fn tell(rt: &impl Abort, alloc: Global, front: &str, cases: &str, back: &str) -> Mem<()> {
-    for case in cases.lines() {
-        if let Some((text, end)) = case.rsplit_once(" => ") {
-            let whole = format!(in alloc; "{front}{text}{back}")?;
-            let told = told(alloc, whole.as_bytes())?;
-            let wanted = wanted(alloc, end)?;
-            assert!(rt; told.as_slice() == wanted.as_bytes(), "{case}");
+/// The beginning of one whose router has members beside its protocol.
+const ROUTER: &str = r#"{"routers":[{"protocol":"http","#;
+
+/// The beginning of one that counts failures.
+const COUNTING: &str =
+    r#"{"routers":[{"protocol":"http","client":{"failureAccrual":{"kind":"io.l5d.consecutiveFailures""#;
+
+/// The beginning of one whose router has an identifier.
+const IDENTIFIED: &str = r#"{"routers":[{"protocol":"http","identifier":"#;
+
+/// Cases, each between a beginning and an end.
+static CASES: [(&str, &str, &str); 13] = [
+    // JSON or none, the keys of the whole, the array of routers
+    ("", WHOLE, ""),
+    (BESIDE, NUMBERS, "}"),
+    (BESIDE, PORTS, "}"),
+    (BESIDE, NAMERS, "}"),
+    (BESIDE, FEED, "}"),
+    (BESIDE, FIRST, "}"),
+    (ROUTER, TABLE, "}]}"),
+    (ROUTER, SERVERS, "}]}"),
+    (ROUTER, CLIENT, "}]}"),
+    (ROUTER, RETRIES, "}]}"),
+    (ROUTER, FIRST_OF_ROUTER, "}]}"),
+    (COUNTING, ACCRUAL, "}}}]}"),
+    (IDENTIFIED, IDENTIFIER, "}]}"),
+];
+
+#[test]
+fn configurations_are_told(rt: HostRuntime) -> Result<(), Fail> {
+    for (front, cases, back) in &CASES {
+        for case in cases.lines() {
+            assert!(rt; is_case_told(rt.alloc(), front, case, back)?, "{case}");
         }
     }
-    Ok(())
-}
-
-/// Tells each case of members beside a good router.
-fn tell_members(rt: &impl Abort, alloc: Global, cases: &str) -> Mem<()> {
-    tell(
-        rt,
-        alloc,
-        r#"{"routers":[{"protocol":"http"}],"#,
-        cases,
-        "}",
-    )
-}
-
-/// Tells each case of members of a router beside its protocol.
-fn tell_of_router(rt: &impl Abort, alloc: Global, cases: &str) -> Mem<()> {
-    tell(
-        rt,
-        alloc,
-        r#"{"routers":[{"protocol":"http","#,
-        cases,
-        "}]}",
-    )
-}
-
-/// JSON or none, the keys of the whole, the array of routers.
-#[test]
-fn whole_texts(rt: HostRuntime) -> Result<(), Fail> {
-    tell(&rt, rt.alloc(), "", WHOLE, "")?;
-    Ok(())
-}
-
-#[test]
-fn numbers_of_a_run(rt: HostRuntime) -> Result<(), Fail> {
-    tell_members(&rt, rt.alloc(), NUMBERS)?;
-    tell_members(&rt, rt.alloc(), FIRST)?;
-    Ok(())
-}
-
-#[test]
-fn where_interfaces_are(rt: HostRuntime) -> Result<(), Fail> {
-    tell_members(&rt, rt.alloc(), PORTS)?;
-    Ok(())
-}
-
-#[test]
-fn where_names_come_from(rt: HostRuntime) -> Result<(), Fail> {
-    tell_members(&rt, rt.alloc(), NAMERS)?;
-    Ok(())
-}
-
-#[test]
-fn where_the_feed_is(rt: HostRuntime) -> Result<(), Fail> {
-    tell_members(&rt, rt.alloc(), FEED)?;
-    Ok(())
-}
-
-#[test]
-fn tables_of_routers(rt: HostRuntime) -> Result<(), Fail> {
-    tell_of_router(&rt, rt.alloc(), TABLE)?;
-    tell_of_router(&rt, rt.alloc(), FIRST_OF_ROUTER)?;
-    Ok(())
-}
-
-#[test]
-fn servers_of_routers(rt: HostRuntime) -> Result<(), Fail> {
-    tell_of_router(&rt, rt.alloc(), SERVERS)?;
-    Ok(())
-}
-
-#[test]
-fn clients_of_routers(rt: HostRuntime) -> Result<(), Fail> {
-    tell_of_router(&rt, rt.alloc(), CLIENT)?;
-    Ok(())
-}
-
-#[test]
-fn failures_that_are_counted(rt: HostRuntime) -> Result<(), Fail> {
-    tell(
-        &rt,
-        rt.alloc(),
-        r#"{"routers":[{"protocol":"http","client":{"failureAccrual":{"kind":"io.l5d.consecutiveFailures""#,
-        ACCRUAL,
-        "}}}]}",
-    )?;
-    Ok(())
-}
-
-#[test]
-fn retries_of_routers(rt: HostRuntime) -> Result<(), Fail> {
-    tell_of_router(&rt, rt.alloc(), RETRIES)?;
-    Ok(())
-}
-
-#[test]
-fn identifiers_of_routers(rt: HostRuntime) -> Result<(), Fail> {
-    tell(
-        &rt,
-        rt.alloc(),
-        r#"{"routers":[{"protocol":"http","identifier":"#,
-        IDENTIFIER,
-        "}]}",
-    )?;
     Ok(())
 }
 
@@ -353,43 +290,47 @@ const USUAL: &str =
 const SAID: &str =
     r#"{"routers":[{"protocol":"http","dstPrefix":"/x","identifier":{"kind":"io.l5d.static","path":"a"},"client":{"failureAccrual":{"kind":"io.l5d.consecutiveFailures","failures":3}}}],"namerd":{"namespace":"web"},"seed":7}"#;
 
-/// The folder of a configuration, `-` where there is none, how many entries its table has, its
-/// line, and its prefix.
-fn values_text(alloc: Global, config: &Config) -> Result<Bytes, Fail> {
-    let root = match &config.root {
-        Some(root) => root.as_str(),
-        None => "-",
-    };
-    let count = config.settings.base.len();
-    let mut text = format!(in alloc; "{root} {count} ")?.into_bytes();
-    text.append(&mut check_line(alloc, config)?)?;
-    append_path(&config.rule.prefix, &mut text)?;
-    Ok(text)
+/// Whether a configuration is told by this line.
+fn is_line(alloc: Global, config: &Config, line: &str) -> Mem<bool> {
+    let told = check_line(alloc, config)?;
+    Ok(told.as_slice() == line.as_bytes())
 }
 
-/// The seed of a configuration, its workers, failures and backoff, and its namespace.
-fn numbers_text(alloc: Global, config: &Config) -> Mem<Bytes> {
-    let (seed, workers) = (config.seed, config.workers);
-    let limits = &config.settings.limits;
-    let (failures, backoff) = (limits.failures, limits.backoff);
-    let mut text = format!(in alloc; "{seed} {workers} {failures} {backoff} ")?.into_bytes();
-    text.extend_from_slice(config.settings.space.text())?;
-    Ok(text)
+/// Whether a path has this text.
+fn is_path(alloc: Global, path: &Path, text: &str) -> Mem<bool> {
+    let written = write_path(alloc, path)?;
+    Ok(written.as_slice() == text.as_bytes())
 }
 
-/// The values of a configuration whose line tells the usual addresses.
-fn usual_text(alloc: Global) -> Result<Bytes, Fail> {
+/// Whether the folder of a configuration has this name.
+fn is_root(config: &Config, name: &str) -> bool {
+    match &config.root {
+        Some(root) => root.as_str() == name,
+        None => false,
+    }
+}
+
+/// Whether the folder, the line and the prefix of a configuration are those of the usual one, and
+/// how many entries its table has.
+fn usual_of(alloc: Global, config: &Config) -> Mem<([bool; 3], usize)> {
+    let line = "ok router 127.0.0.1:4140 namerd 127.0.0.1:4180 admin 127.0.0.1:9990\n";
+    let is_line = is_line(alloc, config, line)?;
+    let is_prefix = is_path(alloc, &config.rule.prefix, "/svc")?;
+    let is_root = is_root(config, "disco");
+    Ok(([is_root, is_line, is_prefix], config.settings.base.len()))
+}
+
+/// The same of the configuration whose line tells the usual addresses.
+fn usual(alloc: Global) -> Result<([bool; 3], usize), Fail> {
     let config = config_of(alloc, USUAL)?;
-    let text = values_text(alloc, &config);
+    let usual = usual_of(alloc, &config);
     drop(config);
-    text
+    Ok(usual?)
 }
 
 #[test]
 fn usual_values(rt: HostRuntime) -> Result<(), Fail> {
-    let text = usual_text(rt.alloc())?;
-    let want = "disco 1 ok router 127.0.0.1:4140 namerd 127.0.0.1:4180 admin 127.0.0.1:9990\n/svc";
-    assert!(rt; text.as_slice() == want.as_bytes());
+    assert_eq!(rt; usual(rt.alloc())?, ([true; 3], 1));
     Ok(())
 }
 
@@ -401,26 +342,29 @@ fn is_static(kind: &Kind) -> bool {
     }
 }
 
-/// The numbers of a configuration, its namespace and its prefix.
-fn said_of(alloc: Global, config: &Config) -> Result<(Bytes, bool), Fail> {
-    let mut text = numbers_text(alloc, config)?;
-    text.push(b' ')?;
-    append_path(&config.rule.prefix, &mut text)?;
-    Ok((text, is_static(&config.rule.kind)))
+/// The seed of a configuration, its workers, failures and backoff; and whether its namespace, its
+/// prefix and its identifier are those that are said.
+fn said_of(alloc: Global, config: &Config) -> Mem<([u64; 4], [bool; 3])> {
+    let limits = &config.settings.limits;
+    let (workers, failures) = (u64::from(config.workers), u64::from(limits.failures));
+    let is_space = config.settings.space.text() == b"web".as_slice();
+    let is_prefix = is_path(alloc, &config.rule.prefix, "/x")?;
+    let is_kind = is_static(&config.rule.kind);
+    let numbers = [config.seed, workers, failures, limits.backoff];
+    Ok((numbers, [is_space, is_prefix, is_kind]))
 }
 
 /// The same of a configuration where all is said.
-fn said_text(alloc: Global) -> Result<(Bytes, bool), Fail> {
+fn said(alloc: Global) -> Result<([u64; 4], [bool; 3]), Fail> {
     let config = config_of(alloc, SAID)?;
     let said = said_of(alloc, &config);
     drop(config);
-    said
+    Ok(said?)
 }
 
 #[test]
 fn values_that_are_said(rt: HostRuntime) -> Result<(), Fail> {
-    let (text, is_static) = said_text(rt.alloc())?;
-    assert!(rt; is_static && text.as_slice() == b"7 16 3 5000 web /x".as_slice());
+    assert_eq!(rt; said(rt.alloc())?, ([7, 16, 3, 5000], [true; 3]));
     Ok(())
 }
 
@@ -436,7 +380,7 @@ fn additions_of(alloc: Global, text: &str) -> Result<Additions, Fail> {
 }
 
 /// Configurations, and their additions.
-const ADDITIONS: [(&str, Additions); 5] = [
+static ADDITIONS: [(&str, Additions); 5] = [
     (r#"{"routers":[{"protocol":"http"}]}"#, (None, None, None)),
     (
         r#"{"routers":[{"protocol":"http","client":{"hostConnectionPool":{}}}]}"#,
@@ -504,7 +448,7 @@ fn additions(rt: HostRuntime) -> Result<(), Fail> {
 }
 
 /// Configurations, and whether the table of each covers its prefix.
-const COVERING: [(&str, bool); 6] = [
+static COVERING: [(&str, bool); 6] = [
     (r#"{"routers":[{"protocol":"http"}]}"#, false),
     (
         r#"{"routers":[{"protocol":"http","dtab":"/svc => /host"}]}"#,
@@ -559,12 +503,18 @@ fn loaded(alloc: Global, folder: &mut MemFolder) -> Mem<String> {
     }
 }
 
-/// Services, each with the number of its addresses.
-fn listed(alloc: Global, items: &[LoadedItem]) -> Mem<String> {
-    let mut text = String::new(alloc);
+/// Puts services behind a text, each with the number of its addresses.
+fn list(items: &[LoadedItem], text: &mut String) -> Mem<()> {
     for item in items {
         write!(text, "{} {} ", item.service, item.list.items().len())?;
     }
+    Ok(())
+}
+
+/// Services, each with the number of its addresses.
+fn listed(alloc: Global, items: &[LoadedItem]) -> Mem<String> {
+    let mut text = String::new(alloc);
+    list(items, &mut text)?;
     Ok(text)
 }
 
@@ -575,13 +525,26 @@ fn file(alloc: Global, name: &str, text: &str, blanks: usize) -> Mem<MemFile> {
     Ok(MemFile::of(folder, name, spelled(alloc, text, " ", blanks)?))
 }
 
-/// A folder with a file of this text, one of another kind of name, and one of so many blanks.
-fn folder_of(alloc: Global, blanks: usize, text: &str) -> Mem<MemFolder> {
-    let mut files = Vec::new(alloc);
-    for (name, text) in [("web", text), ("no name", text), ("api", "%")] {
+/// Puts a file of this text behind others, one of another kind of name, and one of so many blanks.
+fn add_files(alloc: Global, files: &mut Vec<MemFile>, blanks: usize, text: &str) -> Mem<()> {
+    for (name, text) in &[("web", text), ("no name", text), ("api", "%")] {
         files.push(file(alloc, name, text, blanks)?)?;
     }
-    Ok(MemFolder::of(alloc, files, Vec::from_elem(alloc, 5, 1)?))
+    Ok(())
+}
+
+/// A folder with these files.
+fn folder_of(alloc: Global, blanks: usize, text: &str) -> Mem<MemFolder> {
+    let failing = Vec::from_elem(alloc, 5, 1)?;
+    let mut files = Vec::new(alloc);
+    match add_files(alloc, &mut files, blanks, text) {
+        Ok(()) => Ok(MemFolder::of(alloc, files, failing)),
+        Err(fault) => {
+            drop(files);
+            drop(failing);
+            Err(fault)
+        }
+    }
 }
 
 /// What loading a folder comes to, so many times: the last answer.
@@ -603,7 +566,7 @@ fn told_last(alloc: Global, blanks: usize, text: &str, times: u32) -> Mem<String
 
 /// How many blanks one file has, the bytes of another, how often the folder is loaded, and what the
 /// last time comes to.
-const FOLDERS: [(usize, &str, u32, &str); 4] = [
+static FOLDERS: [(usize, &str, u32, &str); 4] = [
     (1_048_576, "127.0.0.1 9001\n", 1, "api 0 web 1 "),
     (
         1_048_576,

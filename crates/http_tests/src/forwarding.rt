@@ -1,7 +1,7 @@
 //! Heads as they come and as they go on, written out here by hand.
 use crate::requests::{asked_by, head_of, method_of, reply_head, spelled};
 use dtab_table::{Dtab, read_dtab};
-use forward::{Bytes, Going, back_head, back_head_into, forward_head, forward_head_into};
+use forward::{Going, Mem, back_head, back_head_into, forward_head, forward_head_into};
 use http::Method;
 use http_wire::{Framing, Head, ReplyHead, reply_framing};
 use name_tree::read_path;
@@ -9,67 +9,15 @@ use own_reply::Tested;
 use std::alloc::Global;
 use std::test::Fail;
 
-/// The head of a request as it goes on this way: as new bytes, and in place of others.
-fn written(alloc: Global, head: &Head, to: &Going<'_>) -> Result<Bytes, Fail> {
-    let mut into = Vec::from_slice(alloc, b"old")?;
-    forward_head_into(alloc, head, to, &mut into)?;
-    if forward_head(alloc, head, to)? != into {
-        return Err("another head".into());
-    }
-    Ok(into)
-}
-
-/// The same to the service `/svc/web` and one address.
-fn gone(alloc: Global, head: &Head, asked: &Tested, local: &Dtab) -> Result<Bytes, Fail> {
-    let Ok(service) = read_path(alloc, b"/svc/web") else {
-        return Err("no path".into());
-    };
-    let to = Going {
-        host: asked.host.as_slice(),
-        target: asked.target.line.as_slice(),
-        framing: asked.framing,
-        local,
-        service: &service,
-        client: b"/$/inet/127.0.0.1/9001",
-        residual: b"/",
-        closes: true,
-    };
-    written(alloc, head, &to)
-}
-
 /// The line of a field.
 const LINE: &str = "X: 1\r\n";
-
-/// The table of a text.
-fn table_of(alloc: Global, text: &str) -> Result<Dtab, Fail> {
-    match read_dtab(alloc, text.as_bytes()) {
-        Ok(dtab) => Ok(dtab),
-        Err(_) => Err("no table".into()),
-    }
-}
-
-/// A request's head as it goes on, with this table.
-fn forwarded_with(alloc: Global, head: &Head, table: &str) -> Result<Bytes, Fail> {
-    let local = table_of(alloc, table)?;
-    let asked = asked_by(alloc, head)?;
-    let gone = gone(alloc, head, &asked, &local);
-    drop(asked);
-    gone
-}
-
-/// The same of a text.
-fn forwarded(alloc: Global, request: &str, count: usize, table: &str) -> Result<Bytes, Fail> {
-    let head = head_of(alloc, request, LINE, count)?;
-    let forwarded = forwarded_with(alloc, &head, table);
-    drop(head);
-    forwarded
-}
 
 /// The request, for how many lines `%` stands, its table, and the front of the head that goes on.
 type Row = (&'static str, usize, &'static str, &'static str);
 
-/// Targets, hosts, lengths, tables, and many fields.
-const REQUESTS: [Row; 5] = [
+/// Targets, hosts, lengths, tables, and many fields; what Connection fields list, and what never
+/// goes on.
+static REQUESTS: [Row; 8] = [
     // A table, and a field that the Connection field names.
     (
         "GET /x?y=1 HTTP/1.1|Host: Web|User-Agent: curl/8.5.0|Accept: */*|l5d-dtab: /svc/web => /$/inet/127.0.0.1/9001|Connection: x-gone, keep-alive|X-Gone: 1|X-Kept: 2||",
@@ -104,10 +52,6 @@ const REQUESTS: [Row; 5] = [
         "",
         "GET / HTTP/1.1|Host: web|%Via: 1.1 linkerd|",
     ),
-];
-
-/// What Connection fields list, and what never goes on.
-const DROPPED: [Row; 3] = [
     // Two Connection fields, names in other case, and blanks and empty pieces between them.
     (
         "GET / HTTP/1.1|X-C: 1|Host: web|Connection: ,X-A ,\tx-b|X-a: 2|x-B: 3|X: 4|connection: CLOSE, x-c|X-AB: 5|x: 6||",
@@ -142,12 +86,82 @@ fn is_made_of(text: &[u8], front: &[u8], end: &[u8]) -> bool {
         && text.len() == front.len().saturating_add(end.len())
 }
 
+/// Whether the head of a request goes on this way with this front, as new bytes and in place of
+/// others.
+fn is_written(alloc: Global, head: &Head, to: &Going<'_>, front: &[u8]) -> Mem<bool> {
+    let new = forward_head(alloc, head, to)?;
+    let is_new = is_made_of(new.as_slice(), front, LAST.as_bytes());
+    drop(new);
+    let mut into = Vec::from_slice(alloc, b"old")?;
+    forward_head_into(alloc, head, to, &mut into)?;
+    Ok(is_new && is_made_of(into.as_slice(), front, LAST.as_bytes()))
+}
+
+/// The same to the service `/svc/web` and one address.
+fn is_forwarded(
+    alloc: Global,
+    head: &Head,
+    asked: &Tested,
+    local: &Dtab,
+    front: &[u8],
+) -> Result<bool, Fail> {
+    let Ok(service) = read_path(alloc, b"/svc/web") else {
+        return Err("no path".into());
+    };
+    let to = Going {
+        host: asked.host.as_slice(),
+        target: asked.target.line.as_slice(),
+        framing: asked.framing,
+        local,
+        service: &service,
+        client: b"/$/inet/127.0.0.1/9001",
+        residual: b"/",
+        closes: true,
+    };
+    let is_written = is_written(alloc, head, &to, front);
+    drop(service);
+    Ok(is_written?)
+}
+
+/// The table of a text.
+fn table_of(alloc: Global, text: &str) -> Result<Dtab, Fail> {
+    match read_dtab(alloc, text.as_bytes()) {
+        Ok(dtab) => Ok(dtab),
+        Err(_) => Err("no table".into()),
+    }
+}
+
+/// Whether a request's head goes on with this front, where it has this table.
+fn is_forwarded_with(alloc: Global, head: &Head, table: &str, front: &[u8]) -> Result<bool, Fail> {
+    let local = table_of(alloc, table)?;
+    let asked = match asked_by(alloc, head) {
+        Ok(asked) => asked,
+        Err(fail) => {
+            drop(local);
+            return Err(fail);
+        }
+    };
+    let is_forwarded = is_forwarded(alloc, head, &asked, &local, front);
+    drop(asked);
+    drop(local);
+    is_forwarded
+}
+
 /// Whether a request goes on as its row says.
 fn goes_on(alloc: Global, row: &Row) -> Result<bool, Fail> {
     let (request, count, table, front) = row;
-    let head = forwarded(alloc, request, *count, table)?;
     let front = spelled(alloc, front, LINE, *count)?;
-    Ok(is_made_of(head.as_slice(), front.as_slice(), LAST.as_bytes()))
+    let head = match head_of(alloc, request, LINE, *count) {
+        Ok(head) => head,
+        Err(fail) => {
+            drop(front);
+            return Err(fail);
+        }
+    };
+    let goes_on = is_forwarded_with(alloc, &head, table, front.as_slice());
+    drop(head);
+    drop(front);
+    goes_on
 }
 
 #[test]
@@ -158,61 +172,8 @@ fn heads_go_on_as_written_here(rt: HostRuntime) -> Result<(), Fail> {
     Ok(())
 }
 
-#[test]
-fn fields_of_one_connection_go_no_further(rt: HostRuntime) -> Result<(), Fail> {
-    for row in &DROPPED {
-        assert!(rt; goes_on(rt.alloc(), row)?, "{:?}", row.0);
-    }
-    Ok(())
-}
-
-/// A reply's head as it goes back, as new bytes and in place of others; chunks stay chunks to a
-/// client that keeps its connection.
-fn back_of(
-    alloc: Global,
-    head: &ReplyHead,
-    framing: Framing,
-    closing: bool,
-) -> Result<Bytes, Fail> {
-    let mut into = Vec::from_slice(alloc, b"old")?;
-    back_head_into(alloc, head, framing, !closing, closing, &mut into)?;
-    if back_head(alloc, head, framing, !closing, closing)? != into {
-        return Err("another head".into());
-    }
-    Ok(into)
-}
-
-/// A reply's head as it goes back to a request with this method.
-fn returned_to(
-    alloc: Global,
-    method: &Method,
-    head: &ReplyHead,
-    closing: bool,
-) -> Result<Bytes, Fail> {
-    match reply_framing(method, head) {
-        Ok(framing) => back_of(alloc, head, framing, closing),
-        Err(_) => Err("no framing".into()),
-    }
-}
-
-/// The same of texts.
-fn returned(alloc: Global, method: &str, reply: &str, closing: bool) -> Result<Bytes, Fail> {
-    let method = method_of(alloc, method)?;
-    let returned = returned_by(alloc, &method, reply, closing);
-    drop(method);
-    returned
-}
-
-/// The same to this method.
-fn returned_by(alloc: Global, method: &Method, reply: &str, closing: bool) -> Result<Bytes, Fail> {
-    let head = reply_head(alloc, reply)?;
-    let returned = returned_to(alloc, method, &head, closing);
-    drop(head);
-    returned
-}
-
 /// The method, the reply, whether the connection closes, and what goes back.
-const REPLIES: [(&str, &str, bool, &str); 7] = [
+static REPLIES: [(&str, &str, bool, &str); 7] = [
     (
         "GET",
         "HTTP/1.1 200 OK\r\nContent-Length: 2\r\nServer: t\r\n\r\nhi",
@@ -261,12 +222,64 @@ const REPLIES: [(&str, &str, bool, &str); 7] = [
     ),
 ];
 
+/// Whether a reply's head goes back as these bytes, as new ones and in place of others; chunks stay
+/// chunks to a client that keeps its connection.
+fn is_returned(
+    alloc: Global,
+    head: &ReplyHead,
+    framing: Framing,
+    closing: bool,
+    back: &[u8],
+) -> Mem<bool> {
+    let new = back_head(alloc, head, framing, !closing, closing)?;
+    let is_new = new.as_slice() == back;
+    drop(new);
+    let mut into = Vec::from_slice(alloc, b"old")?;
+    back_head_into(alloc, head, framing, !closing, closing, &mut into)?;
+    Ok(is_new && into.as_slice() == back)
+}
+
+/// Whether it goes back so to a request with this method.
+fn is_returned_to(
+    alloc: Global,
+    method: &Method,
+    head: &ReplyHead,
+    closing: bool,
+    back: &[u8],
+) -> Result<bool, Fail> {
+    match reply_framing(method, head) {
+        Ok(framing) => Ok(is_returned(alloc, head, framing, closing, back)?),
+        Err(_) => Err("no framing".into()),
+    }
+}
+
+/// The same of the texts of the method and the reply.
+fn goes_back(
+    alloc: Global,
+    method: &str,
+    reply: &str,
+    closing: bool,
+    back: &str,
+) -> Result<bool, Fail> {
+    let method = method_of(alloc, method)?;
+    let head = match reply_head(alloc, reply) {
+        Ok(head) => head,
+        Err(fail) => {
+            drop(method);
+            return Err(fail);
+        }
+    };
+    let goes_back = is_returned_to(alloc, &method, &head, closing, back.as_bytes());
+    drop(head);
+    drop(method);
+    goes_back
+}
+
 #[test]
 fn heads_of_replies_go_back_as_written_here(rt: HostRuntime) -> Result<(), Fail> {
-    let alloc = rt.alloc();
     for (method, reply, closing, back) in &REPLIES {
-        let head = returned(alloc, method, reply, *closing)?;
-        assert!(rt; head.as_slice() == back.as_bytes(), "{reply:?}");
+        let goes_back = goes_back(rt.alloc(), method, reply, *closing, back)?;
+        assert!(rt; goes_back, "{reply:?}");
     }
     Ok(())
 }

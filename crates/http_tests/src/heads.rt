@@ -2,7 +2,7 @@
 use crate::requests::{dialer_of, head_of, method_of, peer_of, reply_of, room_of, spelled};
 use http::Method;
 use http_wire::{
-    Bytes, Framing, Head, HeadEnd, Mem, ReplyHead, Rest, names_close, push_line, read_request_head,
+    Framing, Head, HeadEnd, Mem, ReplyHead, Rest, names_close, push_line, read_request_head,
     reply_framing, same_bytes,
 };
 use line_doubles::{MemDialer, MemPeer};
@@ -25,7 +25,7 @@ type Read = (
 /// A size that no piece has.
 const MOST: usize = usize::MAX;
 
-const READ: [Read; 23] = [
+static READ: [Read; 23] = [
     // A head is known before the next read, which would fail.
     ("", "GET / HTTP/1.1|Host: a||", 0, MOST, 1, None, (0, 0)),
     ("", "GET / HTTP/1.1\nHost: a\n\n", 0, MOST, 1, None, (0, 0)),
@@ -169,75 +169,79 @@ fn heads_are_read_at_their_last_byte(rt: HostRuntime) -> Result<(), Fail> {
     Ok(())
 }
 
-/// The method of the next head, and `|`; nothing where there is no head.
-fn next_method(alloc: Global, peer: &mut MemPeer, rest: &mut Rest) -> Mem<Bytes> {
+/// Whether the next head that a peer gives has this method; or why there is none.
+fn is_next(
+    alloc: Global,
+    peer: &mut MemPeer,
+    rest: &mut Rest,
+    method: &str,
+) -> Result<bool, HeadEnd> {
     match read_request_head(alloc, peer, rest) {
         Ok(head) => {
-            let method = line_to(alloc, head.method.as_str().as_bytes(), b'|');
+            let is_next = head.method.as_str() == method;
             drop(head);
-            method
+            Ok(is_next)
         }
-        Err(_) => Ok(Vec::new(alloc)),
+        Err(end) => Err(end),
     }
 }
 
-/// Some bytes with one more behind them.
-fn line_to(alloc: Global, bytes: &[u8], end: u8) -> Mem<Bytes> {
-    let mut line = Vec::from_slice(alloc, bytes)?;
-    line.push(end)?;
-    Ok(line)
-}
-
-/// The methods of the heads that a peer gives, and then the bytes that are kept behind them.
-fn methods_from(alloc: Global, peer: &mut MemPeer) -> Mem<Bytes> {
+/// Whether a peer gives heads with the methods `PROPPATCH`, `GET` and `X-Y`, then none, and `POST`
+/// is kept.
+fn heads_from(alloc: Global, peer: &mut MemPeer) -> Mem<[bool; 5]> {
     let mut rest = Rest::room(alloc)?;
-    let mut methods = Vec::new(alloc);
-    for _ in 0..4u32 {
-        methods.append(&mut next_method(alloc, peer, &mut rest)?)?;
-    }
-    methods.extend_from_slice(rest.kept())?;
-    Ok(methods)
+    let first = is_next(alloc, peer, &mut rest, "PROPPATCH") == Ok(true);
+    let second = is_next(alloc, peer, &mut rest, "GET") == Ok(true);
+    let third = is_next(alloc, peer, &mut rest, "X-Y") == Ok(true);
+    let is_last = is_next(alloc, peer, &mut rest, "").is_err();
+    let is_kept = rest.kept() == b"POST".as_slice();
+    drop(rest);
+    Ok([first, second, third, is_last, is_kept])
 }
 
-/// The same of a text.
-fn methods_of(alloc: Global, text: &str) -> Mem<Bytes> {
+/// The same of a peer that gives this text.
+fn heads_of(alloc: Global, text: &str) -> Mem<[bool; 5]> {
     let text = Vec::from_slice(alloc, text.as_bytes())?;
     let mut peer = peer_of(alloc, text, MOST, 1)?;
-    let methods = methods_from(alloc, &mut peer);
+    let heads = heads_from(alloc, &mut peer);
     drop(peer);
-    methods
+    heads
 }
 
 #[test]
 fn many_heads_come_through_one_room(rt: HostRuntime) -> Result<(), Fail> {
     let text =
         "PROPPATCH /a HTTP/1.1\nHost: a\n\nGET / HTTP/1.0\r\n\r\n\r\nX-Y /c HTTP/1.1\n\nPOST";
-    let methods = methods_of(rt.alloc(), text)?;
-    assert!(rt; methods.as_slice() == b"PROPPATCH|GET|X-Y|POST".as_slice());
+    assert_eq!(rt; heads_of(rt.alloc(), text)?, [true; 5]);
     Ok(())
 }
 
-/// The target and the host of a request, with a blank between them.
-fn way_of(alloc: Global, tested: &Tested) -> Result<Bytes, Fail> {
-    let mut way = line_to(alloc, tested.target.line.as_slice(), b' ')?;
-    way.extend_from_slice(tested.host.as_slice())?;
-    Ok(way)
+/// Whether the target and the host of a request are these, with a blank between them.
+fn is_way(tested: &Tested, way: &str) -> bool {
+    match way.split_once(' ') {
+        Some((target, host)) => {
+            tested.target.line.as_slice() == target.as_bytes()
+                && tested.host.as_slice() == host.as_bytes()
+        }
+        None => false,
+    }
 }
 
 /// How the body of a request is framed, or why the request is refused; whether its head names
 /// `close`; and how many fields it has.
 type Asked = (Result<Framing, Refusal>, bool, usize);
 
-/// What a request asks whose body may have so many bytes: its way, and the rest.
-fn asked_of(alloc: Global, head: &Head, most: Option<u64>) -> Result<(Bytes, Asked), Fail> {
+/// What a request asks whose body may have so many bytes, and whether this is its way, which it has
+/// none of where it is refused.
+fn asked_of(alloc: Global, head: &Head, most: Option<u64>, way: &str) -> (Asked, bool) {
     let (closes, fields) = (names_close(&head.fields), head.fields.items().len());
     match test_request(alloc, head, most) {
         Ok(tested) => {
-            let (way, framing) = (way_of(alloc, &tested), tested.framing);
+            let (framing, is_way) = (tested.framing, is_way(&tested, way));
             drop(tested);
-            Ok((way?, (Ok(framing), closes, fields)))
+            ((Ok(framing), closes, fields), is_way)
         }
-        Err(refusal) => Ok((Vec::new(alloc), (Err(refusal), closes, fields))),
+        Err(refusal) => ((Err(refusal), closes, fields), way.is_empty()),
     }
 }
 
@@ -247,16 +251,17 @@ fn asked(
     text: &str,
     count: usize,
     most: Option<u64>,
-) -> Result<(Bytes, Asked), Fail> {
+    way: &str,
+) -> Result<(Asked, bool), Fail> {
     let head = head_of(alloc, text, "A: b\n", count)?;
-    let asked = asked_of(alloc, &head, most);
+    let asked = asked_of(alloc, &head, most, way);
     drop(head);
-    asked
+    Ok(asked)
 }
 
 /// Requests, how many fields `%` stands for, the most bytes of their bodies, their targets and
 /// hosts, and what they ask. The first test that refuses one decides.
-const ASKED: [(&str, usize, Option<u64>, &str, Asked); 19] = [
+static ASKED: [(&str, usize, Option<u64>, &str, Asked); 19] = [
     (
         "GET http://web?x=1#y HTTP/1.1\nHost: other\nContent-Length: 03 ,\t3\n\n",
         0,
@@ -397,28 +402,28 @@ const ASKED: [(&str, usize, Option<u64>, &str, Asked); 19] = [
 #[test]
 fn what_a_request_asks(rt: HostRuntime) -> Result<(), Fail> {
     for (text, count, most, way, asks) in &ASKED {
-        let asked = asked(rt.alloc(), text, *count, *most)?;
-        assert!(rt;
-            asked.0.as_slice() == way.as_bytes() && asked.1 == *asks,
-            "{text:?}"
-        );
+        let (asked, is_way) = asked(rt.alloc(), text, *count, *most, way)?;
+        assert!(rt; asked == *asks && is_way, "{text:?}");
     }
     Ok(())
 }
 
-/// The line of a field.
-fn line_of(alloc: Global, name: &str, value: &str) -> Mem<Bytes> {
-    let mut line = Vec::new(alloc);
-    push_line(&mut line, name, value.as_bytes())?;
-    Ok(line)
+/// Whether the line of a field is this.
+fn is_line(alloc: Global, name: &str, value: &str, line: &[u8]) -> Mem<bool> {
+    let mut written = Vec::new(alloc);
+    push_line(&mut written, name, value.as_bytes())?;
+    Ok(written.as_slice() == line)
 }
 
 #[test]
 fn names_and_lines(rt: HostRuntime) -> Result<(), Fail> {
-    assert!(rt; same_bytes(b"Web", b"wEB"));
-    assert!(rt; !same_bytes(b"a_", b"a-"));
-    let line = line_of(rt.alloc(), "A", "b")?;
-    assert!(rt; line.as_slice() == b"A: b\r\n".as_slice());
+    let is_line = is_line(rt.alloc(), "A", "b", b"A: b\r\n")?;
+    let seen = [
+        same_bytes(b"Web", b"wEB"),
+        same_bytes(b"a_", b"a-"),
+        is_line,
+    ];
+    assert_eq!(rt; seen, [true, false, true]);
     Ok(())
 }
 
@@ -427,15 +432,18 @@ fn names_and_lines(rt: HostRuntime) -> Result<(), Fail> {
 type Replied = Result<(Option<Framing>, usize), HeadEnd>;
 
 /// How the body of a reply to this method is framed, and how many fields its head has.
-fn shown(method: &Method, read: Result<ReplyHead, HeadEnd>) -> Replied {
-    match read {
+fn replied_to(
+    method: &Method,
+    read: Result<Result<ReplyHead, HeadEnd>, Fail>,
+) -> Result<Replied, Fail> {
+    match read? {
         Ok(head) => {
             let framing = reply_framing(method, &head).ok();
             let count = head.fields.items().len();
             drop(head);
-            Ok((framing, count))
+            Ok(Ok((framing, count)))
         }
-        Err(end) => Err(end),
+        Err(end) => Ok(Err(end)),
     }
 }
 
@@ -443,31 +451,30 @@ fn shown(method: &Method, read: Result<ReplyHead, HeadEnd>) -> Replied {
 /// head.
 fn replied_from(
     alloc: Global,
-    method: &Method,
-    dialer: &mut MemDialer,
-) -> Result<(Replied, usize), Fail> {
-    let mut rest = Rest::room(alloc)?;
-    let read = reply_of(alloc, dialer, &mut rest)?;
-    Ok((shown(method, read), rest.kept().len()))
-}
-
-/// The same to a method of this name.
-fn replied_to(
-    alloc: Global,
     method: &str,
     dialer: &mut MemDialer,
 ) -> Result<(Replied, usize), Fail> {
     let method = method_of(alloc, method)?;
-    let replied = replied_from(alloc, &method, dialer);
+    let mut rest = match Rest::room(alloc) {
+        Ok(rest) => rest,
+        Err(fault) => {
+            drop(method);
+            return Err(Fail::from(fault));
+        }
+    };
+    let read = reply_of(alloc, dialer, &mut rest);
+    let kept = rest.kept().len();
+    drop(rest);
+    let replied = replied_to(&method, read);
     drop(method);
-    replied
+    Ok((replied?, kept))
 }
 
 /// The same of a row.
 fn replied(alloc: Global, row: &Reply) -> Result<(Replied, usize), Fail> {
     let text = spelled(alloc, row.1, row.2, row.3)?;
     let mut dialer = dialer_of(alloc, text)?;
-    let replied = replied_to(alloc, row.0, &mut dialer);
+    let replied = replied_from(alloc, row.0, &mut dialer);
     drop(dialer);
     replied
 }
@@ -490,7 +497,7 @@ const OK: &str = "HTTP/1.1 200 OK|Content-Length: 2|Server: t||hi";
 const LINES: &str = "HTTP/1.1 200 OK\n%\n";
 
 /// One receive brings at most 16,384 bytes.
-const REPLIES: [Reply; 10] = [
+static REPLIES: [Reply; 10] = [
     ("GET", OK, "", 0, Ok((Some(Framing::Length(2)), 2)), 2),
     ("HEAD", OK, "", 0, Ok((Some(Framing::Nothing), 2)), 2),
     (

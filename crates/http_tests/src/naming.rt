@@ -7,58 +7,108 @@ use name_tree::{Path, read_path, write_path};
 use std::alloc::Global;
 use std::test::Fail;
 
-/// Numbers of pieces, requests, and what they are named under the prefix `/svc`.
-const BY_TARGET: [(u32, &str, &str); 7] = [
-    (2, "GET //a//b/c?d HTTP/1.1|Host: x||", "/svc/a/b"),
-    (1, "GET http://web/A/b HTTP/1.1|Host: x||", "/svc/A"),
-    (1, "GET /a#b/c HTTP/1.1|Host: x||", "/svc/a"),
-    (0, "GET / HTTP/1.1|Host: x||", "/svc"),
-    (2, "GET /a HTTP/1.1|Host: x||", ""),
-    (1, "GET http://web?/a HTTP/1.1|Host: x||", ""),
-    (1, "OPTIONS * HTTP/1.1|Host: x||", ""),
-];
+/// By what a request is named.
+#[derive(Clone, Copy)]
+enum By {
+    /// The first pieces of its target, so many.
+    Target(u32),
+    /// Its method and its host.
+    MethodAndHost,
+    /// The value of a field, as one label.
+    Token,
+    /// The path in a field.
+    PathField,
+    /// A path that is the same for all.
+    Static,
+}
 
-/// Requests, and what they are named by their method and host.
-const BY_METHOD_AND_HOST: [(&str, &str); 4] = [
-    ("GET / HTTP/1.0||", "/svc/1.0/GET"),
-    ("PUT / HTTP/1.0|Host: web||", "/svc/1.0/PUT"),
+/// By what a request is named; the name of the field, or the path; the request; and what it is
+/// named under the prefix `/svc`, or nothing where it is not.
+type Naming = (By, &'static str, &'static str, &'static str);
+
+static NAMINGS: [Naming; 22] = [
     (
+        By::Target(2),
+        "",
+        "GET //a//b/c?d HTTP/1.1|Host: x||",
+        "/svc/a/b",
+    ),
+    (
+        By::Target(1),
+        "",
+        "GET http://web/A/b HTTP/1.1|Host: x||",
+        "/svc/A",
+    ),
+    (By::Target(1), "", "GET /a#b/c HTTP/1.1|Host: x||", "/svc/a"),
+    (By::Target(0), "", "GET / HTTP/1.1|Host: x||", "/svc"),
+    (By::Target(2), "", "GET /a HTTP/1.1|Host: x||", ""),
+    (
+        By::Target(1),
+        "",
+        "GET http://web?/a HTTP/1.1|Host: x||",
+        "",
+    ),
+    (By::Target(1), "", "OPTIONS * HTTP/1.1|Host: x||", ""),
+    (By::MethodAndHost, "", "GET / HTTP/1.0||", "/svc/1.0/GET"),
+    (
+        By::MethodAndHost,
+        "",
+        "PUT / HTTP/1.0|Host: web||",
+        "/svc/1.0/PUT",
+    ),
+    (
+        By::MethodAndHost,
+        "",
         "GET / HTTP/1.1|Host: Web.Example:80||",
         "/svc/1.1/GET/web.example:80",
     ),
-    ("GET / HTTP/1.1|Host:||", ""),
-];
-
-/// Names of fields, requests, and what they are named by the field's value as one label.
-const BY_TOKEN: [(&str, &str, &str); 5] = [
-    ("Host", "GET / HTTP/1.1|Host: Web||", "/svc/web"),
+    (By::MethodAndHost, "", "GET / HTTP/1.1|Host:||", ""),
+    (By::Token, "Host", "GET / HTTP/1.1|Host: Web||", "/svc/web"),
     (
+        By::Token,
         "hOST",
         "GET http://Other/ HTTP/1.1|Host: web||",
         "/svc/other",
     ),
     (
+        By::Token,
         "X-Name",
         "GET / HTTP/1.1|Host: x|x-name: A/b|X-NAME: c||",
         "/svc/A\\x2fb",
     ),
-    ("Host", "GET / HTTP/1.0||", ""),
-    ("X-Name", "GET / HTTP/1.1|Host: x|X-Name:|X-Name: c||", ""),
-];
-
-/// Requests, and what they are named by the path in their field `l5d-name`.
-const BY_PATH_FIELD: [(&str, &str); 5] = [
+    (By::Token, "Host", "GET / HTTP/1.0||", ""),
     (
+        By::Token,
+        "X-Name",
+        "GET / HTTP/1.1|Host: x|X-Name:|X-Name: c||",
+        "",
+    ),
+    (
+        By::PathField,
+        "l5d-name",
         "GET / HTTP/1.1|Host: x|L5d-Name:  /a\\x2Fb ||",
         "/svc/a\\x2fb",
     ),
     (
+        By::PathField,
+        "l5d-name",
         "GET / HTTP/1.1|Host: x|l5d-name: /a/b|l5d-name: /c||",
         "/svc/a/b",
     ),
-    ("GET / HTTP/1.1|Host: x|l5d-name: /||", "/svc"),
-    ("GET / HTTP/1.1|Host: x|l5d-name: /a/|l5d-name: /c||", ""),
-    ("GET / HTTP/1.1|Host: x||", ""),
+    (
+        By::PathField,
+        "l5d-name",
+        "GET / HTTP/1.1|Host: x|l5d-name: /||",
+        "/svc",
+    ),
+    (
+        By::PathField,
+        "l5d-name",
+        "GET / HTTP/1.1|Host: x|l5d-name: /a/|l5d-name: /c||",
+        "",
+    ),
+    (By::PathField, "l5d-name", "GET / HTTP/1.1|Host: x||", ""),
+    (By::Static, "/x/y", "GET / HTTP/1.0||", "/svc/x/y"),
 ];
 
 /// The path of this text.
@@ -74,45 +124,15 @@ fn name_of(alloc: Global, name: &str) -> Mem<FieldName> {
     Ok(FieldName::of(Vec::from_slice(alloc, name.as_bytes())?))
 }
 
-/// A path as text; nothing where there is none.
-fn text_of(alloc: Global, named: Result<Path, IdentifyFault>) -> Result<Vec<u8>, Fail> {
-    match named {
-        Ok(path) => Ok(write_path(alloc, &path)?),
-        Err(IdentifyFault::Unidentified) => Ok(Vec::new(alloc)),
-        Err(IdentifyFault::OutOfMemory) => Err("memory".into()),
+/// The kind of a rule that names requests so, by the field of this name or this path.
+fn kind_of(alloc: Global, by: By, text: &str) -> Result<Kind, Fail> {
+    match by {
+        By::Target(count) => Ok(Kind::Segments(count)),
+        By::MethodAndHost => Ok(Kind::MethodAndHost),
+        By::Token => Ok(Kind::Token(name_of(alloc, text)?)),
+        By::PathField => Ok(Kind::PathField(name_of(alloc, text)?)),
+        By::Static => Ok(Kind::Static(path_of(alloc, text)?)),
     }
-}
-
-/// What a request is named by a rule, as text; nothing where it is not.
-fn named_by(alloc: Global, rule: &Rule, head: &Head) -> Result<Vec<u8>, Fail> {
-    let target = match read_target(alloc, head) {
-        Ok(target) => target,
-        Err(_) => return Err("no target".into()),
-    };
-    let host = match read_host(alloc, head, &target) {
-        Ok(host) => host,
-        Err(_) => return Err("no host".into()),
-    };
-    let named = identify(alloc, rule, head, host.as_slice());
-    drop(host);
-    drop(target);
-    text_of(alloc, named)
-}
-
-/// The same of a text, in which `|` is CR LF.
-fn named_with(alloc: Global, rule: &Rule, request: &str) -> Result<Vec<u8>, Fail> {
-    let head = head_of(alloc, request, "", 0)?;
-    let named = named_by(alloc, rule, &head);
-    drop(head);
-    named
-}
-
-/// The same by a rule of this kind.
-fn named(alloc: Global, kind: Kind, request: &str) -> Result<Vec<u8>, Fail> {
-    let rule = rule_of(alloc, kind, false)?;
-    let named = named_with(alloc, &rule, request);
-    drop(rule);
-    named
 }
 
 /// A rule of this kind with the prefix `/svc`.
@@ -130,67 +150,82 @@ fn rule_of(alloc: Global, kind: Kind, clears_context: bool) -> Result<Rule, Fail
     }
 }
 
+/// A rule that names requests so, under the prefix `/svc`.
+fn rule_by(alloc: Global, by: By, text: &str) -> Result<Rule, Fail> {
+    rule_of(alloc, kind_of(alloc, by, text)?, false)
+}
+
+/// Whether a path has this text.
+fn is_path(alloc: Global, path: &Path, text: &str) -> Mem<bool> {
+    let written = write_path(alloc, path)?;
+    Ok(written.as_slice() == text.as_bytes())
+}
+
+/// Whether a request is named so; with no name, whether it is not named.
+fn is_name(alloc: Global, named: Result<Path, IdentifyFault>, name: &str) -> Result<bool, Fail> {
+    match named {
+        Ok(path) => {
+            let is_name = is_path(alloc, &path, name);
+            drop(path);
+            Ok(is_name?)
+        }
+        Err(IdentifyFault::Unidentified) => Ok(name.is_empty()),
+        Err(IdentifyFault::OutOfMemory) => Err("memory".into()),
+    }
+}
+
+/// Whether a request is named so by a rule.
+fn is_named_by(alloc: Global, rule: &Rule, head: &Head, name: &str) -> Result<bool, Fail> {
+    let target = match read_target(alloc, head) {
+        Ok(target) => target,
+        Err(_) => return Err("no target".into()),
+    };
+    let host = match read_host(alloc, head, &target) {
+        Ok(host) => host,
+        Err(_) => return Err("no host".into()),
+    };
+    let named = identify(alloc, rule, head, host.as_slice());
+    drop(host);
+    drop(target);
+    is_name(alloc, named, name)
+}
+
+/// Whether a request is named as a row says.
+fn is_named(alloc: Global, row: &Naming) -> Result<bool, Fail> {
+    let (by, text, request, name) = *row;
+    let head = head_of(alloc, request, "", 0)?;
+    let rule = match rule_by(alloc, by, text) {
+        Ok(rule) => rule,
+        Err(fail) => {
+            drop(head);
+            return Err(fail);
+        }
+    };
+    let is_named = is_named_by(alloc, &rule, &head, name);
+    drop(rule);
+    drop(head);
+    is_named
+}
+
 #[test]
-fn requests_are_named_by_their_target(rt: HostRuntime) -> Result<(), Fail> {
-    for (count, request, name) in &BY_TARGET {
-        let named = named(rt.alloc(), Kind::Segments(*count), request)?;
-        assert!(rt; named.as_slice() == name.as_bytes(), "{request:?}");
+fn requests_are_named(rt: HostRuntime) -> Result<(), Fail> {
+    for row in &NAMINGS {
+        assert!(rt; is_named(rt.alloc(), row)?, "{:?} as {:?}", row.2, row.3);
     }
     Ok(())
 }
 
-#[test]
-fn requests_are_named_by_their_method_and_host(rt: HostRuntime) -> Result<(), Fail> {
-    for (request, name) in &BY_METHOD_AND_HOST {
-        let named = named(rt.alloc(), Kind::MethodAndHost, request)?;
-        assert!(rt; named.as_slice() == name.as_bytes(), "{request:?}");
-    }
-    Ok(())
-}
-
-#[test]
-fn requests_are_named_by_a_token(rt: HostRuntime) -> Result<(), Fail> {
-    for (field, request, name) in &BY_TOKEN {
-        let field = name_of(rt.alloc(), field)?;
-        let named = named(rt.alloc(), Kind::Token(field), request)?;
-        assert!(rt; named.as_slice() == name.as_bytes(), "{request:?}");
-    }
-    Ok(())
-}
-
-#[test]
-fn requests_are_named_by_a_path(rt: HostRuntime) -> Result<(), Fail> {
-    for (request, name) in &BY_PATH_FIELD {
-        let field = name_of(rt.alloc(), "l5d-name")?;
-        let named = named(rt.alloc(), Kind::PathField(field), request)?;
-        assert!(rt; named.as_slice() == name.as_bytes(), "{request:?}");
-    }
-    Ok(())
-}
-
-#[test]
-fn requests_are_named_alike(rt: HostRuntime) -> Result<(), Fail> {
-    let path = path_of(rt.alloc(), "/x/y")?;
-    let named = named(rt.alloc(), Kind::Static(path), "GET / HTTP/1.0||")?;
-    assert!(rt; named.as_slice() == b"/svc/x/y".as_slice());
-    Ok(())
-}
-
-/// A request's own table in words: its canonical text; or `bad`.
-fn table_text(alloc: Global, head: &Head) -> Result<Vec<u8>, Fail> {
+/// Whether a request's own table has this canonical text; or is `bad`.
+fn is_table(alloc: Global, head: &Head, text: &[u8]) -> Result<bool, Fail> {
     match local_dtab(alloc, head) {
-        Ok(dtab) => Ok(write_dtab(alloc, &dtab)?),
-        Err(LocalFault::BadDtab) => Ok(b"bad".to_vec(alloc)?),
+        Ok(dtab) => {
+            let written = write_dtab(alloc, &dtab);
+            drop(dtab);
+            Ok(written?.as_slice() == text)
+        }
+        Err(LocalFault::BadDtab) => Ok(text == b"bad".as_slice()),
         Err(LocalFault::OutOfMemory) => Err("memory".into()),
     }
-}
-
-/// The same of a text, in which `%` stands for so many entries.
-fn local_text(alloc: Global, request: &str, count: usize) -> Result<Vec<u8>, Fail> {
-    let head = head_of(alloc, request, ENTRY, count)?;
-    let text = table_text(alloc, &head);
-    drop(head);
-    text
 }
 
 /// An entry behind another.
@@ -198,7 +233,7 @@ const ENTRY: &str = ";/a=>/b";
 
 /// Requests, for how many entries `%` stands, and their own tables. A table has at most 1,024
 /// entries.
-const TABLES: [(&str, usize, &str); 9] = [
+static TABLES: [(&str, usize, &str); 9] = [
     ("GET / HTTP/1.0||", 0, ""),
     ("GET / HTTP/1.0|l5d-dtab:|l5d-ctx-dtab: ;||", 0, ""),
     (
@@ -238,18 +273,33 @@ const TABLES: [(&str, usize, &str); 9] = [
     ),
 ];
 
+/// Whether a request has the table that its row says.
+fn has_table(alloc: Global, row: &(&str, usize, &str)) -> Result<bool, Fail> {
+    let (request, count, text) = row;
+    let text = spelled(alloc, text, ENTRY, *count)?;
+    let head = match head_of(alloc, request, ENTRY, *count) {
+        Ok(head) => head,
+        Err(fail) => {
+            drop(text);
+            return Err(fail);
+        }
+    };
+    let has_table = is_table(alloc, &head, text.as_slice());
+    drop(head);
+    drop(text);
+    has_table
+}
+
 #[test]
 fn tables_are_joined_in_order(rt: HostRuntime) -> Result<(), Fail> {
-    for (request, count, want) in &TABLES {
-        let text = local_text(rt.alloc(), request, *count)?;
-        let want = spelled(rt.alloc(), want, ENTRY, *count)?;
-        assert!(rt; text == want, "{request:?} {count}");
+    for row in &TABLES {
+        assert!(rt; has_table(rt.alloc(), row)?, "{:?} {}", row.0, row.1);
     }
     Ok(())
 }
 
 /// Whether the context of a request is cleared, the request, and the names of those that are heard.
-const HEARD: [(bool, &str, &str); 3] = [
+static HEARD: [(bool, &str, &str); 3] = [
     (
         true,
         "GET / HTTP/1.1|Host: x|A: 1|L5d-Dtab: /a=>/b|l5d-CTX-dtab: /c=>/d|l5d-ctx-: 3|B: 2||",
@@ -267,37 +317,49 @@ const HEARD: [(bool, &str, &str); 3] = [
     ),
 ];
 
-/// The names of the fields of a request that are heard, each with a space behind it.
-fn heard(alloc: Global, clears_context: bool, request: &str) -> Result<Vec<u8>, Fail> {
-    let rule = rule_of(alloc, Kind::MethodAndHost, clears_context)?;
-    let names = heard_by(alloc, &rule, request);
-    drop(rule);
-    names
-}
-
-/// The same by this rule.
-fn heard_by(alloc: Global, rule: &Rule, request: &str) -> Result<Vec<u8>, Fail> {
-    let head = hear(rule, head_of(alloc, request, "", 0)?);
-    let names = names_of(alloc, head.fields.items());
-    drop(head);
-    names
-}
-
-/// The names of some fields, each with a space behind it.
-fn names_of(alloc: Global, fields: &[Field]) -> Result<Vec<u8>, Fail> {
-    let mut names = Vec::new(alloc);
+/// Whether the fields have these names, each with a space behind it.
+fn are_named(fields: &[Field], names: &str) -> bool {
+    let mut left = names.as_bytes();
     for field in fields {
-        names.extend_from_slice(field.name.bytes())?;
-        names.push(b' ')?;
+        let Some(behind) = left.strip_prefix(field.name.bytes()) else {
+            return false;
+        };
+        match behind.strip_prefix(b" ") {
+            Some(rest) => left = rest,
+            None => return false,
+        }
     }
-    Ok(names)
+    left.is_empty()
+}
+
+/// Whether these fields of a request are heard by a rule.
+fn are_heard_by(alloc: Global, rule: &Rule, request: &str, names: &str) -> Result<bool, Fail> {
+    let head = hear(rule, head_of(alloc, request, "", 0)?);
+    let are_named = are_named(head.fields.items(), names);
+    drop(head);
+    Ok(are_named)
+}
+
+/// The same by a rule that clears the context, or not.
+fn are_heard(
+    alloc: Global,
+    clears_context: bool,
+    request: &str,
+    names: &str,
+) -> Result<bool, Fail> {
+    let rule = rule_of(alloc, Kind::MethodAndHost, clears_context)?;
+    let are_heard = are_heard_by(alloc, &rule, request, names);
+    drop(rule);
+    are_heard
 }
 
 #[test]
 fn the_context_is_heard_or_cleared(rt: HostRuntime) -> Result<(), Fail> {
     for (clears, request, names) in &HEARD {
-        let heard = heard(rt.alloc(), *clears, request)?;
-        assert!(rt; heard.as_slice() == names.as_bytes(), "{request:?}");
+        assert!(rt;
+            are_heard(rt.alloc(), *clears, request, names)?,
+            "{request:?}"
+        );
     }
     Ok(())
 }

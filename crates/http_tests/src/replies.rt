@@ -9,7 +9,7 @@ use std::test::Fail;
 #[derive(Clone, Copy)]
 struct Row(OwnError, &'static str, &'static str, &'static str);
 
-const ROWS: [Row; 19] = [
+static ROWS: [Row; 19] = [
     Row(
         OwnError::Version,
         "505 HTTP Version Not Supported",
@@ -46,13 +46,16 @@ const ROWS: [Row; 19] = [
     Row(OwnError::Upstream, "502 Bad Gateway", "upstream", "9"),
 ];
 
-/// These texts, one behind the other.
-fn joined(alloc: Global, texts: &[&str]) -> Result<Vec<u8>, AllocError> {
-    let mut bytes = Vec::new(alloc);
+/// Whether some bytes are these texts, one behind the other.
+fn are_joined(bytes: &[u8], texts: &[&str]) -> bool {
+    let mut left = bytes;
     for text in texts {
-        bytes.extend_from_slice(text.as_bytes())?;
+        match left.strip_prefix(text.as_bytes()) {
+            Some(rest) => left = rest,
+            None => return false,
+        }
     }
-    Ok(bytes)
+    left.is_empty()
 }
 
 /// Whether the reply to an error is put together from these parts.
@@ -73,14 +76,15 @@ fn is_written(alloc: Global, row: Row, closes: bool, has_body: bool) -> Result<b
         body,
         end,
     ];
-    Ok(own_reply(alloc, err, closes, has_body)? == joined(alloc, &parts)?)
+    let reply = own_reply(alloc, err, closes, has_body)?;
+    Ok(are_joined(reply.as_slice(), &parts))
 }
 
 #[test]
 fn every_reply_is_as_written_here(rt: HostRuntime) -> Result<(), Fail> {
     for row in &ROWS {
-        for (closes, has_body) in [(true, true), (false, true), (true, false), (false, false)] {
-            let is_written = is_written(rt.alloc(), *row, closes, has_body)?;
+        for (closes, has_body) in &[(true, true), (false, true), (true, false), (false, false)] {
+            let is_written = is_written(rt.alloc(), *row, *closes, *has_body)?;
             assert!(rt; is_written, "{}", row.2);
         }
     }

@@ -10,20 +10,26 @@ use std::test::Fail;
 /// The bytes of a text in which `|` is CR LF, and `%` is another text, so many times.
 pub(crate) fn spelled(alloc: Global, text: &str, part: &str, count: usize) -> Mem<Bytes> {
     let mut bytes = Vec::new(alloc);
-    for byte in text.as_bytes() {
-        match byte {
-            b'|' => bytes.extend_from_slice(b"\r\n")?,
-            b'%' => add_times(alloc, &mut bytes, part.as_bytes(), count)?,
-            other => bytes.push(*other)?,
-        }
-    }
+    spell(&mut bytes, text, part, count)?;
     Ok(bytes)
 }
 
+/// Puts the bytes of such a text behind others.
+fn spell(bytes: &mut Bytes, text: &str, part: &str, count: usize) -> Mem<()> {
+    for byte in text.as_bytes() {
+        match byte {
+            b'|' => bytes.extend_from_slice(b"\r\n")?,
+            b'%' => add_times(bytes, part.as_bytes(), count)?,
+            other => bytes.push(*other)?,
+        }
+    }
+    Ok(())
+}
+
 /// Puts some bytes behind others, so many times.
-fn add_times(alloc: Global, all: &mut Bytes, part: &[u8], times: usize) -> Mem<()> {
+fn add_times(all: &mut Bytes, part: &[u8], times: usize) -> Mem<()> {
     if let [byte] = part {
-        return all.append(&mut Vec::from_elem(alloc, *byte, times)?);
+        return all.resize(all.len().saturating_add(times), *byte);
     }
     for _ in 0..times {
         all.extend_from_slice(part)?;
@@ -83,7 +89,8 @@ pub(crate) fn method_of(alloc: Global, name: &str) -> Result<Method, Fail> {
 
 /// A dialer whose first connection gives these bytes, and whose second receive fails.
 pub(crate) fn dialer_of(alloc: Global, bytes: Bytes) -> Mem<MemDialer> {
-    let replies = vec![in alloc; bytes]?;
+    let mut replies = Vec::new(alloc);
+    replies.push(bytes)?;
     let failing = Vec::from_elem(alloc, 2, 1)?;
     Ok(MemDialer::of(alloc, replies, Vec::new(alloc), failing))
 }
@@ -94,10 +101,8 @@ pub(crate) fn reply_of(
     dialer: &mut MemDialer,
     rest: &mut Rest,
 ) -> Result<Result<ReplyHead, HeadEnd>, Fail> {
-    match dialer.dial(0x7f000001, 9001) {
-        Ok(()) => Ok(read_reply_head(alloc, dialer, rest)),
-        Err(failed) => Err(Fail::from(failed)),
-    }
+    dialer.dial(0x7f000001, 9001)?;
+    Ok(read_reply_head(alloc, dialer, rest))
 }
 
 /// The same, which has one.

@@ -57,12 +57,16 @@ pub(super) enum Way {
     Back { chunked: bool },
 }
 
+/// The head that goes before each body.
+const HEAD: &[u8] = b"H";
+
 /// What passing a body on came to.
-#[derive(Drop)]
+#[derive(Clone, Copy)]
 pub(super) struct Passed {
     pub(super) answer: Result<u64, BodyEnd>,
-    /// The bytes that were sent or written: the head `H`, and what went on behind it.
-    pub(super) went: Bytes,
+    /// How many bytes were sent or written behind the head, where they are the first of those that
+    /// are wanted.
+    pub(super) went: Option<usize>,
     /// In how many sends.
     pub(super) sends: usize,
     /// How many bytes were read or received.
@@ -70,12 +74,9 @@ pub(super) struct Passed {
 }
 
 impl Passed {
-    /// Whether a body came to this answer, and these bytes went on behind the head.
-    pub(super) fn came_to(&self, answer: Result<u64, BodyEnd>, behind: &[u8]) -> bool {
-        match self.went.as_slice() {
-            [b'H', went @ ..] => self.answer == answer && went == behind,
-            _ => false,
-        }
+    /// Whether a body came to this answer, and so many bytes went on behind the head, as wanted.
+    pub(super) fn came_to(&self, answer: Result<u64, BodyEnd>, count: usize) -> bool {
+        self.answer == answer && self.went == Some(count)
     }
 }
 
@@ -104,11 +105,18 @@ fn source_of(alloc: Global, bytes: &[u8], calls: Calls) -> Mem<MemSource> {
 
 /// A dialer that gives this reply, whose calls behind the first, which is the dial, are such.
 fn dialer_of(alloc: Global, reply: &[u8], calls: Calls) -> Mem<MemDialer> {
-    let reply = Vec::from_slice(alloc, reply)?;
-    let replies = vec![in alloc; reply]?;
-    let sizes = calls.sizes(alloc)?;
     let failing = Vec::from_elem(alloc, calls.failing.saturating_add(1), 1)?;
+    let sizes = calls.sizes(alloc)?;
+    let replies = replies_of(alloc, reply)?;
     Ok(MemDialer::of(alloc, replies, sizes, failing))
+}
+
+/// The replies of a dialer that gives this one.
+fn replies_of(alloc: Global, reply: &[u8]) -> Mem<Vec<Bytes>> {
+    let reply = Vec::from_slice(alloc, reply)?;
+    let mut replies = Vec::new(alloc);
+    replies.push(reply)?;
+    Ok(replies)
 }
 
 /// How many bytes were got.
@@ -135,180 +143,164 @@ fn sends_of(log: &[DialEvent]) -> usize {
     sends
 }
 
-/// All bytes that were sent.
-fn sent_of(alloc: Global, log: &[DialEvent]) -> Mem<Bytes> {
-    let mut sent = Vec::new(alloc);
+/// How many bytes were sent behind the head, where they are the first of those that are wanted.
+fn sent_of(log: &[DialEvent], wanted: &[u8]) -> Option<usize> {
+    let (mut head, mut left) = (HEAD, wanted);
     for event in log {
         match event {
-            DialEvent::Sent(piece) => sent.extend_from_slice(piece.bytes())?,
+            DialEvent::Sent(piece) => {
+                left = left.strip_prefix(piece.bytes().strip_prefix(head)?)?;
+                head = b"".as_slice();
+            }
             _ => {}
         }
     }
-    Ok(sent)
+    if head.is_empty() {
+        Some(wanted.len().saturating_sub(left.len()))
+    } else {
+        None
+    }
 }
 
-/// What passing a body on came to, by the log of its dialer and how many bytes were got.
-fn passed_on(
-    alloc: Global,
-    answer: Result<u64, BodyEnd>,
-    log: &[DialEvent],
-    got: usize,
-) -> Result<Passed, Fail> {
-    let went = sent_of(alloc, log)?;
-    Ok(Passed {
-        answer,
-        went,
-        sends: sends_of(log),
-        got,
-    })
+/// How many bytes were written behind the head, where they are the first of those that are wanted.
+fn written_of(held: &[u8], wanted: &[u8]) -> Option<usize> {
+    let content = held.strip_prefix(HEAD)?;
+    if wanted.starts_with(content) {
+        Some(content.len())
+    } else {
+        None
+    }
 }
 
-/// Passes a request's body on through a dialer behind the head `H`.
+/// Passes a request's body on through a dialer behind the head.
 fn send(
     alloc: Global,
     framing: Framing,
     peer: &mut MemPeer,
     rest: &mut Rest,
+    wanted: &[u8],
     dialer: &mut MemDialer,
 ) -> Result<Passed, Fail> {
-    let mut out = Vec::from_slice(alloc, b"H")?;
+    dialer.dial(0x7f000001, 9001)?;
+    let mut out = Vec::from_slice(alloc, HEAD)?;
     let before = peer.source().left().len();
-    match dialer.dial(0x7f000001, 9001) {
-        Ok(()) => {
-            let answer = pass_body(peer, rest, framing, &mut out, dialer).end;
-            let got = before.saturating_sub(peer.source().left().len());
-            passed_on(alloc, answer, dialer.log(), got)
-        }
-        Err(failed) => Err(Fail::from(failed)),
-    }
+    let answer = pass_body(peer, rest, framing, &mut out, dialer).end;
+    drop(out);
+    Ok(Passed {
+        answer,
+        went: sent_of(dialer.log(), wanted),
+        sends: sends_of(dialer.log()),
+        got: before.saturating_sub(peer.source().left().len()),
+    })
 }
 
-/// Passes a request's body on behind the head `H`, from a peer that gives it in such calls, and to
-/// a dialer that takes it in such.
+/// Passes a request's body on behind the head, from a peer that gives it in such calls, and to a
+/// dialer that takes it in such.
 fn send_from(
     alloc: Global,
     framing: Framing,
     comes: &[u8],
     rest: &mut Rest,
+    wanted: &[u8],
     gives: Calls,
     takes: Calls,
 ) -> Result<Passed, Fail> {
     let mut dialer = dialer_of(alloc, b"", takes)?;
-    let passed = send_to(alloc, framing, comes, rest, gives, &mut dialer);
+    let mut peer = match peer_of(alloc, comes, gives, Calls::WHOLE) {
+        Ok(peer) => peer,
+        Err(fault) => {
+            drop(dialer);
+            return Err(Fail::from(fault));
+        }
+    };
+    let passed = send(alloc, framing, &mut peer, rest, wanted, &mut dialer);
+    drop(peer);
     drop(dialer);
     passed
 }
 
-/// The same, to this dialer.
-fn send_to(
-    alloc: Global,
-    framing: Framing,
-    comes: &[u8],
-    rest: &mut Rest,
-    gives: Calls,
-    dialer: &mut MemDialer,
-) -> Result<Passed, Fail> {
-    let mut peer = peer_of(alloc, comes, gives, Calls::WHOLE)?;
-    let passed = send(alloc, framing, &mut peer, rest, dialer);
-    drop(peer);
-    passed
-}
-
-/// Passes a request's body on behind the head `H`, in such calls, with these bytes kept.
+/// Passes a request's body on behind the head, in such calls, with these bytes kept.
 pub(super) fn onward(
     alloc: Global,
     framing: Framing,
     kept: &[u8],
     comes: &[u8],
+    wanted: &[u8],
     gives: Calls,
     takes: Calls,
 ) -> Result<Passed, Fail> {
     let mut rest = room_of(alloc, kept)?;
-    send_from(alloc, framing, comes, &mut rest, gives, takes)
+    let passed = send_from(alloc, framing, comes, &mut rest, wanted, gives, takes);
+    drop(rest);
+    passed
 }
 
-/// Passes a reply's body back to a peer behind the head `H`.
+/// Passes a reply's body back to a peer behind the head.
 fn receive(
     alloc: Global,
     framing: Framing,
     chunked: bool,
     dialer: &mut MemDialer,
+    wanted: &[u8],
     peer: &mut MemPeer,
 ) -> Result<Passed, Fail> {
+    dialer.dial(0x7f000001, 9001)?;
+    let mut out = Vec::from_slice(alloc, HEAD)?;
     let mut rest = Rest::room(alloc)?;
-    let mut out = Vec::from_slice(alloc, b"H")?;
-    match dialer.dial(0x7f000001, 9001) {
-        Ok(()) => {
-            let answer = pass_back(dialer, &mut rest, framing, chunked, &mut out, peer).end;
-            written_to(alloc, answer, peer.sink().held(), got_of(dialer.log()))
-        }
-        Err(failed) => Err(Fail::from(failed)),
-    }
-}
-
-/// What passing a body back came to, by the bytes that were written, and how many were got.
-fn written_to(
-    alloc: Global,
-    answer: Result<u64, BodyEnd>,
-    held: &[u8],
-    got: usize,
-) -> Result<Passed, Fail> {
-    let went = Vec::from_slice(alloc, held)?;
+    let answer = pass_back(dialer, &mut rest, framing, chunked, &mut out, peer).end;
+    drop(rest);
+    drop(out);
     Ok(Passed {
         answer,
-        went,
+        went: written_of(peer.sink().held(), wanted),
         sends: 0,
-        got,
+        got: got_of(dialer.log()),
     })
 }
 
-/// Passes a reply's body back behind the head `H`, with the bytes that come received and written in
+/// Passes a reply's body back behind the head, with the bytes that come received and written in
 /// such calls.
 fn back(
     alloc: Global,
     framing: Framing,
     chunked: bool,
     comes: &[u8],
+    wanted: &[u8],
     gives: Calls,
     takes: Calls,
 ) -> Result<Passed, Fail> {
     let mut dialer = dialer_of(alloc, comes, gives)?;
-    let passed = receive_from(alloc, framing, chunked, &mut dialer, takes);
+    let mut peer = match peer_of(alloc, b"", Calls::WHOLE, takes) {
+        Ok(peer) => peer,
+        Err(fault) => {
+            drop(dialer);
+            return Err(Fail::from(fault));
+        }
+    };
+    let passed = receive(alloc, framing, chunked, &mut dialer, wanted, &mut peer);
+    drop(peer);
     drop(dialer);
     passed
 }
 
-/// The same, from this dialer.
-fn receive_from(
-    alloc: Global,
-    framing: Framing,
-    chunked: bool,
-    dialer: &mut MemDialer,
-    takes: Calls,
-) -> Result<Passed, Fail> {
-    let mut peer = peer_of(alloc, b"", Calls::WHOLE, takes)?;
-    let passed = receive(alloc, framing, chunked, dialer, &mut peer);
-    drop(peer);
-    passed
-}
-
-/// Passes a body this way.
+/// Passes a body this way, of which these bytes come and those are wanted to go on.
 pub(super) fn pass(
     alloc: Global,
     way: Way,
     framing: Framing,
     comes: &[u8],
+    wanted: &[u8],
     gives: Calls,
     takes: Calls,
 ) -> Result<Passed, Fail> {
     match way {
-        Way::Onward => onward(alloc, framing, b"", comes, gives, takes),
-        Way::Back { chunked } => back(alloc, framing, chunked, comes, gives, takes),
+        Way::Onward => onward(alloc, framing, b"", comes, wanted, gives, takes),
+        Way::Back { chunked } => back(alloc, framing, chunked, comes, wanted, gives, takes),
     }
 }
 
 /// The content of a body that is read, or why it is not; its bytes come in such calls.
-pub(super) fn whole(
+fn whole(
     alloc: Global,
     framing: Framing,
     comes: &[u8],
@@ -321,27 +313,57 @@ pub(super) fn whole(
     Ok(read)
 }
 
-/// What comes of a request's body that is kept, where its first send fails.
+/// Whether the content of a body that was read is this; or it was refused so.
+fn is_content(read: Result<Bytes, BodyEnd>, end: Option<BodyEnd>, content: &[u8]) -> bool {
+    match read {
+        Ok(bytes) => end == None && bytes.as_slice() == content,
+        Err(refused) => end == Some(refused),
+    }
+}
+
+/// Whether a body whose bytes come in such calls, with these kept, is read as this content, or
+/// refused so.
+pub(super) fn is_read(
+    alloc: Global,
+    framing: Framing,
+    kept: &[u8],
+    comes: &[u8],
+    gives: Calls,
+    end: Option<BodyEnd>,
+    content: &[u8],
+) -> Mem<bool> {
+    let mut rest = room_of(alloc, kept)?;
+    let read = whole(alloc, framing, comes, &mut rest, gives);
+    drop(rest);
+    Ok(is_content(read?, end, content))
+}
+
+/// What comes of a request's body that is kept, where its first send fails; and whether these bytes
+/// are kept behind it then.
 pub(super) fn unsent(
     alloc: Global,
     framing: Framing,
-    rest: &mut Rest,
-) -> Result<Result<u64, BodyEnd>, Fail> {
-    let passed = send_from(alloc, framing, b"", rest, Calls::WHOLE, Calls::until(0))?;
-    Ok(passed.answer)
+    kept: &[u8],
+    behind: &[u8],
+) -> Result<(Result<u64, BodyEnd>, bool), Fail> {
+    let mut rest = room_of(alloc, kept)?;
+    let (gives, takes) = (Calls::WHOLE, Calls::until(0));
+    let passed = send_from(alloc, framing, b"", &mut rest, b"", gives, takes);
+    let is_kept = rest.kept().ends_with(behind);
+    drop(rest);
+    Ok((passed?.answer, is_kept))
 }
 
-/// Whether some bytes are written whole in such calls, and what is given of them.
-pub(super) fn written(alloc: Global, bytes: &[u8], takes: Calls) -> Mem<(bool, Bytes)> {
+/// Whether some bytes are written whole in such calls, and whether these are given of them.
+pub(super) fn written(
+    alloc: Global,
+    bytes: &[u8],
+    takes: Calls,
+    given: &[u8],
+) -> Mem<(bool, bool)> {
     let mut peer = peer_of(alloc, b"", Calls::WHOLE, takes)?;
-    let written = written_to_peer(alloc, &mut peer, bytes);
+    let is_whole = write_all(&mut peer, bytes).is_ok();
+    let is_given = peer.sink().held() == given;
     drop(peer);
-    written
-}
-
-/// The same, to this peer.
-fn written_to_peer(alloc: Global, peer: &mut MemPeer, bytes: &[u8]) -> Mem<(bool, Bytes)> {
-    let is_whole = write_all(peer, bytes).is_ok();
-    let given = Vec::from_slice(alloc, peer.sink().held())?;
-    Ok((is_whole, given))
+    Ok((is_whole, is_given))
 }
