@@ -1,9 +1,6 @@
 //! The calls of a scene.
 
-use crate::asked::{
-    assignment, changed, creation, give, hold, looked, peeked, picked, replacement, report,
-    succeeded,
-};
+use crate::asked::{Asking, asked, assignment, changed, creation, give, hold, replacement, report};
 use crate::kept::{remember, remember_after_change, remember_twice};
 use router::{Naming, Pass, Router};
 use std::alloc::Global;
@@ -22,14 +19,8 @@ pub enum Act {
     Set(&'static str, &'static str),
     /// A report on 127.0.0.1 with this port, of a success or a failure.
     Report(u16, bool),
-    /// A report of a success on 127.0.0.1 with this port, without the lock.
-    Succeed(u16),
-    /// A look for the namespace `default`.
-    Look,
-    /// A pick for `/svc/web`.
-    Pick,
-    /// The same by what is kept alone.
-    Peek,
+    /// This is asked, without the lock.
+    Ask(Asking),
     /// The pass holds a slot.
     Hold(u32),
     /// The pass gives back what it holds.
@@ -48,31 +39,16 @@ pub enum Act {
     Count,
 }
 
-/// What a pass counts.
-fn counted<J: Naming>(alloc: Global, pass: &Pass<J>) -> Option<String> {
-    let (number, place) = (pass.number(), pass.place());
-    let (made, kept, refused) = (pass.made(), pass.kept(), pass.refused());
+/// The places of two passes.
+fn places_text(alloc: Global, first: u64, second: u64) -> Option<String> {
+    format!(in alloc; "places {first} {second}").ok()
+}
+
+/// The number and the place of a pass, and its counts: changes that were made, delegations that
+/// were kept, and how often it was not let in.
+fn counts_text(alloc: Global, number: u32, place: u64, counts: [u64; 3]) -> Option<String> {
+    let [made, kept, refused] = counts;
     format!(in alloc; "pass {number} place {place} made {made} kept {kept} refused {refused}").ok()
-}
-
-/// Two passes meet: the places of both then.
-fn met<J: Naming, R: Wait>(
-    rt: &R,
-    alloc: Global,
-    router: &Router<J>,
-    pass: &mut Pass<J>,
-    next: &mut Pass<J>,
-) -> Option<String> {
-    router.meet(rt, pass, next);
-    let (first, second) = (pass.place(), next.place());
-    format!(in alloc; "places {first} {second}").ok()
-}
-
-/// The next pass learns what this one has seen: the places of both then.
-fn told<J: Naming>(alloc: Global, pass: &Pass<J>, next: &mut Pass<J>) -> Option<String> {
-    next.learn(pass.ticket());
-    let (first, second) = (pass.place(), next.place());
-    format!(in alloc; "places {first} {second}").ok()
 }
 
 /// What a call of a pass is answered, as a text. `next` is the pass behind it.
@@ -96,10 +72,7 @@ pub fn answer<J: Naming, L: Ledger, R: Wait>(
             changed(rt, alloc, router, pass, assignment(alloc, service, addrs))
         }
         Act::Report(port, good) => changed(rt, alloc, router, pass, Some(report(port, good))),
-        Act::Succeed(port) => succeeded(alloc, router, pass, port),
-        Act::Look => looked(alloc, router, pass, steps),
-        Act::Pick => picked(alloc, router, pass, steps),
-        Act::Peek => peeked(alloc, router, pass),
+        Act::Ask(asking) => asked(alloc, router, pass, asking, steps),
         Act::Hold(slot) => hold(alloc, router, pass, slot),
         Act::Give => give(alloc, router, pass),
         Act::Remember => remember(rt, alloc, router, pass, steps),
@@ -107,8 +80,17 @@ pub fn answer<J: Naming, L: Ledger, R: Wait>(
             remember_after_change(rt, alloc, router, pass, next, space, steps)
         }
         Act::RememberTwice => remember_twice(rt, alloc, router, pass, steps),
-        Act::Meet => met(rt, alloc, router, pass, next),
-        Act::Tell => told(alloc, pass, next),
-        Act::Count => counted(alloc, pass),
+        Act::Meet => {
+            router.meet(rt, pass, next);
+            places_text(alloc, pass.place(), next.place())
+        }
+        Act::Tell => {
+            next.learn(pass.ticket());
+            places_text(alloc, pass.place(), next.place())
+        }
+        Act::Count => {
+            let counts = [pass.made(), pass.kept(), pass.refused()];
+            counts_text(alloc, pass.number(), pass.place(), counts)
+        }
     }
 }

@@ -8,11 +8,24 @@ use choose_core::Limits;
 use dtab_table::{Dtab, read_dtab};
 use machine::{Ask, Change, Look, Reply, Settings};
 use name_tree::read_path;
-use router::{Answer, Choice, Looked, Names, Naming, Pass, Peek, Router};
+use router::{Answer, Choice, Looked, Mem, Names, Naming, Pass, Peek, Router};
 use std::alloc::Global;
 use std::sync::Wait;
 use std::sync::ledger::Ledger;
 use step_count::Steps;
+
+/// What is asked of a router without its lock.
+#[derive(Clone, Copy)]
+pub enum Asking {
+    /// A report of a success on 127.0.0.1 with this port.
+    Succeed(u16),
+    /// A look for the namespace `default`.
+    Look,
+    /// A pick for `/svc/web`.
+    Pick,
+    /// The same by what is kept alone.
+    Peek,
+}
 
 fn name(alloc: Global, text: &str) -> Option<Name> {
     Name::of(alloc, text.as_bytes()).ok()
@@ -125,53 +138,35 @@ pub fn report(port: u16, good: bool) -> Change
     }
 }
 
-/// The answer to a report of a success on 127.0.0.1 with this port, without the lock.
-pub fn succeeded<J: Naming>(
-    alloc: Global,
-    router: &Router<J>,
-    pass: &mut Pass<J>,
-    port: u16,
-) -> Option<String> {
-    let change = report(port, true);
-    let reply = router.report(pass, &change);
-    drop(change);
-    let text = report_text(alloc, reply.as_ref());
+/// The answer to a report, where it needed no lock.
+fn report_text(alloc: Global, reply: Option<Reply>) -> Option<String> {
+    let Some(reply) = reply else {
+        return String::from_str(alloc, "left for the lock").ok();
+    };
+    let text = reply_text(alloc, &reply);
     drop(reply);
     text
 }
 
-/// The answer to a report, where it needed no lock.
-fn report_text(alloc: Global, reply: Option<&Reply>) -> Option<String> {
-    match reply {
-        Some(reply) => reply_text(alloc, reply),
-        None => String::from_str(alloc, "left for the lock").ok(),
-    }
-}
-
-/// The place of a look for the namespace `default`, its reply, and how many delegations are kept.
-pub fn looked<J: Naming, L: Ledger>(
-    alloc: Global,
-    router: &Router<J>,
-    pass: &mut Pass<J>,
-    steps: &mut Steps<L>,
-) -> Option<String> {
-    let look = Look::Get {
+/// A look for the namespace `default`.
+fn look(alloc: Global) -> Option<Look> {
+    Some(Look::Get {
         name: name(alloc, "default")?,
-    };
-    let answer = router.look(alloc, pass, &look, steps);
-    drop(look);
-    match answer {
-        Ok(looked) => {
-            let text = looked_text(alloc, &looked);
-            drop(looked);
-            text
-        }
-        Err(_) => None,
-    }
+    })
 }
 
 /// The place of a look, its reply, and how many delegations were kept.
-fn looked_text(alloc: Global, looked: &Looked) -> Option<String> {
+fn looked_text(alloc: Global, answer: Mem<Looked>) -> Option<String> {
+    let Ok(looked) = answer else {
+        return None;
+    };
+    let text = said_text(alloc, &looked);
+    drop(looked);
+    text
+}
+
+/// The same, where the pass was let in.
+fn said_text(alloc: Global, looked: &Looked) -> Option<String> {
     match looked {
         Looked::Said { place, reply, kept } => {
             let said = reply_text(alloc, reply)?;
@@ -194,29 +189,20 @@ fn choice_text(alloc: Global, choice: &Choice) -> Option<String> {
 }
 
 /// The replica that a pick answers.
-pub fn picked<J: Naming, L: Ledger>(
-    alloc: Global,
-    router: &Router<J>,
-    pass: &mut Pass<J>,
-    steps: &mut Steps<L>,
-) -> Option<String> {
-    let ask = ask(alloc)?;
-    let answer = router.pick(alloc, pass, &ask, steps);
-    drop(ask);
-    match answer {
-        Ok(answer) => {
-            let text = picked_text(alloc, &answer);
-            drop(answer);
-            text
-        }
-        Err(_) => None,
-    }
+fn picked_text(alloc: Global, answer: Mem<Answer>) -> Option<String> {
+    let Ok(answer) = answer else {
+        return None;
+    };
+    let choice = choice_in(&answer);
+    drop(answer);
+    let choice = choice?;
+    choice_text(alloc, &choice)
 }
 
-/// The replica that was picked.
-fn picked_text(alloc: Global, answer: &Answer) -> Option<String> {
+/// The replica of an answer, if it has one.
+fn choice_in(answer: &Answer) -> Option<Choice> {
     match answer {
-        Answer::Picked { choice, .. } => choice_text(alloc, choice),
+        Answer::Picked { choice, .. } => Some(*choice),
         _ => None,
     }
 }
@@ -225,15 +211,6 @@ fn names_text(alloc: Global, names: &Names) -> Option<String> {
     let client = std::str::from_utf8(names.client()).ok()?;
     let residual = std::str::from_utf8(names.residual()).ok()?;
     format!(in alloc; "names {client} {residual}").ok()
-}
-
-/// What a pick by what is kept alone answers, and the names that it writes.
-pub fn peeked<J: Naming>(alloc: Global, router: &Router<J>, pass: &mut Pass<J>) -> Option<String> {
-    let mut room = Names::room(alloc).ok()?;
-    let ask = ask(alloc)?;
-    let peek = router.peek(pass, &ask, &mut room);
-    drop(ask);
-    peek_text(alloc, &peek, &room)
 }
 
 /// A replica whose delegation is kept, with its names.
@@ -253,6 +230,48 @@ fn peek_text(alloc: Global, peek: &Peek, names: &Names) -> Option<String> {
             format!(in alloc; "miss at {place} names {length}").ok()
         }
         Peek::NoEntry => None,
+    }
+}
+
+/// What is answered to a call that asks this, as a text.
+pub fn asked<J: Naming, L: Ledger>(
+    alloc: Global,
+    router: &Router<J>,
+    pass: &mut Pass<J>,
+    asking: Asking,
+    steps: &mut Steps<L>,
+) -> Option<String> {
+    match asking {
+        Asking::Succeed(port) => {
+            let change = report(port, true);
+            let reply = router.report(pass, &change);
+            drop(change);
+            report_text(alloc, reply)
+        }
+        Asking::Look => {
+            let look = look(alloc)?;
+            let answer = router.look(alloc, pass, &look, steps);
+            drop(look);
+            looked_text(alloc, answer)
+        }
+        Asking::Pick => {
+            let ask = ask(alloc)?;
+            let answer = router.pick(alloc, pass, &ask, steps);
+            drop(ask);
+            picked_text(alloc, answer)
+        }
+        Asking::Peek => {
+            let ask = ask(alloc)?;
+            let Ok(mut names) = Names::room(alloc) else {
+                drop(ask);
+                return None;
+            };
+            let peek = router.peek(pass, &ask, &mut names);
+            drop(ask);
+            let text = peek_text(alloc, &peek, &names);
+            drop(names);
+            text
+        }
     }
 }
 

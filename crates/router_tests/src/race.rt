@@ -2,8 +2,9 @@
 ghost use Rattle.std.specs.Prelude.{◌≡◌, ◌<◌};
 ghost use Rattle.router.specs.Opening.{IsNamedBy, beginning_of};
 
-use crate::asked::{ask, assignment, changed, creation, picked, replacement, settings};
-use crate::stage::ended;
+use crate::acts::Act;
+use crate::asked::{Asking, ask, changed, give, hold, replacement, settings};
+use crate::stage::{Row, ended, play};
 use machine::Ask;
 use router::{Answer, Naming, Opened, Pass, Router, open};
 use std::alloc::Global;
@@ -21,6 +22,9 @@ const TABLES: u64 = 500;
 
 /// How often each reader picks.
 const PICKS: u64 = 2_000;
+
+/// The caller that writes.
+const WRITER: usize = 2;
 
 /// The table of a place: it sends `/svc/web` to the service `one` at an even place, and to `two` at
 /// an odd one.
@@ -66,24 +70,13 @@ fn served<J: Naming, L: Ledger, R: Wait>(
     if let Some(binding) = fresh {
         let _said = router.remember(rt, alloc, pass, binding).ok()?;
     }
-    if !hold_for_a_moment(router, pass, choice.slot?) {
-        return None;
-    }
+    hold(alloc, router, pass, choice.slot?)?;
+    give(alloc, router, pass)?;
     if u64::from(choice.addr.port) == 1 + choice.place % 2 {
         Some(choice.place)
     } else {
         None
     }
-}
-
-/// Holds a slot and gives it back, where the pass holds none: whether it did.
-fn hold_for_a_moment<J: Naming>(router: &Router<J>, pass: &mut Pass<J>, slot: u32) -> bool {
-    if slot >= 8192 || pass.holds().is_some() {
-        return false;
-    }
-    router.hold(pass, slot);
-    router.give(pass);
-    true
 }
 
 /// Whether each pick is right for its table, and none is of an older one than its pass had seen
@@ -120,7 +113,7 @@ fn work<J: Naming, R: Wait>(
     pass: &mut Pass<J>,
     wrong: &AtomicU32,
 ) {
-    let good = if at == 2 {
+    let good = if at == WRITER {
         swap(rt, alloc, router, pass, TABLES)
     } else {
         watch::<J, Brand, R>(rt, alloc, router, pass, Blank::new(1))
@@ -147,57 +140,35 @@ fn race<J: Naming + Send + Sync, R: Wait + Threads + Sync>(
     wrong.load(Ordering::SeqCst) == 0
 }
 
-/// Makes the services and the table with which the race begins.
-fn prepare<J: Naming, R: Wait>(
-    rt: &R,
-    alloc: Global,
-    router: &Router<J>,
-    passes: &mut [Pass<J>],
-) -> Option<String> {
-    let pass = passes.last_mut()?;
-    let one = assignment(alloc, "one", "127.0.0.1 1");
-    let _one = changed(rt, alloc, router, pass, one)?;
-    let two = assignment(alloc, "two", "127.0.0.1 2");
-    let _two = changed(rt, alloc, router, pass, two)?;
-    let table = creation(alloc, "default", table_at(3));
-    changed(rt, alloc, router, pass, table)
-}
+/// The services and the table with which the race begins.
+const BEFORE: [Row; 3] = [
+    (WRITER, Act::Set("one", "127.0.0.1 1"), "set 1"),
+    (WRITER, Act::Set("two", "127.0.0.1 2"), "set 1"),
+    (
+        WRITER,
+        Act::Create("default", "/svc/web => /#/io.l5d.fs/two"),
+        "version 1",
+    ),
+];
 
-/// What a pick with the last table of the race answers, and one with the table after it.
-fn after<J: Naming, L: Ledger, R: Wait>(
-    rt: &R,
-    alloc: Global,
-    router: &Router<J>,
-    passes: &mut [Pass<J>],
-    blank: Blank,
-) -> Option<(String, String)>
-    requires { (blank.name ≡ L.name) × (blank.parts ≡ L.parts) × (0 < blank.parts) }
-{
-    let pass = passes.last_mut()?;
-    let mut steps = Steps::<L>::start(blank);
-    let last = picked(alloc, router, pass, &mut steps)?;
-    if !swap(rt, alloc, router, pass, 1) {
-        return None;
-    }
-    Some((last, picked(alloc, router, pass, &mut steps)?))
-}
-
-/// The race, and what is picked after it.
-fn contest<J: Naming + Send + Sync, L: Ledger, R: Wait + Threads + Sync>(
-    rt: &R,
-    alloc: Global,
-    router: &Router<J>,
-    passes: &mut [Pass<J>],
-    blank: Blank,
-) -> Option<(String, String)>
-    requires { (blank.name ≡ L.name) × (blank.parts ≡ L.parts) × (0 < blank.parts) }
-{
-    let _ready = prepare(rt, alloc, router, passes)?;
-    if !race(rt, alloc, router, passes) {
-        return None;
-    }
-    after::<J, L, R>(rt, alloc, router, passes, blank)
-}
+/// A pick with the last table of the race, and one with the table after it.
+const AFTER: [Row; 3] = [
+    (
+        WRITER,
+        Act::Ask(Asking::Pick),
+        "at 503 port 2 slot 1 loads 0 0",
+    ),
+    (
+        WRITER,
+        Act::Put("default", "/svc/web => /#/io.l5d.fs/one"),
+        "version 502",
+    ),
+    (
+        WRITER,
+        Act::Ask(Asking::Pick),
+        "at 504 port 1 slot 0 loads 0 0",
+    ),
+];
 
 /// The whole race, from a new router to its end: how many changes there were.
 fn raced<J: Naming + Send + Sync, R: Wait + Threads + Abort + Sync>(
@@ -209,11 +180,12 @@ fn raced<J: Naming + Send + Sync, R: Wait + Threads + Abort + Sync>(
     requires seats { J.seats ≡ 3 }
 {
     let (router, mut passes) = opened.named::<J, R>(rt, alloc).ok()?;
-    let picks = contest::<J, Brand, R>(rt, alloc, &router, passes.as_mut_slice(), Blank::new(1));
+    let all = passes.as_mut_slice();
+    play::<J, Brand, R>(rt, alloc, &router, all, &BEFORE, Blank::new(1));
+    let went_well = race(rt, alloc, &router, all);
+    play::<J, Brand, R>(rt, alloc, &router, all, &AFTER, Blank::new(1));
     let place = ended(rt, router, passes);
-    let (last, next) = picks?;
-    assert_eq!(rt; last.as_str(), "at 503 port 2 slot 1 loads 0 0");
-    assert_eq!(rt; next.as_str(), "at 504 port 1 slot 0 loads 0 0");
+    assert!(rt; went_well, "a reader or the writer was told wrong");
     Some(place)
 }
 

@@ -1,6 +1,7 @@
 //! Scenes of three callers.
 
 use crate::acts::Act;
+use crate::asked::Asking::{Look, Peek, Pick, Succeed};
 use crate::stage::{Row, run};
 
 const A: usize = 0;
@@ -12,16 +13,16 @@ const C: usize = 2;
 /// A change of one caller is seen by another that asks later, by both where two meet, and by one
 /// that is told what the other has seen.
 const MEETING: [Row; 16] = [
-    (B, Act::Look, "at 0 missing, kept 0"),
+    (B, Act::Ask(Look), "at 0 missing, kept 0"),
     (
         A,
         Act::Create("default", "/svc => /$/inet/127.0.0.1/9"),
         "version 1",
     ),
     (C, Act::Count, "pass 2 place 0 made 0 kept 0 refused 0"),
-    (B, Act::Look, "at 1 table 1, kept 0"),
+    (B, Act::Ask(Look), "at 1 table 1, kept 0"),
     (B, Act::Meet, "places 1 1"),
-    (C, Act::Pick, "at 1 port 9"),
+    (C, Act::Ask(Pick), "at 1 port 9"),
     (A, Act::Count, "pass 0 place 1 made 1 kept 0 refused 0"),
     (B, Act::Count, "pass 1 place 1 made 0 kept 0 refused 0"),
     (C, Act::Create("default", "/a => /b"), "exists 1"),
@@ -39,9 +40,9 @@ const MEETING: [Row; 16] = [
 const LOADS: [Row; 13] = [
     (A, Act::Set("web", "127.0.0.1 1\n127.0.0.1 2\n"), "set 2"),
     (A, Act::Hold(0), "holds 0"),
-    (C, Act::Pick, "at 1 port 2 slot 1 loads 1 0"),
+    (C, Act::Ask(Pick), "at 1 port 2 slot 1 loads 1 0"),
     (A, Act::Give, "gave 0"),
-    (C, Act::Pick, "at 1 port 1 slot 0 loads 0 0"),
+    (C, Act::Ask(Pick), "at 1 port 1 slot 0 loads 0 0"),
     (
         B,
         Act::Set("web", "127.0.0.1 1 * 2\n127.0.0.1 2\n"),
@@ -50,9 +51,9 @@ const LOADS: [Row; 13] = [
     (A, Act::Hold(0), "holds 0"),
     (B, Act::Hold(0), "holds 0"),
     (C, Act::Hold(1), "holds 1"),
-    (C, Act::Pick, "at 2 port 1 slot 0 loads 2 1"),
+    (C, Act::Ask(Pick), "at 2 port 1 slot 0 loads 2 1"),
     (C, Act::Give, "gave 1"),
-    (C, Act::Pick, "at 2 port 2 slot 1 loads 2 0"),
+    (C, Act::Ask(Pick), "at 2 port 2 slot 1 loads 2 0"),
     // The first caller has asked nothing since its own change. The router's end gives back what it
     // and the second one hold.
     (A, Act::Count, "pass 0 place 1 made 1 kept 0 refused 0"),
@@ -62,12 +63,12 @@ const LOADS: [Row; 13] = [
 /// what its caller sees then. A caller sees the changes that others made.
 const REPORTS: [Row; 12] = [
     (A, Act::Set("web", "127.0.0.1 1"), "set 1"),
-    (B, Act::Succeed(1), "failures 0"),
+    (B, Act::Ask(Succeed(1)), "failures 0"),
     (B, Act::Count, "pass 1 place 1 made 0 kept 0 refused 0"),
     (C, Act::Report(9, true), "of no service"),
-    (C, Act::Succeed(9), "of no service"),
+    (C, Act::Ask(Succeed(9)), "of no service"),
     (A, Act::Report(1, false), "failures 1"),
-    (B, Act::Succeed(1), "left for the lock"),
+    (B, Act::Ask(Succeed(1)), "left for the lock"),
     (B, Act::Count, "pass 1 place 2 made 0 kept 0 refused 0"),
     (B, Act::Report(1, true), "failures 0"),
     (B, Act::Count, "pass 1 place 3 made 1 kept 0 refused 0"),
@@ -81,13 +82,13 @@ const REMEMBERED: [Row; 18] = [
     (B, Act::Create("one", "/x => /y"), "version 1"),
     (B, Act::Create("two", "/x => /y"), "version 2"),
     (B, Act::Set("web", "127.0.0.1 1"), "set 1"),
-    (A, Act::Peek, "miss at 3 names 0"),
+    (A, Act::Ask(Peek), "miss at 3 names 0"),
     (A, Act::RememberLate("three"), "late 3 4"),
     (A, Act::RememberTwice, "kept, had"),
-    (C, Act::Look, "at 4 missing, kept 1"),
+    (C, Act::Ask(Look), "at 4 missing, kept 1"),
     (
         A,
-        Act::Peek,
+        Act::Ask(Peek),
         "hit at 4 port 1 slot 0 loads 0 0 names /#/io.l5d.fs/web /",
     ),
     (A, Act::Remember, "nothing to keep"),
@@ -95,14 +96,14 @@ const REMEMBERED: [Row; 18] = [
     (B, Act::Create("four", "/svc => /nowhere"), "version 4"),
     (
         C,
-        Act::Peek,
+        Act::Ask(Peek),
         "hit at 5 port 1 slot 0 loads 0 0 names /#/io.l5d.fs/web /",
     ),
     (B, Act::Create("default", "/other => /x"), "version 5"),
     (B, Act::Set("web", "127.0.0.1 1\n127.0.0.1 2"), "set 2"),
     (
         A,
-        Act::Peek,
+        Act::Ask(Peek),
         "hit at 7 port 1 slot 0 loads 0 0 names /#/io.l5d.fs/web /",
     ),
     (
@@ -110,8 +111,8 @@ const REMEMBERED: [Row; 18] = [
         Act::Put("default", "/svc/web => /#/io.l5d.fs/v2"),
         "version 6",
     ),
-    (A, Act::Peek, "miss at 8 names 0"),
-    (C, Act::Look, "at 8 table 6, kept 0"),
+    (A, Act::Ask(Peek), "miss at 8 names 0"),
+    (C, Act::Ask(Look), "at 8 table 6, kept 0"),
 ];
 
 /// Seven branches at each of three lookups, which come to nothing.
@@ -121,7 +122,7 @@ const WIDE: &str = "/svc=>/a&/a&/a&/a&/a&/a&/a;/a=>/b&/b&/b&/b&/b&/b&/b;/b=>/c&/
 /// path's.
 const COSTLY: [Row; 3] = [
     (A, Act::Remember, "large 400 8"),
-    (A, Act::Peek, "miss at 0 names 0"),
+    (A, Act::Ask(Peek), "miss at 0 names 0"),
     (A, Act::Count, "pass 0 place 0 made 0 kept 0 refused 0"),
 ];
 
@@ -129,13 +130,13 @@ const COSTLY: [Row; 3] = [
 /// has 206.
 const LONG: [Row; 2] = [
     (A, Act::Remember, "large 100 10708"),
-    (B, Act::Peek, "miss at 0 names 0"),
+    (B, Act::Ask(Peek), "miss at 0 names 0"),
 ];
 
 /// It is kept where they have 800, though it came to no replica.
 const SHORT: [Row; 3] = [
     (A, Act::Remember, "kept"),
-    (B, Act::Peek, "none at 0"),
+    (B, Act::Ask(Peek), "none at 0"),
     (A, Act::Count, "pass 0 place 0 made 0 kept 1 refused 0"),
 ];
 

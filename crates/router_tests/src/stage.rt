@@ -35,8 +35,16 @@ fn answer_at<J: Naming, L: Ledger, R: Wait>(
     }
 }
 
+/// Asserts that a call was answered so.
+fn assert_said<R: Abort>(rt: &R, told: Option<String>, said: &str) {
+    match told {
+        Some(text) => assert_eq!(rt; text.as_str(), said),
+        None => panic!(rt; "no answer, where {said} was wanted"),
+    }
+}
+
 /// Plays the calls of a scene, each of which has to be answered so.
-fn play<J: Naming, L: Ledger, R: Wait + Abort>(
+pub fn play<J: Naming, L: Ledger, R: Wait + Abort>(
     rt: &R,
     alloc: Global,
     router: &Router<J>,
@@ -48,10 +56,8 @@ fn play<J: Naming, L: Ledger, R: Wait + Abort>(
 {
     let mut steps = Steps::<L>::start(blank);
     for (at, act, said) in rows {
-        match answer_at(rt, alloc, router, passes, *at, *act, &mut steps) {
-            Some(text) => assert_eq!(rt; text.as_str(), *said),
-            None => panic!(rt; "no answer, where {said} was wanted"),
-        }
+        let told = answer_at(rt, alloc, router, passes, *at, *act, &mut steps);
+        assert_said(rt, told, said);
     }
 }
 
@@ -59,8 +65,14 @@ fn play<J: Naming, L: Ledger, R: Wait + Abort>(
 pub fn ended<J: Naming, R: Wait + Abort>(rt: &R, router: Router<J>, mut passes: Vec<Pass<J>>) -> u64
     requires { (J.parts ≡ J.seats) × (J.seats ≡ 3) }
 {
-    let (Some(c), Some(b), Some(a)) = (passes.pop(), passes.pop(), passes.pop()) else {
+    let Some(c) = passes.pop() else {
         panic!(rt; "no passes")
+    };
+    let Some(b) = passes.pop() else {
+        panic!(rt; "one pass")
+    };
+    let Some(a) = passes.pop() else {
+        panic!(rt; "two passes")
     };
     assert!(rt; a.number() < b.number() && b.number() < c.number());
     assert!(rt; passes.is_empty() && passes.capacity() >= 3);

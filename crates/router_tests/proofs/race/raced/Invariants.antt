@@ -1,5 +1,5 @@
 use Rattle.router_tests.proofs.race.raced.Given as goal
 
 -- a count of steps of its own
-abbrev pub ghosts-contest : goal.ghosts-contest
-ghosts-contest g a = record { name = a.blank.name; parts = a.blank.parts }
+abbrev pub ghosts-play : goal.ghosts-play
+ghosts-play g a = record { name = a.blank.name; parts = a.blank.parts }
