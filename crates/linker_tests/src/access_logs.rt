@@ -1,8 +1,9 @@
 //! Routers with an access log.
-use crate::outside::{Left, folder_of, logged_over, net_of};
+use crate::outside::{folder_of, logged_over, net_answered};
 use crate::running::append;
 use line_log::{Journal, MemJournals};
 use std::alloc::{AllocError, AllocGlobal, Global};
+use std::process::Abort;
 use std::sync::Wait;
 use std::test::Fail;
 use std::thread::Threads;
@@ -39,21 +40,15 @@ fn logged<R: AllocGlobal + Threads + Wait + Sync>(
     rt: &R,
     config: &str,
     losing: &[u64],
-) -> Result<(String, u64, u8), Fail> {
+) -> Result<(String, u64, u8), AllocError> {
     let alloc = rt.alloc();
-    let losing = Vec::from_slice(alloc, losing)?;
-    let folder = folder_of(alloc, config, "127.0.0.1 9001\n", 1, &[])?;
-    let net = net_of(alloc, REQUESTS, "", "", "")?;
-    let Left {
-        written,
-        status,
-        net,
-        journals,
-    } = logged_over(rt, folder, net, MemJournals::of(alloc, losing))?;
-    drop(written);
-    drop(net);
-    let told = held(alloc, &journals);
-    drop(journals);
+    let journals = MemJournals::of(alloc, Vec::from_slice(alloc, losing)?);
+    let folder = folder_of(alloc, config)?;
+    let net = net_answered(alloc, &[(4140, REQUESTS)])?;
+    let left = logged_over(rt, folder, net, journals)?;
+    let status = left.status;
+    let told = held(alloc, &left.journals);
+    drop(left);
     let (text, lost) = told?;
     Ok((text, lost, status))
 }
@@ -71,21 +66,27 @@ fn held(alloc: Global, journals: &MemJournals) -> Result<(String, u64), AllocErr
     Ok((text, lost))
 }
 
+/// Asserts that the journals of such a router hold these lines and lost so many, and that it ended
+/// well.
+fn assert_logged<R: AllocGlobal + Threads + Wait + Sync + Abort>(
+    rt: &R,
+    config: &str,
+    losing: &[u64],
+    lines: &str,
+    lost: u64,
+) -> Result<(), Fail> {
+    let (text, count, status) = logged(rt, config, losing)?;
+    let seen = (text.as_str(), count, status);
+    assert_eq!(rt; seen, (lines, lost, 0), "of {config} without {losing:?}");
+    drop(text);
+    Ok(())
+}
+
 /// Each exchange has a line, in order, or its line is lost; without a log there are none.
 #[test]
 fn an_access_log(rt: HostRuntime) -> Result<(), Fail> {
-    let rows: [(&str, &[u64], &str, u64); 4] = [
-        (LOGGING, &[], LOGGED, 0),
-        (LOGGING, &[1], LOGGED_BUT_ONE, 1),
-        (LOGGING, &[0, 1, 2], "", 3),
-        (SILENT, &[], "", 0),
-    ];
-    for (config, losing, lines, lost) in rows {
-        let (text, count, status) = logged(&rt, config, losing)?;
-        assert!(rt;
-            text.as_str() == lines && count == lost && status == 0,
-            "of {config} without {losing:?}"
-        );
-    }
-    Ok(())
+    assert_logged(&rt, LOGGING, &[], LOGGED, 0)?;
+    assert_logged(&rt, LOGGING, &[1], LOGGED_BUT_ONE, 1)?;
+    assert_logged(&rt, LOGGING, &[0, 1, 2], "", 3)?;
+    assert_logged(&rt, SILENT, &[], "", 0)
 }

@@ -4,19 +4,18 @@ ghost use Rattle.line_base.specs.Counts.{HasCause};
 ghost use Rattle.line_doubles.specs.Memory.{upstream_of};
 ghost use Rattle.line_base.specs.Nets.{after_end, log_of};
 
-use crate::outside::{Answered, Left, folder_of, given, served_over, visits};
+use crate::outside::{
+    Outcome, TWO_WORKERS, assert_served, first_numbers, folder_of, net_of_two, paired_at,
+    served_over, told,
+};
 use crate::paired::Paired;
-use crate::running::{sink, source};
 use line_base::{BROKEN_RUN, ConnectionPool, Failed, Listeners, Net, NetFault, Peer, Stop};
-use line_doubles::{MemDialer, MemFolder, MemListener, MemNet, MemPeer, MemStop};
+use line_doubles::{MemDialer, MemFolder, MemListener, MemNet, MemStop};
 use std::alloc::{AllocError, AllocGlobal, Global};
 use std::sync::Wait;
 use std::sync::atomic::{AtomicBool, Ordering};
 use std::test::Fail;
 use std::thread::Threads;
-
-/// No table names anything, and there are two workers.
-const TWO_WORKERS: &str = "{\"routers\":[{\"protocol\":\"http\"}],\"workers\":2}";
 
 /// What a client asks.
 const ASKS: &str = "HEAD / HTTP/1.1\r\nHost: web\r\n\r\n";
@@ -127,16 +126,10 @@ fn net_of<'a>(
     here: &'a AtomicBool,
     flag: &'a AtomicBool,
 ) -> Result<MemNet<Paired<'a>>, AllocError> {
-    let mut failing = Vec::new(alloc);
-    for wait in 0..BROKEN_RUN {
-        failing.push(wait)?;
-    }
-    let client = MemPeer::of(source(alloc, ASKS)?, sink(alloc));
-    let peers = vec![in alloc; Paired::of(here, flag, client)]?;
-    let mut addresses = Vec::new(alloc);
-    addresses.push(visits(alloc, port, Vec::new(alloc), failing)?)?;
-    addresses.push(visits(alloc, 4140, peers, Vec::new(alloc))?)?;
-    Ok(MemNet::of(alloc, addresses, Vec::new(alloc), Vec::new(alloc)))
+    let failing = first_numbers(alloc, BROKEN_RUN)?;
+    let broken = told(alloc, port, Vec::new(alloc), failing)?;
+    let held = paired_at(alloc, here, flag, ASKS)?;
+    net_of_two(alloc, broken, held)
 }
 
 /// Serves over a net whose stops raise this flag: what is written, the status, and the net.
@@ -146,45 +139,22 @@ fn flagged_over<R: AllocGlobal + Threads + Wait + Sync, P: Peer + Drop + Send>(
     flag: &AtomicBool,
     net: MemNet<P>,
 ) -> Result<(String, u8, MemNet<P>), AllocError> {
-    let Left {
-        written,
-        status,
-        net,
-        journals,
-    } = served_over(rt, folder, FlagNet { flag, net })?;
-    drop(journals);
+    let (written, status, net) = served_over(rt, folder, FlagNet { flag, net })?.into_parts();
     Ok((written, status, net.into_net()))
 }
 
-/// The same, and what the clients were given in place of the net.
-fn stopped_over<R: AllocGlobal + Threads + Wait + Sync, P: Peer + Drop + Send + Answered>(
-    rt: &R,
-    flag: &AtomicBool,
-    net: MemNet<P>,
-) -> Result<(String, u8, String), AllocError> {
-    let alloc = rt.alloc();
-    let folder = match folder_of(alloc, TWO_WORKERS, "", 0, &[]) {
-        Ok(folder) => folder,
-        Err(fault) => {
-            drop(net);
-            return Err(fault);
-        }
-    };
-    let (written, status, net) = flagged_over(rt, folder, flag, net)?;
-    let given = given(alloc, &net);
-    drop(net);
-    Ok((written, status, given?))
-}
-
-/// What is written where the first listener of a port breaks, the status, and what the client is
-/// given that waits for a stop.
+/// What becomes of a router of which the first listener of a port breaks, while a client waits for
+/// a stop.
 fn broken_at<R: AllocGlobal + Threads + Wait + Sync>(
     rt: &R,
     port: u16,
-) -> Result<(String, u8, String), AllocError> {
+) -> Result<Outcome, AllocError> {
+    let alloc = rt.alloc();
     let (here, flag) = (AtomicBool::new(false), AtomicBool::new(false));
-    let net = net_of(rt.alloc(), port, &here, &flag)?;
-    stopped_over(rt, &flag, net)
+    let folder = folder_of(alloc, TWO_WORKERS)?;
+    let net = net_of(alloc, port, &here, &flag)?;
+    let (written, status, net) = flagged_over(rt, folder, &flag, net)?;
+    Outcome::of(alloc, written, status, net)
 }
 
 /// A listener that breaks stops all others: a worker that is held until then goes on, and the
@@ -192,13 +162,10 @@ fn broken_at<R: AllocGlobal + Threads + Wait + Sync>(
 #[test]
 fn a_listener_that_breaks(rt: HostRuntime) -> Result<(), Fail> {
     let lines = "serving 127.0.0.1:4140 127.0.0.1:4180 127.0.0.1:9990\nerror net\n";
-    for port in [4140, 4180, 9990] {
-        let (written, status, given) = broken_at(&rt, port)?;
-        assert!(rt;
-            written.as_str() == lines && status == 6,
-            "the lines at {port}"
-        );
-        assert!(rt; given.as_str() == ANSWER, "the answer at {port}");
+    for port in &[4140, 4180, 9990] {
+        let outcome = broken_at(&rt, *port)?;
+        assert_served(&rt, &outcome, (lines, 6, ANSWER, ""), port);
+        drop(outcome);
     }
     Ok(())
 }

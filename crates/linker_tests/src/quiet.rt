@@ -1,17 +1,16 @@
 //! Clients that have nothing to say for a while.
-use crate::outside::{folder_of, served, told};
+use crate::outside::{
+    TWO_WORKERS, asking, net_of_two, served_by, told, vec_of_one, vec_of_two, visited,
+};
 use crate::paired::Paired;
-use crate::running::{sink, source};
-use line_base::{Event, Peer};
-use line_doubles::{MemNet, MemPeer};
+use crate::running::assert_told;
+use line_base::Event;
+use line_doubles::{MemAddress, MemNet, MemPeer};
 use std::alloc::{AllocError, AllocGlobal, Global};
 use std::sync::Wait;
 use std::sync::atomic::AtomicBool;
 use std::test::Fail;
 use std::thread::Threads;
-
-/// No table names anything, and there are two workers.
-const TWO_WORKERS: &str = "{\"routers\":[{\"protocol\":\"http\"}],\"workers\":2}";
 
 /// No table names anything, and there is one worker.
 const ONE_WORKER: &str = "{\"routers\":[{\"protocol\":\"http\"}],\"workers\":1}";
@@ -25,53 +24,52 @@ const HEAD: &str = "HEAD / HTTP/1.1\r\nHost: web\r\n\r\n";
 const NEGATIVE: &str = "HTTP/1.1 502 Bad Gateway\r\nContent-Type: text/plain\r\n\
     l5d-err: negative\r\nContent-Length: 9\r\n\r\n";
 
-/// A client that asks this.
-fn asking(alloc: Global, asks: &str) -> Result<MemPeer, AllocError> {
-    Ok(MemPeer::of(source(alloc, asks)?, sink(alloc)))
+/// What the router's first listener tells: a client that pauses, and one that asks only once that
+/// one is read.
+fn told_of_two<'a>(
+    alloc: Global,
+    paused: &'a AtomicBool,
+    first: &'a AtomicBool,
+) -> Result<MemAddress<Paired<'a>>, AllocError> {
+    let pausing = Paired::pausing(paused, first, asking(alloc, HEAD)?);
+    let next = Paired::of(first, paused, asking(alloc, GET)?);
+    let events = vec_of_two(alloc, Event::Came(pausing), Event::Came(next))?;
+    told(alloc, 4140, events, Vec::new(alloc))
 }
 
-/// What the router's two listeners tell: the first one a client that pauses and one that asks only
-/// once the first one is read; the second one a client that asks only once that one is read, and
-/// then that the client which pauses has something to say.
+/// What its second listener tells: a client that asks only once the last of those is read, and then
+/// that the client which pauses has something to say.
+fn told_of_one<'a>(
+    alloc: Global,
+    first: &'a AtomicBool,
+    second: &'a AtomicBool,
+) -> Result<MemAddress<Paired<'a>>, AllocError> {
+    let last = Paired::of(second, first, asking(alloc, GET)?);
+    let events = vec_of_two(alloc, Event::Came(last), Event::Ready(0))?;
+    told(alloc, 4140, events, Vec::new(alloc))
+}
+
+/// A net in which the router's two listeners tell these.
 fn net_of_three<'a>(
     alloc: Global,
     paused: &'a AtomicBool,
     first: &'a AtomicBool,
     second: &'a AtomicBool,
 ) -> Result<MemNet<Paired<'a>>, AllocError> {
-    let mut here = Vec::new(alloc);
-    here.push(Event::Came(Paired::pausing(paused, first, asking(alloc, HEAD)?)))?;
-    here.push(Event::Came(Paired::of(first, paused, asking(alloc, GET)?)))?;
-    let mut there = Vec::new(alloc);
-    there.push(Event::Came(Paired::of(second, first, asking(alloc, GET)?)))?;
-    there.push(Event::Ready(0))?;
-    net_telling(alloc, here, there)
-}
-
-/// A net whose router's two listeners tell these.
-fn net_telling<P: Peer + Drop>(
-    alloc: Global,
-    here: Vec<Event<P>>,
-    there: Vec<Event<P>>,
-) -> Result<MemNet<P>, AllocError> {
-    let mut addresses = Vec::new(alloc);
-    for events in vec![in alloc; here, there]? {
-        addresses.push(told(alloc, 4140, events, Vec::new(alloc))?)?;
-    }
-    Ok(MemNet::of(alloc, addresses, Vec::new(alloc), Vec::new(alloc)))
+    let here = told_of_two(alloc, paused, first)?;
+    let there = told_of_one(alloc, first, second)?;
+    net_of_two(alloc, here, there)
 }
 
 /// What such clients are given, one after another, and the status.
-fn three<R: AllocGlobal + Threads + Wait + Sync>(rt: &R) -> Result<(String, u8), Fail> {
-    let alloc = rt.alloc();
+fn three<R: AllocGlobal + Threads + Wait + Sync>(rt: &R) -> Result<(String, u8), AllocError> {
     let (paused, first, second) = (
         AtomicBool::new(false),
         AtomicBool::new(false),
         AtomicBool::new(false),
     );
-    let folder = folder_of(alloc, TWO_WORKERS, "", 0, &[])?;
-    let served = served(rt, folder, net_of_three(alloc, &paused, &first, &second)?)?;
-    Ok((served.given, served.status))
+    let net = net_of_three(rt.alloc(), &paused, &first, &second)?;
+    Ok(served_by(rt, TWO_WORKERS, net)?.into_given())
 }
 
 /// A client that pauses is left by the worker that it came to, which is then held by the next
@@ -85,8 +83,8 @@ fn another_worker_goes_on(rt: HostRuntime) -> Result<(), Fail> {
         l5d-err: negative\r\nContent-Length: 9\r\n\r\nnegative\n\
         HTTP/1.1 502 Bad Gateway\r\nContent-Type: text/plain\r\n\
         l5d-err: negative\r\nContent-Length: 9\r\n\r\n";
-    let (given, status) = three(&rt)?;
-    assert!(rt; given.as_str() == answers && status == 0);
+    let told = three(&rt)?;
+    assert_told(&rt, told, (answers, 0), &"three clients");
     Ok(())
 }
 
@@ -100,8 +98,8 @@ fn net_of_one(
 ) -> Result<MemNet<MemPeer>, AllocError> {
     let quiet = Vec::from_slice(alloc, quiet)?;
     let client = asking(alloc, asks)?.quiet(quiet);
-    let events = vec![in alloc; Event::Came(client)]?;
-    let addresses = vec![in alloc; told(alloc, port, events, Vec::new(alloc))?]?;
+    let address = visited(alloc, port, client)?;
+    let addresses = vec_of_one(alloc, address)?;
     Ok(MemNet::of(alloc, addresses, Vec::new(alloc), Vec::new(alloc)))
 }
 
@@ -111,11 +109,9 @@ fn waited<R: AllocGlobal + Threads + Wait + Sync>(
     port: u16,
     asks: &str,
     quiet: &[u64],
-) -> Result<(String, u8), Fail> {
-    let alloc = rt.alloc();
-    let folder = folder_of(alloc, ONE_WORKER, "", 0, &[])?;
-    let served = served(rt, folder, net_of_one(alloc, port, asks, quiet)?)?;
-    Ok((served.given, served.status))
+) -> Result<(String, u8), AllocError> {
+    let net = net_of_one(rt.alloc(), port, asks, quiet)?;
+    Ok(served_by(rt, ONE_WORKER, net)?.into_given())
 }
 
 /// Whoever waits when the listener closes is served what it has said by then, and ended.
@@ -129,12 +125,9 @@ fn who_waits_is_served_at_the_end(rt: HostRuntime) -> Result<(), Fail> {
         (4180, caller, &[0], names),
         (4180, caller, &[0, 1], ""),
     ];
-    for (port, asks, quiet, given) in rows {
-        let (text, status) = waited(&rt, port, asks, quiet)?;
-        assert!(rt;
-            text.as_str() == given && status == 0,
-            "of {port} and {quiet:?}"
-        );
+    for (port, asks, quiet, given) in &rows {
+        let told = waited(&rt, *port, asks, quiet)?;
+        assert_told(&rt, told, (*given, 0), &(*port, *quiet));
     }
     Ok(())
 }

@@ -1,8 +1,11 @@
 //! Routers that serve, and routers that don't.
-use crate::outside::{Outcome, answering, file, folder_of, net_of, served, visits};
+use crate::outside::{
+    HI, ONE_ADDRESS, Outcome, TWO_WORKERS, assert_served, dials_of, file, first_numbers,
+    folder_with, net_answered, net_of, net_of_two, paired_at, served, served_by, told, vec_of_one,
+};
 use crate::paired::Paired;
-use crate::running::{sink, source};
-use line_doubles::{MemDials, MemFolder, MemNet, MemPeer};
+use crate::running::{assert_told, no_net, text_with};
+use line_doubles::{MemFile, MemFolder, MemNet, MemPeer};
 use std::alloc::{AllocError, AllocGlobal, Global};
 use std::sync::Wait;
 use std::sync::atomic::AtomicBool;
@@ -14,22 +17,17 @@ const WITH_SERVICES: &str = "{\"namers\":[{\"kind\":\"io.l5d.fs\",\"rootDir\":\"
     \"routers\":[{\"protocol\":\"http\",\"dtab\":\"/svc => /#/io.l5d.fs\",\
     \"servers\":[{\"port\":4140}]}]}";
 
-/// No table names anything, and there are two proxy jobs.
-const WITHOUT_TABLE: &str = "{\"routers\":[{\"protocol\":\"http\"}],\"workers\":2}";
-
 const FOR_WEB: &str = "GET / HTTP/1.1\r\nHost: web\r\n\r\n";
 
-/// What becomes of a router with the service `web`, and one client of each of these.
+/// What becomes of a router by this configuration where to each of these ports a client comes that
+/// asks this.
 fn routed<R: AllocGlobal + Threads + Wait + Sync>(
     rt: &R,
     config: &str,
-    requests: &str,
-    namerd: &str,
-    admin: &str,
-) -> Result<Outcome, Fail> {
-    let alloc = rt.alloc();
-    let folder = folder_of(alloc, config, "127.0.0.1 9001\n", 1, &[])?;
-    Ok(served(rt, folder, net_of(alloc, requests, "", namerd, admin)?)?)
+    clients: &[(u16, &str)],
+) -> Result<Outcome, AllocError> {
+    let net = net_answered(rt.alloc(), clients)?;
+    served_by(rt, config, net)
 }
 
 /// Two requests to a service.
@@ -62,13 +60,10 @@ fn a_router_that_serves(rt: HostRuntime) -> Result<(), Fail> {
         /other => /x";
     let shutdown = "POST /admin/shutdown HTTP/1.1\r\nHost: a\r\n\r\n";
     let lines = "serving 127.0.0.1:4140 127.0.0.1:4180 127.0.0.1:9990\nclosed 2\n";
-    let served = routed(&rt, WITH_SERVICES, TWICE, edit, shutdown)?;
-    assert!(rt;
-        served.written.as_str() == lines && served.status == 0,
-        "the lines"
-    );
-    assert!(rt; served.given.as_str() == ANSWERS, "the answers");
-    assert!(rt; served.dialed.as_str() == DIALS, "the dials");
+    let clients = [(4140, TWICE), (4180, edit), (9990, shutdown)];
+    let outcome = routed(&rt, WITH_SERVICES, &clients)?;
+    assert_served(&rt, &outcome, (lines, 0, ANSWERS, DIALS), &"three clients");
+    drop(outcome);
     Ok(())
 }
 
@@ -89,8 +84,13 @@ const WITHOUT_CONTEXT: &str = "dial 7f000001 9001\n\
 /// Where the context of requests is cleared, none of it is read, and none goes on.
 #[test]
 fn a_context_that_is_cleared(rt: HostRuntime) -> Result<(), Fail> {
-    let served = routed(&rt, CLEARING, WITH_CONTEXT, "", "")?;
-    assert!(rt; served.dialed.as_str() == WITHOUT_CONTEXT && served.status == 0);
+    let outcome = routed(&rt, CLEARING, &[(4140, WITH_CONTEXT)])?;
+    assert_told(
+        &rt,
+        outcome.into_dialed(),
+        (WITHOUT_CONTEXT, 0),
+        &"the dials",
+    );
     Ok(())
 }
 
@@ -101,21 +101,16 @@ fn net_of_pair<'a>(
     first: &'a AtomicBool,
     second: &'a AtomicBool,
 ) -> Result<MemNet<Paired<'a>>, AllocError> {
-    let mut addresses = Vec::new(alloc);
-    for (here, there) in [(first, second), (second, first)] {
-        let client = MemPeer::of(source(alloc, FOR_WEB)?, sink(alloc));
-        let peers = vec![in alloc; Paired::of(here, there, client)]?;
-        addresses.push(visits(alloc, 4140, peers, Vec::new(alloc))?)?;
-    }
-    Ok(MemNet::of(alloc, addresses, Vec::new(alloc), Vec::new(alloc)))
+    let here = paired_at(alloc, first, second, FOR_WEB)?;
+    let there = paired_at(alloc, second, first, FOR_WEB)?;
+    net_of_two(alloc, here, there)
 }
 
 /// What becomes of a router with such clients.
-fn paired<R: AllocGlobal + Threads + Wait + Sync>(rt: &R) -> Result<Outcome, Fail> {
-    let alloc = rt.alloc();
+fn paired<R: AllocGlobal + Threads + Wait + Sync>(rt: &R) -> Result<Outcome, AllocError> {
     let (first, second) = (AtomicBool::new(false), AtomicBool::new(false));
-    let folder = folder_of(alloc, WITHOUT_TABLE, "", 0, &[])?;
-    Ok(served(rt, folder, net_of_pair(alloc, &first, &second)?)?)
+    let net = net_of_pair(rt.alloc(), &first, &second)?;
+    served_by(rt, TWO_WORKERS, net)
 }
 
 /// Two requests that no table routes, each to a listener of its own. Each is asked only once the
@@ -128,93 +123,88 @@ fn two_clients_at_once(rt: HostRuntime) -> Result<(), Fail> {
         negative\nHTTP/1.1 502 Bad Gateway\r\nContent-Type: text/plain\r\n\
         l5d-err: negative\r\nContent-Length: 9\r\n\r\n\
         negative\n";
-    let served = paired(&rt)?;
-    assert!(rt;
-        served.written.as_str() == lines && served.status == 0,
-        "the lines"
-    );
-    assert!(rt;
-        served.given.as_str() == answers && served.dialed.is_empty(),
-        "the answers"
-    );
+    let outcome = paired(&rt)?;
+    assert_served(&rt, &outcome, (lines, 0, answers, ""), &"two clients");
+    drop(outcome);
     Ok(())
-}
-
-/// What `serve` writes, and its status, where these calls of the folder and of `listen` fail, and
-/// so many waits of the router's first listener; and where the file of the service `web` has one
-/// line so many times.
-fn served_amiss<R: AllocGlobal + Threads + Wait + Sync>(
-    rt: &R,
-    reads: &[u64],
-    listens: &[u64],
-    waits: u64,
-    line: &str,
-    lines: u32,
-) -> Result<(String, u8), Fail> {
-    let alloc = rt.alloc();
-    let folder = folder_of(alloc, WITH_SERVICES, line, lines, reads)?;
-    let served = served(rt, folder, net_amiss(alloc, listens, waits)?)?;
-    Ok((served.written, served.status))
 }
 
 /// A net where nobody comes, and these calls of `listen` fail, and so many waits of the router's
 /// first listener.
 fn net_amiss(alloc: Global, listens: &[u64], waits: u64) -> Result<MemNet<MemPeer>, AllocError> {
+    let failing = first_numbers(alloc, waits)?;
+    let address = told(alloc, 4140, Vec::new(alloc), failing)?;
+    let addresses = vec_of_one(alloc, address)?;
     let listens = Vec::from_slice(alloc, listens)?;
-    let mut failing = Vec::new(alloc);
-    for wait in 0..waits {
-        failing.push(wait)?;
-    }
-    let address = visits(alloc, 4140, Vec::new(alloc), failing)?;
-    Ok(MemNet::of(alloc, vec![in alloc; address]?, Vec::new(alloc), listens))
+    Ok(MemNet::of(alloc, addresses, Vec::new(alloc), listens))
 }
 
-/// The line of a service with one address.
-const ONE_ADDRESS: &str = "127.0.0.1 9001\n";
+/// A folder whose service `web` has one line so many times. These calls of it fail.
+fn folder_amiss(
+    alloc: Global,
+    reads: &[u64],
+    line: &str,
+    lines: usize,
+) -> Result<MemFolder, AllocError> {
+    let lines = text_with(alloc, "", line, lines)?;
+    let folder = folder_with(alloc, WITH_SERVICES, lines.as_str(), reads);
+    drop(lines);
+    folder
+}
+
+/// What `serve` writes, and its status, over such a folder, where the first call of `listen` fails.
+fn loaded_amiss<R: AllocGlobal + Threads + Wait + Sync>(
+    rt: &R,
+    reads: &[u64],
+    line: &str,
+    lines: usize,
+) -> Result<(String, u8), AllocError> {
+    let alloc = rt.alloc();
+    let folder = folder_amiss(alloc, reads, line, lines)?;
+    let net = net_amiss(alloc, &[0], 0)?;
+    Ok(served(rt, folder, net)?.into_written())
+}
 
 /// A folder that can't be read, and files that are refused. Their faults come before that of the
 /// net, whose first address can't be listened on.
 #[test]
 fn services_that_are_not_loaded(rt: HostRuntime) -> Result<(), Fail> {
-    let rows: [(&[u64], &str, u32, &str, u8); 4] = [
-        (&[1], ONE_ADDRESS, 1, "error read\n", 4),
-        (&[2], ONE_ADDRESS, 1, "error read\n", 4),
-        // A file of 1,048,590 bytes is too long.
-        (&[], "127.0.0.1\n", 1, "error file web\n", 3),
-        (&[], ONE_ADDRESS, 69_906, "error file web\n", 3),
-    ];
-    for (reads, line, lines, written, status) in rows {
-        let (text, ended) = served_amiss(&rt, reads, &[0], 0, line, lines)?;
-        assert!(rt; text.as_str() == written && ended == status);
+    for read in 1..3 {
+        let told = loaded_amiss(&rt, &[read], ONE_ADDRESS, 1)?;
+        assert_told(&rt, told, ("error read\n", 4), &read);
     }
+    let told = loaded_amiss(&rt, &[], "127.0.0.1\n", 1)?;
+    assert_told(&rt, told, ("error file web\n", 3), &"no port");
+    let told = loaded_amiss(&rt, &[], ONE_ADDRESS, 69_906)?;
+    assert_told(&rt, told, ("error file web\n", 3), &"1,048,590 bytes");
     Ok(())
+}
+
+/// What `serve` writes, and its status, where these calls of `listen` fail, and so many waits of
+/// the router's first listener.
+fn listened_amiss<R: AllocGlobal + Threads + Wait + Sync>(
+    rt: &R,
+    listens: &[u64],
+    waits: u64,
+) -> Result<(String, u8), AllocError> {
+    let net = net_amiss(rt.alloc(), listens, waits)?;
+    Ok(served_by(rt, WITH_SERVICES, net)?.into_written())
 }
 
 /// Addresses that can't be listened on, and waits that fail: a listener is broken at a hundred
 /// faults in a row.
 #[test]
 fn routers_that_do_not_serve(rt: HostRuntime) -> Result<(), Fail> {
-    let rows: [(&[u64], u64, &str, u8); 5] = [
-        (&[0], 0, "error net\n", 6),
-        (&[1], 0, "error net\n", 6),
-        (&[2], 0, "error net\n", 6),
-        (
-            &[],
-            99,
-            "serving 127.0.0.1:4140 127.0.0.1:4180 127.0.0.1:9990\nclosed 1\n",
-            0,
-        ),
-        (
-            &[],
-            100,
-            "serving 127.0.0.1:4140 127.0.0.1:4180 127.0.0.1:9990\nerror net\n",
-            6,
-        ),
-    ];
-    for (listens, waits, written, status) in rows {
-        let (text, ended) = served_amiss(&rt, &[], listens, waits, ONE_ADDRESS, 1)?;
-        assert!(rt; text.as_str() == written && ended == status);
+    for listen in 0..3 {
+        let told = listened_amiss(&rt, &[listen], 0)?;
+        assert_told(&rt, told, ("error net\n", 6), &listen);
     }
+    let told = listened_amiss(&rt, &[], 99)?;
+    let closed = "serving 127.0.0.1:4140 127.0.0.1:4180 127.0.0.1:9990\nclosed 1\n";
+    assert_told(&rt, told, (closed, 0), &"99 waits");
+    let told = listened_amiss(&rt, &[], 100)?;
+    let broken = "serving 127.0.0.1:4140 127.0.0.1:4180 127.0.0.1:9990\nerror net\n";
+    assert_told(&rt, told, (broken, 6), &"100 waits");
     Ok(())
 }
 
@@ -225,33 +215,16 @@ const WITH_FEED: &str =
 /// The same, where no run is said.
 const WITH_SOME_RUN: &str = "{\"routers\":[{\"protocol\":\"http\"}],\"workers\":1,\"feed\":{}}";
 
-/// What a router that serves a feed writes, and what it answers two requests for it.
+/// What becomes of a router that serves a feed, where there are two requests for it.
 fn fed<R: AllocGlobal + Threads + Wait + Sync>(
     rt: &R,
     config: &str,
-) -> Result<(String, String, u8), Fail> {
+) -> Result<Outcome, AllocError> {
     let alloc = rt.alloc();
     let requests =
         "GET /feed/default HTTP/1.1\r\nHost: f\r\n\r\nHEAD /feed/a/b HTTP/1.1\r\nHost: f\r\n\r\n";
-    let folder = folder_of(alloc, config, "", 0, &[])?;
-    let served = served(
-        rt,
-        folder,
-        net_of_client(alloc, 4181, requests, Vec::new(alloc))?,
-    )?;
-    Ok((served.written, served.given, served.status))
-}
-
-/// A net in which one client comes, to a port, and asks this. Its dialers do these.
-fn net_of_client(
-    alloc: Global,
-    port: u16,
-    asks: &str,
-    dials: Vec<MemDials>,
-) -> Result<MemNet<MemPeer>, AllocError> {
-    let client = MemPeer::of(source(alloc, asks)?, sink(alloc));
-    let address = visits(alloc, port, vec![in alloc; client]?, Vec::new(alloc))?;
-    Ok(MemNet::of(alloc, vec![in alloc; address]?, dials, Vec::new(alloc)))
+    let net = net_of(alloc, &[(4181, requests)], Vec::new(alloc))?;
+    served_by(rt, config, net)
 }
 
 /// A feed with a run that is said, and with one that is the first moment of the clock.
@@ -272,29 +245,38 @@ fn feeds_of_routers(rt: HostRuntime) -> Result<(), Fail> {
                 Content-Type: text/plain\r\nContent-Length: 5\r\n\r\n",
         ),
     ];
-    for (config, answers) in rows {
-        let (written, given, status) = fed(&rt, config)?;
-        assert!(rt; written.as_str() == lines && status == 0, "the lines");
-        assert!(rt; given.as_str() == answers, "the answers");
+    for (config, answers) in &rows {
+        let outcome = fed(&rt, config)?;
+        assert_served(&rt, &outcome, (lines, 0, *answers, ""), config);
+        drop(outcome);
     }
     Ok(())
 }
 
-/// What the client of a router is given whose first dial fails, where this is said of retries.
-fn tried<R: AllocGlobal + Threads + Wait + Sync>(rt: &R, retries: &str) -> Result<String, Fail> {
+/// What the client of a router is given whose first dial fails, by this configuration, and the
+/// status.
+fn tried_by<R: AllocGlobal + Threads + Wait + Sync>(
+    rt: &R,
+    config: &str,
+) -> Result<(String, u8), AllocError> {
     let alloc = rt.alloc();
-    let config = format!(in alloc;
+    let dials = dials_of(alloc, &[HI], &[0])?;
+    let net = net_of(alloc, &[(4140, FOR_WEB)], dials)?;
+    Ok(served_by(rt, config, net)?.into_given())
+}
+
+/// The same, where this is said of retries.
+fn tried<R: AllocGlobal + Threads + Wait + Sync>(
+    rt: &R,
+    retries: &str,
+) -> Result<(String, u8), AllocError> {
+    let config = format!(in rt.alloc();
         "{{\"routers\":[{{\"protocol\":\"http\",\
             \"dtab\":\"/svc => /$/inet/127.0.0.1/9001\"{retries}}}],\"workers\":1}}"
     )?;
-    let folder = folder_of(alloc, config.as_str(), "", 0, &[])?;
-    Ok(served(rt, folder, net_of_failing(alloc)?)?.given)
-}
-
-/// A net in which one client comes, and the first dial fails.
-fn net_of_failing(alloc: Global) -> Result<MemNet<MemPeer>, AllocError> {
-    let dials = answering(alloc, 1, vec![in alloc; 0]?)?;
-    net_of_client(alloc, 4140, FOR_WEB, dials)
+    let told = tried_by(rt, config.as_str());
+    drop(config);
+    told
 }
 
 /// A request whose first dial fails is tried again where the configuration says so.
@@ -311,39 +293,52 @@ fn requests_that_are_tried_again(rt: HostRuntime) -> Result<(), Fail> {
         (",\"retries\":{\"percent\":99,\"reserve\":0}", failed),
         (",\"retries\":{\"percent\":100,\"reserve\":0}", replied),
     ];
-    for (retries, answer) in rows {
-        let given = tried(&rt, retries)?;
-        assert!(rt; given.as_str() == answer, "with {retries}");
+    for (retries, answer) in &rows {
+        let told = tried(&rt, retries)?;
+        assert_told(&rt, told, (*answer, 0), retries);
     }
     Ok(())
 }
 
-/// A folder with the configuration `conf/c.json`, and nine services at `disco` with a thousand
-/// addresses each, all of them different.
+/// The lines of the service of this number: a thousand addresses that no other service has.
+fn lines_of_many(alloc: Global, service: u32) -> Result<String, AllocError> {
+    let mut lines = String::new(alloc);
+    for port in 1..1001 {
+        write!(lines, "127.0.0.{service} {port}\n")?;
+    }
+    Ok(lines)
+}
+
+/// The file of such a service, at `disco`.
+fn service_of_many(alloc: Global, service: u32) -> Result<MemFile, AllocError> {
+    let lines = lines_of_many(alloc, service)?;
+    let name = format!(in alloc; "s{service}")?;
+    let service = file(alloc, "disco", name.as_str(), lines.as_str());
+    drop(name);
+    drop(lines);
+    service
+}
+
+/// A folder with the configuration `conf/c.json`, and nine such services.
 fn folder_of_many(alloc: Global) -> Result<MemFolder, AllocError> {
-    let mut files = vec![in alloc; file(alloc, "conf", "c.json", WITH_SERVICES)?]?;
+    let mut files = Vec::new(alloc);
+    files.push(file(alloc, "conf", "c.json", WITH_SERVICES)?)?;
     for service in 1..10 {
-        let mut text = String::new(alloc);
-        for port in 1..1001 {
-            write!(text, "127.0.0.{service} {port}\n")?;
-        }
-        let name = format!(in alloc; "s{service}")?;
-        files.push(file(alloc, "disco", name.as_str(), text.as_str())?)?;
+        files.push(service_of_many(alloc, service)?)?;
     }
     Ok(MemFolder::of(alloc, files, Vec::new(alloc)))
 }
 
 /// What is written by such a router, and the status.
-fn overfull<R: AllocGlobal + Threads + Wait + Sync>(rt: &R) -> Result<(String, u8), Fail> {
-    let alloc = rt.alloc();
-    let served = served(rt, folder_of_many(alloc)?, net_of(alloc, "", "", "", "")?)?;
-    Ok((served.written, served.status))
+fn overfull<R: AllocGlobal + Threads + Wait + Sync>(rt: &R) -> Result<(String, u8), AllocError> {
+    let folder = folder_of_many(rt.alloc())?;
+    Ok(served(rt, folder, no_net(rt.alloc()))?.into_written())
 }
 
 /// There is room for 8,192 addresses.
 #[test]
 fn services_without_room(rt: HostRuntime) -> Result<(), Fail> {
-    let (written, status) = overfull(&rt)?;
-    assert!(rt; written.as_str() == "error book\n" && status == 3);
+    let told = overfull(&rt)?;
+    assert_told(&rt, told, ("error book\n", 3), &"nine services");
     Ok(())
 }

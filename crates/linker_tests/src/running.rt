@@ -6,6 +6,7 @@ use line_doubles::{MemFolder, MemNet, MemPeer, MemSink, MemSource};
 use line_log::{Journals, MemJournals};
 use linker_commands::{Outside, linker};
 use std::alloc::{AllocError, AllocGlobal, Global};
+use std::fmt::Debug;
 use std::process::Abort;
 use std::sync::Wait;
 use std::test::Fail;
@@ -76,6 +77,7 @@ where
     let alloc = rt.alloc();
     let words = owned_words(alloc, words)?;
     let status = status_of(rt, words.as_slice(), outside);
+    drop(words);
     Ok((text_of(alloc, outside.out.held())?, status))
 }
 
@@ -99,9 +101,7 @@ pub(crate) fn run_with<R: AllocGlobal + Threads + Wait + Sync>(
     source: MemSource,
     sink: MemSink,
 ) -> Result<(String, u8), AllocError> {
-    let alloc = rt.alloc();
-    let net: MemNet<MemPeer> = MemNet::of(alloc, Vec::new(alloc), Vec::new(alloc), Vec::new(alloc));
-    run_over(rt, words, folder, net, source, sink)
+    run_over(rt, words, folder, no_net(rt.alloc()), source, sink)
 }
 
 /// What is written over a net, and the status.
@@ -125,6 +125,11 @@ pub(crate) fn run_over<R: AllocGlobal + Threads + Wait + Sync>(
     let ran = run_words(rt, words, &mut outside);
     drop(outside);
     ran
+}
+
+/// A net to which nobody comes, and of which no dial is answered.
+pub(crate) fn no_net(alloc: Global) -> MemNet<MemPeer> {
+    MemNet::of(alloc, Vec::new(alloc), Vec::new(alloc), Vec::new(alloc))
 }
 
 /// A script on standard input, of which no read fails.
@@ -161,41 +166,85 @@ pub(crate) fn text_of(alloc: Global, bytes: &[u8]) -> Result<String, AllocError>
     Ok(text)
 }
 
+/// A text, and a part behind it so many times.
+pub(crate) fn text_with(
+    alloc: Global,
+    text: &str,
+    part: &str,
+    parts: usize,
+) -> Result<String, AllocError> {
+    let mut whole = String::from_str(alloc, text)?;
+    for _ in 0..parts {
+        whole.push_str(part)?;
+    }
+    Ok(whole)
+}
+
 /// What is written where there is no file and [`SAMPLE`] is the input, and the status. The writes
 /// whose numbers are in `failing` fail.
 pub(crate) fn answered<R: AllocGlobal + Threads + Wait + Sync>(
     rt: &R,
     words: &[&str],
     failing: &[u64],
-) -> Result<(String, u8), Fail> {
+) -> Result<(String, u8), AllocError> {
     let alloc = rt.alloc();
-    let failing = Vec::from_slice(alloc, failing)?;
-    let source = source(alloc, SAMPLE)?;
-    let sink = MemSink::of(alloc, Vec::new(alloc), failing);
-    Ok(run(rt, words, source, sink)?)
+    let sink = MemSink::of(alloc, Vec::new(alloc), Vec::from_slice(alloc, failing)?);
+    run(rt, words, source(alloc, SAMPLE)?, sink)
 }
 
 /// What `replay` writes for a script, and its status.
 pub(crate) fn replayed<R: AllocGlobal + Threads + Wait + Sync>(
     rt: &R,
     script: &str,
-) -> Result<(String, u8), Fail> {
+) -> Result<(String, u8), AllocError> {
     let alloc = rt.alloc();
-    Ok(run(rt, &["replay"], source(alloc, script)?, sink(alloc))?)
+    run(rt, &["replay"], source(alloc, script)?, sink(alloc))
 }
 
-/// Asserts that such words are answered so where [`SAMPLE`] is the input, and end with this status.
+/// Asserts that what was told of a row, a text and a status, is what is wanted.
+pub(crate) fn assert_told<R: Abort, D: Debug>(
+    rt: &R,
+    told: (String, u8),
+    wanted: (&str, u8),
+    row: &D,
+) {
+    let (text, status) = told;
+    assert_eq!(rt; (text.as_str(), status), wanted, "of {row:?}");
+    drop(text);
+}
+
+/// The words of a command line, in which one blank stands between a word and the next. So two
+/// blanks side by side, or one at the end, make a word that is empty.
+fn words_of(alloc: Global, line: &str) -> Result<Vec<&str>, AllocError> {
+    let mut words = Vec::new(alloc);
+    for word in line.split(' ') {
+        words.push(word)?;
+    }
+    Ok(words)
+}
+
+/// What is written for a command line where [`SAMPLE`] is the input, and the status.
+fn line_answered<R: AllocGlobal + Threads + Wait + Sync>(
+    rt: &R,
+    line: &str,
+) -> Result<(String, u8), AllocError> {
+    let words = words_of(rt.alloc(), line)?;
+    let told = answered(rt, words.as_slice(), &[]);
+    drop(words);
+    told
+}
+
+/// Asserts that each of these command lines, in which one blank stands between a word and the next,
+/// is answered so where [`SAMPLE`] is the input, and ends with this status.
 pub(crate) fn assert_answered<R: AllocGlobal + Threads + Wait + Sync + Abort>(
     rt: &R,
-    rows: &[(&[&str], &str, u8)],
+    lines: &[&str],
+    written: &str,
+    status: u8,
 ) -> Result<(), Fail> {
-    for (words, written, status) in rows {
-        let (text, ended) = answered(rt, words, &[])?;
-        assert!(rt;
-            text.as_str() == *written && ended == *status,
-            "{} and not {written}",
-            text.as_str()
-        );
+    for line in lines {
+        let told = line_answered(rt, line)?;
+        assert_told(rt, told, (written, status), line);
     }
     Ok(())
 }
@@ -206,12 +255,8 @@ pub(crate) fn assert_replayed<R: AllocGlobal + Threads + Wait + Sync + Abort>(
     rows: &[(&str, &str, u8)],
 ) -> Result<(), Fail> {
     for (script, written, status) in rows {
-        let (text, ended) = replayed(rt, script)?;
-        assert!(rt;
-            text.as_str() == *written && ended == *status,
-            "{} and not {written}",
-            text.as_str()
-        );
+        let told = replayed(rt, script)?;
+        assert_told(rt, told, (*written, *status), script);
     }
     Ok(())
 }

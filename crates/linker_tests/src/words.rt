@@ -1,71 +1,89 @@
 //! The words of the command line, and generated runs.
-use crate::running::{answered, assert_answered};
+use crate::running::{answered, assert_answered, assert_told};
 use std::test::Fail;
 
 #[test]
 fn words(rt: HostRuntime) -> Result<(), Fail> {
-    let rows: [(&[&str], &str, u8); 17] = [
-        (&[], "error words 1\n", 2),
-        (&["storms"], "error words 1\n", 2),
-        (&["serve", "-c.json"], "error words 2\n", 2),
-        (&[""], "error words 1\n", 2),
-        (&["--help"], "error words 1\n", 2),
-        (&["replay", "x"], "error words 2\n", 2),
-        (&["replay", "--help"], "error words 2\n", 2),
-        (&["replay", "replay", "x"], "error words 2\n", 2),
-        (&["check"], "error words 2\n", 2),
-        (&["check", ""], "error words 2\n", 2),
-        (&["check", "-"], "error words 2\n", 2),
-        (&["check", "--help", "c.json"], "error words 2\n", 2),
-        (&["check", "c.json", "x"], "error words 3\n", 2),
-        (&["lint"], "error words 2\n", 2),
-        (&["lint", "-t"], "error words 2\n", 2),
-        (&["lint", "t.dtab", "x"], "error words 3\n", 2),
-        // A path may have a `-` elsewhere; there is no such file.
-        (&["check", "./-"], "error config absent\n", 3),
-    ];
-    assert_answered(&rt, &rows)
+    let unnamed = answered(&rt, &[], &[])?;
+    assert_told(&rt, unnamed, ("error words 1\n", 2), &"no words");
+    assert_answered(&rt, &["", "storms", "--help"], "error words 1\n", 2)?;
+    assert_answered(
+        &rt,
+        &[
+            "serve -c.json",
+            "replay x",
+            "replay --help",
+            "replay replay x",
+            "check",
+            "check ",
+            "check -",
+            "check --help c.json",
+            "lint",
+            "lint -t",
+        ],
+        "error words 2\n",
+        2,
+    )?;
+    assert_answered(
+        &rt,
+        &["check c.json x", "lint t.dtab x"],
+        "error words 3\n",
+        2,
+    )?;
+    // A path may have a `-` elsewhere; there is no such file.
+    assert_answered(&rt, &["check ./-"], "error config absent\n", 3)
 }
 
+/// Words that don't fit `storm` and `weave`.
 #[test]
 fn words_of_generated_runs(rt: HostRuntime) -> Result<(), Fail> {
+    assert_answered(
+        &rt,
+        &[
+            "storm",
+            "storm  5",
+            "storm 01 5",
+            "storm +1 5",
+            "storm 1000001 5",
+            "storm x x x",
+            "weave 01 5",
+        ],
+        "error words 2\n",
+        2,
+    )?;
+    assert_answered(
+        &rt,
+        &[
+            "storm 1000000 x",
+            "storm 5",
+            "storm 5 x",
+            "storm 5 -1",
+            "storm 5 00",
+            "storm 5 18446744073709551616",
+            "storm 5 x x",
+            "weave 5 x",
+        ],
+        "error words 3\n",
+        2,
+    )?;
+    assert_answered(&rt, &["storm 5 7 x"], "error words 4\n", 2)
+}
+
+/// Runs of no turn, and runs of a hundred thousand.
+#[test]
+fn generated_runs_of_none_and_many(rt: HostRuntime) -> Result<(), Fail> {
     let empty = "changes 1 refused 0 picked 0 none 0 ports 0\n";
-    let rows: [(&[&str], &str, u8); 21] = [
-        (&["storm"], "error words 2\n", 2),
-        (&["storm", "", "5"], "error words 2\n", 2),
-        (&["storm", "01", "5"], "error words 2\n", 2),
-        (&["storm", "+1", "5"], "error words 2\n", 2),
-        (&["storm", "1000001", "5"], "error words 2\n", 2),
-        (&["storm", "x", "x", "x"], "error words 2\n", 2),
-        (&["storm", "1000000", "x"], "error words 3\n", 2),
-        (&["storm", "5"], "error words 3\n", 2),
-        (&["storm", "5", "x"], "error words 3\n", 2),
-        (&["storm", "5", "-1"], "error words 3\n", 2),
-        (&["storm", "5", "00"], "error words 3\n", 2),
-        (
-            &["storm", "5", "18446744073709551616"],
-            "error words 3\n",
-            2,
-        ),
-        (&["storm", "5", "x", "x"], "error words 3\n", 2),
-        (&["storm", "5", "7", "x"], "error words 4\n", 2),
-        (&["storm", "0", "7"], empty, 0),
-        (&["storm", "0", "18446744073709551615"], empty, 0),
-        (&["weave", "01", "5"], "error words 2\n", 2),
-        (&["weave", "5", "x"], "error words 3\n", 2),
-        (&["weave", "0", "7"], "history 1 looks 0 kept 0\n", 0),
-        (
-            &["storm", "100000", "7"],
-            "changes 31178 refused 18675 picked 20804 none 29344 ports 63923968\n",
-            0,
-        ),
-        (
-            &["weave", "100000", "7"],
-            "history 25133 looks 12522 kept 466\n",
-            0,
-        ),
-    ];
-    assert_answered(&rt, &rows)
+    assert_answered(
+        &rt,
+        &["storm 0 7", "storm 0 18446744073709551615"],
+        empty,
+        0,
+    )?;
+    assert_answered(&rt, &["weave 0 7"], "history 1 looks 0 kept 0\n", 0)?;
+    let storm = "changes 31178 refused 18675 picked 20804 none 29344 ports 63923968\n";
+    assert_answered(&rt, &["storm 100000 7"], storm, 0)?;
+    let weave = "history 25133 looks 12522 kept 466\n";
+    assert_answered(&rt, &["weave 100000 7"], weave, 0)
 }
 
 /// Runs of a thousand turns; where the write fails, that is told.
@@ -73,15 +91,11 @@ fn words_of_generated_runs(rt: HostRuntime) -> Result<(), Fail> {
 fn generated_runs(rt: HostRuntime) -> Result<(), Fail> {
     let storm = "changes 334 refused 168 picked 242 none 257 ports 809971\n";
     let weave = "history 254 looks 127 kept 3\n";
-    let rows: [(&str, &[u64], &str, u8); 4] = [
-        ("storm", &[], storm, 0),
-        ("storm", &[0], "", 5),
-        ("weave", &[], weave, 0),
-        ("weave", &[0], "", 5),
-    ];
-    for (command, failing, written, status) in rows {
-        let (text, ended) = answered(&rt, &[command, "1000", "1"], failing)?;
-        assert!(rt; text.as_str() == written && ended == status, "of {command}");
+    assert_answered(&rt, &["storm 1000 1"], storm, 0)?;
+    assert_answered(&rt, &["weave 1000 1"], weave, 0)?;
+    for command in &["storm", "weave"] {
+        let told = answered(&rt, &[*command, "1000", "1"], &[0])?;
+        assert_told(&rt, told, ("", 5), command);
     }
     Ok(())
 }
