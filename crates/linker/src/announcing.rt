@@ -1,7 +1,8 @@
 //! What the process is asked to do with a file, and what is told on standard error of a router that
 //! serves.
 use crate::warning::Expected;
-use linker_commands::{Command, read_words, words_behind_name};
+use command_lines::{Command, read_words};
+use linker_commands::words_behind_name;
 use net_edge::Refusal;
 use std::alloc::{AllocError, Global};
 use std::env::Args;

@@ -12,9 +12,9 @@ use Rattle.line_base.specs.declared.socket_address.SocketAddress.{SocketAddress}
 use Rattle.serving.specs.Posts.{jobs_of}
 use Rattle.serving.specs.Shifts.{admissions}
 use Rattle.std.specs.declared.marker.Brand.{Brand}
-use Rattle.linker_commands.specs.Check.{TellsPath}
-use Rattle.linker_commands.specs.Generated.{storm_line, weave_line}
-use Rattle.linker_commands.specs.Lint.{TellsTablePath}
+use Rattle.command_lines.specs.Check.{IsConfig, TellsPath}
+use Rattle.command_lines.specs.Generated.{storm_line, weave_line}
+use Rattle.command_lines.specs.Lint.{TellsTablePath}
 use Rattle.linker_commands.specs.Replay.{replay_of}
 use Rattle.line_base.specs.Files.{Filed}
 use Rattle.line_base.specs.Streams.{Input, Output}
@@ -25,11 +25,11 @@ use Rattle.linker_commands.specs.Run.{Reads, ReadsScript}
 use Rattle.linker_commands.specs.Run.{Checks, Serves, Makes, Takes, Shows, ReadsLong, EndsCourse}
 use Rattle.linker_commands.specs.Run.{AllBack, EndsWhole, Ran, Yields}
 use Rattle.linker_commands.specs.Run.{status_of, status_if, statuses}
-use Rattle.linker_commands.specs.Served.{Finish, shut_down, broken, short, finish_code, IsConfig}
+use Rattle.linker_commands.specs.Served.{Finish, shut_down, broken, short, finish_code}
 use Rattle.linker_commands.specs.Served.{IsRefused, TellsNet, TellsServing}
 use Rattle.linker_commands.proofs.Serving.{jobs_by}
-use Rattle.linker_commands.specs.Words.{Asked, replay, check, serve, lint, storm, weave, follow}
-use Rattle.linker_commands.specs.Words.{command_of}
+use Rattle.command_lines.specs.Words.{Asked, replay, check, serve, lint, storm, weave, follow}
+use Rattle.command_lines.specs.Words.{command_of}
 
 module _ {P : Type 0} (line_of : P → Line) (address_of : P → Option SocketAddress)
     (moments : Option (List ℕ)) where

@@ -11,13 +11,14 @@ use Rattle.linker_config.specs.declared.loaded.LoadFault.TheVariants.{BadFile, F
 use Rattle.linker_config.specs.declared.loaded.LoadFault.TheVariants.{LongFile, OutOfMemory}
 use Rattle.linker_config.specs.Folder.{Loads}
 use Rattle.linker_config.specs.Loading.{HasLoadCause}
-use Rattle.linker_commands.specs.declared.check.CheckEnd.{CheckEnd}
-use Rattle.linker_commands.specs.declared.check.CheckEnd.TheVariants as why
-use Rattle.linker_commands.specs.declared.check.Verdict.{Verdict}
+use Rattle.command_lines.specs.declared.checking.CheckEnd.{CheckEnd}
+use Rattle.command_lines.specs.declared.checking.CheckEnd.TheVariants as why
+use Rattle.command_lines.specs.declared.checking.Verdict.{Verdict}
 use Rattle.linker_commands.specs.Courses.{load_course, verdict_course}
 use Rattle.linker_commands.specs.Linked.{Linked}
 use Rattle.linker_commands.specs.Run.{Checks, Serves}
-use Rattle.linker_commands.specs.Served.{IsConfig, LoadsRoot}
+use Rattle.command_lines.specs.Check.{IsConfig}
+use Rattle.linker_commands.specs.Served.{LoadsRoot}
 
 -- what is told of a file is a course of it
 pub checks_verdict : (TellsFile : Bool → List ℕ → Type 0) (old new : Filed)

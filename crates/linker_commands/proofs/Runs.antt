@@ -17,8 +17,8 @@ use Rattle.linker_commands.specs.Run.{script_read, line_told, no_memory, served,
 use Rattle.linker_commands.specs.Linked.{Linked}
 use Rattle.linker_commands.specs.Run.{Takes, EndsCourse, Ran, output_of, status_of}
 use Rattle.linker_commands.specs.Served.{memory_line}
-use Rattle.linker_commands.specs.Words.{Asked, replay, check, serve, lint, storm, weave, follow}
-use Rattle.linker_commands.specs.Words.{command_of}
+use Rattle.command_lines.specs.Words.{Asked, replay, check, serve, lint, storm, weave, follow}
+use Rattle.command_lines.specs.Words.{command_of}
 use Rattle.linker_commands.specs.Told.{code_of, Tells}
 use Rattle.linker_commands.proofs.Plays.{front_of, rose_later}
 

@@ -24,9 +24,9 @@ use Rattle.line_base.specs.declared.socket_address.SocketAddress.{SocketAddress}
 use Rattle.std.specs.declared.marker.Brand.{Brand}
 use Rattle.linker_config.specs.declared.config.Config.{Config}
 use Rattle.linker_config.specs.declared.config.FeedAt.{FeedAt}
-use Rattle.linker_commands.specs.declared.check.ConfigEnd.{ConfigEnd}
-use Rattle.linker_commands.specs.declared.check.ConfigEnd.TheVariants.{Wrong}
-use Rattle.linker_commands.specs.Found.{IfWrong}
+use Rattle.command_lines.specs.declared.checking.ConfigEnd.{ConfigEnd}
+use Rattle.command_lines.specs.declared.checking.ConfigEnd.TheVariants.{Wrong}
+use Rattle.command_lines.specs.Found.{IfWrong}
 use Rattle.linker_commands.specs.Recorded.{HasRecorded}
 use Rattle.linker_commands.specs.declared.run.ExitStatus.{ExitStatus}
 use Rattle.linker_commands.specs.declared.run.ExitStatus.TheVariants as status
@@ -35,7 +35,8 @@ use Rattle.line_base.specs.Streams.{Output}
 use Rattle.linker_commands.specs.Run.{AppendsFront, Course, line_told, no_memory, served}
 use Rattle.linker_commands.specs.Linked.{Linked}
 use Rattle.linker_commands.specs.Run.{EndsServing, EndsCourse, Serves}
-use Rattle.linker_commands.specs.Served.{Finish, broken, short, finish_code, AreLoaded, IsConfig}
+use Rattle.command_lines.specs.Check.{IsConfig}
+use Rattle.linker_commands.specs.Served.{Finish, broken, short, finish_code, AreLoaded}
 use Rattle.linker_commands.specs.Served.{IsFeeding, IsLast, IsMadeBy, IsSiteOf}
 use Rattle.linker_commands.specs.Served.{RefusesBook, feed_jobs_in, feed_port}
 use Rattle.linker_commands.specs.Served.{jobs_in, line_of_ports, site_line}

@@ -2,9 +2,9 @@
 use Rattle.std.specs.Prelude.{false, Result, Ok, Err}
 use Rattle.linker_config.specs.declared.loaded.LoadFault.{LoadFault}
 use Rattle.linker_config.specs.declared.loaded.LoadFault.TheVariants as unloaded
-use Rattle.linker_commands.specs.declared.check.CheckEnd.{CheckEnd}
-use Rattle.linker_commands.specs.declared.check.CheckEnd.TheVariants as why
-use Rattle.linker_commands.specs.declared.check.Verdict.{Verdict}
+use Rattle.command_lines.specs.declared.checking.CheckEnd.{CheckEnd}
+use Rattle.command_lines.specs.declared.checking.CheckEnd.TheVariants as why
+use Rattle.command_lines.specs.declared.checking.Verdict.{Verdict}
 use Rattle.linker_commands.specs.Run.{Course, line_told, no_memory, read_failed}
 use Rattle.linker_commands.specs.Served.{file_line}
 

@@ -1,14 +1,9 @@
-pub mod Check
 pub mod Courses
 pub mod Follow
-pub mod Found
-pub mod Generated
 pub mod Linked
-pub mod Lint
 pub mod Outside
 pub mod Recorded
 pub mod Replay
 pub mod Run
 pub mod Served
 pub mod Told
-pub mod Words

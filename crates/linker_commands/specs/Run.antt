@@ -20,17 +20,17 @@ use Rattle.addr_book.specs.declared.addr.Addr.{Addr}
 use Rattle.text_parts.specs.Lines.{lines_of}
 use Rattle.machine.specs.State.{opening}
 use Rattle.linker_config.specs.declared.config.Config.{Config}
-use Rattle.linker_commands.specs.Check.{TellsPath}
+use Rattle.command_lines.specs.Check.{IsConfig, TellsPath}
 use Rattle.linker_commands.specs.Follow.{IsFollowed}
-use Rattle.linker_commands.specs.Generated.{storm_line, weave_line}
+use Rattle.command_lines.specs.Generated.{storm_line, weave_line}
 use Rattle.linker_commands.specs.Linked.{Linked}
-use Rattle.linker_commands.specs.Lint.{TellsTablePath}
+use Rattle.command_lines.specs.Lint.{TellsTablePath}
 use Rattle.linker_commands.specs.Replay.{played, replay_of}
-use Rattle.linker_commands.specs.Served.{Finish, finish_code, IsConfig}
+use Rattle.linker_commands.specs.Served.{Finish, finish_code}
 use Rattle.linker_commands.specs.Served.{IsRefused, RefusesBook, TellsNet, TellsServing}
 use Rattle.linker_commands.specs.Served.{jobs_in, memory_line}
-use Rattle.linker_commands.specs.Words.{Asked, replay, check, serve, lint, storm, weave, follow}
-use Rattle.linker_commands.specs.Words.{command_of}
+use Rattle.command_lines.specs.Words.{Asked, replay, check, serve, lint, storm, weave, follow}
+use Rattle.command_lines.specs.Words.{command_of}
 
 -- the most bytes of a script
 abbrev pub most_script : ℕ

@@ -21,17 +21,14 @@ use Rattle.serving.specs.declared.site.Feeding.{Feeding}
 use Rattle.serving.specs.declared.site.Site.{Site}
 use Rattle.linker_config.specs.declared.loaded.LoadedItem.{LoadedItem}
 use Rattle.std.specs.Fmt.{decimal}
-use Rattle.line_base.specs.declared.folder.Found.{Found}
-use Rattle.line_base.specs.declared.folder.Found.TheVariants.{Bytes, Absent, Longer}
-use Rattle.line_base.specs.Files.{File, FindsAt}
+use Rattle.line_base.specs.Files.{File}
 use Rattle.linker_config.specs.declared.config.Config.{Config}
 use Rattle.linker_config.specs.declared.config.FeedAt.{FeedAt}
 use Rattle.linker_config.specs.declared.config.Port.{Port}
 use Rattle.linker_config.specs.declared.loaded.LoadFault.TheVariants.{BadFile, LongFile}
-use Rattle.linker_config.specs.Answers.{Reads}
 use Rattle.linker_config.specs.Folder.{Loads, Services}
 use Rattle.linker_config.specs.Lines.{port_text}
-use Rattle.linker_commands.specs.Check.{TellsPath, most_config}
+use Rattle.command_lines.specs.Check.{IsConfig, TellsPath}
 use Rattle.linker_commands.specs.Linked.{Linked}
 use Rattle.linker_commands.specs.Recorded.{HasRecorded}
 
@@ -46,18 +43,6 @@ abbrev pub finish_code : Finish → ℕ
 finish_code shut_down = 0
 finish_code broken = 6
 finish_code short = 7
-
--- a file with this text was found
-abbrev pub IsText : Found → List ℕ → Type 0
-IsText (Bytes text) wanted = wanted ≡ text.items
-IsText Absent wanted = ⊥
-IsText Longer wanted = ⊥
-
--- the configuration that is found at a path
-abbrev pub IsConfig : Option (List File) → List ℕ → Config → Type 0
-IsConfig files path config =
-    (found : Found) × FindsAt files path most_config found × (text : List ℕ) × IsText found text
-    × Reads text (Ok config)
 
 -- the line that tells of the file of a service that is refused
 abbrev pub file_line : List ℕ → List ℕ

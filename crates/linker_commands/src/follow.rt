@@ -5,8 +5,8 @@ ghost use Rattle.linker_commands.specs.Run.{Course, EndsCourse, Follows};
 ghost use Rattle.linker_commands.specs.Told.{code_of};
 
 use crate::run::{ExitStatus, tell};
-use crate::words::Following;
 use addr_book::Name;
+use command_lines::Following;
 use follow_feed::{FollowEnd, follow_all};
 use line_base::{ConnectionPool, Net, Sink};
 use std::alloc::Global;

@@ -4,12 +4,13 @@
 //! carries its lines out on one state of a router: changes of namespaces, services and marks,
 //! looks, and picks; the crate `script` says which lines there are. `check CONFIG` tells whether a
 //! router's configuration is right, or what its first fault is. `lint FILE` tells which entries of
-//! a table are never asked; the crate `dtab_check` finds them. `serve CONFIG` serves by it until it
-//! is shut down: a router, its interfaces and its feed, which the crate `serving` runs. `storm N
-//! SEED` makes a run of N generated changes and picks on one state, and `weave N SEED` one of four
-//! passes, whose answers come later than their questions. `follow A NS N` asks another router, the
-//! leader at A, N times for the table of its namespace NS, and tells each that is later than those
-//! before it; the crate `follow_feed` does that.
+//! a table are never asked. `serve CONFIG` serves by it until it is shut down: a router, its
+//! interfaces and its feed, which the crate `serving` runs. `storm N SEED` makes a run of N
+//! generated changes and picks on one state, and `weave N SEED` one of four passes, whose answers
+//! come later than their questions. `follow A NS N` asks another router, the leader at A, N times
+//! for the table of its namespace NS, and tells each that is later than those before it; the crate
+//! `follow_feed` does that. What the words are, and what `check`, `lint`, `storm` and `weave` tell,
+//! is made in the crate `command_lines`.
 //!
 //! [`run_arguments`] calls it with the arguments of a process and gives the code to exit with. The
 //! program is a `main` that makes an [`Outside`] of the machine's files, sockets, clock and
@@ -19,15 +20,14 @@
 //! # What is proved
 //! At status 0 the output has grown by the replay of what was read, as `specs/Replay.antt` defines
 //! it over the whole language of scripts, or by the one line of the configuration that was found,
-//! as `specs/Check.antt` says, or by what is told of a table, as `specs/Lint.antt` has it, or by
-//! the line of the generated run, as `specs/Generated.antt` has it, or by the lines that tell where
-//! a router served and how many changes there were, as `specs/Served.antt` has them: that router
-//! did what `serving` says of a run, with all its listeners clean and as many connections finished
-//! as were accepted; or by the lines that tell what a leader's feeds came to, as
-//! `specs/Follow.antt` says. Each other status has its cause; and where nothing fails, a script is
-//! carried out in full, and a configuration, a table and a generated run are told of. These are
-//! clauses of [`linker`]. The code to exit with is the status for exactly the words after the
-//! program's name: a clause of [`run_arguments`].
+//! by what is told of a table, or by the line of the generated run, as the specs of `command_lines`
+//! have them, or by the lines that tell where a router served and how many changes there were, as
+//! `specs/Served.antt` has them: that router did what `serving` says of a run, with all its
+//! listeners clean and as many connections finished as were accepted; or by the lines that tell
+//! what a leader's feeds came to, as `specs/Follow.antt` says. Each other status has its cause; and
+//! where nothing fails, a script is carried out in full, and a configuration, a table and a
+//! generated run are told of. These are clauses of [`linker`]. The code to exit with is the status
+//! for exactly the words after the program's name: a clause of [`run_arguments`].
 //!
 //! # Example
 //! ```text
@@ -40,11 +40,8 @@
 
 use std::alloc::AllocError;
 
-mod check;
 mod ends;
 mod follow;
-mod generated;
-mod lint;
 mod outside;
 mod player;
 mod program;
@@ -53,13 +50,11 @@ mod reply;
 mod run;
 mod serve;
 mod start;
-mod words;
 
 pub use outside::Outside;
 pub use program::linker;
 pub use run::{ExitStatus, tell};
 pub use start::{Exit, run_arguments, words_behind_name};
-pub use words::{Command, Following, Generated, read_words};
 
 /// A value, unless there was no memory for it.
 pub type Mem<T> = Result<T, AllocError>;

@@ -2,11 +2,11 @@
 ghost use Rattle.std.specs.Prelude.{◌≡◌, ◌⊎◌, ◌<◌, Contains, IsErr, IsSome, true, false, map};
 ghost use Rattle.std.specs.Prelude.{string_bytes};
 ghost use Rattle.line_base.specs.Counts.{Rose};
-ghost use Rattle.linker_commands.specs.Generated.{storm_line, weave_line};
+ghost use Rattle.command_lines.specs.Generated.{storm_line, weave_line};
 ghost use Rattle.linker_commands.specs.Outside.{RanOver, linked_in};
 ghost use Rattle.linker_commands.specs.Run.{statuses, EndsWhole, Shows, ReadsLong};
 ghost use Rattle.linker_commands.specs.Run.{Yields, ReplaysAll, ChecksAll, LintsAll, MakesAll};
-ghost use Rattle.linker_commands.specs.Words.{command_of, storm, weave};
+ghost use Rattle.command_lines.specs.Words.{command_of, storm, weave};
 
 use crate::outside::Outside;
 use crate::run::run;

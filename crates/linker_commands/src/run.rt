@@ -2,24 +2,21 @@
 ghost use Rattle.std.specs.Prelude.{◌≡◌, ◌<◌, ◌≤◌, ℕ, List, length, map, string_bytes, IfOk};
 ghost use Rattle.line_base.specs.Files.{Filed};
 ghost use Rattle.line_base.specs.Streams.{Input, Output};
-ghost use Rattle.linker_commands.specs.Check.{TellsPath};
+ghost use Rattle.command_lines.specs.Check.{TellsPath};
 ghost use Rattle.linker_commands.specs.Courses.{verdict_course};
-ghost use Rattle.linker_commands.specs.Lint.{TellsTablePath};
+ghost use Rattle.command_lines.specs.Lint.{TellsTablePath};
 ghost use Rattle.linker_commands.specs.Outside.{RanOver};
 ghost use Rattle.linker_commands.specs.Run.{Course, words_refused, script_read, output_of};
 ghost use Rattle.linker_commands.specs.Run.{status_if, Reads, Checks, Makes, EndsCourse};
 ghost use Rattle.linker_commands.specs.Told.{code_of, Tells};
 
-use crate::check::{CheckEnd, Verdict, check};
 use crate::ends::{ReadEnd, read_all, write_all};
 use crate::follow::follow;
-use crate::generated::{storm_line, weave_line};
-use crate::lint::lint;
 use crate::outside::Outside;
 use crate::player::{PlayEnd, play};
 use crate::serve::serve;
-use crate::words::{Command, read_words};
 use crate::{Bytes, Mem};
+use command_lines::{CheckEnd, Command, Verdict, check, lint, read_words, storm_line, weave_line};
 use line_base::{Clock, Folder, Listener, Net, Sink, Source};
 use line_log::Journals;
 use std::alloc::Global;

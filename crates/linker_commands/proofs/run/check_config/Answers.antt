@@ -1,5 +1,5 @@
 use Rattle.line_base.specs.Files.{Filed}
-use Rattle.linker_commands.specs.Check.{TellsPath}
+use Rattle.command_lines.specs.Check.{TellsPath}
 use Rattle.linker_commands.specs.Courses.{verdict_course}
 use Rattle.linker_commands.proofs.Courses.{checks_verdict}
 use Rattle.linker_commands.proofs.run.check_config.Goals as goal

@@ -1,5 +1,5 @@
 use Rattle.line_base.specs.Files.{Filed}
-use Rattle.linker_commands.specs.Lint.{TellsTablePath}
+use Rattle.command_lines.specs.Lint.{TellsTablePath}
 use Rattle.linker_commands.specs.Courses.{verdict_course}
 use Rattle.linker_commands.proofs.Courses.{checks_verdict}
 use Rattle.linker_commands.proofs.run.lint_table.Goals as goal

@@ -1,5 +1,5 @@
 use Rattle.std.proofs.Common.{◌≡◌, ap, refl}
-use Rattle.linker_commands.specs.Generated.{storm_line, weave_line}
+use Rattle.command_lines.specs.Generated.{storm_line, weave_line}
 use Rattle.line_base.specs.Files.{Filed}
 use Rattle.line_base.specs.Streams.{Input}
 use Rattle.linker_commands.specs.Linked.{Linked, linked}

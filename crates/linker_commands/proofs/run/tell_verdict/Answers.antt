@@ -1,9 +1,9 @@
 use Rattle.std.proofs.Common.{◌≡◌, ap, refl, subst, sym, ◌∙◌}
 use Rattle.std.specs.Prelude.{Result, Err}
 use Rattle.line_base.specs.Streams.{Output}
-use Rattle.linker_commands.specs.declared.check.CheckEnd.{CheckEnd}
-use Rattle.linker_commands.specs.declared.check.CheckEnd.TheVariants as why
-use Rattle.linker_commands.specs.declared.check.Verdict.{Verdict}
+use Rattle.command_lines.specs.declared.checking.CheckEnd.{CheckEnd}
+use Rattle.command_lines.specs.declared.checking.CheckEnd.TheVariants as why
+use Rattle.command_lines.specs.declared.checking.Verdict.{Verdict}
 use Rattle.linker_commands.specs.Run.{EndsCourse, line_told, read_failed, no_memory}
 use Rattle.linker_commands.specs.Courses.{verdict_course}
 use Rattle.linker_commands.specs.Told.{code_of}

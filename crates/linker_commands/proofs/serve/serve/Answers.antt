@@ -2,7 +2,7 @@ use Rattle.std.proofs.Common.{refl, ap, inl, false, Err, List, ℕ}
 use Rattle.std.specs.Prelude.{Option}
 use Rattle.line_base.specs.Lines.{Line}
 use Rattle.line_base.specs.declared.socket_address.SocketAddress.{SocketAddress}
-use Rattle.linker_commands.specs.Check.{TellsPath}
+use Rattle.command_lines.specs.Check.{TellsPath}
 use Rattle.line_base.specs.Files.{Filed}
 use Rattle.line_base.specs.Streams.{Output}
 use Rattle.linker_commands.specs.Linked.{Linked, linked}

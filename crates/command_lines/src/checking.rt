@@ -1,9 +1,8 @@
 //! Reading the configuration at a path; and `check`, the line that tells whether it is right.
 ghost use Rattle.std.specs.Prelude.{◌≡◌, ◌≤◌, ℕ, List, false, Ok, Err, IfOk, IfErr, MatchResult};
 ghost use Rattle.line_base.specs.Counts.{Rose};
-ghost use Rattle.linker_commands.specs.Check.{TellsFound, TellsPath};
-ghost use Rattle.linker_commands.specs.Found.{IfWrong};
-ghost use Rattle.linker_commands.specs.Served.{IsConfig, IsText};
+ghost use Rattle.command_lines.specs.Check.{IsConfig, IsText, TellsFound, TellsPath};
+ghost use Rattle.command_lines.specs.Found.{IfWrong};
 ghost use Rattle.linker_config.specs.Answers.{Reads};
 
 use crate::{Bytes, Mem};

@@ -2,10 +2,10 @@
 ghost use Rattle.std.specs.Prelude.{◌≡◌, ◌∷◌, None, Some, Ok, Err, ℕ, List, IfOk, IfErr, IsTrue};
 ghost use Rattle.std.specs.Prelude.{IsFalse, MatchResult, map, string_bytes};
 ghost use Rattle.text_parts.specs.Numbers.{at_most, number_of};
-ghost use Rattle.linker_commands.specs.Words.{asked_by, command_of, replay, storm, weave, alone};
-ghost use Rattle.linker_commands.specs.Words.{path_word, path_words, check, serve, lint, Asked};
-ghost use Rattle.linker_commands.specs.Words.{of_run, most_turns, turns_words, seed_words};
-ghost use Rattle.linker_commands.specs.Words.{leader_words, polls_words, space_words};
+ghost use Rattle.command_lines.specs.Words.{asked_by, command_of, replay, storm, weave, alone};
+ghost use Rattle.command_lines.specs.Words.{path_word, path_words, check, serve, lint, Asked};
+ghost use Rattle.command_lines.specs.Words.{of_run, most_turns, turns_words, seed_words};
+ghost use Rattle.command_lines.specs.Words.{leader_words, polls_words, space_words};
 
 use addr_book::{Addr, is_name};
 use script::read_addr;

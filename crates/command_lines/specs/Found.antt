@@ -1,7 +1,7 @@
 -- Why there is no configuration.
 use Rattle.std.specs.Prelude.{ℕ, List}
-use Rattle.linker_commands.specs.declared.check.ConfigEnd.{ConfigEnd}
-use Rattle.linker_commands.specs.declared.check.ConfigEnd.TheVariants.{Wrong, Fault, OutOfMemory}
+use Rattle.command_lines.specs.declared.checking.ConfigEnd.{ConfigEnd}
+use Rattle.command_lines.specs.declared.checking.ConfigEnd.TheVariants.{Wrong, Fault, OutOfMemory}
 
 -- where a line tells why, it is such
 abbrev pub IfWrong : ConfigEnd → (List ℕ → Type 0) → Type 0

@@ -5,9 +5,8 @@ use Rattle.line_base.specs.declared.folder.Found.TheVariants.{Bytes, Absent, Lon
 use Rattle.linker_config.specs.declared.config.Config.{Config}
 use Rattle.linker_config.specs.Answers.{Reads}
 use Rattle.linker_config.specs.Lines.{good_line}
-use Rattle.linker_commands.specs.Check.{TellsFound}
-use Rattle.linker_commands.specs.Served.{IsText}
-use Rattle.linker_commands.proofs.check.check.Goals as goal
+use Rattle.command_lines.specs.Check.{IsText, TellsFound}
+use Rattle.command_lines.proofs.checking.check.Goals as goal
 
 -- the line of a configuration that was read tells of what was found
 told_right : (found : Found) (text line : List ℕ) (config : Config) → IsText found text

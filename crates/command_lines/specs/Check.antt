@@ -29,3 +29,15 @@ TellsFound (Bytes text) good line = TellsText text.items good line
 abbrev pub TellsPath : Option (List File) → List ℕ → Bool → List ℕ → Type 0
 TellsPath files path good line =
     (found : Found) × FindsAt files path most_config found × TellsFound found good line
+
+-- a file with this text was found
+abbrev pub IsText : Found → List ℕ → Type 0
+IsText (Bytes text) wanted = wanted ≡ text.items
+IsText Absent wanted = ⊥
+IsText Longer wanted = ⊥
+
+-- the configuration that is found at a path
+abbrev pub IsConfig : Option (List File) → List ℕ → Config → Type 0
+IsConfig files path config =
+    (found : Found) × FindsAt files path most_config found × (text : List ℕ) × IsText found text
+    × Reads text (Ok config)

@@ -6,8 +6,8 @@ use Rattle.text_parts.specs.Numbers.{at_most, number_of}
 use Rattle.addr_book.specs.Name.{name_of}
 use Rattle.addr_book.specs.declared.addr.Addr.{Addr}
 use Rattle.script.specs.Words.{addr_in}
-use Rattle.linker_commands.specs.declared.words.Command.{Command}
-use Rattle.linker_commands.specs.declared.words.Command.TheVariants as command
+use Rattle.command_lines.specs.declared.words.Command.{Command}
+use Rattle.command_lines.specs.declared.words.Command.TheVariants as command
 
 -- a command
 pub data Asked : Type 0 where

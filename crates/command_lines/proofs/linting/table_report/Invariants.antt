@@ -1,7 +1,7 @@
 use Rattle.std.proofs.Common.{◌≡◌, take}
 use Rattle.dtab_table.specs.Dtab.{rules_of}
-use Rattle.linker_commands.specs.Lint.{hidden_lines}
-use Rattle.linker_commands.proofs.lint.table_report.Given as goal
+use Rattle.command_lines.specs.Lint.{hidden_lines}
+use Rattle.command_lines.proofs.linting.table_report.Given as goal
 
 abbrev pub invariant-loop-item : goal.invariant-loop-item
 invariant-loop-item l =

@@ -2,11 +2,11 @@
 ghost use Rattle.std.specs.Prelude.{◌≡◌, ◌++◌, Err, Some, IfOk, OnOk, slice_get};
 ghost use Rattle.line_base.specs.Counts.{Rose};
 ghost use Rattle.dtab_table.specs.Dtab.{rules_of};
-ghost use Rattle.linker_commands.specs.Lint.{count_line, hidden_line, lint_of, table_line};
-ghost use Rattle.linker_commands.specs.Lint.{table_fault_line, TellsTable, TellsFoundTable};
-ghost use Rattle.linker_commands.specs.Lint.{TellsTablePath, prefix_text};
+ghost use Rattle.command_lines.specs.Lint.{count_line, hidden_line, lint_of, table_line};
+ghost use Rattle.command_lines.specs.Lint.{table_fault_line, TellsTable, TellsFoundTable};
+ghost use Rattle.command_lines.specs.Lint.{TellsTablePath, prefix_text};
 
-use crate::check::{CheckEnd, Verdict};
+use crate::checking::{CheckEnd, Verdict};
 use crate::{Bytes, Mem};
 use dtab_check::{Hidden, hidden, taken_out};
 use dtab_table::{Dtab, DtabFault, read_dtab, write_dtab, write_prefix};

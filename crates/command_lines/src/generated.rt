@@ -1,6 +1,6 @@
 //! Generated runs: the lines that sum them up.
 ghost use Rattle.std.specs.Prelude.{◌≡◌, IfOk};
-ghost use Rattle.linker_commands.specs.Generated.{storm_line, weave_line};
+ghost use Rattle.command_lines.specs.Generated.{storm_line, weave_line};
 
 use crate::words::Generated;
 use crate::{Bytes, Mem};
