@@ -17,8 +17,9 @@
 //! exchanges at some moment, and is never below what it read before. Each exchange adds what it was
 //! worth, with the moments that the clock gave, and has one line in the log, or is counted as lost
 //! there (`Ends` of `specs/Recording.antt`). Each step of a connection raises its count by one.
-//! [`records_add_up`] is the law over many exchanges: each is added to the tally once, in order.
-//! Its tests are `operator_tests`' module `recorded`.
+//! [`records_add_up`] is the law over many exchanges: each is added to the tally once, in order,
+//! with the moments that the clock gave as it began and as it ended. Its tests are
+//! `operator_tests`' module `recorded`.
 //!
 //! # Example
 //! ```
