@@ -1,6 +1,7 @@
 //! Tests of the program over folders, nets, sources and sinks in memory: scripts with their
 //! replies, configurations, tables, words, limits, faults at each call in turn, and routers that
-//! serve, with clients that have nothing to say for a while, listeners that break and access logs.
+//! serve, with clients that have nothing to say for a while, listeners that break, access logs and
+//! metrics.
 #![tactic(auto)]
 
 #[cfg(test)]
@@ -17,6 +18,8 @@ mod following;
 mod limits;
 #[cfg(test)]
 mod lints;
+#[cfg(test)]
+mod metrics;
 #[cfg(test)]
 mod outside;
 #[cfg(test)]

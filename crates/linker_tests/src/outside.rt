@@ -12,7 +12,10 @@ use std::sync::Wait;
 use std::sync::atomic::AtomicBool;
 use std::thread::Threads;
 
-/// A configuration by which no table names anything, and there are two workers.
+/// A configuration by which no table names anything, and there is one worker.
+pub(crate) const ONE_WORKER: &str = "{\"routers\":[{\"protocol\":\"http\"}],\"workers\":1}";
+
+/// The same, where there are two workers.
 pub(crate) const TWO_WORKERS: &str = "{\"routers\":[{\"protocol\":\"http\"}],\"workers\":2}";
 
 /// The line of a service with one address.

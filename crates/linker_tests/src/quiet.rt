@@ -1,6 +1,6 @@
 //! Clients that have nothing to say for a while.
 use crate::outside::{
-    TWO_WORKERS, asking, net_of_two, served_by, told, vec_of_one, vec_of_two, visited,
+    ONE_WORKER, TWO_WORKERS, asking, net_of_two, served_by, told, vec_of_one, vec_of_two, visited,
 };
 use crate::paired::Paired;
 use crate::running::assert_told;
@@ -11,9 +11,6 @@ use std::sync::Wait;
 use std::sync::atomic::AtomicBool;
 use std::test::Fail;
 use std::thread::Threads;
-
-/// No table names anything, and there is one worker.
-const ONE_WORKER: &str = "{\"routers\":[{\"protocol\":\"http\"}],\"workers\":1}";
 
 /// A request that no table routes.
 const GET: &str = "GET / HTTP/1.1\r\nHost: web\r\n\r\n";
