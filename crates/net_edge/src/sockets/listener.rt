@@ -105,6 +105,7 @@ fn told_or_paused<R: rt::Clock>(
     match next_told(rt, queue, closing) {
         Ok(event) => Ok(event),
         Err(_) => {
+            queue.note_failure(rt);
             thread::sleep(rt, Duration::from_millis(PAUSE_MILLISECONDS));
             // The client that could not be accepted may be there still.
             queue.listen_on();

@@ -32,6 +32,10 @@ const GRACE_MILLISECONDS: u64 = 1_000;
 /// been the last.
 const GRACE_WAIT_MILLISECONDS: i32 = 50;
 
+/// For how many milliseconds behind a wait that failed no second is told. While waits fail one
+/// after another, this is longer than the time between two of them.
+const FAILURE_MILLISECONDS: u64 = 1_000;
+
 /// What a wait for the sockets of an address found.
 pub(crate) enum Found {
     /// A client may be accepted.
@@ -52,6 +56,8 @@ pub(crate) struct Queue {
     begin: Instant,
     /// How many seconds were told since then.
     ticks: AtomicU64,
+    /// Until how many milliseconds after `begin` no second is told.
+    silent_until: AtomicU64,
     /// How many milliseconds after `begin` a client was last told or left, so that a client, which
     /// has no clock, can see how long it was silent.
     moment: AtomicU64,
@@ -72,6 +78,7 @@ impl Drop for Queue {
             waiting,
             begin: _,
             ticks,
+            silent_until,
             moment,
             open,
             grace_end,
@@ -81,6 +88,7 @@ impl Drop for Queue {
         drop(watched);
         drop(waiting);
         drop(ticks);
+        drop(silent_until);
         drop(moment);
         drop(open);
         drop(grace_end);
@@ -123,6 +131,7 @@ impl Queue {
             waiting: AtomicU64::new(0),
             begin,
             ticks: AtomicU64::new(0),
+            silent_until: AtomicU64::new(0),
             moment: AtomicU64::new(0),
             open: AtomicU64::new(0),
             grace_end: AtomicU64::new(0),
@@ -194,10 +203,23 @@ impl Queue {
         number != LISTENING && self.watched.watch(stream.as_raw_fd(), number)
     }
 
-    /// The seconds since the queue was opened, where a second passed that was told to nobody. They
-    /// are told to one caller.
+    /// Notes that a wait for the sockets failed. No second is told for a while: so the seconds that
+    /// pass end no row of failed waits, whichever listeners these come to.
+    pub(crate) fn note_failure<R: rt::Clock>(&self, rt: &R) {
+        if let Some(now) = self.milliseconds(rt) {
+            let until = now.saturating_add(FAILURE_MILLISECONDS);
+            self.silent_until.store(until, Ordering::SeqCst);
+        }
+    }
+
+    /// The seconds since the queue was opened, where a second passed that was told to nobody, and
+    /// no wait has failed of late. They are told to one caller.
     pub(crate) fn tick<R: rt::Clock>(&self, rt: &R) -> Option<u64> {
-        let seconds = self.begin.elapsed(rt).ok()?.as_secs();
+        let now = self.milliseconds(rt)?;
+        if now < self.silent_until.load(Ordering::SeqCst) {
+            return None;
+        }
+        let seconds = now / 1_000;
         let told = self.ticks.load(Ordering::SeqCst);
         if seconds <= told {
             return None;

@@ -18,7 +18,8 @@ pub(crate) const PROMPT_MILLISECONDS: u64 = 5;
 const SLICE_MILLISECONDS: i32 = 1_000;
 
 /// Reads some bytes of a connection whose reads wait for [`PROMPT_MILLISECONDS`]. Where nothing
-/// comes it is waited for a second at a time, up to [`IDLE_SECONDS`] in all.
+/// comes it is waited for a second at a time, up to [`IDLE_SECONDS`] in all, and read again behind
+/// each of these waits.
 pub(crate) fn read_in_slices(flow: &mut Flow, into: &mut [u8]) -> io::Result<usize>
     ensures { ReadsAtMost result into.new }
 {
@@ -28,7 +29,7 @@ pub(crate) fn read_in_slices(flow: &mut Flow, into: &mut [u8]) -> io::Result<usi
             done => return done,
         }
     }
-    Err(io::Error::from(ErrorKind::TimedOut))
+    flow.read_now(into)
 }
 
 /// What was heard of a connection last.
