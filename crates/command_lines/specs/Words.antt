@@ -1,6 +1,7 @@
 -- What the words of the command line ask for.
 use Rattle.std.specs.Prelude.{ℕ, nat_eq, if◌then◌else◌, List, [], ◌∷◌, codes, Option, Some, None}
 use Rattle.std.specs.Prelude.{Result, Ok, Err}
+use Rattle.std.specs.Option.{option_and_then}
 use Rattle.std.specs.Str.{bytes_eq}
 use Rattle.text_parts.specs.Numbers.{at_most, number_of}
 use Rattle.addr_book.specs.Name.{name_of}
@@ -40,6 +41,10 @@ asked_by (command.Follow f) = follow f.leader f.space.now f.polls
 abbrev pub path_word : List ℕ → Option (List ℕ)
 path_word [] = None
 path_word (b ∷ bs) = if nat_eq b 45 then None else Some (b ∷ bs)
+
+-- a word that is the name of a namespace: a name that does not begin with `-`
+abbrev pub space_word : List ℕ → Option (List ℕ)
+space_word w = option_and_then name_of (path_word w)
 
 -- a command behind which no word may follow: one that does would stand at this place
 abbrev pub alone : ℕ → Asked → List (List ℕ) → Result Asked ℕ
@@ -103,7 +108,7 @@ space_at leader (Some space) others = polls_words leader space others
 
 abbrev pub space_words : Addr → List (List ℕ) → Result Asked ℕ
 space_words leader [] = Err 3
-space_words leader (w ∷ ws) = space_at leader (name_of w) ws
+space_words leader (w ∷ ws) = space_at leader (space_word w) ws
 
 -- the address of the leader, which is the second word, and what is behind it
 abbrev pub leader_at : Option Addr → List (List ℕ) → Result Asked ℕ

@@ -5,7 +5,7 @@ ghost use Rattle.text_parts.specs.Numbers.{at_most, number_of};
 ghost use Rattle.command_lines.specs.Words.{asked_by, command_of, replay, storm, weave, alone};
 ghost use Rattle.command_lines.specs.Words.{path_word, path_words, check, serve, lint, Asked};
 ghost use Rattle.command_lines.specs.Words.{of_run, most_turns, turns_words, seed_words};
-ghost use Rattle.command_lines.specs.Words.{leader_words, polls_words, space_words};
+ghost use Rattle.command_lines.specs.Words.{leader_words, polls_words, space_word, space_words};
 
 use addr_book::{Addr, is_name};
 use script::read_addr;
@@ -229,7 +229,7 @@ fn read_space(leader: Addr, others: &[String]) -> Result<Command<'_>, usize>
         (λ place. space_words leader (map string_bytes others.now) ≡ Err place) }
 {
     match others {
-        [space, others @ ..] if is_name(space.as_bytes()) => {
+        [space, others @ ..] if is_namespace(space.as_str()) => {
             read_polls(leader, space.as_str(), others)
         }
         _ => Err(3),
@@ -263,4 +263,13 @@ fn is_path(word: &str) -> bool
     ensures none { IsFalse result → path_word word.now ≡ None }
 {
     !word.is_empty() && !word.starts_with('-')
+}
+
+/// Whether a word can be the name of a namespace: it is a name, and does not begin with `-` as an
+/// option does.
+fn is_namespace(word: &str) -> bool
+    ensures ok { IsTrue result → space_word word.now ≡ Some word.now }
+    ensures none { IsFalse result → space_word word.now ≡ None }
+{
+    is_path(word) && is_name(word.as_bytes())
 }

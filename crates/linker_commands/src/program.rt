@@ -39,7 +39,7 @@ use std::thread::Threads;
 ///   namespace NS, and writes a line for each feed that is later than those before it, and a line
 ///   that counts the polls. A poll that is lost is one of them.
 ///
-/// A path is a word that is not empty and does not begin with `-`, and NS is a name. N is at most
+/// A path is a word that is not empty, and NS is a name; neither begins with `-`. N is at most
 /// 1,000,000 and SEED at most 2^64 - 1, both in decimal digits without leading zeros. Where
 /// something is wrong, the last line that is written tells what.
 ///

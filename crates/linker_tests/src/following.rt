@@ -87,6 +87,8 @@ fn words_of_following(rt: HostRuntime) -> Result<(), Fail> {
             "follow localhost:4181",
             "follow 127.0.0.1:4181  1",
             "follow 127.0.0.1:4181 a/b 1",
+            "follow 127.0.0.1:4181 -a 1",
+            "follow 127.0.0.1:4181 --help 1",
         ],
         "error words 3\n",
         2,
