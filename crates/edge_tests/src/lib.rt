@@ -1,4 +1,5 @@
-//! Tests of clients over loopback: of those that wait, for whom is waited, and where clients are.
+//! Tests of clients over loopback: of those that wait, for whom is waited, and where clients are;
+//! and of a stop from outside.
 #![tactic(auto)]
 
 #[cfg(test)]
@@ -7,5 +8,7 @@ mod clients;
 mod places;
 #[cfg(test)]
 mod prompt;
+#[cfg(test)]
+mod stopped;
 #[cfg(test)]
 mod waiting;

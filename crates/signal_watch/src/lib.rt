@@ -20,7 +20,8 @@
 //! look that finds no signal is one at a file that asks for none. The stop is called exactly where
 //! the answer says that it was asked. A [`StoppableNet`] is the net below it in all that a net
 //! tells, but for the stops in its cell. What stands in the cell is shared, and no clause speaks of
-//! it: that a remote stop closes the listeners is tested. The tests are `signal_tests`.
+//! it: that a remote stop closes the listeners is tested over sockets, in `edge_tests`. The other
+//! tests are `signal_tests`.
 //!
 //! # Example
 //! ```
