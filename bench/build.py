@@ -165,6 +165,9 @@ def build(names):
 
 def main():
     names = sys.argv[1:] or [PROGRAM]
+    unknown = [name for name in names if name not in listed_crates()]
+    if unknown:
+        sys.exit(f"linker: crates.txt lists no crate {unknown[0]}")
     if not shutil.which("rt"):
         sys.exit("linker: the toolchain's command rt is not on the PATH")
     # so that what it started ends with it

@@ -144,7 +144,7 @@ def main():
     parser.add_argument("--signal", action="store_true")
     options = parser.parse_args(words)
     import edge
-    edge.PROGRAM = options.program
+    edge.PROGRAM = os.path.abspath(options.program)
     replica = Replica(answer)
     if options.calls:
         with proxy({"web": replica}, 4) as program:

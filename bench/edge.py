@@ -15,7 +15,8 @@ usage: bench/edge.py [PROGRAM] [--slow]
 - More connections to the interfaces than these have workers, which are kept: each is answered, more
   than once, and the shutdown doesn't wait for them.
 - With `--slow`, for a minute: a client that asks for nothing, one that does not read its reply, and
-  a replica that neither reads nor answers. Each is given up after 60 seconds and a few more.
+  a replica that neither reads nor answers. Each is given up after 60 seconds and a few more. And
+  accepts that fail again and again for want of a descriptor: the program ends with `error net`.
 
 The script ends with 0 where nothing was wrong.
 """
@@ -24,7 +25,8 @@ import threading, time
 
 ROOT = os.path.dirname(os.path.dirname(os.path.abspath(__file__)))
 SLOW = "--slow" in sys.argv[1:]
-PROGRAM = next((word for word in sys.argv[1:] if word != "--slow"), os.path.join(ROOT, "linker"))
+GIVEN = next((word for word in sys.argv[1:] if word != "--slow"), os.path.join(ROOT, "linker"))
+PROGRAM = os.path.abspath(GIVEN)
 HEAD_OF_202 = b"HTTP/1.1 202 Accepted\r\nContent-Length: 0\r\n\r\n"
 
 
@@ -379,6 +381,18 @@ def waits():
           len(ended) == 3 and all(58 <= seconds <= 66 for seconds in ended.values()))
 
 
+def accepts_that_fail():
+    """A client waits, and no accept has a descriptor: the program ends, and says why."""
+    with proxy({}, 4) as program:
+        resource.prlimit(program.pid, resource.RLIMIT_NOFILE, (3, 3))
+        begin = time.monotonic()
+        with connect(program):
+            status = program.wait(60)
+        took = time.monotonic() - begin
+    check(f"accepts that fail: status {status} after {took:.0f} s",
+          status == 6 and took >= 5 and "connections could not be accepted" in program.log)
+
+
 def main():
     early_reply(200_000)
     early_reply(3_500_000)
@@ -390,6 +404,7 @@ def main():
     kept_connections_to_interfaces()
     if SLOW:
         waits()
+        accepts_that_fail()
     sys.exit(f"wrong: {faults}" if faults else 0)
 
 

@@ -19,7 +19,8 @@ from drain import REPLY, REQUEST, reply_on
 from edge import Replica, free_ports, read_head, shut_down
 
 ROOT = os.path.dirname(os.path.dirname(os.path.abspath(__file__)))
-PROGRAM = words[0] if words else os.path.join(ROOT, "crates", "linker", "out", "linker")
+BUILT = os.path.join(ROOT, "crates", "linker", "out", "linker")
+PROGRAM = os.path.abspath(words[0] if words else BUILT)
 FEW, MANY = 1_000, 3_000
 
 

@@ -21,7 +21,7 @@ import asyncio, collections, contextlib, json, os, shutil, signal, socket, subpr
 import faults
 
 ROOT = os.path.dirname(os.path.dirname(os.path.abspath(__file__)))
-PROGRAM = sys.argv[1] if sys.argv[1:] else os.path.join(ROOT, "linker")
+PROGRAM = os.path.abspath(sys.argv[1] if sys.argv[1:] else os.path.join(ROOT, "linker"))
 CLIENTS, SECONDS, EVERY = 16, 6, 0.5
 
 PYTHON = """

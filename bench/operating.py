@@ -16,7 +16,7 @@ usage: bench/operating.py [PROGRAM]
 
 The script ends with 0 where nothing was wrong. (`bench/drain.py --signal` has a load.)
 """
-import os, signal, socket, subprocess, sys, tempfile, threading, time
+import os, shlex, signal, socket, subprocess, sys, tempfile, threading, time
 
 import edge
 from edge import Replica, check, connect, faults, proxy, read_all, read_head
@@ -130,7 +130,7 @@ def signalled_early():
         with open(os.path.join(folder, "c.json"), "w") as file:
             file.write('{"admin":{"port":%d},"namerd":{"port":%d},"routers":[{"protocol":"http",'
                        '"servers":[{"port":%d}]}]}' % (admin, namerd, router))
-        words = f"kill -TERM $$; exec {edge.PROGRAM} serve c.json"
+        words = f"kill -TERM $$; exec {shlex.quote(edge.PROGRAM)} serve c.json"
         ended = subprocess.run([*BLOCKED, "sh", "-c", words], cwd=folder, timeout=20,
                                capture_output=True)
     check("a signal before it listens", ended.returncode == 0 and b"closed 0" in ended.stdout,

@@ -17,7 +17,7 @@ import asyncio, contextlib, json, os, sys, tempfile
 import faults
 
 ROOT = os.path.dirname(os.path.dirname(os.path.abspath(__file__)))
-PROGRAM = sys.argv[1] if sys.argv[1:] else os.path.join(ROOT, "linker")
+PROGRAM = os.path.abspath(sys.argv[1] if sys.argv[1:] else os.path.join(ROOT, "linker"))
 CLIENTS, SECONDS, PERCENT, RESERVE = 32, 3, 20, 10
 
 
