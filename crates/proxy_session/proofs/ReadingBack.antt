@@ -464,7 +464,9 @@ module _ (rule : Rule) (head : Head) (sought : Sought) (to : Replica) (onward : 
         sought = sought;
         seeks = seeks;
         to = to;
+        closes = closes;
         onward = onward;
+        forwarded = goes;
         reads = λ replica short. reads_back head sought closes to onward read well replica goes
             short;
         taken = goes_on.taken;

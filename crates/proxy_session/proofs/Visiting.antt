@@ -46,7 +46,9 @@ module _ (settings : SettingsValue) (rule : Rule) (of_bytes : IsByteRule rule) w
     sought = s.sought;
     seeks = s.seeks;
     to = s.to;
+    closes = s.closes;
     onward = s.onward;
+    forwarded = s.forwarded;
     reads = s.reads;
     taken = s.taken;
     behind = s.behind;

@@ -122,10 +122,10 @@ pub record IsAnsweredWhole
   pub reply : IsWholeReply method got
 
 -- One visit to a replica. A connection to it was opened; or, for a request that may be repeated,
--- one that was kept was taken up again. What was sent over it is a head that is read so and what
--- goes on behind it for a front of a body that is framed so, or a front of these; and what was got
--- came behind that. Then the connection was ended; or it was kept, where the request was answered
--- whole.
+-- one that was kept was taken up again. What was sent over it is the head with which the request
+-- goes on to this replica, which is read so, and what goes on behind it for a front of a body that
+-- is framed so, or a front of these; and what was got came behind that. Then the connection was
+-- ended; or it was kept, where the request was answered whole.
 --
 -- So over one connection, from the event that opened it to its end, requests and replies alternate,
 -- and none is sent before the reply to the one before it was got whole, with nothing behind it
@@ -133,7 +133,9 @@ pub record SendsHead (rule : Rule) (head : Head) (old new : Upstream) : Type 0 w
   pub sought : Sought
   pub seeks : Seeks rule head (Ok sought)
   pub to : Replica
+  pub closes : Bool
   pub onward : List ℕ
+  pub forwarded : IsForwarded head sought closes to onward
   pub reads : IsByteReplica to → length onward ≤ most → (read : Head)
       × ReadsAs head sought to onward read
   pub taken : List ℕ

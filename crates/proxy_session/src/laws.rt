@@ -14,11 +14,12 @@ ghost use Rattle.proxy_session.specs.Laws.{StaysAreBounded, StaysComeLater, Stay
 /// a visit to a replica; or it makes one over a kept connection, over which not a byte of a reply
 /// came, and then at most one more, with the same head over a new connection to the same address. A
 /// visit opens a connection; or it takes up a kept one, if the request may be repeated. What is
-/// sent over it is such a head and what goes on for a prefix of a body that is framed so, or a
-/// prefix of these, and what is got comes behind that. Then the connection is ended; or it is kept,
-/// where all of the request was sent and what was got is one whole reply to it, with nothing behind
-/// it. So in the log of a dialer, over one connection, requests and replies alternate, and no
-/// request is sent before the reply to the one before it was got whole.
+/// sent over it is the head with which the request goes on to this replica, to the byte, and what
+/// goes on for a prefix of a body that is framed so, or a prefix of these, and what is got comes
+/// behind that. Then the connection is ended; or it is kept, where all of the request was sent and
+/// what was got is one whole reply to it, with nothing behind it. So in the log of a dialer, over
+/// one connection, requests and replies alternate, and no request is sent before the reply to the
+/// one before it was got whole.
 ///
 /// In a request, as [`Server::proxy_once`](crate::Server::proxy_once) has one, the dialer does so
 /// at most once more than the request is tried again; and in a stay of a connection over the bytes
