@@ -1,6 +1,6 @@
 -- What is read of a head that goes on to a replica, and what holds of a stay.
 use Rattle.std.specs.Prelude.{◌≡◌, ◌⊎◌, ◌+◌, ◌<◌, ◌≤◌, ◌^◌, ℕ, zero, suc, Bool, true, List, []}
-use Rattle.std.specs.Prelude.{◌∷◌, ◌++◌, length, map, codes, All, IsSomeAnd, Option, Ok}
+use Rattle.std.specs.Prelude.{◌∷◌, ◌++◌, length, drop, map, codes, All, IsSomeAnd, Option, Ok}
 use Rattle.std.specs.List.{concat}
 use mathlib.Core.List.{IsPrefix}
 use Rattle.httparse.specs.Grammar.{trim_ows}
@@ -203,31 +203,39 @@ RequestsReadBack =
     → Requests settings rule head last retries before behind old new result
     → SendsAgain rule head (suc retries) old.upstream new.upstream
 
--- the bytes of a client that were read and not used yet, and those that it has yet to give, which
--- are known
-pub record GivesBytes (s : Standing) : Type 0 where
-  pub kept : All (λ b. b < 256) s.kept
-  pub left : IsSomeAnd s.line.left (All (λ b. b < 256))
+-- these are the bytes of a client that were read and not used yet, and behind them those that it
+-- has yet to give, which are known
+abbrev pub Gives : Standing → List ℕ → Type 0
+Gives s bytes = IsSomeAnd s.line.left (λ left. s.kept ++ left ≡ bytes)
 
--- the dialer did nothing that its log shows, or just this for some request that was read
-abbrev pub Visits : Rule → Upstream → Upstream → Type 0
-Visits rule old new =
-    Grows old.log new.log [] ⊎ ((head : Head) × WasRead head × SendsTry rule head old new)
+-- The bytes begin with a head, which the rule hears so, with its context or without. Behind it some
+-- may have been taken for a body, and these follow
+pub record BringsHead (rule : Rule) (bytes : List ℕ) (head : Head) (behind : List ℕ) : Type 0 where
+  pub read : Head
+  pub len : ℕ
+  pub begins : BeginsWith bytes read len
+  pub heard : head ≡ heard_by rule.clears_context read
+  pub taken : List ℕ
+  pub cut : drop len bytes ≡ taken ++ behind
 
--- so often
-abbrev pub SendsHeads : Rule → ℕ → Upstream → Upstream → Type 0
-SendsHeads rule zero old new = Grows old.log new.log []
-SendsHeads rule (suc n) old new = (mid : Upstream) × SendsHeads rule n old mid × Visits rule mid new
+-- the heads of so many requests stand in these bytes, each at the beginning of what the one before
+-- it left, and with so many retries of them all the dialer did just this for each in turn
+abbrev pub SendsHeads : Rule → ℕ → ℕ → List ℕ → List ℕ → Upstream → Upstream → Type 0
+SendsHeads rule zero retries bytes behind old new =
+    (retries ≡ 0) × (behind ≡ bytes) × Grows old.log new.log []
+SendsHeads rule (suc n) retries bytes behind old new =
+    (mid : Upstream) × (between : List ℕ) × (earlier : ℕ) × (more : ℕ) × (head : Head)
+    × SendsHeads rule n earlier bytes between old mid × BringsHead rule between head behind
+    × SendsAgain rule head (suc more) mid new × (retries ≡ earlier + more)
 
--- in a stay of a connection over the bytes of a client the dialer did nothing else, at most once
--- for each request and once for each retry
+-- in a stay of a connection over the bytes of a client the dialer did nothing else
 abbrev pub StaysReadBack : Type 0
 StaysReadBack =
     (settings : SettingsValue) (rule : Rule) (from requests retries : ℕ)
-    (before behind : Option BudgetValue) (old new : Standing) (result : Paused)
-    → IsByteRule rule → GivesBytes old
+    (before behind : Option BudgetValue) (old new : Standing) (result : Paused) (bytes : List ℕ)
+    → IsByteRule rule → All (λ b. b < 256) bytes → Gives old bytes
     → Stays settings rule from requests retries before behind old new result
-    → SendsHeads rule (requests + retries) old.upstream new.upstream
+    → (left : List ℕ) × SendsHeads rule requests retries bytes left old.upstream new.upstream
 
 -- what a pass had seen stays seen, and the calls that it has made since then have their points
 -- behind all of that
