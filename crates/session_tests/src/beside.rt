@@ -4,7 +4,7 @@
 ghost use Rattle.router.specs.Opening.{IsNamedBy, beginning_of};
 
 use crate::meanwhile::{AtDial, Meanwhile};
-use crate::played::{Free, close, dialer, named, parts_of, peer, put_sent, server};
+use crate::played::{Free, close, dialer, named, parts_of, peer, put_sent, server, server_clock};
 use crate::scene::{BOOK, Mem, Scene, by_host, settings, spelling};
 use crate::texts::{GET, REPLY, WRITTEN};
 use dtab_table::Dtab;
@@ -131,7 +131,7 @@ fn serve<J: Naming, R: Wait + Abort, D: Dialer>(
     scene: &Scene<'_>,
 ) -> (Pass<J>, D, MemPeer) {
     let Context { rt, alloc, .. } = *context;
-    let mut server = server(rt, alloc, pass, dialer);
+    let mut server = server(rt, alloc, pass, dialer, server_clock(rt, alloc));
     let mut connection = Connection::of(peer(rt, alloc, scene));
     let _paused = server.serve_stay(context, &mut connection, &Free, 0, &mut NoRecorder);
     let (pass, dialer) = parts_of(server);

@@ -1,8 +1,8 @@
 //! Whole sessions over peers, dialers and clocks in memory: worked exchanges with the bytes on both
 //! sides, hostile and large requests, each failing call, limits, requests that are tried again, and
-//! connections that are kept; what a recorder is told of; two clients that are served at once; a
-//! connection that another server goes on with; and the worst table that is known, on the stack of
-//! a worker's thread.
+//! connections that are kept; what a recorder is told of, and when; two clients that are served at
+//! once; a connection that another server goes on with; and the worst table that is known, on the
+//! stack of a worker's thread.
 #![tactic(auto)]
 
 #[cfg(test)]
@@ -11,6 +11,8 @@ mod beside;
 mod compared;
 #[cfg(test)]
 mod draining;
+#[cfg(test)]
+mod hearing;
 #[cfg(test)]
 mod hostile;
 #[cfg(test)]

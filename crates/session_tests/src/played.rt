@@ -223,21 +223,22 @@ fn room<R: Abort>(rt: &R, alloc: Global) -> Room {
     }
 }
 
-/// The clock of a server.
-fn server_clock<R: Abort>(rt: &R, alloc: Global) -> MemClock {
+/// The clock of a server, which stands still.
+pub(crate) fn server_clock<R: Abort>(rt: &R, alloc: Global) -> MemClock {
     match clock(alloc) {
         Ok(clock) => clock,
         Err(_want) => panic!(rt; "no memory for a clock"),
     }
 }
 
-/// A server with this pass, which has to hold no slot, and with this dialer.
-pub(crate) fn server<J: Naming, R: Abort, D>(
+/// A server with this pass, which has to hold no slot, and with this dialer and this clock.
+pub(crate) fn server<J: Naming, R: Abort, D, C>(
     rt: &R,
     alloc: Global,
     pass: Pass<J>,
     dialer: D,
-) -> Server<J, D, MemClock>
+    clock: C,
+) -> Server<J, D, C>
     ensures { slot_in result.pass ≡ None }
 {
     let None = pass.holds() else {
@@ -247,7 +248,7 @@ pub(crate) fn server<J: Naming, R: Abort, D>(
     let parts = Parts {
         pass,
         dialer,
-        clock: server_clock(rt, alloc),
+        clock,
         words: Pcg64::seed_from_u64(7),
     };
     Server::of(room, parts)
@@ -314,8 +315,10 @@ fn serve<J: Naming, R: Wait + Abort>(
     scene: &Scene<'_>,
 ) -> (Pass<J>, Pass<J>, Mem<Played>) {
     let Context { rt, alloc, .. } = *context;
-    let mut first = server(rt, alloc, first, dialer(rt, alloc, scene));
-    let mut second = server(rt, alloc, second, dialer(rt, alloc, scene));
+    let clock = server_clock(rt, alloc);
+    let mut first = server(rt, alloc, first, dialer(rt, alloc, scene), clock);
+    let clock = server_clock(rt, alloc);
+    let mut second = server(rt, alloc, second, dialer(rt, alloc, scene), clock);
     let mut connection = scene.connection(peer(rt, alloc, scene));
     let mut keeper = Keeper::new(alloc);
     let ended = serve_stays(
