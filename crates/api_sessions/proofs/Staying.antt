@@ -25,6 +25,14 @@ module _ {J : Type 0} {g : Ghosts J} where
   stays_more (w ∷ ws) first last v chain goes stay =
       (chain.0, chain.1, stays_more ws (idle_behind first w) last v chain.2 goes stay)
 
+  -- a stay of a connection with fewer requests than it may have leaves it with fewer
+  visit_few : (idle : Idle) (v : Visit J g) (result : Paused) → GoesOn idle v
+      → StaysTo idle.which v.from v.upto v.old v.new result → idle.served < 10000
+      → v.upto < 10000
+  visit_few idle v result goes stay few =
+      stay_few idle.which v.from v.upto v.old v.new result stay
+      (subst (λ (n : ℕ). n < 10000) (sym goes.served) few)
+
   -- a caller that just came
   pub waits_first : {P : Type 0} (line_of : P → Line) (first peer : P) (which : Which)
       (seen : List Operation) → first ≡ peer
@@ -43,9 +51,7 @@ module _ {J : Type 0} {g : Ghosts J} where
       → StaysTo idle.which v.from v.upto v.old v.new paused.Quiet
       → IsWaiting g (idle_behind idle v)
   waits_more idle v waits goes stay = record {
-    few =
-        stay_few idle.which v.from v.upto v.old v.new paused.Quiet stay
-        (subst (λ (n : ℕ). n < 10000) (sym goes.served) waits.few);
+    few = visit_few idle v paused.Quiet goes stay waits.few;
     chain = (
       waits.chain.0,
       waits.chain.1 ++ v ∷ [],
@@ -96,6 +102,15 @@ module _ {J : Type 0} {g : Ghosts J} where
       let rest = stays_split us vs (idle_behind first u) last chain.2 in
       (rest.0, (chain.0, chain.1, rest.1), rest.2)
 
+  -- stays one after another leave it with fewer requests than it may have
+  stays_few : (vs : List (Visit J g)) (first last : Idle) → HasStays vs first last
+      → first.served < 10000 → last.served < 10000
+  stays_few [] first last same few =
+      subst (λ (i : Idle). i.served < 10000) (sym same) few
+  stays_few (v ∷ vs) first last chain few =
+      stays_few vs (idle_behind first v) last chain.2
+      (visit_few first v paused.Quiet chain.0 chain.1 few)
+
   -- nothing that was seen is forgotten
   stays_saw : (vs : List (Visit J g)) (first last : Idle) → HasStays vs first last
       → IsPrefix first.seen last.seen
@@ -108,17 +123,12 @@ module _ {J : Type 0} {g : Ghosts J} where
       (stays_saw vs (idle_behind first v) last chain.2))
 
 pub nothing_is_forgotten : {J : Type 0} (g : Ghosts J) → NothingIsForgotten g
-nothing_is_forgotten g us vs u v first last chain =
-    let at_u = stays_split us (u ∷ (vs ++ v ∷ [])) first last chain in
-    let behind = idle_behind at_u.0 u in
-    let at_v = stays_split vs (v ∷ []) behind last at_u.2.2 in
-    prefix_on (seen_in u.new.pass) at_v.0.seen (seen_in v.old.pass)
-    (stays_saw vs behind at_v.0 at_v.1) at_v.2.0.seen
+nothing_is_forgotten g us vs u v first mid chain goes =
+    let at_u = stays_split us (u ∷ vs) first mid chain in
+    prefix_on (seen_in u.new.pass) mid.seen (seen_in v.old.pass)
+    (stays_saw vs (idle_behind at_u.0 u) mid at_u.2.2) goes.seen
 
 pub few_requests : {J : Type 0} (g : Ghosts J) → FewRequests g
-few_requests g [] first last same few =
-    subst (λ (i : Idle). i.served < 10000) (sym same) few
-few_requests g (v ∷ vs) first last chain few =
-    few_requests g vs (idle_behind first v) last chain.2
-    (stay_few first.which v.from v.upto v.old v.new paused.Quiet chain.1
-    (subst (λ (n : ℕ). n < 10000) (sym chain.0.served) few))
+few_requests g vs first mid chain few =
+    let waiting = stays_few vs first mid chain few in
+    (waiting, λ v result goes stay. visit_few mid v result goes stay waiting)

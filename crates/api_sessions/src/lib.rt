@@ -37,8 +37,9 @@
 //!
 //! The type of an [`IdleCaller`] keeps that some stays led to it from a caller that came
 //! (`specs/Stays.antt`): each went on from the line and the number of requests that the one before
-//! it left, with a worker that had seen all that had been seen for it. Over such stays a connection
-//! reads its own writes, and has at most 10,000 requests ([`callers_forget_nothing`]).
+//! it left, with a worker that had seen all that had been seen for it. Over such stays, and one
+//! more that may end it, a connection reads its own writes, and has at most 10,000 requests
+//! ([`callers_forget_nothing`]).
 //!
 //! Its tests are `api_tests`' modules `connections`, `limits`, `endings`, `draining` and `moving`.
 //!
