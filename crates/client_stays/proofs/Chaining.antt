@@ -5,6 +5,7 @@ use Rattle.std.proofs.lemmas.List.{append-nil}
 use Rattle.std.proofs.lemmas.List.Elements.{All-weaker}
 use Rattle.std.specs.Prelude.{option_map}
 use mathlib.Core.List.{IsPrefix}
+use Rattle.http_wire.specs.declared.paused.Paused.{Paused}
 use Rattle.http_wire.specs.declared.paused.Paused.TheVariants as paused
 use Rattle.identifier.specs.declared.rule.Rule.{Rule}
 use Rattle.line_base.specs.declared.socket_address.SocketAddress.{SocketAddress}
@@ -18,7 +19,7 @@ use Rattle.proxy_session.specs.Session.{Accounts, StaysTo}
 use Rattle.proxy_session.proofs.Bounding.{account_same, accounts_on, bounded_by}
 use Rattle.proxy_session.proofs.Seeing.{stay_later, stay_saw}
 use Rattle.client_stays.specs.Chains.{CameTo, GoesOn, HasStays, Idle, IsWaiting, Visit, came}
-use Rattle.client_stays.specs.Chains.{idle_behind, idle_by}
+use Rattle.client_stays.specs.Chains.{idle_behind, idle_by, requests_in, retries_in}
 use Rattle.client_stays.specs.Laws.{NothingIsForgotten, OneBudget, PointsNeverFall}
 
 prefix_on : (xs ys zs : List Operation) → IsPrefix xs ys → IsPrefix ys zs → IsPrefix xs zs
@@ -65,59 +66,65 @@ module _ (settings : SettingsValue) (rule : Rule) where
       (stay_saw settings rule v.from v.upto v.before v.behind v.old v.new paused.Quiet chain.1)
       (stays_saw vs (idle_behind first v) last chain.2))
 
-  -- so many requests paid in over all stays, and so many retries were taken out
-  stays_account : (vs : List Visit) (first last : Idle) → HasStays settings rule vs first last
-      → (requests : ℕ) × (retries : ℕ) × (last.served ≡ first.served + requests)
-      × Accounts first.budget last.budget requests retries
-  stays_account [] first last same = (
-    0,
-    0,
-    omega (arith, ap (λ (i : Idle). i.served) same),
-    account_same first.budget last.budget 0 refl (ap (λ (i : Idle). i.budget) same),
-  )
-  stays_account (v ∷ vs) first last chain =
-      let stay = chain.1 in
-      let rest = stays_account vs (idle_behind first v) last chain.2 in
+  -- their requests were counted
+  stays_count : (vs : List Visit) (first last : Idle)
+      → (stays : HasStays settings rule vs first last)
+      → last.served ≡ first.served + requests_in settings rule vs first last stays
+  stays_count [] first last same = omega (arith, ap (λ (i : Idle). i.served) same)
+  stays_count (v ∷ vs) first last (goes, stay, rest) =
       let count : v.upto ≡ v.from + stay.requests = stay.count refl in
-      let paid : Accounts first.budget v.behind stay.requests stay.retries
-      = subst (λ (b : Option BudgetValue). Accounts b v.behind stay.requests stay.retries)
-      chain.0.budget stay.paid in (
-        stay.requests + rest.0,
-        stay.retries + rest.1,
-        omega (arith, rest.2, count, chain.0.served),
-        accounts_on first.budget v.behind last.budget stay.requests rest.0 stay.retries rest.1 paid
-            rest.3,
-      )
+      let others = stays_count vs (idle_behind first v) last rest in
+      omega (arith, others, count, goes.served)
 
-  -- the last of them took the connection up, and all that had been seen for it behind an earlier
-  -- one
-  last_goes_on : (us vs : List Visit) (u v : Visit) (first last : Idle)
-      → HasStays settings rule (us ++ u ∷ (vs ++ v ∷ [])) first last
-      → IsPrefix u.new.caller.seen v.old.caller.seen
-      × StaysTo settings rule v.from v.upto v.before v.behind v.old v.new paused.Quiet
-  last_goes_on us vs u v first last chain =
-      let at_u = stays_split us (u ∷ (vs ++ v ∷ [])) first last chain in
-      let behind_u = idle_behind at_u.0 u in
-      let at_v = stays_split vs (v ∷ []) behind_u last at_u.2.2 in (
-        prefix_on u.new.caller.seen at_v.0.seen v.old.caller.seen
-            (stays_saw vs behind_u at_v.0 at_v.1) at_v.2.0.seen,
-        at_v.2.1,
-      )
+  -- what a stay paid in and took out, from the budget that the connection had
+  stay_account : (idle : Idle) (v : Visit) (result : Paused) → GoesOn idle v
+      → (stay : StaysTo settings rule v.from v.upto v.before v.behind v.old v.new result)
+      → Accounts idle.budget v.behind stay.requests stay.retries
+  stay_account idle v result goes stay =
+      subst (λ (b : Option BudgetValue). Accounts b v.behind stay.requests stay.retries)
+      goes.budget stay.paid
+
+  -- the same of all of them
+  stays_account : (vs : List Visit) (first last : Idle)
+      → (stays : HasStays settings rule vs first last)
+      → Accounts first.budget last.budget (requests_in settings rule vs first last stays)
+      (retries_in settings rule vs first last stays)
+  stays_account [] first last same =
+      account_same first.budget last.budget 0 refl (ap (λ (i : Idle). i.budget) same)
+  stays_account (v ∷ vs) first last (goes, stay, rest) =
+      let behind = idle_behind first v in
+      accounts_on first.budget v.behind last.budget stay.requests
+      (requests_in settings rule vs behind last rest) stay.retries
+      (retries_in settings rule vs behind last rest)
+      (stay_account first v paused.Quiet goes stay) (stays_account vs behind last rest)
+
+  -- and of all of them with one more, which may be the last
+  last_account : (vs : List Visit) (v : Visit) (first mid : Idle) (result : Paused)
+      → (stays : HasStays settings rule vs first mid) → GoesOn mid v
+      → (stay : StaysTo settings rule v.from v.upto v.before v.behind v.old v.new result)
+      → Accounts first.budget v.behind
+      (requests_in settings rule vs first mid stays + stay.requests)
+      (retries_in settings rule vs first mid stays + stay.retries)
+  last_account vs v first mid result stays goes stay =
+      accounts_on first.budget mid.budget v.behind (requests_in settings rule vs first mid stays)
+      stay.requests (retries_in settings rule vs first mid stays) stay.retries
+      (stays_account vs first mid stays) (stay_account mid v result goes stay)
 
 pub nothing_is_forgotten : NothingIsForgotten
-nothing_is_forgotten settings rule us vs u v first last chain =
-    let v_goes = last_goes_on settings rule us vs u v first last chain in v_goes.0
+nothing_is_forgotten settings rule us vs u v first mid chain goes =
+    let at_u = stays_split settings rule us (u ∷ vs) first mid chain in
+    prefix_on u.new.caller.seen mid.seen v.old.caller.seen
+    (stays_saw settings rule vs (idle_behind at_u.0 u) mid at_u.2.2) goes.seen
 
 prefix_longer : {A : Type 0} (xs ys : List A) → IsPrefix xs ys → length xs ≤ length ys
 prefix_longer xs ys p =
     let whole = ap length p.1 in let sum = length-append xs p.0 in omega (arith, whole, sum)
 
 pub points_never_fall : PointsNeverFall
-points_never_fall settings rule us vs u v first last chain =
-    let v_goes = last_goes_on settings rule us vs u v first last chain in
-    let later = stay_later settings rule v.from v.upto v.before v.behind v.old v.new paused.Quiet
-    v_goes.1 in
-    let more = prefix_longer u.new.caller.seen v.old.caller.seen v_goes.0 in
+points_never_fall settings rule us vs u v first mid result chain goes stay =
+    let seen = nothing_is_forgotten settings rule us vs u v first mid chain goes in
+    let later = stay_later settings rule v.from v.upto v.before v.behind v.old v.new result stay in
+    let more = prefix_longer u.new.caller.seen v.old.caller.seen seen in
     let behind = λ (call : Call × ℕ) (n : length v.old.caller.seen ≤ call.1).
     let m : length u.new.caller.seen ≤ call.1 = omega (arith, more, n) in m in (
       later.made,
@@ -169,6 +176,9 @@ new_waits settings rule tries mine first line client served budget seen same non
     path = opened ∙ ap (λ (t : Option Tries). option_map opening t) tried
 
 pub one_budget : OneBudget
-one_budget settings rule vs first last chain =
-    let all = stays_account settings rule vs first last chain in
-    (all.0, all.1, all.2, bounded_by first.budget last.budget all.0 all.1 all.3)
+one_budget settings rule vs v first mid result stays goes stay = (
+  stays_count settings rule vs first mid stays,
+  bounded_by first.budget v.behind (requests_in settings rule vs first mid stays + stay.requests)
+      (retries_in settings rule vs first mid stays + stay.retries)
+      (last_account settings rule vs v first mid result stays goes stay),
+)

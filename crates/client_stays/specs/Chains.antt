@@ -1,5 +1,5 @@
 -- The stays of a connection, one after another, with whichever servers.
-use Rattle.std.specs.Prelude.{◌≡◌, ℕ, ◌<◌, List, [], ◌∷◌, Option, option_map}
+use Rattle.std.specs.Prelude.{◌≡◌, ℕ, ◌+◌, ◌<◌, List, [], ◌∷◌, Option, option_map}
 use mathlib.Core.List.{IsPrefix}
 use Rattle.http_wire.specs.declared.paused.Paused.TheVariants as paused
 use Rattle.identifier.specs.declared.rule.Rule.{Rule}
@@ -69,6 +69,21 @@ HasStays settings rule (v ∷ vs) first last =
     GoesOn first v
     × StaysTo settings rule v.from v.upto v.before v.behind v.old v.new paused.Quiet
     × HasStays settings rule vs (idle_behind first v) last
+
+module _ (settings : SettingsValue) (rule : Rule) where
+  -- how many requests these stays had together
+  abbrev pub requests_in : (vs : List Visit) (first last : Idle)
+      → HasStays settings rule vs first last → ℕ
+  requests_in [] first last same = 0
+  requests_in (v ∷ vs) first last (goes, stay, rest) =
+      stay.requests + requests_in vs (idle_behind first v) last rest
+
+  -- and how many retries
+  abbrev pub retries_in : (vs : List Visit) (first last : Idle)
+      → HasStays settings rule vs first last → ℕ
+  retries_in [] first last same = 0
+  retries_in (v ∷ vs) first last (goes, stay, rest) =
+      stay.retries + retries_in vs (idle_behind first v) last rest
 
 -- some stays led there from a client that came
 abbrev pub CameTo : SettingsValue → Rule → Option Tries → Idle → Type 0

@@ -8,8 +8,8 @@
 //! The type of an [`IdleClient`] keeps that some stays led to it from a client that came
 //! (`specs/Chains.antt`): each went on from the line, the number of requests and the budget that
 //! the one before it left, with a server that had seen all that had been seen for it. Over such
-//! stays no request is answered from an older state than one before it, and the budget of retries
-//! is one ([`connections_forget_nothing`]).
+//! stays, and one more that may end the connection, no request is answered from an older state than
+//! one before it, and all retries are out of one budget ([`connections_forget_nothing`]).
 //!
 //! It is tested in `linker_tests`, where routers serve connections that wait.
 //!
