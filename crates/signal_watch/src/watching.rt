@@ -25,7 +25,8 @@ pub enum Watched {
     Asked,
     /// Nothing is left to stop, as the pause said, and the last look found no signal.
     Over,
-    /// There is no status file, or it can't be read. Signals end the program as any other.
+    /// There is no status file, and signals end the program as any other. Or nothing is left to
+    /// stop, as the pause said, and the last look failed.
     Blind,
 }
 
@@ -36,8 +37,10 @@ enum Seen {
     Asked,
     /// None does.
     Quiet,
-    /// The status file can't be read.
+    /// There is no status file.
     Nothing,
+    /// It could not be read.
+    Unread,
     /// There was no memory to read it.
     NoMemory,
 }
@@ -61,8 +64,9 @@ pub fn is_watchable<F: Folder>(folder: &mut F) -> Mem<bool>
 }
 
 /// Looks at the status file of the process until a signal asks for an end, and then calls the stop;
-/// or until the pause between two looks says that nothing is left to stop, or the file can't be
-/// read. A look for which there was no memory is made again behind the next pause.
+/// or until the pause between two looks says that nothing is left to stop, or there is no such file.
+/// A look that failed, or for which there was no memory, is made again behind the next pause: so one
+/// at a moment without descriptors makes it deaf to no signal.
 ///
 /// # Errors
 /// [`AllocError`] where there was no memory for the last look before the pause that was the last.
@@ -81,21 +85,18 @@ pub fn watch<R: Wait, F: Folder, P: Pause, S: Stop>(
     ensures stopped { S.calls stop.new ≡ calls_after (S.calls stop.old) result }
 {
     'looks: for _ in rt.forever() {
-        let was_seen = match look(folder) {
+        let seen = match look(folder) {
             Seen::Asked => {
                 stop.stop();
                 return Ok(Watched::Asked);
             }
             Seen::Nothing => return Ok(Watched::Blind),
-            Seen::Quiet => true,
-            Seen::NoMemory => false,
+            Seen::Quiet => Ok(Watched::Over),
+            Seen::Unread => Ok(Watched::Blind),
+            Seen::NoMemory => Err(AllocError),
         };
         if pause.pause() {
-            return if was_seen {
-                Ok(Watched::Over)
-            } else {
-                Err(AllocError)
-            };
+            return seen;
         }
     }
     unreachable!()
@@ -107,6 +108,8 @@ fn look<F: Folder>(folder: &mut F) -> Seen
     ensures quiet { result ≡ Seen.Quiet → AsksNothing (F.filed folder.old).files }
     ensures nothing { result ≡ Seen.Nothing → SeesNothing (F.filed folder.old).files
         (F.filed folder.old).faults (F.filed folder.new).faults }
+    ensures unread { result ≡ Seen.Unread
+        → Rose (F.filed folder.old).faults (F.filed folder.new).faults }
     ensures same { (F.filed folder.new).files ≡ (F.filed folder.old).files }
     ensures later { (F.filed folder.old).faults ≤ (F.filed folder.new).faults }
 {
@@ -114,7 +117,7 @@ fn look<F: Folder>(folder: &mut F) -> Seen
         Ok(Found::Bytes(status)) => seen_in(status.as_slice()),
         Ok(Found::Absent) => Seen::Nothing,
         Ok(Found::Longer) => Seen::Nothing,
-        Err(FolderFault::Failed) => Seen::Nothing,
+        Err(FolderFault::Failed) => Seen::Unread,
         Err(FolderFault::OutOfMemory) => Seen::NoMemory,
     }
 }
