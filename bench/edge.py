@@ -15,8 +15,10 @@ usage: bench/edge.py [PROGRAM] [--slow]
 - More connections to the interfaces than these have workers, which are kept: each is answered, more
   than once, and the shutdown doesn't wait for them.
 - With `--slow`, for a minute: a client that asks for nothing, one that does not read its reply, and
-  a replica that neither reads nor answers. Each is given up after 60 seconds and a few more. And
-  accepts that fail again and again for want of a descriptor: the program ends with `error net`.
+  a replica that neither reads nor answers. Each is given up after 60 seconds and a few more; so is
+  a client that falls silent in the middle of a request.
+- Accepts that fail for want of a descriptor: a client that came meanwhile is served once there is
+  one.
 
 The script ends with 0 where nothing was wrong.
 """
@@ -361,6 +363,13 @@ def waits():
             client.sendall(request("large"))
             time.sleep(70)
 
+    def cut(program):
+        begin = time.monotonic()
+        with connect(program) as client:
+            client.sendall(b"GET / HTTP/1.1\r\nHo")
+            client.recv(1)
+        note("a client that falls silent in a head", begin)
+
     def unheard(program):
         begin = time.monotonic()
         with contextlib.suppress(OSError), connect(program) as client:
@@ -370,27 +379,28 @@ def waits():
         note("a replica that does not read", begin)
 
     replicas = {"never": Replica(never), "large": Replica(large)}
-    with proxy(replicas, 4) as program:
+    with proxy(replicas, 5) as program:
         askers = [threading.Thread(target=ask, args=(program,), daemon=True)
-                  for ask in (silent, unread, unheard)]
+                  for ask in (silent, unread, unheard, cut)]
         for asker in askers:
             asker.start()
         for asker in askers:
             asker.join(90)
     check(f"waits end after a minute: {ended}",
-          len(ended) == 3 and all(58 <= seconds <= 66 for seconds in ended.values()))
+          len(ended) == 4 and all(58 <= seconds <= 66 for seconds in ended.values()))
 
 
 def accepts_that_fail():
-    """A client waits, and no accept has a descriptor: the program ends, and says why."""
+    """A client comes while no accept has a descriptor, and is served once there is one."""
     with proxy({}, 4) as program:
-        resource.prlimit(program.pid, resource.RLIMIT_NOFILE, (3, 3))
-        begin = time.monotonic()
-        with connect(program):
-            status = program.wait(60)
-        took = time.monotonic() - begin
-    check(f"accepts that fail: status {status} after {took:.0f} s",
-          status == 6 and took >= 5 and "connections could not be accepted" in program.log)
+        few, many = resource.prlimit(program.pid, resource.RLIMIT_NOFILE)
+        resource.prlimit(program.pid, resource.RLIMIT_NOFILE, (3, many))
+        with connect(program) as client:
+            client.sendall(request("web"))
+            time.sleep(3)
+            resource.prlimit(program.pid, resource.RLIMIT_NOFILE, (few, many))
+            reply = read_all(client)
+    check("accepts that fail for want of a descriptor", reply[9:12] == b"502", f"{reply[:40]}")
 
 
 def main():
@@ -402,9 +412,9 @@ def main():
     few_descriptors()
     more_clients_than_descriptors()
     kept_connections_to_interfaces()
+    accepts_that_fail()
     if SLOW:
         waits()
-        accepts_that_fail()
     sys.exit(f"wrong: {faults}" if faults else 0)
 
 

@@ -1,5 +1,5 @@
 //! Tests of clients over loopback: of those that wait, for whom is waited, and where clients are;
-//! and of a stop from outside.
+//! of the seconds that are told, and of a stop from outside.
 #![tactic(auto)]
 
 #[cfg(test)]
@@ -8,6 +8,8 @@ mod clients;
 mod places;
 #[cfg(test)]
 mod prompt;
+#[cfg(test)]
+mod seconds;
 #[cfg(test)]
 mod stopped;
 #[cfg(test)]

@@ -134,7 +134,7 @@ impl<R: Net + Clock> Dialer for SocketDialer<'_, R> {
             self.current = Some(upstream.resumed());
             return true;
         }
-        hold(&mut self.next, upstream.dissolve());
+        hold(&mut self.next, upstream.hang());
         false
     }
 

@@ -51,6 +51,18 @@ impl<R> Drop for SocketListener<'_, R> {
     }
 }
 
+/// The number of the error that the system has no descriptor left (accept(2)).
+const ENFILE: i32 = 23;
+
+/// Whether a wait failed for want of a descriptor, of the process or of the system. That passes as
+/// soon as a connection ends.
+fn wants_descriptor(error: &io::Error) -> bool {
+    match error.raw_os_error() {
+        Some(number) => number == libc::EMFILE || number == ENFILE,
+        None => false,
+    }
+}
+
 /// The next client of a queue, if one waits to be accepted.
 fn next_client(queue: &Arc<Queue>, closing: &Closing) -> io::Result<Option<SocketPeer>> {
     let Some((stream, address)) = queue.accept()? else {
@@ -104,8 +116,10 @@ fn told_or_paused<R: rt::Clock>(
 ) -> Result<Event<SocketPeer>, Failed> {
     match next_told(rt, queue, closing) {
         Ok(event) => Ok(event),
-        Err(_) => {
-            queue.note_failure(rt);
+        Err(error) => {
+            if !wants_descriptor(&error) {
+                queue.note_failure(rt);
+            }
             thread::sleep(rt, Duration::from_millis(PAUSE_MILLISECONDS));
             // The client that could not be accepted may be there still.
             queue.listen_on();

@@ -108,7 +108,7 @@ fn make_room(kept: &mut Vec<IdleUpstream>, ip: u32, port: u16, max_size: u32) ->
     ensures room { length kept.new.items < max_size }
 {
     match take_out(kept, ip, port) {
-        Some(idle) => idle.upstream.dissolve(),
+        Some(idle) => idle.upstream.hang(),
         None if kept.len() >= max_size as usize => end_first(kept),
         None => None,
     }
@@ -123,7 +123,7 @@ fn end_first(kept: &mut Vec<IdleUpstream>) -> Option<DialSocket>
         return None;
     }
     let first = kept.remove(0);
-    first.upstream.dissolve()
+    first.upstream.hang()
 }
 
 /// Ends those that were put aside more than so many milliseconds ago. They stand first.

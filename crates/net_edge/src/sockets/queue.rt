@@ -54,7 +54,9 @@ pub(crate) struct Queue {
     /// How many listeners wait for the sockets.
     waiting: AtomicU64,
     begin: Instant,
-    /// How many seconds were told since then.
+    /// The last second after `begin` that is over for those who are told of seconds.
+    second: AtomicU64,
+    /// How many seconds were told.
     ticks: AtomicU64,
     /// Until how many milliseconds after `begin` no second is told.
     silent_until: AtomicU64,
@@ -77,6 +79,7 @@ impl Drop for Queue {
             watched,
             waiting,
             begin: _,
+            second,
             ticks,
             silent_until,
             moment,
@@ -87,6 +90,7 @@ impl Drop for Queue {
         drop(socket);
         drop(watched);
         drop(waiting);
+        drop(second);
         drop(ticks);
         drop(silent_until);
         drop(moment);
@@ -130,6 +134,7 @@ impl Queue {
             watched,
             waiting: AtomicU64::new(0),
             begin,
+            second: AtomicU64::new(0),
             ticks: AtomicU64::new(0),
             silent_until: AtomicU64::new(0),
             moment: AtomicU64::new(0),
@@ -212,22 +217,23 @@ impl Queue {
         }
     }
 
-    /// The seconds since the queue was opened, where a second passed that was told to nobody, and
-    /// no wait has failed of late. They are told to one caller.
+    /// How many seconds were told with this one, where a second passed that was told to nobody, and
+    /// no wait has failed of late. Each is told to one caller. Those in which nobody asked are told
+    /// as one: else who waits would be ended for seconds in which nobody could have heard it.
     pub(crate) fn tick<R: rt::Clock>(&self, rt: &R) -> Option<u64> {
         let now = self.milliseconds(rt)?;
         if now < self.silent_until.load(Ordering::SeqCst) {
             return None;
         }
-        let seconds = now / 1_000;
-        let told = self.ticks.load(Ordering::SeqCst);
-        if seconds <= told {
+        let second = now / 1_000;
+        let last = self.second.load(Ordering::SeqCst);
+        if second <= last {
             return None;
         }
-        self.ticks
-            .compare_exchange(told, seconds, Ordering::SeqCst, Ordering::SeqCst)
+        self.second
+            .compare_exchange(last, second, Ordering::SeqCst, Ordering::SeqCst)
             .ok()?;
-        Some(seconds)
+        Some(self.ticks.fetch_add(1, Ordering::SeqCst).saturating_add(1))
     }
 
     /// The milliseconds since the queue was opened, where the clock can be read.

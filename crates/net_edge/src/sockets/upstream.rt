@@ -101,8 +101,8 @@ impl Upstream {
     }
 
     /// Ends the connection at once, and gives its socket for the next one where it can be connected
-    /// again. All requests that it carried were answered.
-    pub(crate) fn dissolve(self) -> Option<DialSocket> {
+    /// again. What was sent has arrived, or is not wanted.
+    fn dissolve(self) -> Option<DialSocket> {
         let socket = self.socket;
         if socket.dissolve() {
             return Some(socket);
