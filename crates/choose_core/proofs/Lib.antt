@@ -2,7 +2,6 @@ pub mod Branches
 pub mod Drawing
 pub mod Equals
 pub mod Finding
-pub mod Keeping
 pub mod Nearing
 pub mod Passing
 pub mod Telling

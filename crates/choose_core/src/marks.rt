@@ -3,7 +3,6 @@ ghost use Rattle.std.specs.Prelude.{◌≡◌, ◌<◌, ◌≤◌, true, false, 
 ghost use Rattle.std.specs.Prelude.{if◌then◌else◌};
 ghost use Rattle.std.specs.FinMap as fin;
 ghost use Rattle.addr_book.specs.declared.addr.Addr.{Addr};
-ghost use Rattle.addr_book.specs.AddrList.{has_addr};
 ghost use Rattle.addr_book.specs.Book.{is_used};
 ghost use Rattle.choose_core.specs.declared.mark.Limits.{Limits};
 ghost use Rattle.choose_core.specs.Mark.{is_dead_mark, marked};
@@ -12,7 +11,7 @@ ghost use Rattle.choose_core.specs.Marks.{no_marks, mark_at, with_mark};
 use crate::Mem;
 use crate::mark::{Limits, Mark};
 use crate::marked::{Marked, search, search_near, set_nowhere, set_there};
-use addr_book::{Addr, Book, Weighted};
+use addr_book::{Addr, Book};
 use std::alloc::Global;
 use std::marker::Model;
 
@@ -150,33 +149,6 @@ impl Marks {
         ensures { self.new ≡ fin.retain_keys self.old (is_used book.now.services) }
     {
         self.items.retain(|marked| book.slot(marked.addr).is_some());
-    }
-
-    /// Does what [`keep`](Marks::keep) does, where each marked address that may have left the book
-    /// is among these: as after a change of one service, with the addresses that it had before.
-    ///
-    /// It takes no memory. It looks these addresses up among the marks, and those that are marked
-    /// in the book, however many others are marked.
-    pub fn keep_after(&mut self, left: &[Weighted], book: &Book)
-        requires { (addr : Addr) → fin.contains_key self.old addr ≡ true
-            → has_addr left.now addr ≡ false → is_used book.now.services addr ≡ true }
-        ensures { self.new ≡ fin.retain_keys self.old (is_used book.now.services) }
-    {
-        for item in left {
-            self.keep_one(item.addr, book);
-        }
-    }
-
-    /// Drops the mark of an address that no service of the book has.
-    fn keep_one(&mut self, addr: Addr, book: &Book)
-        ensures { self.new ≡ (if is_used book.now.services addr then self.old
-            else fin.remove self.old addr) }
-    {
-        if let Ok(at) = search(self.items.as_slice(), addr) {
-            if book.slot(addr).is_none() {
-                set_there(&mut self.items, at, addr, Mark::NONE);
-            }
-        }
     }
 
     /// Gives an address a mark.

@@ -1,5 +1,5 @@
-//! Tests of heads and bodies, of the replies that the router writes itself, and of its
-//! configuration.
+//! Tests of heads and bodies, of how a request is named and goes on, of the replies that the router
+//! writes itself, and of its configuration.
 #![tactic(auto)]
 
 #[cfg(test)]
