@@ -24,8 +24,8 @@ ghost use Rattle.proxy_session.specs.Laws.{StaysAreBounded, StaysComeLater, Stay
 /// In a request, as [`Server::proxy_once`](crate::Server::proxy_once) has one, the dialer does so
 /// at most once more than the request is tried again. In a stay of a connection over the bytes of a
 /// client, as [`Server::serve_stay`](crate::Server::serve_stay) has one, it does so for each
-/// request in turn. Their heads stand in these bytes, as the rule has them heard, each at the
-/// beginning of what the request before it left. It does nothing else that its log shows.
+/// request in turn. Their heads stand in these bytes, one behind the other, and each goes on as the
+/// rule has it heard. It does nothing else that its log shows.
 pub fn heads_that_go_on_are_read_back()
     ensures heads { HeadsReadBack }
     ensures exchanges { ExchangesReadBack }
