@@ -10,8 +10,9 @@ pub enum Event<P> {
     ///
     /// The number may be wrong or late: whoever is told it looks whether somebody waits under it.
     Ready(u64),
-    /// So many seconds have passed since the listeners were made. Of the listeners of an address
-    /// one tells each second, while one of them is asked.
+    /// So many seconds were told since the listeners were made, with this one. Of the listeners of
+    /// an address one tells each second that passes while one of them is asked; those in which none
+    /// is are told as one.
     Tick(u64),
     /// The listener is closed.
     Closed,
