@@ -8,11 +8,13 @@ use Rattle.std.specs.Io.KnownBytes.{Appends}
 use Rattle.http_wire.specs.declared.frames.Framing.{Framing}
 use Rattle.http_wire.specs.declared.head.ReplyHead.{ReplyHead}
 use Rattle.body_wire.specs.declared.end.BodyEnd.{BodyEnd}
-use Rattle.body_wire.specs.Passing.{EndsPieces, PassesOn, form_of, most_passed}
+use Rattle.body_wire.specs.Bodies.{IsUnfinished}
+use Rattle.body_wire.specs.Passing.{EndsPieces, IsFrontOf, PassesOn, form_of, most_passed}
 use Rattle.follow_feed.specs.declared.feed.Feed.{Feed}
 use Rattle.follow_feed.specs.declared.polling.PollEnd.{PollEnd}
 use Rattle.follow_feed.specs.Feeds.{FeedValue}
-use Rattle.follow_feed.specs.Polling.{IsFeedHead, IsSent, SaysBehind, end_of_body, given}
+use Rattle.follow_feed.specs.Polling.{IsFeedHead, IsSent, IsShort, SaysBehind, end_of_body}
+use Rattle.follow_feed.specs.Polling.{given}
 use Rattle.follow_feed.specs.Reading.{Reads, feed_in}
 
 -- the body came whole, and was gathered
@@ -59,7 +61,6 @@ whole_body head n m before kept kept_after sent start gathered pieces result goo
     }))
     by (Err PollEnd.OutOfMemory) h = tt
 
--- or it did not
 -- the same where it is known how the reply's body ended
 pub whole_body_by : (head : ReplyHead) (n m : ℕ)
     (before kept kept_after sent start gathered : List ℕ) (pieces : List (List ℕ))
@@ -76,6 +77,20 @@ whole_body_by head n m before kept kept_after sent start gathered pieces result 
     whole_body head n m before kept kept_after sent start gathered pieces result good none count
     whole fresh gives reads
 
+-- or it has not come whole
+short_body : (head : ReplyHead) (n count : ℕ) (kept kept_after taken passed : List ℕ)
+    (pieces : List (List ℕ)) → IsFeedHead head n → kept ++ concat pieces ≡ taken ++ kept_after
+    → IsUnfinished (Framing.Length n) (form_of false) most_passed taken passed count kept_after
+    → IsShort head (kept ++ concat pieces)
+short_body head n count kept kept_after taken passed pieces good bytes open_ =
+    let few = open_.1 in
+    let nothing : length kept_after ≡ 0 = ap length open_.2 in
+    let total = open_.0.total in
+    let size : length (kept ++ concat pieces) ≡ length taken + length kept_after =
+    ap length bytes ∙ length-append taken kept_after in
+    record { count = n; good = good; short = omega (arith, few, nothing, total, size) }
+
+-- or its passing ended so
 pub cut_body : (head : ReplyHead) (n : ℕ) (before kept kept_after sent : List ℕ)
     (pieces : List (List ℕ)) (end : BodyEnd)
     → IsFeedHead head n
@@ -87,17 +102,11 @@ pub cut_body : (head : ReplyHead) (n : ℕ) (before kept kept_after sent : List 
 cut_body head n before kept kept_after sent pieces (BodyEnd.BadChunk m) good counted passes ends =
     absurd passes.ends.1
 cut_body head n before kept kept_after sent pieces BodyEnd.Cut good counted passes ends =
-    let few = passes.ends.1.1 in
-    let nothing : length kept_after ≡ 0 = ap length passes.ends.1.2 in
-    let total = passes.ends.1.0.total in
-    let size : length (kept ++ concat pieces) ≡ length passes.taken + length kept_after =
-    ap length passes.bytes ∙ length-append passes.taken kept_after in
-    inr (inr (record {
-      count = n;
-      good = good;
-      short = omega (arith, few, nothing, total, size);
-      ended = ends refl;
-    }))
+    inr (inr (
+      ends refl,
+      short_body head n counted kept kept_after passes.taken passes.passed pieces
+          good passes.bytes passes.ends.1,
+    ))
 cut_body head n before kept kept_after sent pieces BodyEnd.TooLong good counted passes ends =
     let long = passes.ends.0 in
     let short = good.short in
@@ -105,7 +114,9 @@ cut_body head n before kept kept_after sent pieces BodyEnd.TooLong good counted 
 cut_body head n before kept kept_after sent pieces BodyEnd.ReadFault good counted passes ends = tt
 cut_body head n before kept kept_after sent pieces BodyEnd.WriteFault good counted passes ends = tt
 cut_body head n before kept kept_after sent pieces BodyEnd.SendFault good counted passes ends = tt
-cut_body head n before kept kept_after sent pieces BodyEnd.RecvFault good counted passes ends = tt
+cut_body head n before kept kept_after sent pieces BodyEnd.RecvFault good counted passes ends =
+    short_body head n counted kept kept_after passes.taken passes.passed pieces good passes.bytes
+    passes.ends
 cut_body head n before kept kept_after sent pieces BodyEnd.OutOfMemory good counted passes ends = tt
 
 -- the same where it is known how the reply's body ended
@@ -141,6 +152,19 @@ whole_request_by request kept kept_after sent pieces count n end is passes =
     let whole = subst (λ (e : Result ℕ BodyEnd). PassesOn Framing.Nothing (form_of true)
     most_passed request kept pieces sent kept_after count e) is passes in
     whole_request request kept kept_after sent pieces count n whole
+
+-- or a front of it did, where a send failed
+pub cut_request_by : (request kept kept_after sent : List ℕ) (pieces : List (List ℕ))
+    (count : ℕ) (end : Result ℕ BodyEnd) (why : BodyEnd) → end ≡ Err why → why ≡ BodyEnd.SendFault
+    → PassesOn Framing.Nothing (form_of true) most_passed request kept pieces sent kept_after count
+    end
+    → IsFrontOf request sent
+cut_request_by request kept kept_after sent pieces count end why is failed passes =
+    let cut = subst (λ (e : Result ℕ BodyEnd). PassesOn Framing.Nothing (form_of true)
+    most_passed request kept pieces sent kept_after count e)
+    (is ∙ ap (λ (e : BodyEnd). Err e) failed) passes in
+    subst (λ (l : List ℕ). IsFrontOf l sent)
+    (ap (λ l. request ++ l) (cut.ends.0.same ∙ cut.ends.1) ∙ append-nil request) cut.sends
 
 pub sent_whole : (request sent : List ℕ) (result : Result FeedValue PollEnd) → sent ≡ request
     → IsSent request sent result

@@ -1,10 +1,11 @@
 -- What polls come to, one after another.
 use Rattle.std.proofs.Common.{◌≡◌, ℕ, ◌+◌, ◌≤◌, length, List, [], ◌∷◌, ◌++◌, Option, Some, Result}
 use Rattle.std.proofs.Common.{Ok, Err, Bool, true, false, refl, sym, ap, ◌∙◌, subst, arith}
-use Rattle.std.proofs.Common.{append_assoc, length-append}
-use Rattle.std.specs.Prelude.{if◌then◌else◌}
+use Rattle.std.proofs.Common.{append-nil, append_assoc, inl, inr, length-append}
+use Rattle.std.specs.Prelude.{if◌then◌else◌, All}
 use Rattle.std.specs.Io.KnownBytes.{Appends}
 use Rattle.std.proofs.KnownBytes.{Appends-trans}
+use Rattle.std.proofs.lemmas.List.Elements.{All-push}
 use Rattle.std.proofs.lemmas.List.Sums.{fold-append}
 use Rattle.addr_book.specs.declared.addr.Addr.{Addr}
 use Rattle.body_wire.specs.Passing.{IsFrontOf}
@@ -18,8 +19,9 @@ use Rattle.follow_feed.specs.declared.polling.PollEnd.{PollEnd}
 use Rattle.follow_feed.specs.Feeds.{FeedValue}
 use Rattle.follow_feed.specs.Following.{is_news, taken, taken_as}
 use Rattle.follow_feed.specs.Lines.{feed_line, total_line}
-use Rattle.follow_feed.specs.Progress.{IsTurn, IsWritten, Polled, Progress, Takes, Tells}
-use Rattle.follow_feed.specs.Progress.{after_poll, begun, one_more, progress_of, told_of, with_feed}
+use Rattle.follow_feed.specs.Progress.{AreLines, IsMade, IsTurn, IsWritten, Polled}
+use Rattle.follow_feed.specs.Progress.{Progress, Takes, Tells, after_poll, begun, one_more}
+use Rattle.follow_feed.specs.Progress.{progress_of, told_of, with_feed}
 
 -- what some polls came to, by its parts
 abbrev pub parts : Option FeedValue → ℕ → ℕ → List ℕ → Progress
@@ -64,20 +66,23 @@ newer_takes held held_now newer lost f r wrote result told is now written = by r
 
     by : (x : Result (Unit {0}) FollowEnd) → IsWritten (feed_line f) wrote x
         → Takes (parts held newer lost) (parts held_now (newer + 1) lost) (Ok f) wrote x
-    by (Ok done) w = λ text.
-        (ap (λ (h : Option FeedValue). parts h (newer + 1) lost (text ++ wrote))
-        (newer_held held held_now f r told is now)
-        ∙ ap (λ l. parts (Some f) (newer + 1) lost (text ++ l)) w)
-        ∙ sym (with_newer held newer lost f text new)
+    by (Ok done) w = (
+      tt,
+      λ text.
+          (ap (λ (h : Option FeedValue). parts h (newer + 1) lost (text ++ wrote))
+          (newer_held held held_now f r told is now)
+          ∙ ap (λ l. parts (Some f) (newer + 1) lost (text ++ l)) w)
+          ∙ sym (with_newer held newer lost f text new),
+    )
     by (Err Done) w = absurd w
-    by (Err WriteFault) w = λ text.
-        subst (λ (p : Progress). IsFrontOf p.text (text ++ wrote))
-        (sym (with_newer held newer lost f text new))
-        (front_behind text (feed_line f) wrote w)
-    by (Err OutOfMemory) w = λ text.
-        subst (λ (p : Progress). IsFrontOf p.text (text ++ wrote))
-        (sym (with_newer held newer lost f text new))
-        (front_behind text (feed_line f) wrote w)
+    by (Err WriteFault) w = (
+      tt,
+      λ text.
+          subst (λ (p : Progress). IsFrontOf p.text (text ++ wrote))
+          (sym (with_newer held newer lost f text new))
+          (front_behind text (feed_line f) wrote w),
+    )
+    by (Err OutOfMemory) w = w
 
 -- ---- turns
 
@@ -85,7 +90,8 @@ module _ (leader : Addr) (space : List ℕ) (first dialer dialer_now : Upstream)
     (start held held_now : Option (List ℕ))
     (polled : List (Result FeedValue PollEnd)) (wrote : List ℕ) (old new : List ℕ → Progress)
     (chain : Polled leader space first polled dialer) (given : Appends start held wrote)
-    (stands : old wrote ≡ progress_of polled) where
+    (made : All IsMade polled) (stands : old wrote ≡ progress_of polled)
+    (lines : wrote ≡ (progress_of polled).text) where
   progress_more : (gave : Result FeedValue PollEnd) → after_poll (old wrote) gave
       ≡ progress_of (polled ++ gave ∷ [])
   progress_more gave =
@@ -97,25 +103,26 @@ module _ (leader : Addr) (space : List ℕ) (first dialer dialer_now : Upstream)
       → Polled leader space first (polled ++ t.gave ∷ []) dialer_now
       × Appends start held_now (wrote ++ t.wrote)
       × (length (polled ++ t.gave ∷ []) ≡ length polled + 1)
+      × All IsMade (polled ++ t.gave ∷ [])
       × (new (wrote ++ t.wrote) ≡ progress_of (polled ++ t.gave ∷ []))
   turned t = (
     one_more polled dialer dialer_now t.gave chain t.polls t.faults,
     Appends-trans start held held_now wrote t.wrote given t.given,
     length-append polled (t.gave ∷ []),
-    t.takes wrote ∙ progress_more t.gave,
+    All-push IsMade polled t.gave made t.takes.0,
+    t.takes.1 wrote ∙ progress_more t.gave,
   )
 
-  front_told : (polls : ℕ) (gave : Result FeedValue PollEnd) (sent : List ℕ)
-      → IsFrontOf (after_poll (old wrote) gave).text (wrote ++ sent)
-      → IsFrontOf (told_of polls (progress_of (polled ++ gave ∷ []))) (wrote ++ sent)
-  front_told polls gave sent (rest, same) =
-      let p : Progress = progress_of (polled ++ gave ∷ []) in
-      let all : (wrote ++ sent) ++ rest ≡ p.text =
-      same ∙ ap (λ (q : Progress). q.text) (progress_more gave) in (
-        rest ++ total_line polls p.newer p.lost,
-        sym (append_assoc (wrote ++ sent) rest (total_line polls p.newer p.lost))
-            ∙ ap (λ l. l ++ total_line polls p.newer p.lost) all,
-      )
+  -- of one more poll nothing is told
+  all_but_last : (gave : Result FeedValue PollEnd) → AreLines (polled ++ gave ∷ []) wrote
+  all_but_last gave = record {
+    told = polled;
+    last = gave ∷ [];
+    cut = refl;
+    one = omega arith;
+    made = made;
+    are = lines;
+  }
 
   -- or it was the last
   pub ended : (polls : ℕ) (end : FollowEnd) → length polled + 1 ≤ polls
@@ -137,25 +144,61 @@ module _ (leader : Addr) (space : List ℕ) (first dialer dialer_now : Upstream)
       by : (e : FollowEnd) → Takes old new t.gave t.wrote (Err e)
           → Tells polls (polled ++ t.gave ∷ []) (wrote ++ t.wrote) e
       by Done takes = absurd takes
-      by WriteFault takes = (short, front_told polls t.gave t.wrote (takes wrote))
-      by OutOfMemory takes = (short, front_told polls t.gave t.wrote (takes wrote))
+      by WriteFault takes = record {
+        made = All-push IsMade polled t.gave made takes.0;
+        lines = wrote;
+        part = t.wrote;
+        whole = all_but_last t.gave;
+        are = refl;
+        next =
+            inl (
+              short,
+              subst (λ (p : Progress). IsFrontOf p.text (wrote ++ t.wrote)) (progress_more t.gave)
+                  (takes.1 wrote),
+            );
+      }
+      by OutOfMemory takes = (
+        short,
+        subst (AreLines (polled ++ t.gave ∷ []))
+            (sym (append-nil wrote) ∙ ap (λ l. wrote ++ l) (sym takes)) (all_but_last t.gave),
+      )
 
 -- all polls were made, and the last line was written, or a front of it
 module _ (polls newer lost : ℕ) (held : Option FeedValue) (polled : List (Result FeedValue PollEnd))
     (wrote sent : List ℕ)
-    (count : length polled ≡ polls) (stands : parts held newer lost wrote ≡ progress_of polled)
+    (count : length polled ≡ polls) (made : All IsMade polled)
+    (stands : parts held newer lost wrote ≡ progress_of polled)
   where
     pub told_all : sent ≡ total_line polls newer lost → Tells polls polled (wrote ++ sent) Done
-    told_all is = (count, ap (λ l. wrote ++ l) is ∙ ap (told_of polls) stands)
+    told_all is = ((count, made), ap (λ l. wrote ++ l) is ∙ ap (told_of polls) stands)
 
-    all_front : IsFrontOf (total_line polls newer lost) sent
-        → IsFrontOf (told_of polls (progress_of polled)) (wrote ++ sent)
-    all_front f =
-        subst (λ (p : Progress). IsFrontOf (told_of polls p) (wrote ++ sent)) stands
-        (front_behind wrote (total_line polls newer lost) sent f)
+    all_lines : AreLines polled wrote
+    all_lines = record {
+      told = polled;
+      last = [];
+      cut = sym (append-nil polled);
+      one = omega arith;
+      made = made;
+      are = ap (λ (p : Progress). p.text) stands;
+    }
 
     pub told_front : (end : FollowEnd) → IsWritten (total_line polls newer lost) sent (Err end)
         → Tells polls polled (wrote ++ sent) end
     told_front Done w = absurd w
-    told_front WriteFault w = (omega (arith, count), all_front w)
-    told_front OutOfMemory w = (omega (arith, count), all_front w)
+    told_front WriteFault w = record {
+      made = made;
+      lines = wrote;
+      part = sent;
+      whole = all_lines;
+      are = refl;
+      next =
+          inr (
+            count,
+            subst (λ (p : Progress). IsFrontOf (told_of polls p) (wrote ++ sent)) stands
+                (front_behind wrote (total_line polls newer lost) sent w),
+          );
+    }
+    told_front OutOfMemory w = (
+      omega (arith, count),
+      subst (AreLines polled) (sym (append-nil wrote) ∙ ap (λ l. wrote ++ l) (sym w)) all_lines,
+    )

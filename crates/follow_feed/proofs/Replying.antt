@@ -5,7 +5,9 @@ use Rattle.std.proofs.Common.{arith, append-nil, append_assoc, length-append, le
 use Rattle.std.specs.List.{concat}
 use Rattle.std.proofs.lemmas.List.{drop-append-le}
 use Rattle.std.proofs.lemmas.List.Folds.{concat-append}
-use Rattle.httparse.specs.Grammar.{print_response}
+use Rattle.httparse.specs.Ascii.{space}
+use Rattle.httparse.specs.Grammar.{ResponseHead, print_blank, print_end, print_reason}
+use Rattle.httparse.specs.Grammar.{print_response, print_section, print_version}
 use Rattle.http_wire.specs.declared.frames.Framing.{Framing}
 use Rattle.http_wire.specs.declared.frames.FramingFault.{FramingFault}
 use Rattle.http_wire.specs.declared.head.ReplyHead.{ReplyHead}
@@ -34,6 +36,27 @@ head_within bytes head len begins =
     let few : length (take most bytes) ≤ length bytes = omega (arith, length-take most bytes) in
     let long = begins.long in
     omega (arith, whole, few, long)
+
+-- and it has some
+some_bytes : (h : ResponseHead) → 1 ≤ length (print_response h)
+unfolding print_response
+some_bytes h =
+    let line = print_blank h.blank ++ print_version h.minor ++ space ∷ h.digits in
+    omega (
+      arith,
+      length-append (line ++ print_reason h.reason ++ print_end h.line_end)
+          (print_section h.fields h.last),
+      length-append (line ++ print_reason h.reason) (print_end h.line_end),
+      length-append line (print_reason h.reason),
+      length-append (print_blank h.blank ++ print_version h.minor) (space ∷ h.digits),
+    )
+
+-- so that no bytes are no feed
+pub nothing_got : HasNoFeed []
+nothing_got = λ feed h.
+    let within = head_within [] h.head h.len h.begins in
+    let long = h.begins.long in
+    absurd (omega (arith, within, long, some_bytes h.begins.parts))
 
 drop_front : (n : ℕ) (xs ys : List ℕ) → n ≤ length xs → drop n (xs ++ ys) ≡ drop n xs ++ ys
 drop_front n xs ys within = drop-append-le n xs ys within
@@ -159,8 +182,8 @@ module _ (bytes : List ℕ) (head : ReplyHead) (len : ℕ) (kept : List ℕ) (go
       (f.found_whole.long ∙ count) says.whole.long ((sym f.found_whole.cut ∙ rest) ∙ ours) in
       none_is_some (feed_in f.found_body) feed (ap feed_in same ∙ says.says) f.found_says
 
-  ended_short : IsShort head (kept ++ concat got) got → HasNoFeed (bytes ++ concat got)
-  ended_short short = λ feed h.
+  not_short : IsShort head (kept ++ concat got) → HasNoFeed (bytes ++ concat got)
+  not_short short = λ feed h.
       let f = found (bytes ++ concat got) head len feed h (begins (concat got)) in
       let rest : drop len (bytes ++ concat got) ≡ kept ++ concat got = behind (concat got) in
       let count : f.found_count ≡ short.count =
@@ -181,20 +204,20 @@ module _ (bytes : List ℕ) (head : ReplyHead) (len : ℕ) (kept : List ℕ) (go
   says_all (Ok feed) says pieces same =
       subst (λ (l : List ℕ). BeginsWithFeed l feed) (joins pieces same)
       (begins_with bytes head len kept got feed begins is here says)
-  says_all (Err PollEnd.Lost) says pieces same = tt
+  says_all (Err PollEnd.Lost) short pieces same =
+      subst HasNoFeed (joins pieces same) (not_short short)
   says_all (Err PollEnd.OutOfMemory) says pieces same = tt
   says_all (Err PollEnd.Strange) (inl other) pieces same =
       inl (subst (λ (l : List ℕ). Whatever HasNoFeed l) (joins pieces same) (never_by_head other))
   says_all (Err PollEnd.Strange) (inr (inl nothing)) pieces same =
       inl (subst (λ (l : List ℕ). Whatever HasNoFeed l) (joins pieces same) (never_by_body nothing))
-  says_all (Err PollEnd.Strange) (inr (inr short)) pieces same =
+  says_all (Err PollEnd.Strange) (inr (inr (end, short))) pieces same =
       inr (
         (
-          pieces ++ short.ended.0,
-          ap (λ l. pieces ++ l) short.ended.1
-              ∙ sym (append_assoc pieces short.ended.0 ([] ∷ [])),
+          pieces ++ end.0,
+          ap (λ l. pieces ++ l) end.1 ∙ sym (append_assoc pieces end.0 ([] ∷ [])),
         ),
-        subst HasNoFeed (joins pieces same) (ended_short short),
+        subst HasNoFeed (joins pieces same) (not_short short),
       )
 
 -- a head was received, and what stands behind it says this
@@ -230,5 +253,5 @@ says_end left pieces kept kept_after end none answers says =
     by HeadEnd.Bad a s = inl (never_bad (concat pieces) a.0)
     by HeadEnd.Version a s = absurd a
     by HeadEnd.TooLarge a s = inl (never_large (concat pieces) a.0)
-    by HeadEnd.ReadFault a s = tt
+    by HeadEnd.ReadFault a s = not_unfinished (concat pieces) a.0
     by HeadEnd.OutOfMemory a s = tt

@@ -75,7 +75,7 @@ IsStrange got = Whatever HasNoFeed (concat got) ⊎ (EndsAtEnd got × HasNoFeed 
 -- what was got says this
 abbrev pub Says : List (List ℕ) → Result FeedValue PollEnd → Type 0
 Says got (Ok feed) = BeginsWithFeed (concat got) feed
-Says got (Err Lost) = Unit {0}
+Says got (Err Lost) = HasNoFeed (concat got)
 Says got (Err Strange) = IsStrange got
 Says got (Err OutOfMemory) = Unit {0}
 
@@ -140,23 +140,22 @@ pub record SaysNothing (head : ReplyHead) (bytes : List ℕ) : Type 0 where
   pub whole : IsBody bytes body count
   pub says : feed_in body ≡ None
 
--- it ended early
-pub record IsShort (head : ReplyHead) (bytes : List ℕ) (got : List (List ℕ)) : Type 0 where
+-- it has not come whole
+pub record IsShort (head : ReplyHead) (bytes : List ℕ) : Type 0 where
   pub count : ℕ
   pub good : IsFeedHead head count
   pub short : length bytes < count
-  pub ended : EndsAtEnd got
 
--- the head is not that of a good reply, or the body is strange
+-- the head is not that of a good reply, or the body says nothing or ended early
 abbrev pub IsStrangeBody : ReplyHead → List ℕ → List (List ℕ) → Type 0
 IsStrangeBody head bytes got =
     ((count : ℕ) → IsFeedHead head count → ⊥)
-    ⊎ (SaysNothing head bytes ⊎ IsShort head bytes got)
+    ⊎ (SaysNothing head bytes ⊎ (EndsAtEnd got × IsShort head bytes))
 
 -- what the body says
 abbrev pub SaysBehind : ReplyHead → List ℕ → List (List ℕ) → Result FeedValue PollEnd → Type 0
 SaysBehind head kept got (Ok feed) = SaysBody head (kept ++ concat got) feed
-SaysBehind head kept got (Err Lost) = Unit {0}
+SaysBehind head kept got (Err Lost) = IsShort head (kept ++ concat got)
 SaysBehind head kept got (Err Strange) = IsStrangeBody head (kept ++ concat got) got
 SaysBehind head kept got (Err OutOfMemory) = Unit {0}
 

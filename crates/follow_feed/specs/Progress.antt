@@ -1,6 +1,6 @@
 -- What polls come to, one after another.
-use Rattle.std.specs.Prelude.{◌≡◌, ℕ, ◌+◌, ◌≤◌, if◌then◌else◌, List, [], ◌∷◌, ◌++◌, length, fold}
-use Rattle.std.specs.Prelude.{Option, Some, None, Result, Ok, Err}
+use Rattle.std.specs.Prelude.{◌≡◌, ◌⊎◌, ℕ, ◌+◌, ◌≤◌, if◌then◌else◌, List, [], ◌∷◌, ◌++◌, length}
+use Rattle.std.specs.Prelude.{All, fold, Option, Some, None, Result, Ok, Err}
 use Rattle.std.specs.Io.KnownBytes.{Appends}
 use Rattle.addr_book.specs.declared.addr.Addr.{Addr}
 use Rattle.body_wire.specs.Passing.{IsFrontOf}
@@ -62,38 +62,71 @@ pub data Polled (leader : Addr) (space : List ℕ) (old : Upstream)
       → Polls leader space mid new gave → new.faults ≡ faults_after mid.faults gave
       → Polled leader space old (polled ++ gave ∷ []) new
 
--- what was written, at each end: all, where all polls were made; else a front of what is told of
--- those that were made
+-- a poll was made, whatever it gave: memory was not wanting for it
+abbrev pub IsMade : Result FeedValue PollEnd → Type 0
+IsMade (Ok f) = Unit {0}
+IsMade (Err PollEnd.Lost) = Unit {0}
+IsMade (Err PollEnd.Strange) = Unit {0}
+IsMade (Err PollEnd.OutOfMemory) = ⊥
+
+-- so many polls, and each of them was made
+abbrev pub AreAllMade : ℕ → List (Result FeedValue PollEnd) → Type 0
+AreAllMade polls polled = (length polled ≡ polls) × All IsMade polled
+
+-- whole lines: those of all of these polls, or of all but the last. Each poll of which they tell
+-- was made
+pub record AreLines (polled : List (Result FeedValue PollEnd)) (lines : List ℕ) : Type 0 where
+  pub told : List (Result FeedValue PollEnd)
+  pub last : List (Result FeedValue PollEnd)
+  pub cut : polled ≡ told ++ last
+  pub one : length last ≤ 1
+  pub made : All IsMade told
+  pub are : lines ≡ (progress_of told).text
+
+-- behind such lines stands a front of the next one: of the last poll's, or, where all polls were
+-- made, of the count's
+pub record CutsLine (polls : ℕ) (polled : List (Result FeedValue PollEnd)) (wrote : List ℕ) : Type 0
+  where
+    pub made : All IsMade polled
+    pub lines : List ℕ
+    pub part : List ℕ
+    pub whole : AreLines polled lines
+    pub are : wrote ≡ lines ++ part
+    pub next :
+        ((length polled ≤ polls) × IsFrontOf (progress_of polled).text wrote)
+        ⊎ ((length polled ≡ polls) × IsFrontOf (told_of polls (progress_of polled)) wrote)
+
+-- what was written, at each end: all, where all polls were made; else whole lines of those that
+-- were made, and behind them, where a write failed, a front of one more
 abbrev pub Tells : ℕ → List (Result FeedValue PollEnd) → List ℕ → FollowEnd → Type 0
 Tells polls polled wrote Done =
-    (length polled ≡ polls) × (wrote ≡ told_of polls (progress_of polled))
-Tells polls polled wrote WriteFault =
-    (length polled ≤ polls) × IsFrontOf (told_of polls (progress_of polled)) wrote
-Tells polls polled wrote OutOfMemory =
-    (length polled ≤ polls) × IsFrontOf (told_of polls (progress_of polled)) wrote
+    AreAllMade polls polled × (wrote ≡ told_of polls (progress_of polled))
+Tells polls polled wrote WriteFault = CutsLine polls polled wrote
+Tells polls polled wrote OutOfMemory = (length polled ≤ polls) × AreLines polled wrote
 
 -- what a follower's polls came to, behind these lines
 abbrev pub progress_in : Following → List ℕ → Progress
 progress_in f text =
     record { held = held_in f.follower; newer = f.newer; lost = f.lost; text = text }
 
--- all of a line was written, or a front of it
+-- all of a line was written; a front of it, where a write failed; or nothing, where memory was
+-- wanting
 abbrev pub IsWritten : List ℕ → List ℕ → Result (Unit {0}) FollowEnd → Type 0
 IsWritten line wrote (Ok done) = wrote ≡ line
 IsWritten line wrote (Err Done) = ⊥
 IsWritten line wrote (Err WriteFault) = IsFrontOf line wrote
-IsWritten line wrote (Err OutOfMemory) = IsFrontOf line wrote
+IsWritten line wrote (Err OutOfMemory) = wrote ≡ []
 
--- what a poll gave was taken, behind any lines, and its line was written, or a front of it
+-- what a poll gave was taken, behind any lines: it was made, and all of its line was written, or a
+-- front of it; or memory was wanting, for the poll or its line, and nothing was written
 abbrev pub Takes : (List ℕ → Progress) → (List ℕ → Progress) → Result FeedValue PollEnd → List ℕ
     → Result (Unit {0}) FollowEnd → Type 0
 Takes old new gave wrote (Ok done) =
-    (text : List ℕ) → new (text ++ wrote) ≡ after_poll (old text) gave
+    IsMade gave × ((text : List ℕ) → new (text ++ wrote) ≡ after_poll (old text) gave)
 Takes old new gave wrote (Err Done) = ⊥
 Takes old new gave wrote (Err WriteFault) =
-    (text : List ℕ) → IsFrontOf (after_poll (old text) gave).text (text ++ wrote)
-Takes old new gave wrote (Err OutOfMemory) =
-    (text : List ℕ) → IsFrontOf (after_poll (old text) gave).text (text ++ wrote)
+    IsMade gave × ((text : List ℕ) → IsFrontOf (after_poll (old text) gave).text (text ++ wrote))
+Takes old new gave wrote (Err OutOfMemory) = wrote ≡ []
 
 -- a sink's count of faults behind a call that ends so
 abbrev pub faults_behind : ℕ → FollowEnd → ℕ

@@ -164,7 +164,8 @@ fn follow_once<D: Dialer, K: Sink>(
 /// that gave no feed.
 ///
 /// # Errors
-/// See [`FollowEnd`]. What was written then is a front of what the polls that were made come to.
+/// See [`FollowEnd`]. What was written then are the lines of all polls that were made, or of all
+/// but the last: whole lines, and at `WriteFault` a front of the next one behind them.
 pub fn follow_all<D: Dialer, K: Sink>(
     alloc: Global,
     dialer: &mut D,

@@ -19,11 +19,15 @@
 //! said of a place of a router's history stands for good ([`feeds_stay`]). After any feeds, in any
 //! order and with any repeats, a follower holds the one with the greatest run and place; where one
 //! leader said them, and no two of its runs have one number, its table is the one that the leader
-//! had at the run and place that are named ([`Follower::take`], [`greatest_feed_is_held`]). A poll
-//! gives a feed exactly as the bytes that came begin with a good reply that says it; it is lost
-//! only where a call of the dialer failed, and strange only where these bytes begin with no good
-//! reply, whatever follows, or ended before they did (`specs/Polling.antt`). The lines that are
-//! written are those of the feeds that the polls gave, in order (`specs/Progress.antt`).
+//! had at the run and place that are named ([`Follower::take`], [`greatest_feed_is_held`]). Where
+//! there is memory, a poll gives a feed exactly as the bytes that came begin with a good reply that
+//! says it; it is lost only where a call of the dialer failed before they did, and strange only
+//! where these bytes begin with no good reply, whatever follows, or ended before they did
+//! (`specs/Polling.antt`). At [`FollowEnd::Done`] as many polls were made as were asked for, memory
+//! was wanting for none, and the lines that are written are those of the feeds that they gave, in
+//! order. At the other ends they are the lines of all polls that were made, or of all but the last,
+//! each of them whole; where a write failed, a front of the next one stands behind them
+//! (`specs/Progress.antt`).
 //!
 //! That a poll arrives is not promised, nor that what is held is the newest that the leader has.
 //! Its tests are `follow_feed_tests`, and `api_tests`' module `feed`.

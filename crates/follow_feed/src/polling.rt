@@ -76,8 +76,8 @@ impl PollEnd {
 /// the dialer keeps is as it was.
 ///
 /// # Errors
-/// [`PollEnd::Lost`] where a call of the dialer failed, [`PollEnd::Strange`] where what came is no
-/// good reply, and [`PollEnd::OutOfMemory`].
+/// [`PollEnd::Lost`] where a call of the dialer failed before a good reply had come,
+/// [`PollEnd::Strange`] where what came is no good reply, and [`PollEnd::OutOfMemory`].
 pub fn poll<D: Dialer>(
     alloc: Global,
     dialer: &mut D,

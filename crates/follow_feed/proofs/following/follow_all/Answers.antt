@@ -1,8 +1,9 @@
 use Rattle.std.proofs.Common.{◌≡◌, ◌++◌, ◌∷◌, [], length, refl, ap, ◌∙◌, arith}
 use Rattle.std.proofs.KnownBytes.{Appends-nil, Appends-trans}
+use Rattle.std.proofs.lemmas.List.Elements.{All-nil}
 use Rattle.follow_feed.specs.Following.{held_in}
 use Rattle.follow_feed.specs.Lines.{total_line}
-use Rattle.follow_feed.specs.Progress.{Progress, none_yet, progress_in}
+use Rattle.follow_feed.specs.Progress.{IsMade, Progress, none_yet, progress_in}
 use Rattle.follow_feed.proofs.Progressing.{ended, told_all, told_front, turned}
 use Rattle.follow_feed.proofs.following.follow_all.Goals as goal
 
@@ -18,6 +19,7 @@ polls-init g c =
       chain = none_yet;
       given = Appends-nil (g.K.Sink.output c.args.out.now).held;
       count = refl;
+      made = All-nil IsMade;
       stands = c.start-following.ensures;
       few_newer = omega (arith, newer);
       few_lost = omega (arith, lost);
@@ -30,7 +32,7 @@ polls-preserved g c =
     let t = c.in-Ok.ensures.turn in
     let m = turned c.args.leader c.args.space.now _ _ _ _ _ _ i.polled i.wrote
     (progress_in c.polls.following) (progress_in c.follow_once.new.following) i.chain i.given
-    i.stands t in
+    i.made i.stands (ap (λ (p : Progress). p.text) i.stands) t in
     let count = i.count in
     let more_newer = c.in-Ok.ensures.newer in
     let few_newer = i.few_newer in
@@ -42,7 +44,8 @@ polls-preserved g c =
       chain = m.0;
       given = m.1;
       count = omega (arith, m.2, count);
-      stands = m.3;
+      made = m.3;
+      stands = m.4;
       few_newer = omega (arith, more_newer, few_newer);
       few_lost = omega (arith, more_lost, few_lost);
       faults = c.in-Ok.ensures.faults ∙ i.faults;
@@ -55,7 +58,7 @@ returns-in-Err-clause-follows g c =
     let more = c.polls-test.true in
     ended c.args.leader c.args.space.now _ _ _ _ _ _ i.polled i.wrote
     (progress_in c.polls.following) (progress_in c.follow_once.new.following) i.chain i.given
-    i.stands
+    i.made i.stands (ap (λ (p : Progress). p.text) i.stands)
     c.args.polls c.in-Err.end (omega (arith, count, more)) c.in-Err.ensures.turn
 
 pub returns-in-Ok-write_line-clause-follows : goal.returns-in-Ok-write_line-clause-follows
@@ -72,7 +75,7 @@ returns-in-Ok-write_line-clause-follows g c =
       i.chain,
       Appends-trans _ _ _ i.wrote w.0 i.given w.1,
       told_all c.args.polls c.polls.following.newer c.polls.following.lost
-          (held_in c.polls.following.follower) i.polled i.wrote w.0 all i.stands w.2,
+          (held_in c.polls.following.follower) i.polled i.wrote w.0 all i.made i.stands w.2,
     )
 
 pub returns-clause-follows : goal.returns-clause-follows
@@ -89,6 +92,6 @@ returns-clause-follows g c =
       i.chain,
       Appends-trans _ _ _ i.wrote w.0 i.given w.1,
       told_front c.args.polls c.polls.following.newer c.polls.following.lost
-          (held_in c.polls.following.follower) i.polled i.wrote w.0 all i.stands
+          (held_in c.polls.following.follower) i.polled i.wrote w.0 all i.made i.stands
           c.in-Err-write_line.end w.2,
     )
