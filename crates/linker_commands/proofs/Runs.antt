@@ -64,7 +64,7 @@ begins_nothing too_long = refl
 begins_nothing (line_told good line) = refl
 begins_nothing no_memory = refl
 begins_nothing (served lines finish) = refl
-begins_nothing (followed all lines) = tt
+begins_nothing (followed all lines) = refl
 
 -- memory was wanting before anything was written
 pub tells_memory_first : (course : Course) (result : ExitStatus) (old new : Output)

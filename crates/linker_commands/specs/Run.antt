@@ -59,7 +59,8 @@ pub data Course : Type 0 where
   no_memory : Course
   -- a router was to serve: these lines tell of it, and how it ended
   served : List ℕ → Finish → Course
-  -- a leader was polled, and these lines tell of it, of all polls or of those that could be made
+  -- a leader was polled, and these lines tell of it: of all polls, or of those before memory was
+  -- wanting
   followed : Bool → List ℕ → Course
 
 -- what a course writes, and the status that it ends with
@@ -199,7 +200,7 @@ AppendsFront old new bytes =
     (front : List ℕ) × (rest : List ℕ) × (bytes ≡ front ++ rest) × Appends old new front
 
 -- what a course may have written where memory is then wanting: of a script the whole replies to its
--- first lines, each of them good; of polls any front of what tells of them; and else nothing
+-- first lines, each of them good; and else nothing
 abbrev pub Begins : Course → List ℕ → Type 0
 Begins (script_read script) front =
     (count : ℕ) × (played opening 1 (take count (lines_of script)) ≡ (front, true))
@@ -209,7 +210,7 @@ Begins too_long front = front ≡ []
 Begins (line_told good line) front = front ≡ []
 Begins no_memory front = front ≡ []
 Begins (served lines finish) front = front ≡ []
-Begins (followed all lines) front = Unit {0}
+Begins (followed all lines) front = front ≡ []
 
 -- the bytes are such a front of what the course writes, and then the line that tells that memory is
 -- wanting
