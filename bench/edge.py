@@ -14,16 +14,23 @@ usage: bench/edge.py [PROGRAM] [--slow]
   and those that have waited longest are ended.
 - More connections to the interfaces than these have workers, which are kept: each is answered, more
   than once, and the shutdown doesn't wait for them.
-- With `--slow`, for a minute: a client that asks for nothing, one that does not read its reply, and
-  a replica that neither reads nor answers. Each is given up after 60 seconds and a few more; so is
-  a client that falls silent in the middle of a request.
 - Accepts that fail for want of a descriptor: a client that came meanwhile is served once there is
   one.
 
+With `--slow`, which takes four minutes, also:
+
+- A client that asks for nothing, one that does not read its reply, and a replica that neither reads
+  nor answers. Each is given up after 60 seconds and a few more; so is a client that falls silent in
+  the middle of a request.
+- A replica that answers no dial, since its queue is full: it is given up after ten seconds.
+- A replica that falls silent behind a request over a kept connection: it is sent no second one.
+- A program that is stopped for 66 seconds (SIGSTOP) and goes on: clients that waited have their
+  next requests answered, also one that came meanwhile.
+
 The script ends with 0 where nothing was wrong.
 """
-import contextlib, http.client, json, os, re, resource, socket, subprocess, sys, tempfile
-import threading, time
+import contextlib, http.client, json, os, re, resource, signal, socket, subprocess, sys, tempfile
+import threading, time, types
 
 ROOT = os.path.dirname(os.path.dirname(os.path.abspath(__file__)))
 SLOW = "--slow" in sys.argv[1:]
@@ -403,6 +410,94 @@ def accepts_that_fail():
     check("accepts that fail for want of a descriptor", reply[9:12] == b"502", f"{reply[:40]}")
 
 
+def unanswered_dial():
+    """A dial that the replica's kernel does not answer is given up after ten seconds."""
+    listener = socket.create_server(("127.0.0.1", 0), backlog=0)
+    replica = types.SimpleNamespace(port=listener.getsockname()[1])
+    # One of these takes the only place of the queue, and no other is let in.
+    waiting = [socket.socket() for _ in range(4)]
+    for one in waiting:
+        one.setblocking(False)
+        one.connect_ex(listener.getsockname())
+    time.sleep(0.5)
+    with listener, proxy({"web": replica}, 2) as program, connect(program) as client:
+        begin = time.monotonic()
+        client.sendall(request("web"))
+        reply = read_all(client)
+        took = time.monotonic() - begin
+    for one in waiting:
+        one.close()
+    check(f"a dial that is not answered: {reply[9:12]} after {took:.2f} s",
+          reply.startswith(b"HTTP/1.1 502") and reply.endswith(b"\r\n\r\ndial\n")
+          and 9 <= took <= 12)
+
+
+def silent_behind_a_kept_connection():
+    """A request that a replica does not answer over a kept connection is sent to it once."""
+    heads = []
+
+    def serve(connection):
+        for _ in range(2):
+            head, _ = read_head(connection)
+            heads.append((head.split(b" ")[1], connection.getpeername()))
+            if b"/silent" in head:
+                time.sleep(80)
+            connection.sendall(HEAD_OF_202)
+
+    keys = {"client": {"hostConnectionPool": {}}}
+    with proxy({"web": Replica(serve)}, 1, keys=keys) as program, connect(program) as client:
+        client.sendall(request("web", close=False))
+        first, _ = read_head(client)
+        begin = time.monotonic()
+        client.sendall(request("web").replace(b"/", b"/silent", 1))
+        reply = read_all(client)
+        took = time.monotonic() - begin
+    targets = [target for target, _ in heads]
+    check(f"a replica that is silent behind a kept connection: {targets} over "
+          f"{len({peer for _, peer in heads})} connection, {reply[9:12]} after {took:.0f} s",
+          first.startswith(b"HTTP/1.1 202") and targets == [b"/", b"/silent"]
+          and heads[0][1] == heads[1][1] and reply.startswith(b"HTTP/1.1 50") and 58 <= took <= 66)
+
+
+def stopped_program():
+    """Clients that wait while the program is stopped are answered once it goes on."""
+    def serve(connection):
+        read_head(connection)
+        connection.sendall(HEAD_OF_202)
+
+    def status(ask):
+        try:
+            return ask()[9:12]
+        except OSError as error:
+            return type(error).__name__
+
+    def ask(client):
+        client.sendall(request("web", close=False))
+
+    statuses = []
+    with proxy({"web": Replica(serve)}, 2) as program:
+        clients = [connect(program) for _ in range(4)]
+        for client in clients:
+            ask(client)
+            read_head(client)
+        time.sleep(1)
+        os.kill(program.pid, signal.SIGSTOP)
+        time.sleep(66)
+        ask(clients[0])
+        ask(clients[1])
+        os.kill(program.pid, signal.SIGCONT)
+        statuses += [status(lambda: read_head(client)[0]) for client in clients[:2]]
+        time.sleep(2)
+        for client in clients[2:]:
+            with contextlib.suppress(OSError):
+                ask(client)
+            statuses.append(status(lambda: read_head(client)[0]))
+        for client in clients:
+            client.close()
+    check(f"clients of a program that was stopped for 66 s: {statuses}",
+          statuses == [b"202"] * 4 and program.returncode == 0)
+
+
 def main():
     early_reply(200_000)
     early_reply(3_500_000)
@@ -415,6 +510,9 @@ def main():
     accepts_that_fail()
     if SLOW:
         waits()
+        unanswered_dial()
+        silent_behind_a_kept_connection()
+        stopped_program()
     sys.exit(f"wrong: {faults}" if faults else 0)
 
 

@@ -6,9 +6,10 @@ replica that fails after a second:
 
 - without `routers[0].retries`, the replica's socket is closed: some requests are 502 `dial`;
 - with it, the same: none is;
-- with it, and so that no replica ever counts as dead, the replica accepts and says nothing. Each
-  try can be counted then: the tries beyond the first of each request are at most what the budgets
-  of the connections allow, `reserve + percent * requests / 100` for each.
+- with it, and so that no replica ever counts as dead, the replica ends each connection that it
+  accepts, without a word. Each try can be counted then: the tries beyond the first of each request
+  are at most what the budgets of the connections allow, `reserve + percent * requests / 100` for
+  each.
 
 The script ends with 0 where all of that holds.
 """
@@ -123,7 +124,7 @@ async def main():
         expect(f"{name}: how many fail", ({*said} == {good}) is bool(retries))
     said, asked, tries, status = await round_of(key, 1000, mute)
     most = CLIENTS * RESERVE + PERCENT * asked // 100
-    print(f"a replica accepts and says nothing: {told(said)}; "
+    print(f"a replica ends each connection without a word: {told(said)}; "
           f"{asked} requests, {tries - asked} retries, {most} at most", flush=True)
     expect(f"retries: {tries - asked} of {most}, status {status}",
            0 < tries - asked <= most and status == 0)
