@@ -1,9 +1,11 @@
 //! Connections over loopback: what is sent arrives, and what is cut is a fault.
 ghost use Rattle.std.specs.Prelude.{IfOk, IsSome};
 
-use line_base::{Clock, ConnectionPool, Dialer, Event, Failed, Listener, Net, Next, Peer, Stop};
+use line_base::{
+    Clock, ConnectionPool, Dialer, Event, Failed, Listener, Mem, Net, Next, Peer, Stop,
+};
 use net_edge::{SocketNet, SystemClock};
-use std::alloc::AllocGlobal;
+use std::alloc::{AllocGlobal, Global};
 use std::io::{self, Read, Write};
 use std::net::{self, Ipv4Addr, SocketAddr, SocketAddrV4, TcpListener, TcpStream};
 use std::test::Fail;
@@ -62,16 +64,49 @@ fn next_client<L: Listener>(listener: &mut L) -> Option<L::P> {
     None
 }
 
-/// Reads to the end, a little at a time, and counts the bytes; none where a read fails.
-fn count_slowly<R: rt::Clock>(rt: &R, stream: &mut TcpStream) -> usize {
-    let mut piece = [0u8; 16_384];
-    let mut count = 0usize;
-    for _ in 0..100_000 {
-        match stream.read(&mut piece) {
-            Ok(0) => return count,
-            Ok(more) => count = count.saturating_add(more),
-            Err(_) => return 0,
+/// The byte at a place of what is sent. It tells the place: so a piece that is doubled, left out or
+/// moved is seen.
+fn byte_at(place: usize) -> u8 {
+    (place % 251) as u8
+}
+
+/// So many bytes, each of which tells its place.
+fn telling(alloc: Global, count: usize) -> Mem<Vec<u8>> {
+    let mut bytes = Vec::new(alloc);
+    for place in 0..count {
+        bytes.push(byte_at(place))?;
+    }
+    Ok(bytes)
+}
+
+/// Whether these bytes are those that are sent from this place on.
+fn are_from(bytes: &[u8], place: usize) -> bool {
+    let mut next = place;
+    for byte in bytes {
+        if *byte != byte_at(next) {
+            return false;
         }
+        next = next.wrapping_add(1);
+    }
+    true
+}
+
+/// Reads to the end, a little at a time, from this place on, and gives the place of the end; 0
+/// where a read fails, or where these are not the bytes that were sent.
+fn end_place<R: rt::Clock>(rt: &R, stream: &mut TcpStream, from: usize) -> usize {
+    let mut piece = [0u8; 16_384];
+    let mut place = from;
+    for _ in 0..100_000 {
+        let Ok(count) = stream.read(&mut piece) else {
+            return 0;
+        };
+        if count == 0 {
+            return place;
+        }
+        if !are_from(&piece[..count], place) {
+            return 0;
+        }
+        place = place.saturating_add(count);
         thread::sleep(rt, Duration::from_millis(1));
     }
     0
@@ -97,16 +132,17 @@ fn say_all<L: Listener>(listener: &mut L, bytes: &[u8]) -> bool {
     rest.is_empty()
 }
 
-/// Says many bytes to a client that reads slowly. Gives whether all were taken, and how many came.
+/// Says many bytes to a client that reads slowly. Gives whether all were taken, and how many came
+/// as they were said.
 fn written<R: Threads + Sync + rt::Clock + AllocGlobal, L: Listener>(
     rt: &R,
     listener: &mut L,
     client: &mut TcpStream,
 ) -> Result<(bool, usize), Fail> {
-    let bytes = Vec::from_elem(rt.alloc(), 7u8, MANY)?;
+    let bytes = telling(rt.alloc(), MANY)?;
     let (count, is_taken) = thread::join(
         rt,
-        || count_slowly(rt, client),
+        || end_place(rt, client, 0),
         || say_all(listener, bytes.as_slice()),
     );
     drop(bytes);
@@ -136,7 +172,7 @@ where
     told
 }
 
-/// A client that reads slowly gets all that was written for it.
+/// A client that reads slowly gets all that was written for it, in order.
 #[test]
 fn what_is_written_arrives(rt: HostRuntime) -> Result<(), Fail> {
     let mut net = SocketNet::of(&rt)?;
@@ -146,7 +182,8 @@ fn what_is_written_arrives(rt: HostRuntime) -> Result<(), Fail> {
     Ok(())
 }
 
-/// Answers a client behind the first of its bytes, and counts slowly what it says.
+/// Answers a client behind the first of its bytes, and reads slowly what it says. Gives how many
+/// bytes came as they were sent.
 fn answer_early<R: rt::Clock>(rt: &R, listener: &TcpListener) -> usize {
     let Ok((mut stream, _)) = listener.accept() else {
         return 0;
@@ -156,7 +193,10 @@ fn answer_early<R: rt::Clock>(rt: &R, listener: &TcpListener) -> usize {
         return 0;
     };
     let _ = stream.write(b"early");
-    count_slowly(rt, &mut stream).saturating_add(count)
+    if !are_from(&first[..count], 0) {
+        return 0;
+    }
+    end_place(rt, &mut stream, count)
 }
 
 /// How many bytes a connection took in one send, and how many came back, before it was ended.
@@ -195,7 +235,7 @@ fn sent_twice<R: Threads + Sync + rt::Clock + AllocGlobal, D: Dialer + Send>(
     replica: &TcpListener,
 ) -> Result<[([Moved; 2], usize); 2], Fail> {
     let port = replica.local_addr()?.port();
-    let bytes = Vec::from_elem(rt.alloc(), 7u8, MANY)?;
+    let bytes = telling(rt.alloc(), MANY)?;
     let first = sent(rt, dialer, replica, port, bytes.as_slice());
     let second = sent(rt, dialer, replica, port, bytes.as_slice());
     drop(bytes);
@@ -219,8 +259,8 @@ where
     told
 }
 
-/// A replica that answers early and reads on slowly gets all that was sent. Then the dialer's next
-/// connection is as good.
+/// A replica that answers early and reads on slowly gets all that was sent, in order. Then the
+/// dialer's next connection is as good.
 #[test]
 fn what_is_sent_arrives(rt: HostRuntime) -> Result<(), Fail> {
     let mut net = SocketNet::of(&rt)?;
@@ -239,7 +279,7 @@ fn replied<R: Threads + AllocGlobal, L: Listener, D: Dialer + Send>(
     dialer: &mut D,
     port: u16,
 ) -> Result<(bool, [Moved; 2]), Fail> {
-    let bytes = Vec::from_elem(rt.alloc(), 7u8, 5 * MANY)?;
+    let bytes = telling(rt.alloc(), 5 * MANY)?;
     let (ends, is_taken) = thread::join(
         rt,
         || exchange(dialer, port, bytes.as_slice()),
@@ -276,12 +316,12 @@ fn a_reply_behind_an_unread_body_arrives(rt: HostRuntime) -> Result<(), Fail> {
     Ok(())
 }
 
-/// What two reads of a client's body give, where the client says four bytes and then resets the
-/// connection: it ends it with a byte unread.
+/// What two reads of a client's body give, and two writes behind them, where the client says four
+/// bytes and then resets the connection: it ends it with a byte unread.
 fn read_cut<L: Listener>(
     listener: &mut L,
     client: io::Result<TcpStream>,
-) -> io::Result<[Moved; 2]> {
+) -> io::Result<[Moved; 4]> {
     let mut client = client?;
     client.write(b"body")?;
     let Some(peer) = next_client(listener) else {
@@ -294,9 +334,11 @@ fn read_cut<L: Listener>(
     let waited = client.peek(&mut piece);
     drop(client);
     let then = peer.read(&mut piece);
+    let behind = peer.write(b"y");
+    let last = peer.write(b"z");
     listener.finish(peer);
     waited?;
-    Ok([first, then])
+    Ok([first, then, behind, last])
 }
 
 /// The connection that a dialer opens to a replica at this address, as the replica accepts it; and
@@ -312,9 +354,10 @@ fn dialed<D: Dialer>(dialer: &mut D, ip: u32, replica: &TcpListener) -> io::Resu
     Ok((stream, port))
 }
 
-/// What two receives of a reply give, where the replica, which is at another address, says four
-/// bytes and then resets the connection: it ends it with a request unread.
-fn receive_cut<D: Dialer>(dialer: &mut D, replica: &TcpListener) -> io::Result<[Moved; 2]> {
+/// What two receives of a reply give, and two sends behind them, where the replica, which is at
+/// another address, says four bytes and then resets the connection: it ends it with a request
+/// unread.
+fn receive_cut<D: Dialer>(dialer: &mut D, replica: &TcpListener) -> io::Result<[Moved; 4]> {
     let (mut stream, _) = dialed(dialer, OTHER, replica)?;
     let mut piece = [0u8; 8];
     let _ = dialer.send(b"ping");
@@ -323,13 +366,16 @@ fn receive_cut<D: Dialer>(dialer: &mut D, replica: &TcpListener) -> io::Result<[
     let first = dialer.recv(&mut piece);
     drop(stream);
     let then = dialer.recv(&mut piece);
+    let behind = dialer.send(b"ping");
+    let last = dialer.send(b"ping");
     dialer.hang();
     waited?;
-    Ok([first, then])
+    Ok([first, then, behind, last])
 }
 
-/// Both over this net: what two reads of the body give, and two receives of the reply.
-fn cut_over<N: Net>(rt: &HostRuntime, net: &mut N) -> Result<[[Moved; 2]; 2], Fail> {
+/// Both over this net: what two reads of the body give and two writes behind them, and two receives
+/// of the reply and two sends behind them.
+fn cut_over<N: Net>(rt: &HostRuntime, net: &mut N) -> Result<[[Moved; 4]; 2], Fail> {
     let (mut listener, port) = listener_of(net, TcpListener::bind(rt, at(LOOPBACK, 0)))?;
     let body = read_cut(&mut listener, TcpStream::connect(rt, at(LOOPBACK, port)));
     drop(listener);
@@ -342,13 +388,15 @@ fn cut_over<N: Net>(rt: &HostRuntime, net: &mut N) -> Result<[[Moved; 2]; 2], Fa
     Ok([body, reply?])
 }
 
-/// A reset in the middle of a body is a fault, and no end.
+/// A reset in the middle of a body is a fault, and no end. What is written behind it is a fault
+/// too, each time.
 #[test]
 fn resets_are_faults(rt: HostRuntime) -> Result<(), Fail> {
     let mut net = SocketNet::of(&rt)?;
     let told = cut_over(&rt, &mut net);
     drop(net);
-    assert_eq!(rt; told?, [[Ok(4), Err(Failed)], [Ok(4), Err(Failed)]]);
+    let each = [Ok(4), Err(Failed), Err(Failed), Err(Failed)];
+    assert_eq!(rt; told?, [each, each]);
     Ok(())
 }
 
