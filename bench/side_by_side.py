@@ -15,6 +15,9 @@ Task = collections.namedtuple("Task", "waits_for size call")
 # How a task of the longest chain is run, and how those beside it are, by `nice`.
 FIRST, BESIDE = 0, 10
 
+# In how many seconds a check reads one of the libraries below.
+SECONDS_A_LIBRARY = 2
+
 # How many lines of code of a crate are proved in a second, where nothing better is known.
 LINES_A_SECOND = 10
 
@@ -132,17 +135,29 @@ class Commands:
                 command.terminate()
 
 
+def gains(tasks, key):
+    """Whether a task is done sooner with several processors. A check with more than one reads the libraries below twice, one time after the other: to see what
+    there is to prove, and then on each of its processors."""
+    below, found = set(), [key]
+    while found:
+        fresh = [other for other in tasks[found.pop()].waits_for if other not in below]
+        below.update(fresh)
+        found += fresh
+    reading = SECONDS_A_LIBRARY * len(below)
+    return tasks[key].size - reading > 2 * reading
+
+
 def in_lanes(tasks, lanes, commands):
     """Does tasks side by side on so many processors, and gives for each whether it went well. `tasks`
     has them by their keys, each behind those that it waits for.
 
     The one with the longest chain of others behind it comes first, since the whole takes no less
     time than that chain: it may use two processors, before all others, and up to four where no
-    other task can use them. (It has no more while others wait, since a check reads the libraries
+    other task waits for them. (It has no more while others wait, since a check reads the libraries
     below on each of its processors.) Where it does not use its own, as at the end of a check, when
     its longest proof is left, those beside it do. They are as many as there is memory for. Without
-    one that comes first, processors that no other task can use go to one task. What waits for one
-    that did not go well isn't done.
+    one that comes first, processors that no other task can use go to one task. But a task that
+    would be done no sooner with more has one. What waits for one that did not go well isn't done.
     """
     chain = dict.fromkeys(tasks, 0)
     for key in reversed(list(tasks)):
@@ -165,10 +180,10 @@ def in_lanes(tasks, lanes, commands):
                     if not all(went_well[below] for below in tasks[key].waits_for):
                         went_well[key] = False
                     elif not first and all(chain[key] >= chain[other] for other in others):
-                        jobs = min(most, max(2, lanes - len(ready) + 1 - len(running)))
+                        jobs = min(most, max(2, lanes - len(ready) + 1)) if gains(tasks, key) else 1
                         running[pool.submit(tasks[key].call, jobs, FIRST)] = key, jobs, FIRST
                     elif idle > 0:
-                        jobs = max(1, min(4, idle // (len(ready) - at)))
+                        jobs = max(1, min(4, idle // (len(ready) - at))) if gains(tasks, key) else 1
                         running[pool.submit(tasks[key].call, jobs, BESIDE)] = key, jobs, BESIDE
                     else:
                         continue
