@@ -176,7 +176,7 @@ def main():
     with alone_with(os.path.join(ROOT, "crates.txt")):
         if names == [PROGRAM] and subprocess.run([os.path.join(ROOT, "bench", "is_built")]).returncode == 0:
             return
-        tell("proving and building what is not built yet; all of it takes half an hour or more on four processors")
+        tell("proving and building what is not built yet; all of it takes half an hour to an hour on four processors")
         try:
             build(names)
         except NotBuilt as error:
