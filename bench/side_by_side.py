@@ -136,8 +136,12 @@ class Commands:
 
 
 def gains(tasks, key):
-    """Whether a task is done sooner with several processors. A check with more than one reads the libraries below twice, one time after the other: to see what
-    there is to prove, and then on each of its processors."""
+    """Whether a task is done sooner with several processors.
+
+    A check with more than one reads the libraries below twice, one time after the other: to see what
+    there is to prove, and then on each of its processors. So it has to have more than twice that to
+    do of its own.
+    """
     below, found = set(), [key]
     while found:
         fresh = [other for other in tasks[found.pop()].waits_for if other not in below]
