@@ -1,13 +1,14 @@
 -- What a journal tells of itself, and what makes journals.
 use Rattle.std.specs.Prelude.{◌≡◌, ◌⊎◌, ℕ, ◌+◌, ◌-◌, ◌^◌, max, min, List, [], ◌∷◌, ◌++◌, map}
-use Rattle.std.specs.Prelude.{Option, Some, option_map}
+use Rattle.std.specs.Prelude.{Option, Some, option_map, string_bytes}
 use Rattle.line_log.specs.declared.journal.LineCounts.{LineCounts}
 use Rattle.line_log.specs.declared.memory.MemJournal.{MemJournal}
 use Rattle.line_log.specs.Lines.{texts}
 
--- the lines that a journal holds, where it tells them, and how many it was given that it wrote, and
--- that it lost
+-- the path that a journal is over, the lines that it holds, where it tells them, and how many it was
+-- given that it wrote, and that it lost
 pub record Logged : Type 0 where
+  pub path : List ℕ
   pub lines : Option (List (List ℕ))
   pub written : ℕ
   pub lost : ℕ
@@ -27,12 +28,14 @@ pub record HasNone (log : Logged) : Type 0 where
 
 -- a line was written behind the others
 pub record IsWritten (old : Logged) (line : List ℕ) (new : Logged) : Type 0 where
+  pub path : new.path ≡ old.path
   pub lines : new.lines ≡ option_map (λ (ls : List (List ℕ)). ls ++ line ∷ []) old.lines
   pub written : new.written ≡ one_more old.written
   pub lost : new.lost ≡ old.lost
 
 -- one was lost
 pub record IsLost (old new : Logged) : Type 0 where
+  pub path : new.path ≡ old.path
   pub lines : new.lines ≡ old.lines
   pub written : new.written ≡ old.written
   pub lost : new.lost ≡ one_more old.lost
@@ -47,6 +50,7 @@ with_log closed log = option_map (λ (logs : List Logged). logs ++ log ∷ []) c
 -- a journal in memory
 abbrev pub held : MemJournal → Logged
 held j = record {
+  path = string_bytes j.path;
   lines = Some (texts j.lines.items);
   written = j.counts.written;
   lost = j.counts.lost;

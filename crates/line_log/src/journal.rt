@@ -15,7 +15,8 @@ pub struct LineCounts {
 pub trait Journal {
     ghost use Rattle.line_log.specs.Logged.{IsAppended, IsLost, Logged, counts_in};
 
-    /// What it tells of itself: the lines that it holds, where it tells them, and its counts.
+    /// What it tells of itself: its path, the lines that it holds, where it tells them, and its
+    /// counts.
     ghost log: { Self → Logged };
 
     /// Appends a line, which ends in its line feed, or loses it. The moment of the call, in

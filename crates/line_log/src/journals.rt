@@ -20,6 +20,7 @@ pub trait Journals {
     /// A journal over a path, which was given no line yet. The only error is out of memory: a path
     /// that can't be written shows as lines that are lost.
     fn open(&mut self, alloc: Global, path: &str) -> Mem<Self::J>
+        ensures path { IfOk result (λ journal. (Self.J.log journal).path ≡ path.now) }
         ensures none { IfOk result (λ journal. HasNone (Self.J.log journal)) }
         ensures closed { closed self.new ≡ closed self.old };
 

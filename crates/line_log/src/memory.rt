@@ -11,6 +11,7 @@ use std::alloc::Global;
 /// that it was given.
 pub struct MemJournal {
     alloc: Global,
+    path: String,
     lines: Vec<Vec<u8>>,
     losing: Vec<u64>,
     given: u64,
@@ -21,24 +22,28 @@ impl Drop for MemJournal {
     fn drop(self) {
         let MemJournal {
             alloc: _,
+            path,
             lines,
             losing,
             given: _,
             counts: _,
         } = self;
+        drop(path);
         drop(lines);
         drop(losing);
     }
 }
 
 impl MemJournal {
-    /// A journal with no line yet.
-    pub fn of(alloc: Global, losing: Vec<u64>) -> MemJournal
+    /// A journal over this path, with no line yet.
+    pub fn at(alloc: Global, path: String, losing: Vec<u64>) -> MemJournal
+        ensures path { result.path ≡ path }
         ensures lines { result.lines.items ≡ [] }
         ensures counts { (result.counts.written ≡ 0) × (result.counts.lost ≡ 0) }
     {
         MemJournal {
             alloc,
+            path,
             lines: Vec::new(alloc),
             losing,
             given: 0,
@@ -136,9 +141,10 @@ impl Journals for MemJournals {
 
     ghost closed = { λ js. Some (all_held js.closed.items) };
 
-    fn open(&mut self, alloc: Global, _path: &str) -> Mem<MemJournal> {
+    fn open(&mut self, alloc: Global, path: &str) -> Mem<MemJournal> {
         let losing = Vec::from_slice(alloc, self.losing.as_slice())?;
-        Ok(MemJournal::of(alloc, losing))
+        let path = String::from_str(alloc, path)?;
+        Ok(MemJournal::at(alloc, path, losing))
     }
 
     fn close(&mut self, journal: MemJournal) -> Mem<()> {

@@ -19,15 +19,15 @@ use Rattle.worker_record.specs.Recording.{Steps}
 abbrev pub recording : recorder.Ghosts RecordValue
 recording = record { begins = BeginsExchange; ends = Ends; steps = Steps }
 
--- the log of a worker that has written nothing: there is one where a path is named
+-- the log of a worker that has written nothing: there is one, over the path, where one is named
 abbrev pub IsNewLog : Option (List ℕ) → Option Logged → Type 0
 IsNewLog None None = Unit {0}
 IsNewLog None (Some log) = ⊥
 IsNewLog (Some path) None = ⊥
-IsNewLog (Some path) (Some log) = HasNone log
+IsNewLog (Some path) (Some log) = (log.path ≡ path) × HasNone log
 
 -- a worker that has recorded nothing: its clock is a fork of one with these moments, and it has a
--- log where a path is named
+-- log over the path, where one is named
 pub record IsNewRecord (moments : Option (List ℕ)) (path : Option (List ℕ)) (r : RecordValue)
     : Type 0 where
   pub clock : Option (List ℕ)

@@ -1,5 +1,5 @@
 //! A file that lines are appended to.
-ghost use Rattle.std.specs.Prelude.{◌≤◌, length};
+ghost use Rattle.std.specs.Prelude.{◌≡◌, ◌≤◌, length};
 
 use std::fs::OpenOptions;
 use std::io::Write;
@@ -45,7 +45,9 @@ fn write_prefix<W: Write>(out: &mut W, bytes: &[u8]) -> usize
 
 impl<'a, R: Files> AppendedFile<'a, R> {
     /// The file at this path, which is opened at the first line.
-    pub(crate) fn at(rt: &'a R, path: String) -> AppendedFile<'a, R> {
+    pub(crate) fn at(rt: &'a R, path: String) -> AppendedFile<'a, R>
+        ensures { result.path ≡ path }
+    {
         AppendedFile {
             rt,
             path,
@@ -56,7 +58,9 @@ impl<'a, R: Files> AppendedFile<'a, R> {
     }
 
     /// Opens the path, where that is due. Where it can't be opened, a file that is open stays.
-    fn renew(&mut self, moment: u64) {
+    fn renew(&mut self, moment: u64)
+        ensures { self.new.path ≡ self.old.path }
+    {
         if !is_due(self.tried, moment) {
             return;
         }
@@ -70,7 +74,9 @@ impl<'a, R: Files> AppendedFile<'a, R> {
 
     /// Appends a line, and says whether it was written whole. One that is cut off is ended by the
     /// next, so that it spoils no other.
-    pub(crate) fn append(&mut self, line: &[u8], moment: u64) -> bool {
+    pub(crate) fn append(&mut self, line: &[u8], moment: u64) -> bool
+        ensures { self.new.path ≡ self.old.path }
+    {
         self.renew(moment);
         let Some(file) = &mut self.file else {
             return false;

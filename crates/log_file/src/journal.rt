@@ -6,7 +6,7 @@ use line_log::{Journal, Journals, LineCounts, Mem};
 use std::alloc::Global;
 use std::rt::Files;
 
-/// A journal over the file at a path. It tells its counts, and no line.
+/// A journal over the file at a path. It tells its path and its counts, and no line.
 #[derive(Drop)]
 pub struct FileJournal<'a, R: Files> {
     file: AppendedFile<'a, R>,
@@ -16,7 +16,8 @@ pub struct FileJournal<'a, R: Files> {
 impl<'a, R: Files> FileJournal<'a, R> {
     /// A journal over this path, which was given no line yet. The path is opened at the first.
     pub fn at(rt: &'a R, path: String) -> FileJournal<'a, R>
-        ensures { (result.counts.written ≡ 0) × (result.counts.lost ≡ 0) }
+        ensures path { result.file.path ≡ path }
+        ensures counts { (result.counts.written ≡ 0) × (result.counts.lost ≡ 0) }
     {
         FileJournal {
             file: AppendedFile::at(rt, path),
@@ -29,9 +30,10 @@ impl<'a, R: Files> FileJournal<'a, R> {
 }
 
 impl<R: Files> Journal for FileJournal<'_, R> {
-    ghost use Rattle.std.specs.Prelude.{None};
+    ghost use Rattle.std.specs.Prelude.{None, string_bytes};
 
     ghost log = { λ j. record {
+      path = string_bytes j.file.path;
       lines = None;
       written = j.counts.written;
       lost = j.counts.lost;
