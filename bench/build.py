@@ -8,6 +8,7 @@ usage: bench/build.py              the program
        bench/build.py CRATE ..     these libraries
 """
 import contextlib, fcntl, functools, hashlib, os, shutil, signal, subprocess, sys, threading, time
+from concurrent.futures import ThreadPoolExecutor
 
 from over_crates import ROOT, at_or_below, listed_crates
 from side_by_side import Commands, Task, discard, in_lanes, lay_out, link_tree, processors, work_of
@@ -93,6 +94,8 @@ class Build:
         self.crates = at_or_below(names, self.listed)
         self.sums = Sums(self.listed)
         self.done, self.counting = 0, threading.Lock()
+        # removes the repositories of what is done, each of thousands of files, while the crates above are worked on
+        self.remover = ThreadPoolExecutor(1)
 
     def run(self):
         """Builds all that is not built yet."""
@@ -100,7 +103,8 @@ class Build:
         for crate in self.crates:
             waits_for = [below for below in self.listed[crate].libraries if below in self.listed]
             tasks[crate] = Task(waits_for, work_of(ROOT, crate), functools.partial(self.build, crate))
-        in_lanes(tasks, processors(), self.commands)
+        with self.remover:
+            in_lanes(tasks, processors(), self.commands)
 
     def build(self, crate, jobs, niceness):
         """Builds a crate, unless its library is there."""
@@ -110,7 +114,7 @@ class Build:
             self.furnish(room, crate)
             used = self.prove(room, crate, jobs, niceness)
             self.put_back(room, crate)
-        shutil.rmtree(room, ignore_errors=True)
+        self.remover.submit(shutil.rmtree, room, ignore_errors=True)
         with self.counting:
             self.done += 1
             took = in_minutes(time.monotonic() - start)
