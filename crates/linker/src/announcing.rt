@@ -1,12 +1,12 @@
 //! What the process is asked to do with a file, and what is told on standard error of a router that
 //! serves.
-use crate::warning::Expected;
 use command_lines::{Command, read_words};
 use linker_commands::words_behind_name;
 use net_edge::Refusal;
 use std::alloc::{AllocError, Global};
 use std::env::Args;
 use std::io;
+use warnings::Expected;
 
 /// What the process is asked to do with a file.
 #[derive(Drop)]

@@ -31,22 +31,14 @@ use announcing::{Asked, asked_of, reason};
 use line_base::Sink;
 use linker_commands::{ExitStatus, Outside, run_arguments, tell};
 use log_file::FileJournals;
-use losing::WarningJournals;
 use net_edge::{FileSystem, ReaderSource, SocketNet, SystemClock, WriterSink};
-use pausing::Finish;
-use signal_watch::{StopCell, StoppableNet};
+use signal_watch::{Finish, StopCell, StoppableNet, Watch};
 use std::process::ExitCode;
 use std::sync::atomic::AtomicU64;
 use std::{env, io, thread};
-use warning::WarningFolder;
-use watching::Watch;
+use warnings::{WarningFolder, WarningJournals};
 
 mod announcing;
-mod losing;
-mod notes;
-mod pausing;
-mod warning;
-mod watching;
 
 /// What is written to standard error where the words fit no command.
 const USAGE: &str = "usage: linker replay < SCRIPT
@@ -99,12 +91,12 @@ fn main(rt: HostRuntime) -> ExitCode {
     }
     let serves = matches!(asked, Some(Asked::Serve(_)));
     let watch = if serves {
-        Watch::wanted(&rt, &stops, &finish)
+        Watch::wanted(&mut FileSystem::of(&rt), &stops, &finish)
     } else {
         None
     };
     let watching = match watch {
-        Some(watch) => match thread::spawn(&rt, move || watch.run(&rt)) {
+        Some(watch) => match thread::spawn(&rt, move || watch.run(&rt, &mut FileSystem::of(&rt))) {
             Ok(thread) => Some(thread),
             Err(_) => {
                 let _ = eprintln!(rt; "{UNWATCHED}");

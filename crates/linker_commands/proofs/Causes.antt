@@ -15,7 +15,7 @@ use Rattle.std.specs.declared.marker.Brand.{Brand}
 use Rattle.command_lines.specs.Check.{IsConfig, TellsPath}
 use Rattle.command_lines.specs.Generated.{storm_line, weave_line}
 use Rattle.command_lines.specs.Lint.{TellsTablePath}
-use Rattle.linker_commands.specs.Replay.{replay_of}
+use Rattle.script.specs.Replay.{replay_of}
 use Rattle.line_base.specs.Files.{Filed}
 use Rattle.line_base.specs.Streams.{Input, Output}
 use Rattle.linker_commands.specs.Run.{Course, words_refused, read_failed, too_long, script_read}

@@ -1,5 +1,3 @@
-pub mod Known
-pub mod Plays
 pub mod Runs
 pub mod Courses
 pub mod Causes

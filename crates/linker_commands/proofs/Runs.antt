@@ -12,7 +12,8 @@ use Rattle.line_base.specs.Lines.{Line}
 use Rattle.line_base.specs.declared.socket_address.SocketAddress.{SocketAddress}
 use Rattle.line_base.specs.Files.{Filed}
 use Rattle.line_base.specs.Streams.{Input, Output}
-use Rattle.linker_commands.specs.Run.{AppendsFront, Course, words_refused, read_failed, too_long}
+use Rattle.script.specs.Written.{AppendsFront}
+use Rattle.linker_commands.specs.Run.{Course, words_refused, read_failed, too_long}
 use Rattle.linker_commands.specs.Run.{script_read, line_told, no_memory, served, followed, Begins}
 use Rattle.linker_commands.specs.Linked.{Linked}
 use Rattle.linker_commands.specs.Run.{Takes, EndsCourse, Ran, output_of, status_of}
@@ -20,7 +21,7 @@ use Rattle.linker_commands.specs.Served.{memory_line}
 use Rattle.command_lines.specs.Words.{Asked, replay, check, serve, lint, storm, weave, follow}
 use Rattle.command_lines.specs.Words.{command_of}
 use Rattle.linker_commands.specs.Told.{code_of, Tells}
-use Rattle.linker_commands.proofs.Plays.{front_of, rose_later}
+use Rattle.script.proofs.Plays.{front_of, rose_later}
 
 -- a course that one last line tells of
 pub tells_end : (course : Course) (line : List ℕ) (end result : ExitStatus) (old new : Output)

@@ -32,7 +32,8 @@ use Rattle.linker_commands.specs.declared.run.ExitStatus.{ExitStatus}
 use Rattle.linker_commands.specs.declared.run.ExitStatus.TheVariants as status
 use Rattle.line_base.specs.Files.{Filed}
 use Rattle.line_base.specs.Streams.{Output}
-use Rattle.linker_commands.specs.Run.{AppendsFront, Course, line_told, no_memory, served}
+use Rattle.script.specs.Written.{AppendsFront}
+use Rattle.linker_commands.specs.Run.{Course, line_told, no_memory, served}
 use Rattle.linker_commands.specs.Linked.{Linked}
 use Rattle.linker_commands.specs.Run.{EndsServing, EndsCourse, Serves}
 use Rattle.command_lines.specs.Check.{IsConfig}

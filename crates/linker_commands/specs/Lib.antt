@@ -3,7 +3,6 @@ pub mod Follow
 pub mod Linked
 pub mod Outside
 pub mod Recorded
-pub mod Replay
 pub mod Run
 pub mod Served
 pub mod Told

@@ -1,7 +1,7 @@
 -- What a run of the program does: by its words, by what it reads, and by what becomes of its
 -- writing.
 use Rattle.std.specs.Prelude.{◌≡◌, ◌⊎◌, ℕ, ◌<◌, ◌≤◌, Bool, true, false, nat_le, if◌then◌else◌}
-use Rattle.std.specs.Prelude.{List, [], ◌∷◌, ◌++◌, length, map, take, drop, codes, string_bytes}
+use Rattle.std.specs.Prelude.{List, [], ◌∷◌, ◌++◌, length, map, drop, codes, string_bytes}
 use Rattle.std.specs.Prelude.{String, Option, Some, Result, Ok, Err}
 use Rattle.std.specs.Global.{Global}
 use Rattle.std.specs.Vec.Iter.{into_iter_items}
@@ -17,15 +17,15 @@ use Rattle.line_base.specs.Lines.{Line}
 use Rattle.line_base.specs.declared.socket_address.SocketAddress.{SocketAddress}
 use Rattle.workers.specs.Turns.{raised_by}
 use Rattle.addr_book.specs.declared.addr.Addr.{Addr}
-use Rattle.text_parts.specs.Lines.{lines_of}
-use Rattle.machine.specs.State.{opening}
+use Rattle.script.specs.Played.{BeginsReplay}
+use Rattle.script.specs.Replay.{replay_of}
+use Rattle.script.specs.Written.{AppendsFront}
 use Rattle.linker_config.specs.declared.config.Config.{Config}
 use Rattle.command_lines.specs.Check.{IsConfig, TellsPath}
 use Rattle.linker_commands.specs.Follow.{IsFollowed}
 use Rattle.command_lines.specs.Generated.{storm_line, weave_line}
 use Rattle.linker_commands.specs.Linked.{Linked}
 use Rattle.command_lines.specs.Lint.{TellsTablePath}
-use Rattle.linker_commands.specs.Replay.{played, replay_of}
 use Rattle.linker_commands.specs.Served.{Finish, finish_code}
 use Rattle.linker_commands.specs.Served.{IsRefused, RefusesBook, TellsNet, TellsServing}
 use Rattle.linker_commands.specs.Served.{jobs_in, memory_line}
@@ -194,16 +194,10 @@ module _ {P : Type 0} (line_of : P → Line) (address_of : P → Option SocketAd
       Follows net.state.told leader space polls course × (new_in ≡ old_in)
       × (new_files ≡ old_files) × (net_after ≡ net)
 
--- known bytes grow by a front of these
-abbrev pub AppendsFront : Option (List ℕ) → Option (List ℕ) → List ℕ → Type 0
-AppendsFront old new bytes =
-    (front : List ℕ) × (rest : List ℕ) × (bytes ≡ front ++ rest) × Appends old new front
-
 -- what a course may have written where memory is then wanting: of a script the whole replies to its
 -- first lines, each of them good; and else nothing
 abbrev pub Begins : Course → List ℕ → Type 0
-Begins (script_read script) front =
-    (count : ℕ) × (played opening 1 (take count (lines_of script)) ≡ (front, true))
+Begins (script_read script) front = BeginsReplay script front
 Begins (words_refused place) front = front ≡ []
 Begins read_failed front = front ≡ []
 Begins too_long front = front ≡ []

@@ -2,7 +2,7 @@
 //!
 //! [`linker`] does what the words of a command line say. `replay` reads a script from the input and
 //! carries its lines out on one state of a router: changes of namespaces, services and marks,
-//! looks, and picks; the crate `script` says which lines there are. `check CONFIG` tells whether a
+//! looks, and picks; the crate `script` plays it. `check CONFIG` tells whether a
 //! router's configuration is right, or what its first fault is. `lint FILE` tells which entries of
 //! a table are never asked. `serve CONFIG` serves by it until it is shut down: a router, its
 //! interfaces and its feed, which the crate `serving` runs. `storm N SEED` makes a run of N
@@ -18,10 +18,10 @@
 //! tests are those of `linker_tests`.
 //!
 //! # What is proved
-//! At status 0 the output has grown by the replay of what was read, as `specs/Replay.antt` defines
-//! it over the whole language of scripts, or by the one line of the configuration that was found,
-//! by what is told of a table, or by the line of the generated run, as the specs of `command_lines`
-//! have them, or by the lines that tell where a router served and how many changes there were, as
+//! At status 0 the output has grown by the replay of what was read, as `script` defines it over the
+//! whole language of scripts, or by the one line of the configuration that was found, by what is
+//! told of a table, or by the line of the generated run, as the specs of `command_lines` have them,
+//! or by the lines that tell where a router served and how many changes there were, as
 //! `specs/Served.antt` has them: that router did what `serving` says of a run, with all its
 //! listeners clean and as many connections finished as were accepted; or by the lines that tell
 //! what a leader's feeds came to, as `specs/Follow.antt` says. Each other status has its cause; and
@@ -40,13 +40,10 @@
 
 use std::alloc::AllocError;
 
-mod ends;
 mod follow;
 mod outside;
-mod player;
 mod program;
 mod recording;
-mod reply;
 mod run;
 mod serve;
 mod start;

@@ -10,15 +10,14 @@ ghost use Rattle.linker_commands.specs.Run.{Course, words_refused, script_read, 
 ghost use Rattle.linker_commands.specs.Run.{status_if, Reads, Checks, Makes, EndsCourse};
 ghost use Rattle.linker_commands.specs.Told.{code_of, Tells};
 
-use crate::ends::{ReadEnd, read_all, write_all};
 use crate::follow::follow;
 use crate::outside::Outside;
-use crate::player::{PlayEnd, play};
 use crate::serve::serve;
 use crate::{Bytes, Mem};
 use command_lines::{CheckEnd, Command, Verdict, check, lint, read_words, storm_line, weave_line};
 use line_base::{Clock, Folder, Listener, Net, Sink, Source};
 use line_log::Journals;
+use script::{PlayEnd, ReadEnd, play, read_all, write_all};
 use std::alloc::Global;
 use std::sync::Wait;
 use std::sync::ledger::{Blank, Ledger};

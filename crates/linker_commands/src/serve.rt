@@ -21,7 +21,6 @@ ghost use Rattle.serving.specs.Services.{HaveSeen};
 ghost use Rattle.serving.specs.Returning.{listened};
 ghost use Rattle.serving.specs.Running.{IsReady, Listens, bound_of, passes_of};
 
-use crate::ends::write_all;
 use crate::outside::Outside;
 use crate::recording::{LoggedSite, run_recorded};
 use crate::run::{ExitStatus, tell};
@@ -34,6 +33,7 @@ use line_log::Journals;
 use linker_config::{Config, FeedAt, LoadFault, Loaded, Text, append_port, load_folder};
 use machine::Settings;
 use router::{Opened, open};
+use script::write_all;
 use serving::{Feeding, Policy, RunFault, Served, Serving, Site, StartFault, start};
 use std::alloc::Global;
 use std::marker::Brand;

@@ -1,6 +1,8 @@
 pub mod CommandTexts
 pub mod ItemTexts
+pub mod Known
 pub mod NextWords
+pub mod Plays
 pub mod Tables
 pub mod Turning
 pub mod Walking

@@ -3,9 +3,12 @@ pub mod Command
 pub mod Exact
 pub mod Grammar
 pub mod Line
+pub mod Played
 pub mod Ran
+pub mod Replay
 pub mod Reply
 pub mod Said
 pub mod Storm
 pub mod Turns
 pub mod Words
+pub mod Written

@@ -10,7 +10,8 @@
 //!
 //! A stop belongs to the job of a listener, and comes back with it. The watch has no listener: it
 //! calls a [`RemoteStop`], which finds the stop that a [`StoppableNet`] leaves in a [`StopCell`].
-//! It runs in a thread beside what serves, and ends with it by its pause.
+//! A [`Watch`] runs in a thread beside what serves, and ends with it, by a pause that waits for a
+//! [`Finish`].
 //!
 //! # What is proved
 //! [`asks_to_stop`] and [`holds_stop`] say exactly by `specs/Status.antt` whether a signal that
@@ -26,10 +27,12 @@
 //! # Example
 //! ```
 //! let cell = StopCell::new(alloc)?;
-//! let mut stop = RemoteStop::of(&rt, cell.share()?);
+//! let finish = Finish::awaited(alloc)?;
+//! let watch = Watch::wanted(&mut folder, &cell, &finish)?;
 //! let mut net = StoppableNet::of(&rt, net, cell);
-//! let watching = thread::spawn(&rt, move || watch(&rt, &mut folder, &mut pause, &mut stop))?;
+//! let watching = thread::spawn(&rt, move || watch.run(&rt, &mut folder))?;
 //! serve(&mut net);
+//! finish.come();
 //! match watching.join(&rt)? {
 //!     Watched::Asked => {}  // a signal waited, and the stop was called
 //!     Watched::Over => {}   // nothing is left to stop: it ended for another reason
@@ -38,6 +41,8 @@
 //! ```
 #![tactic(auto)]
 
+mod beside;
+mod finish;
 mod pause;
 mod remote_stop;
 mod status;
@@ -45,6 +50,8 @@ mod stop_cell;
 mod stoppable_net;
 mod watching;
 
+pub use beside::Watch;
+pub use finish::{Finish, FinishPause};
 pub use pause::Pause;
 pub use remote_stop::RemoteStop;
 pub use status::{asks_to_stop, holds_stop};

@@ -5,15 +5,17 @@ ghost use Rattle.machine.specs.Code.{settings_of, state_of};
 ghost use Rattle.machine.specs.State.{opening};
 ghost use Rattle.script.specs.Carried.{script_settings};
 ghost use Rattle.script.specs.Line.{line_value};
-ghost use Rattle.linker_commands.specs.Run.{AppendsFront};
-ghost use Rattle.linker_commands.specs.Told.{Answers, Plays, Finishes, Flushes};
+ghost use Rattle.script.specs.Played.{Answers, Plays, Finishes, Flushes};
+ghost use Rattle.script.specs.Written.{AppendsFront};
 
+use crate::answers::{append_answer, append_bad_line};
+use crate::carried::{carry_out, script_settings};
 use crate::ends::write_all;
-use crate::reply::{append_answer, append_bad_line};
+use crate::line::read_line;
+use crate::words::LineFault;
 use crate::{Bytes, Mem};
 use line_base::{Failed, Sink};
 use machine::{Settings, State};
-use script::{LineFault, carry_out, read_line, script_settings};
 use std::alloc::{AllocError, Global};
 use std::sync::ledger::Ledger;
 use step_count::Steps;
@@ -108,7 +110,7 @@ fn flush<K: Sink>(sink: &mut K, replies: &mut Bytes) -> Result<(), Failed>
 }
 
 /// Carries out the lines of a script in order on a new state, and writes their replies, up to the
-/// first line that is bad.
+/// first line that is bad. Replies are written once 65,536 bytes of them wait, and at the end.
 pub fn play<K: Sink, L: Ledger>(
     alloc: Global,
     script: &[u8],

@@ -1,6 +1,6 @@
 use Rattle.std.proofs.Common.{◌≡◌, ◌-◌, ◌≤◌, length}
 use Rattle.std.specs.Io.KnownBytes.{Consumes}
-use Rattle.linker_commands.proofs.ends.read_all.Given as goal
+use Rattle.script.proofs.ends.read_all.Given as goal
 
 abbrev pub invariant-loop-most : goal.invariant-loop-most
 invariant-loop-most g l = record {

@@ -1,6 +1,6 @@
 use Rattle.std.proofs.Common.{arith, ◌∙◌}
-use Rattle.linker_commands.proofs.Known.{grown, kept_front}
-use Rattle.linker_commands.proofs.ends.write_all.Goals as goal
+use Rattle.script.proofs.Known.{grown, kept_front}
+use Rattle.script.proofs.ends.write_all.Goals as goal
 
 pub loop-at-preserved : goal.loop-at-preserved
 loop-at-preserved g c = record {

@@ -1,8 +1,8 @@
 use Rattle.std.specs.Prelude.{option_map}
 use Rattle.machine.specs.Code.{settings_of, state_of}
 use Rattle.script.specs.Said.{said_of}
-use Rattle.linker_commands.proofs.Plays.{answered}
-use Rattle.linker_commands.proofs.player.answer.Goals as goal
+use Rattle.script.proofs.Plays.{answered}
+use Rattle.script.proofs.player.answer.Goals as goal
 
 pub returns-in_ok-append_answer-in-Ok-clause-ok : goal.returns-in_ok-append_answer-in-Ok-clause-ok
 returns-in_ok-append_answer-in-Ok-clause-ok g c =

@@ -1,10 +1,10 @@
-//! The lines that are written.
+//! The lines that a script is answered with.
 ghost use Rattle.std.specs.Prelude.{◌≡◌, ◌++◌, option_map, OnOk, OnErr};
+ghost use Rattle.script.specs.Replay.{answer_line, bad_line};
 ghost use Rattle.script.specs.Said.{said_of};
-ghost use Rattle.linker_commands.specs.Replay.{answer_line, bad_line};
 
+use crate::reply::{Said, reply_text};
 use crate::{Bytes, Mem};
-use script::{Said, reply_text};
 use std::alloc::Global;
 
 /// Puts the reply line of an answer behind some bytes, if there is an answer. At `Err` they are as
@@ -12,7 +12,7 @@ use std::alloc::Global;
 ///
 /// An answer may be many times as long as its script. So it is taken, and let go of before its text
 /// is copied.
-pub fn append_answer(alloc: Global, said: Option<Said>, out: &mut Bytes) -> Mem<()>
+pub(crate) fn append_answer(alloc: Global, said: Option<Said>, out: &mut Bytes) -> Mem<()>
     ensures ok { OnOk result (out.new.items ≡ out.old.items ++ answer_line
         (option_map said_of said)) }
     ensures err { OnErr result (out.new.items ≡ out.old.items) }
@@ -28,7 +28,7 @@ pub fn append_answer(alloc: Global, said: Option<Said>, out: &mut Bytes) -> Mem<
 }
 
 /// Puts the line that tells of a bad one behind some bytes. At `Err` they are as they were.
-pub fn append_bad_line(alloc: Global, number: u64, out: &mut Bytes) -> Mem<()>
+pub(crate) fn append_bad_line(alloc: Global, number: u64, out: &mut Bytes) -> Mem<()>
     ensures ok { OnOk result (out.new.items ≡ out.old.items ++ bad_line number) }
     ensures err { OnErr result (out.new.items ≡ out.old.items) }
 {

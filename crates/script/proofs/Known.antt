@@ -5,7 +5,7 @@ use Rattle.std.proofs.lemmas.List.{take-append-drop, take_all, length-append, le
 use Rattle.std.specs.Prelude.{Option}
 use Rattle.std.specs.Io.KnownBytes.{Appends, Keeps, Consumes}
 use Rattle.std.proofs.KnownBytes.{Appends-trans, Appends-kept, Consumes-trans}
-use Rattle.linker_commands.specs.Run.{AppendsFront}
+use Rattle.script.specs.Written.{AppendsFront}
 
 -- `&bytes[at..]` is what is behind `at`
 rest_of : (bytes : List ℕ) (at : ℕ) → take (length bytes - at) (drop at bytes) ≡ drop at bytes

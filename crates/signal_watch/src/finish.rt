@@ -1,5 +1,5 @@
-//! The time between two looks for a signal, and what ends the looks.
-use signal_watch::Pause;
+//! What ends the looks of a watch, and the time between two of them.
+use crate::pause::Pause;
 use std::alloc::{AllocError, Global};
 use std::sync::atomic::{AtomicBool, Ordering};
 use std::sync::{Arc, Wait};
@@ -9,7 +9,7 @@ use std::time::Duration;
 /// How long a pause is, in milliseconds: four looks a second.
 const PAUSE_MILLISECONDS: u64 = 250;
 
-/// Whether the program has served to its end. A pause that waits meanwhile ends at once.
+/// Whether what a watch runs beside has come to its end. A pause that waits meanwhile ends at once.
 pub struct Finish {
     state: Arc<FinishState>,
 }
@@ -29,7 +29,7 @@ struct FinishState {
 }
 
 impl Finish {
-    /// It serves still.
+    /// It has not come yet.
     pub fn awaited(alloc: Global) -> Result<Finish, AllocError> {
         let state = FinishState {
             is_over: AtomicBool::new(false),
@@ -47,7 +47,7 @@ impl Finish {
         })
     }
 
-    /// It has served to its end.
+    /// It comes, for all holders.
     pub fn come(&self) {
         self.state.is_over.store(true, Ordering::SeqCst);
         self.state.parker.unpark();
@@ -60,16 +60,16 @@ impl Finish {
     }
 }
 
-/// A pause of the machine, which ends at the program's finish.
-pub struct SystemPause<'a, R> {
+/// A pause of a quarter of a second, which ends at a finish.
+pub struct FinishPause<'a, R> {
     rt: &'a R,
     finish: Finish,
     heard: u64,
 }
 
-impl<R> Drop for SystemPause<'_, R> {
+impl<R> Drop for FinishPause<'_, R> {
     fn drop(self) {
-        let SystemPause {
+        let FinishPause {
             rt: _,
             finish,
             heard: _,
@@ -78,10 +78,10 @@ impl<R> Drop for SystemPause<'_, R> {
     }
 }
 
-impl<'a, R> SystemPause<'a, R> {
-    /// A pause that ends at this finish.
-    pub fn of(rt: &'a R, finish: Finish) -> SystemPause<'a, R> {
-        SystemPause {
+impl<'a, R> FinishPause<'a, R> {
+    /// A pause that ends at this finish. It has not heard of it yet.
+    pub fn of(rt: &'a R, finish: Finish) -> FinishPause<'a, R> {
+        FinishPause {
             rt,
             finish,
             heard: 0,
@@ -89,7 +89,7 @@ impl<'a, R> SystemPause<'a, R> {
     }
 }
 
-impl<R: Wait> Pause for SystemPause<'_, R> {
+impl<R: Wait> Pause for FinishPause<'_, R> {
     ghost heard = { λ p. p.heard };
 
     fn pause(&mut self) -> bool {

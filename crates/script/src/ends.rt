@@ -3,7 +3,7 @@ ghost use Rattle.std.specs.Prelude.{◌≡◌, ◌<◌, ◌≤◌, ◌++◌, Lis
 ghost use Rattle.std.specs.Prelude.{OnErr, Err};
 ghost use Rattle.std.specs.Io.KnownBytes.{Appends, Consumes, IsAtEnd};
 ghost use Rattle.line_base.specs.Counts.{Rose};
-ghost use Rattle.linker_commands.specs.Run.{AppendsFront};
+ghost use Rattle.script.specs.Written.{AppendsFront};
 
 use line_base::{Failed, Sink, Source};
 use std::alloc::Global;

@@ -4,12 +4,12 @@ use Rattle.std.proofs.lemmas.List.{drop_all}
 use Rattle.std.proofs.KnownBytes.{Appends-trans}
 use Rattle.text_parts.specs.Lines.{lines_of}
 use Rattle.machine.specs.Code.{state_of}
-use Rattle.linker_commands.specs.Replay.{replay_of}
-use Rattle.linker_commands.specs.declared.player.PlayEnd.TheVariants.{Done}
-use Rattle.linker_commands.proofs.Plays.{goes_on, stops, plays_stop, plays_short, plays_fault}
-use Rattle.linker_commands.proofs.Plays.{plays_done, at_end, whole_script, begins_so, split_on}
-use Rattle.linker_commands.proofs.Plays.{plays_on}
-use Rattle.linker_commands.proofs.player.play_on.Goals as goal
+use Rattle.script.specs.Replay.{replay_of}
+use Rattle.script.specs.declared.player.PlayEnd.TheVariants.{Done}
+use Rattle.script.proofs.Plays.{goes_on, stops, plays_stop, plays_short, plays_fault}
+use Rattle.script.proofs.Plays.{plays_done, at_end, whole_script, begins_so, split_on}
+use Rattle.script.proofs.Plays.{plays_on}
+use Rattle.script.proofs.player.play_on.Goals as goal
 
 pub loop-at-preserved : goal.loop-at-preserved
 loop-at-preserved g c =

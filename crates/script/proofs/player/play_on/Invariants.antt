@@ -2,8 +2,8 @@ use Rattle.std.proofs.Common.{◌≡◌, ℕ, ◌+◌, ◌-◌, ◌≤◌, List,
 use Rattle.std.specs.Io.KnownBytes.{Appends}
 use Rattle.text_parts.specs.Lines.{lines_of}
 use Rattle.machine.specs.Code.{state_of}
-use Rattle.linker_commands.proofs.Plays.{PlaysSo}
-use Rattle.linker_commands.proofs.player.play_on.Given as goal
+use Rattle.script.proofs.Plays.{PlaysSo}
+use Rattle.script.proofs.player.play_on.Given as goal
 
 abbrev pub invariant-loop-at : goal.invariant-loop-at
 invariant-loop-at g l = record {

@@ -18,15 +18,15 @@ use Rattle.script.specs.Carried.{script_settings, line_answer, line_after}
 use Rattle.script.specs.declared.line.Line as code
 use Rattle.script.specs.declared.line.Line.TheVariants as line
 use Rattle.machine.specs.Values.{SettingsValue}
-use Rattle.linker_commands.specs.Replay.{Played, before, played, line_played, replay_of}
-use Rattle.linker_commands.specs.Replay.{answer_line}
-use Rattle.linker_commands.specs.Run.{AppendsFront, Begins, script_read}
-use Rattle.linker_commands.specs.declared.player.PlayEnd.{PlayEnd}
-use Rattle.linker_commands.specs.declared.player.PlayEnd.TheVariants.{Done, BadLine, WriteFault}
-use Rattle.linker_commands.specs.declared.player.PlayEnd.TheVariants.{OutOfMemory}
-use Rattle.linker_commands.specs.declared.player.Turn.{Turn}
-use Rattle.linker_commands.specs.declared.player.Turn.TheVariants.{Next, Stop}
-use Rattle.linker_commands.specs.Told.{Answers, Plays, Finishes}
+use Rattle.script.specs.Replay.{Played, before, played, line_played, replay_of}
+use Rattle.script.specs.Replay.{answer_line}
+use Rattle.script.specs.Written.{AppendsFront}
+use Rattle.script.specs.declared.player.PlayEnd.{PlayEnd}
+use Rattle.script.specs.declared.player.PlayEnd.TheVariants.{Done, BadLine, WriteFault}
+use Rattle.script.specs.declared.player.PlayEnd.TheVariants.{OutOfMemory}
+use Rattle.script.specs.declared.player.Turn.{Turn}
+use Rattle.script.specs.declared.player.Turn.TheVariants.{Next, Stop}
+use Rattle.script.specs.Played.{Answers, BeginsReplay, Finishes, Plays}
 
 -- a front of what comes next, behind what was written
 pub front_of : (a b c : Option (List ℕ)) (all written bytes rest : List ℕ)
@@ -126,7 +126,7 @@ whole_script script front lines replies state number split so =
 pub begins_so : (script : List ℕ) (front lines : List (List ℕ)) (replies : List ℕ)
     (state : StateValue) (number : ℕ) → lines_of script ≡ front ++ lines
     → PlaysSo front replies state number
-    → Begins (script_read script) replies
+    → BeginsReplay script replies
 begins_so script front lines replies state number split so = (
   length front,
   ap (λ (ls : List (List ℕ)). played opening 1 (take (length front) ls)) split
@@ -176,7 +176,7 @@ module _ (script : List ℕ) (a b c : Option (List ℕ)) (f g : ℕ) (written re
       (λ app. (ap (λ p. p.1) is, subst (Appends a c) (sym (ap (λ p. p.0) is)) app))
 
   pub plays_short : (rest : Played) → replay_of script ≡ before (written ++ replies) rest
-      → Begins (script_read script) (written ++ replies) → Finishes bytes OutOfMemory b c f g result
+      → BeginsReplay script (written ++ replies) → Finishes bytes OutOfMemory b c f g result
       → Plays script a c result
   plays_short rest is begins fin =
       plays_end script OutOfMemory result a b c f g written replies rest.0

@@ -7,7 +7,7 @@ use std::alloc::Global;
 /// Tells what else a table shows: in one line how many entries lead to services, and in a line each
 /// which have a branch of weight 0 and which are the same as a later one. Entries are counted from
 /// 1, as `lint` counts them. Of a text that is no table nothing is told.
-pub fn tell_notes<R: Eprint + AllocGlobal>(rt: &R, text: &[u8]) {
+pub(crate) fn tell_notes<R: Eprint + AllocGlobal>(rt: &R, text: &[u8]) {
     if let Some(notes) = read_notes(rt.alloc(), text) {
         tell_of_services(rt, notes.items());
         for note in notes.items() {

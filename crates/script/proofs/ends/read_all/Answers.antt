@@ -1,6 +1,6 @@
 use Rattle.std.proofs.Common.{arith, ◌++◌, take}
-use Rattle.linker_commands.proofs.Known.{taken_more, long_taken, few_taken}
-use Rattle.linker_commands.proofs.ends.read_all.Goals as goal
+use Rattle.script.proofs.Known.{taken_more, long_taken, few_taken}
+use Rattle.script.proofs.ends.read_all.Goals as goal
 
 pub returns-then-count-most-clause-long : goal.returns-then-count-most-clause-long
 returns-then-count-most-clause-long g c _ = (
