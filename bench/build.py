@@ -1,8 +1,8 @@
 #!/usr/bin/env python3
 """Proves and builds crates and what they stand on, side by side (side_by_side.py), with a line a crate on standard error.
 
-What is made of a crate lies in its `out/` as soon as the crate is done. A build that was interrupted goes on where it was: what its checks had proved of the
-crates that were not done is kept in the folder `.NAME-building` beside the repository, NAME being the repository's.
+What is made of a crate lies in its `out/` as soon as the crate is done: of a library its statements (statements.py), or the whole of it where a check of the crate
+has kept what it proved. A build that was interrupted goes on with the crates that were not done.
 
 usage: bench/build.py              the program
        bench/build.py CRATE ..     these libraries
@@ -11,7 +11,7 @@ import contextlib, fcntl, functools, hashlib, os, shutil, signal, subprocess, sy
 from concurrent.futures import ThreadPoolExecutor
 
 from over_crates import ROOT, at_or_below, listed_crates
-from side_by_side import Commands, Task, discard, in_lanes, lay_out, link_tree, processors, work_of
+from side_by_side import Commands, Task, discard, in_lanes, lay_out, library_words, link_tree, processors, work_of
 
 PROGRAM = "linker"
 
@@ -134,9 +134,10 @@ class Build:
 
     def prove(self, room, crate, jobs, niceness):
         """Has `rt` prove the crate, and make the library or the program of it. Gives the processor seconds that it took."""
-        words = ["run", "--jobs", str(jobs), "--", "replay"] if crate == PROGRAM else ["lib", "--jobs", str(jobs)]
+        folder = os.path.join(room, "crates", crate)
+        words = ["rt", "run", "--jobs", str(jobs), "--", "replay"] if crate == PROGRAM else library_words(folder, jobs)
         with open(os.path.join(room, "log"), "w+", errors="replace") as log:
-            command = self.commands.done(["rt", *words], os.path.join(room, "crates", crate), log, niceness)
+            command = self.commands.done(words, folder, log, niceness)
             if command.returncode != 0:
                 log.seek(0)
                 raise NotBuilt(f"{log.read()}linker: {crate} was not built")

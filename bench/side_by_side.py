@@ -3,10 +3,10 @@
 While an `rt` runs, it keeps every crate below its own to itself. So two of them in one repository mostly wait for each other. Here each crate gets a folder
 with what it stands on: copies of the texts, and links to the libraries that are built of them.
 """
-import collections, contextlib, os, shutil, subprocess, threading
+import collections, contextlib, os, shutil, subprocess, sys, threading
 from concurrent.futures import FIRST_COMPLETED, ThreadPoolExecutor, wait
 
-from over_crates import at_or_below, listed_crates, share
+from over_crates import ROOT, at_or_below, listed_crates, share
 
 # A task: the keys of those that it waits for, how much there is to do, and a call that does it with
 # so many processors, at this niceness, and tells whether it went well.
@@ -74,6 +74,13 @@ def work_of(root, crate):
     with open(os.path.join(root, "bench", "proof_seconds.txt")) as file:
         listed = dict(line.split() for line in file if not line.startswith("#"))
     return int(listed.get(crate, 0)) or lines_of(root, crate) // LINES_A_SECOND
+
+
+def library_words(folder, jobs):
+    """The command that proves the crate in a folder and makes its library: of statements, unless there is what a check of the crate kept."""
+    if os.path.isdir(os.path.join(folder, "out", "incremental")):
+        return ["rt", "lib", "--jobs", str(jobs)]
+    return [sys.executable, os.path.join(ROOT, "bench", "statements.py"), str(jobs)]
 
 
 def checks_in_memory():
