@@ -7,8 +7,12 @@ use Rattle.count_words.specs.declared.words.CountWriter.{CountWriter}
 use Rattle.count_words.specs.declared.words.Counts.{Counts}
 use Rattle.count_words.specs.Owning.{places}
 
+-- which words are meant: those of one start
+abbrev pub WordsId : Type 0
+WordsId = TableId
+
 -- which words they are
-abbrev pub words_of : Counts → TableId
+abbrev pub words_of : Counts → WordsId
 words_of counts = counts.table.shared.table_id
 
 -- how many words there are

@@ -3,3 +3,4 @@ pub mod Courses
 pub mod Causes
 pub mod Follows
 pub mod Serving
+pub mod Seats

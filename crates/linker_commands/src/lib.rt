@@ -23,11 +23,12 @@
 //! told of a table, or by the line of the generated run, as the specs of `command_lines` have them,
 //! or by the lines that tell where a router served and how many changes there were, as
 //! `specs/Served.antt` has them: that router did what `serving` says of a run, with all its
-//! listeners clean and as many connections finished as were accepted; or by the lines that tell
-//! what a leader's feeds came to, as `specs/Follow.antt` says. Each other status has its cause; and
-//! where nothing fails, a script is carried out in full, and a configuration, a table and a
-//! generated run are told of. These are clauses of [`linker`]. The code to exit with is the status
-//! for exactly the words after the program's name: a clause of [`run_arguments`].
+//! listeners clean and as many connections finished as were accepted, and whoever scraped it read
+//! the words in which its workers publish their counts (`specs/Recorded.antt`); or by the lines
+//! that tell what a leader's feeds came to, as `specs/Follow.antt` says. Each other status has its
+//! cause; and where nothing fails, a script is carried out in full, and a configuration, a table
+//! and a generated run are told of. These are clauses of [`linker`]. The code to exit with is the
+//! status for exactly the words after the program's name: a clause of [`run_arguments`].
 //!
 //! # Example
 //! ```text

@@ -1,12 +1,13 @@
 //! What the workers of a router record with, and what becomes of their access logs.
 ghost use Rattle.std.specs.Prelude.{◌≡◌, ◌+◌, ◌*◌, ◌≤◌, List, All, IfOk, OnOk, Err, length};
-ghost use Rattle.std.specs.Prelude.{option_map};
+ghost use Rattle.std.specs.Prelude.{map, option_map};
 ghost use Rattle.std.specs.Option.{ForSome};
-ghost use Rattle.count_words.specs.Seats.{HasCountedNone, IsWriterOf, Reads, size_of};
+ghost use Rattle.count_words.specs.Seats.{AreNumbered, HasCountedNone, IsWriterOf, Reads};
+ghost use Rattle.count_words.specs.Seats.{first_of, size_of, words_of};
 ghost use Rattle.line_base.specs.Counts.{Rose};
 ghost use Rattle.line_log.specs.Logged.{HasNone};
-ghost use Rattle.linker_commands.specs.Recorded.{HasRecorded, IsNewLog, IsNewRecord};
-ghost use Rattle.linker_commands.specs.Recorded.{with_logs, with_own};
+ghost use Rattle.linker_commands.specs.Recorded.{AreSeated, HasRecorded, IsNewLog, IsNewRecord};
+ghost use Rattle.linker_commands.specs.Recorded.{IsScraperOf, scraping_of, with_logs, with_own};
 ghost use Rattle.linker_config.specs.declared.loaded.LoadedItem.{LoadedItem};
 ghost use Rattle.serving.specs.Policies.{IsHandledBy};
 ghost use Rattle.serving.specs.Posts.{interface_jobs, jobs_of};
@@ -79,8 +80,9 @@ fn make_record<'a, C: Clock + Drop, O: Journals>(
 ) -> Mem<WorkerRecord<'a, C, O::J>>
     requires writer { IsWriterOf recording.now.counts.now writer }
     requires none { HasCountedNone writer }
-    ensures new { IfOk result (λ made. IsNewRecord
-        (C.of_fork recording.now.clock.now) recording.now.log.now made) }
+    ensures new { IfOk result (λ made. IsNewRecord (C.of_fork recording.now.clock.now)
+        recording.now.log.now (words_of recording.now.counts.now) made) }
+    ensures first { IfOk result (λ made. made.first ≡ first_of writer) }
     ensures closed { O.closed journals.new ≡ O.closed journals.old }
 {
     let journal = match open_journal(recording.alloc, recording.log, journals) {
@@ -103,8 +105,10 @@ fn make_records<'a, C: Clock + Drop, O: Journals>(
     requires writers { All (IsWriterOf recording.now.counts.now) writers.items }
     requires none { All HasCountedNone writers.items }
     ensures count { IfOk result (λ records. length records.items ≡ length writers.items) }
-    ensures new { IfOk result (λ records. All (IsNewRecord
-        (C.of_fork recording.now.clock.now) recording.now.log.now) records.items) }
+    ensures new { IfOk result (λ records. All (IsNewRecord (C.of_fork recording.now.clock.now)
+        recording.now.log.now (words_of recording.now.counts.now)) records.items) }
+    ensures firsts { IfOk result (λ records. map (λ r. r.first) records.items
+        ≡ map first_of writers.items) }
     ensures closed { O.closed journals.new ≡ O.closed journals.old }
 {
     let mut records = Vec::with_capacity(recording.alloc, writers.len())?;
@@ -125,7 +129,10 @@ fn make_scrapers<'a, C: Clock + Drop>(
     requires reader { Reads recording.now.counts.now reader }
     requires size { size_of recording.now.counts.now ≡ 64 * workers }
     requires few { workers ≤ 1024 }
-    ensures { IfOk result (λ scrapers. length scrapers.items ≡ count) }
+    ensures count { IfOk result (λ scrapers. length scrapers.items ≡ count) }
+    ensures scrape { IfOk result (λ scrapers. All (λ s. IsScraperOf
+        (C.of_fork recording.now.clock.now) (words_of recording.now.counts.now) workers
+        (scraping_of C.to_come s)) scrapers.items) }
 {
     let mut first = reader;
     let mut scrapers = Vec::with_capacity(recording.alloc, count)?;
@@ -147,13 +154,18 @@ fn make_instruments<'a, C: Clock + Drop, O: Journals>(
 ) -> Mem<Instruments<WorkerRecord<'a, C, O::J>, Scraper<'a, C>>>
     requires writers { All (IsWriterOf recording.now.counts.now) writers.items }
     requires none { All HasCountedNone writers.items }
+    requires numbers { AreNumbered writers.items }
     requires count { length writers.items ≡ site.now.workers }
     requires reader { Reads recording.now.counts.now reader }
     requires size { size_of recording.now.counts.now ≡ 64 * site.now.workers }
     requires few { site.now.workers ≤ 1024 }
     ensures equipped { IfOk result (λ made. AreInstrumentsFor site.now made) }
-    ensures new { IfOk result (λ made. All (IsNewRecord
-        (C.of_fork recording.now.clock.now) recording.now.log.now) made.recorders.items) }
+    ensures new { IfOk result (λ made. All (IsNewRecord (C.of_fork recording.now.clock.now)
+        recording.now.log.now (words_of recording.now.counts.now)) made.recorders.items) }
+    ensures seats { IfOk result (λ made. AreSeated made.recorders.items) }
+    ensures scrape { IfOk result (λ made. All (λ s. IsScraperOf (C.of_fork recording.now.clock.now)
+        (words_of recording.now.counts.now) site.now.workers (scraping_of C.to_come s))
+        made.scrapers.items) }
     ensures closed { O.closed journals.new ≡ O.closed journals.old }
 {
     let recorders = make_records(recording, writers, journals)?;
@@ -192,6 +204,7 @@ fn close_journals<C: Clock + Drop, O: Journals>(
 
 /// Serves until it is stopped. Each worker records what it serves: it counts, for whoever scrapes
 /// its router, and writes an access log, where there is to be one. The logs are given back then.
+/// Whoever scrapes reads the words in which these workers publish their counts.
 ///
 /// # Errors
 /// Those of [`Serving::run`]. [`RunFault::OutOfMemory`] comes also where there was no memory to

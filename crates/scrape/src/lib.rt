@@ -11,8 +11,9 @@
 //! Each number is the sum of what was found in the words of its place, each read once
 //! (`specs/Sums.antt`), up to the last value of a `u64`; and each stands in the field that has its
 //! name (`specs/Counts.antt`). That what is found in a word was its worker's count at some moment,
-//! and is not below what the same reader found before, is the rule of [`count_words`]. Its tests
-//! are `operator_tests`' module `recorded`.
+//! and is not below what the same reader found before, is the rule of [`count_words`]. A scraper
+//! tells which words these are, and reads the same ones for as long as it is there
+//! (`specs/Scrapes.antt`). Its tests are `operator_tests`' module `recorded`.
 //!
 //! # Example
 //! ```

@@ -1,6 +1,6 @@
 //! Who scrapes the words of the workers.
 ghost use Rattle.std.specs.Prelude.{◌≡◌, ◌*◌, ◌≤◌, []};
-ghost use Rattle.count_words.specs.Seats.{Reads, reads_of, size_of};
+ghost use Rattle.count_words.specs.Seats.{Reads, reads_of, size_of, words_of};
 
 use crate::sums::Sums;
 use count_words::{CountReader, Counts};
@@ -53,7 +53,8 @@ impl<'a, C> Scraper<'a, C> {
         requires size { size_of counts.now ≡ 64 * workers }
         requires few { workers ≤ 1024 }
         ensures clock { result.clock ≡ clock }
-        ensures words { size_of result.counts.now ≡ 64 * workers }
+        ensures words { words_of result.counts.now ≡ words_of counts.now }
+        ensures size { size_of result.counts.now ≡ 64 * workers }
         ensures reads { reads_of result.reader ≡ reads_of reader }
     {
         Scraper {
@@ -66,11 +67,13 @@ impl<'a, C> Scraper<'a, C> {
 }
 
 impl<C: Clock> Scrape for Scraper<'_, C> {
-    ghost use Rattle.count_words.specs.Seats.{reads_of, size_of};
+    ghost use Rattle.std.specs.Prelude.{Some};
+    ghost use Rattle.count_words.specs.Seats.{reads_of, size_of, words_of};
 
     ghost told = { λ s. record {
       moments = C.to_come s.clock;
-      words = size_of s.counts.now;
+      words = Some (words_of s.counts.now);
+      size = size_of s.counts.now;
       reads = reads_of s.reader;
     } };
 
@@ -105,9 +108,14 @@ impl<C> NoWords<C> {
 }
 
 impl<C: Clock> Scrape for NoWords<C> {
-    ghost use Rattle.std.specs.Prelude.{[]};
+    ghost use Rattle.std.specs.Prelude.{[], None};
 
-    ghost told = { λ s. record { moments = C.to_come s.clock; words = 0; reads = [] } };
+    ghost told = { λ s. record {
+      moments = C.to_come s.clock;
+      words = None;
+      size = 0;
+      reads = [];
+    } };
 
     fn moment(&mut self) -> u64 {
         self.clock.now()

@@ -20,6 +20,7 @@ use Rattle.router.specs.declared.pass.Pass.{Pass}
 use Rattle.router.specs.Closing.{IsClosed, IsOf, numbers_of}
 use Rattle.router.proofs.Closing.{map_length}
 use Rattle.line_base.specs.Lines.{Line}
+use Rattle.scrape.specs.Scrapes.{Scraping}
 use Rattle.serving.specs.declared.running.Served.{Served}
 use Rattle.serving.specs.declared.site.Site.{Site}
 use Rattle.serving.specs.Ending.{HasServed}
@@ -118,16 +119,16 @@ module _ {J P K : Type 0} {g : Ghosts J} where
   pub has_served : (line_of : P → Line) (address_of : P → Option SocketAddress)
       (k : Recording K) (site : Site) (moments : Option (List ℕ)) (loaded : List LoadedItem)
       (passes last : List (Pass J g)) (recorders recorders_after : List K)
-      (net net_after : Networking P) (served : Served)
+      (scrapers : List Scraping) (net net_after : Networking P) (served : Served)
       → Distinct (numbers_of passes) → HaveSeen loaded passes
       → IfSome net.told (λ r. jobs_of site ≤ r.room)
-      → HasRun line_of address_of k site moments passes last recorders recorders_after net net_after
-      served.lacked_memory
+      → HasRun line_of address_of k site moments passes last recorders recorders_after scrapers net
+      net_after served.lacked_memory
       → IsClosed served.place last
-      → HasServed line_of address_of k site moments loaded passes recorders recorders_after net
-      net_after served
-  has_served line_of address_of k site moments loaded passes last recorders recorders_after net
-      net_after served apart seen room ran closed =
+      → HasServed line_of address_of k site moments loaded passes recorders recorders_after scrapers
+      net net_after served
+  has_served line_of address_of k site moments loaded passes last recorders recorders_after scrapers
+      net net_after served apart seen room ran closed =
       let n = jobs_of site in
       let first_ends = map (λ (s : Shift J P K g). s.ended) ran.shifts in
       let ends = with_left_over ran.over first_ends in

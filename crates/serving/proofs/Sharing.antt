@@ -72,6 +72,13 @@ module _ {L : Type 0} (site : Site) (b : Bound L) where
   third_called has given left less n same enough one two =
       omega (arith, n.1, n.2, n.3, same, enough, one, two)
 
+  -- and none is left
+  pub none_called : (has left less last : ℕ) → AreCounted → has ≡ interface_jobs site
+      → left + length b.namerd.items ≡ has → less + length b.admin.items ≡ left
+      → last + length b.feed.items ≡ less → last ≡ 0
+  none_called has left less last n same one two three =
+      omega (arith, n.1, n.2, n.3, same, one, two, three)
+
   -- of the room that their jobs take
   pub first_fits : (had room : ℕ) → AreCounted → had + jobs_of site ≤ room
       → had + length b.server.items ≤ room

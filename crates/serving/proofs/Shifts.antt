@@ -2,6 +2,7 @@
 use Rattle.std.proofs.Common.{◌≡◌, ℕ, ◌+◌, ◌||◌, Bool, true, false, List, [], ◌∷◌, ◌++◌, length}
 use Rattle.std.proofs.Common.{length-append, map, refl, sym, ap, subst, ◌∙◌, arith, None, Some}
 use Rattle.std.proofs.lemmas.Bool.Decides.{nat_tests}
+use Rattle.std.proofs.lemmas.List.{map-append}
 use Rattle.std.proofs.lemmas.List.Sums.{sum_by-append}
 use Rattle.std.specs.Prelude.{Option, nat_le, sum_by}
 use Rattle.std.specs.List.{AllZip, list_any}
@@ -54,7 +55,7 @@ use Rattle.serving.specs.Jobs.{IsApiPosted, IsPosted, IsProxyPosted, RouterJob, 
 use Rattle.serving.specs.Jobs.{RunsProxy}
 use Rattle.serving.specs.Jobs.{caller_hand, caller_hands, client_hand, client_hands, ended_of}
 use Rattle.serving.specs.Jobs.{going_of, lacked_of, pass_of, passes_of_jobs, recorder_of}
-use Rattle.serving.specs.Jobs.{recorders_of_jobs}
+use Rattle.serving.specs.Jobs.{recorders_of_jobs, scraper_of, scrapers_of_jobs}
 use Rattle.serving.specs.Jobs.{stops_behind}
 use Rattle.serving.specs.Posts.{Post, clients, interface, client_post, feed_jobs, feed_posts}
 use Rattle.serving.specs.Posts.{interface_post}
@@ -64,7 +65,7 @@ use Rattle.serving.specs.Running.{HasRun}
 use Rattle.serving.specs.Sessions.{Attends, Going}
 use Rattle.serving.specs.Shifts.{HasAnswers, HasSessions, IsTended, ServesPost, Shift}
 use Rattle.serving.specs.Shifts.{admissions, admitted_in, of_callers, of_clients, returned_in}
-use Rattle.serving.specs.Shifts.{recorders_before, recorders_behind, returns}
+use Rattle.serving.specs.Shifts.{recorders_before, recorders_behind, returns, scrapers_before}
 use Rattle.serving.specs.Tending.{HaveTended}
 use Rattle.serving.proofs.Zipping.{any_map, or_left, or_right, posts_count}
 
@@ -160,25 +161,27 @@ module _ {P J L D C K S A B : Type 0} {h : Handled J} {g : Ghosts J} (state : L 
     lacked_memory = new.server.lacked_memory;
     recorder_before = old.server.recorder ∷ [];
     recorder_behind = new.server.recorder ∷ [];
+    scraper_before = [];
   }
 
 module _ {P J L K S X E F : Type 0} {g : Ghosts J} (state : L → Listening P) (calls : S → ℕ)
-  where
-    abbrev caller_shift : List (Turn P Caller) → ApiJob P J L S X E F g → ApiJob P J L S X E F g
-        → Shift J P K g
-    caller_shift turns old new = record {
-      before = old.server.worker.pass;
-      behind = new.server.worker.pass;
-      turns = of_callers turns;
-      ended = record {
-        listener = state new.listener;
-        log = None;
-        stops = calls new.server.worker.stop;
-      };
-      lacked_memory = new.server.lacked_memory;
-      recorder_before = [];
-      recorder_behind = [];
-    }
+    (told_of : X → Scraping) where
+  abbrev caller_shift : List (Turn P Caller) → ApiJob P J L S X E F g → ApiJob P J L S X E F g
+      → Shift J P K g
+  caller_shift turns old new = record {
+    before = old.server.worker.pass;
+    behind = new.server.worker.pass;
+    turns = of_callers turns;
+    ended = record {
+      listener = state new.listener;
+      log = None;
+      stops = calls new.server.worker.stop;
+    };
+    lacked_memory = new.server.lacked_memory;
+    recorder_before = [];
+    recorder_behind = [];
+    scraper_before = told_of old.server.worker.scraper ∷ [];
+  }
 
 module _ {P J L D C K S A B : Type 0} {h : Handled J} {g : Ghosts J} (line_of : P → Line)
     (address_of : P → Option SocketAddress) (k : Recording K) (state : L → Listening P)
@@ -234,6 +237,7 @@ module _ {P J L D C K S A B : Type 0} {h : Handled J} {g : Ghosts J} (line_of : 
         log = refl;
         lacked = refl;
         recorded = refl;
+        scraped = refl;
         stops = runs.stops ∙ (ap (λ (e : Accepting). stops_behind e (calls old.stop)) closed.1
             ∙ posted.stops);
       }
@@ -245,9 +249,9 @@ module _ {P J L K S X E F : Type 0} {g : Ghosts J} (line_of : P → Line) (state
       → (runs : RunsApi line_of state calls told_of old new end)
       → nat_le 100 (state new.listener).run ≡ false
       → HasAnswers {K = K} line_of told which endpoint
-      (caller_shift state calls runs.turns old new)
+      (caller_shift state calls told_of runs.turns old new)
   answered which endpoint old new end posted runs whole =
-      let s : Shift J P K g = caller_shift state calls runs.turns old new in
+      let s : Shift J P K g = caller_shift state calls told_of runs.turns old new in
       let closed = tended told endpoint s (state old.listener) end posted.listener runs.lends
       runs.ends whole runs.number in
       let first = told_of old.server.worker.scraper in
@@ -269,8 +273,9 @@ module _ {P J L K S X E F : Type 0} {g : Ghosts J} (line_of : P → Line) (state
         tended = closed.0;
         turns = runs.turns;
         turns_are = refl;
-        scraper = first;
-        scraped = told_of new.server.worker.scraper;
+        first = first;
+        last = told_of new.server.worker.scraper;
+        scraped = refl;
         serves = whole_run;
         log = refl;
         given = refl;
@@ -300,6 +305,7 @@ module _ {P J L D C K S X A B E F : Type 0} {h : Handled J} {g : Ghosts J} (line
     lacked : shift.lacked_memory ≡ lacked_of new
     given : shift.recorder_before ≡ recorder_of old
     recorded : shift.recorder_behind ≡ recorder_of new
+    scraped : shift.scraper_before ≡ map told_of (scraper_of old)
     even : Even shift new
 
   one : (post : Post) (old new : RouterJob P J L D C K S X A B E F h g) (end : Accepting)
@@ -317,6 +323,7 @@ module _ {P J L D C K S X A B E F : Type 0} {h : Handled J} {g : Ghosts J} (line
     lacked = refl;
     given = refl;
     recorded = refl;
+    scraped = refl;
     even =
         let e = hand_even runs.turns old.hand new.hand posted.hand runs.hands in omega (arith, e);
   }
@@ -328,7 +335,7 @@ module _ {P J L D C K S X A B E F : Type 0} {h : Handled J} {g : Ghosts J} (line
   one (interface which endpoint) (job.Proxy old) (job.Api new) end posted runs whole = absurd posted
   one (interface which endpoint) (job.Api old) (job.Proxy new) end posted runs whole = absurd runs
   one (interface which endpoint) (job.Api old) (job.Api new) end posted runs whole = record {
-    shift = caller_shift state calls runs.turns old new;
+    shift = caller_shift state calls told_of runs.turns old new;
     keeps = answered line_of state calls told_of told which endpoint old new end posted runs whole;
     before = refl;
     behind = refl;
@@ -336,6 +343,7 @@ module _ {P J L D C K S X A B E F : Type 0} {h : Handled J} {g : Ghosts J} (line
     lacked = refl;
     given = refl;
     recorded = refl;
+    scraped = refl;
     even =
         let e = hand_even runs.turns old.hand new.hand posted.hand runs.hands in omega (arith, e);
   }
@@ -353,6 +361,7 @@ module _ {P J L D C K S X A B E F : Type 0} {h : Handled J} {g : Ghosts J} (line
         ≡ list_any lacked_of (jobs_in back)
     given : recorders_before shifts ≡ recorders_of_jobs jobs
     recorded : recorders_behind shifts ≡ recorders_of_jobs (jobs_in back)
+    scraped : scrapers_before shifts ≡ map told_of (scrapers_of_jobs jobs)
     even : admissions shifts
         + (sum_by taken_by (client_hands (jobs_in back))
         + sum_by taken_by (caller_hands (jobs_in back)))
@@ -377,6 +386,7 @@ module _ {P J L D C K S X A B E F : Type 0} {h : Handled J} {g : Ghosts J} (line
     lacked = refl;
     given = refl;
     recorded = refl;
+    scraped = refl;
     even = refl;
   }
   gather [] [] (b ∷ bs) posted ran whole = absurd ran
@@ -399,6 +409,8 @@ module _ {P J L D C K S X A B E F : Type 0} {h : Handled J} {g : Ghosts J} (line
         lacked = or_same _ _ _ _ this.lacked others.lacked;
         given = both_same this.given others.given;
         recorded = both_same this.recorded others.recorded;
+        scraped = both_same this.scraped others.scraped
+            ∙ sym (map-append told_of (scraper_of j) (scrapers_of_jobs js));
         even =
             let one_even = this.even in
             let rest_even = others.even in
@@ -474,18 +486,18 @@ module _ {P J L D C K S X A B E F : Type 0} {h : Handled J} {g : Ghosts J} (line
   -- the jobs of a site were posted, ran, and were taken apart
   pub have_tended : (site : Site) (moments : Option (List ℕ)) (told : Option (Returns P))
       (jobs : List (RouterJob P J L D C K S X A B E F h g)) (passes rest : List (Pass J g))
-      (recorders : List K) (empty apart : Apart J L D S K A B E F g)
+      (recorders : List K) (scrapers : List X) (empty apart : Apart J L D S K A B E F g)
       → AllZip (IsPosted state upstream to_come calls site.policy moments told) (posts_of site) jobs
       → passes_of_jobs jobs ++ rest ≡ passes → recorders_of_jobs jobs ≡ recorders
-      → IsEmpty empty
+      → scrapers_of_jobs jobs ≡ scrapers → IsEmpty empty
       → ComeApart (Runs line_of address_of k state upstream to_come calls told_of) state upstream
       calls jobs
       empty apart
       → any_broken state upstream calls apart.parts.items ≡ false
       → HaveTended line_of address_of k state upstream calls site moments told passes rest
-      recorders apart
-  have_tended site moments told jobs passes rest recorders empty apart posted begun given none came
-      good =
+      recorders (map told_of scrapers) apart
+  have_tended site moments told jobs passes rest recorders scrapers empty apart posted begun given
+      scraped none came good =
       let back = jobs_in came.back in
       let by = came.apart in
       let parts : map (ended_by state upstream calls) apart.parts.items
@@ -512,6 +524,7 @@ module _ {P J L D C K S X A B E F : Type 0} {h : Handled J} {g : Ghosts J} (line
         behind = passes_are ∙ sym g'.behind;
         given = sym given ∙ sym g'.given;
         recorded = recorders_are ∙ sym g'.recorded;
+        scraped = ap (map told_of) (sym scraped) ∙ sym g'.scraped;
         served = g'.served;
         ended = parts ∙ sym g'.ended;
         even =
@@ -529,19 +542,19 @@ module _ {P J L D S K A B E F : Type 0} {g : Ghosts J} (line_of : P → Line)
     (upstream : D → Upstream) (calls : S → ℕ) where
   -- the jobs of a site ran, all was taken back, and one pass is left
   pub has_run : (site : Site) (moments : Option (List ℕ)) (passes rest all : List (Pass J g))
-      (recorders recorders_after : List K)
+      (recorders recorders_after : List K) (scrapers : List Scraping)
       (apart : Apart J L D S K A B E F g) (net mid net_after : Networking P) (rule : Rule)
       (tries : Option Tries)
       → HaveTended line_of address_of k state upstream calls site moments net.told passes rest
-      recorders apart
+      recorders scrapers apart
       → length rest ≡ 1 → mid ≡ with_stops (jobs_of site) net
       → EndsAll line_of state upstream calls rule tries apart mid net_after
       → IsHandledBy rule tries site.policy → all ≡ apart.passes.items ++ rest
       → recorders_after ≡ apart.recorders.items
-      → HasRun line_of address_of k site moments passes all recorders recorders_after net net_after
-      apart.lacked_memory
-  has_run site moments passes rest all recorders recorders_after apart net mid net_after rule tries
-      tended left handed ends handled ended kept =
+      → HasRun line_of address_of k site moments passes all recorders recorders_after scrapers net
+      net_after apart.lacked_memory
+  has_run site moments passes rest all recorders recorders_after scrapers apart net mid net_after
+      rule tries tended left handed ends handled ended kept =
       let last = single rest left in
       record {
         shifts = tended.shifts;
@@ -554,6 +567,7 @@ module _ {P J L D S K A B E F : Type 0} {g : Ghosts J} (line_of : P → Line)
             ∙ ap (λ (ps : List (Pass J g)). ps ++ last.0 ∷ []) tended.behind);
         given = tended.given;
         recorded = kept ∙ tended.recorded;
+        scraped = tended.scraped;
         served = tended.served;
         over = ends.over;
         left_over = left_over_by line_of g rule tries site.policy ends.over handled ends.left_over;

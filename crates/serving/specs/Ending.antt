@@ -11,6 +11,7 @@ use Rattle.router.specs.declared.naming.Naming.{Ghosts}
 use Rattle.router.specs.declared.pass.Pass.{Pass}
 use Rattle.router.specs.Closing.{IsClosed, numbers_of}
 use Rattle.line_base.specs.Lines.{Line}
+use Rattle.scrape.specs.Scrapes.{Scraping}
 use Rattle.serving.specs.declared.running.Served.{Served}
 use Rattle.serving.specs.declared.site.Site.{Site}
 use Rattle.serving.specs.Services.{HaveSeen}
@@ -25,16 +26,16 @@ module _ {J P K : Type 0} {g : Ghosts J} where
   -- it tells. So each listener came back clean, over all of them as many peers were finished as had
   -- been accepted, as many stops came back as were handed out, what came back is told in order
   -- where the net tells it, and each loaded service is a change. The recorders came back, each as
-  -- the turns of its worker left it
+  -- the turns of its worker left it. The scrapers are those of the workers of the interfaces
   pub record HasServed (line_of : P → Line) (address_of : P → Option SocketAddress)
       (k : Recording K) (site : Site) (moments : Option (List ℕ)) (loaded : List LoadedItem)
-      (passes : List (Pass J g)) (recorders recorders_after : List K)
+      (passes : List (Pass J g)) (recorders recorders_after : List K) (scrapers : List Scraping)
       (net net_after : Networking P) (served : Served) : Type 0 where
     pub apart : Distinct (numbers_of passes)
     pub seen : HaveSeen loaded passes
     pub last : List (Pass J g)
-    pub ran : HasRun line_of address_of k site moments passes last recorders recorders_after net
-        net_after served.lacked_memory
+    pub ran : HasRun line_of address_of k site moments passes last recorders recorders_after
+        scrapers net net_after served.lacked_memory
     pub closed : IsClosed served.place last
     pub clean : net_after.clean ≡ raised_by (jobs_of site) net.clean
     pub accepted : net_after.accepted ≡ added net.accepted (admissions ran.shifts)

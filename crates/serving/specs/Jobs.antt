@@ -63,6 +63,15 @@ module _ {P J L D C K S X A B E F : Type 0} {h : Handled J} {g : Ghosts J} where
   recorders_of_jobs [] = []
   recorders_of_jobs (j ∷ js) = recorder_of j ++ recorders_of_jobs js
 
+  -- the scraper of a job for an interface
+  abbrev pub scraper_of : RouterJob P J L D C K S X A B E F h g → List X
+  scraper_of (job.Proxy j) = []
+  scraper_of (job.Api j) = j.server.worker.scraper ∷ []
+
+  abbrev pub scrapers_of_jobs : List (RouterJob P J L D C K S X A B E F h g) → List X
+  scrapers_of_jobs [] = []
+  scrapers_of_jobs (j ∷ js) = scraper_of j ++ scrapers_of_jobs js
+
   -- the hands at the clients' lot, and those at the callers'
   abbrev pub client_hand : RouterJob P J L D C K S X A B E F h g → List (Hand A B)
   client_hand (job.Proxy j) = j.hand ∷ []

@@ -8,6 +8,7 @@ use Rattle.line_base.specs.Accepts.{Listening}
 use Rattle.line_base.specs.Nets.{IsNew, Networking, Returns}
 use Rattle.exchange_record.specs.declared.recorder.Recorder.{Ghosts as Recording}
 use Rattle.linker_config.specs.declared.config.Port.{Port}
+use Rattle.scrape.specs.Scrapes.{Scraping}
 use Rattle.router.specs.declared.naming.Naming.{Ghosts}
 use Rattle.router.specs.declared.pass.Pass.{Pass}
 use Rattle.router.specs.Closing.{numbers_of}
@@ -21,7 +22,7 @@ use Rattle.serving.specs.Posts.{endpoint_at, feed_jobs, jobs_of, posts_of}
 use Rattle.serving.specs.LeftOver.{LeftOver}
 use Rattle.serving.specs.Returning.{all_ended, with_left_over, with_stops}
 use Rattle.serving.specs.Shifts.{ServesPost, Shift, admissions, recorders_before}
-use Rattle.serving.specs.Shifts.{recorders_behind, returns}
+use Rattle.serving.specs.Shifts.{recorders_behind, returns, scrapers_before}
 
 module _ {P L : Type 0} (state : L → Listening P) (told : Option (Returns P)) where
   -- new listeners at an address, for this place and those behind it
@@ -63,26 +64,28 @@ module _ {J L : Type 0} {g : Ghosts J} where
 module _ {J P K : Type 0} {g : Ghosts J} where
   -- A job ran for each listener of a site, with a pass of its own, and one pass served nobody. Each
   -- job for clients had one of the recorders, in order, and they came back as their turns left
-  -- them. The connections that waited still were ended at the first listener: so as many were given
-  -- back as had come. Then the listeners came back to the net, in their order, with the stops that
-  -- it had handed out
+  -- them; each job for an interface had one of the scrapers. The connections that waited still were
+  -- ended at the first listener: so as many were given back as had come. Then the listeners came
+  -- back to the net, in their order, with the stops that it had handed out
   pub record HasRun (line_of : P → Line) (address_of : P → Option SocketAddress)
       (k : Recording K) (site : Site) (moments : Option (List ℕ))
       (passes passes_after : List (Pass J g)) (recorders recorders_after : List K)
-      (net net_after : Networking P) (lacked_memory : Bool) : Type 0 where
-    pub shifts : List (Shift J P K g)
-    pub rest : Pass J g
-    pub before : passes ≡ map (λ s. s.before) shifts ++ rest ∷ []
-    pub behind : passes_after ≡ map (λ s. s.behind) shifts ++ rest ∷ []
-    pub given : recorders ≡ recorders_before shifts
-    pub recorded : recorders_after ≡ recorders_behind shifts
-    pub served :
-        AllZip (ServesPost line_of address_of k site.policy moments net.told) (posts_of site)
-        shifts
-    pub over : List P
-    pub left_over : LeftOver line_of g site.policy.rule site.policy.retries over
-    pub all_back : admissions shifts ≡ returns shifts + length over
-    pub net_is :
-        net_after ≡ all_ended (with_left_over over (map (λ s. s.ended) shifts))
-        (with_stops (jobs_of site) net)
-    pub lacked : lacked_memory ≡ list_any (λ s. s.lacked_memory) shifts
+      (scrapers : List Scraping) (net net_after : Networking P) (lacked_memory : Bool) : Type 0
+    where
+      pub shifts : List (Shift J P K g)
+      pub rest : Pass J g
+      pub before : passes ≡ map (λ s. s.before) shifts ++ rest ∷ []
+      pub behind : passes_after ≡ map (λ s. s.behind) shifts ++ rest ∷ []
+      pub given : recorders ≡ recorders_before shifts
+      pub recorded : recorders_after ≡ recorders_behind shifts
+      pub scraped : scrapers ≡ scrapers_before shifts
+      pub served :
+          AllZip (ServesPost line_of address_of k site.policy moments net.told) (posts_of site)
+          shifts
+      pub over : List P
+      pub left_over : LeftOver line_of g site.policy.rule site.policy.retries over
+      pub all_back : admissions shifts ≡ returns shifts + length over
+      pub net_is :
+          net_after ≡ all_ended (with_left_over over (map (λ s. s.ended) shifts))
+          (with_stops (jobs_of site) net)
+      pub lacked : lacked_memory ≡ list_any (λ s. s.lacked_memory) shifts

@@ -43,8 +43,8 @@ module _ {P : Type 0} where
 
 -- the pass that served at a listener, before the first turn and behind the last; the turns; what
 -- came back to the net in the end, but for the connections that waited still; whether a stay ran
--- out of memory; and the recorder, before the first turn and behind the last, of a worker that
--- serves clients
+-- out of memory; the recorder, before the first turn and behind the last, of a worker that serves
+-- clients; and the scraper, before the first turn, of one that serves an interface
 pub record Shift (J P K : Type 0) (g : Ghosts J) : Type 0 where
   pub before : Pass J g
   pub behind : Pass J g
@@ -53,6 +53,7 @@ pub record Shift (J P K : Type 0) (g : Ghosts J) : Type 0 where
   pub lacked_memory : Bool
   pub recorder_before : List K
   pub recorder_behind : List K
+  pub scraper_before : List Scraping
 
 -- what the first turn begins with
 abbrev pub beginning : {K : Type 0} → CallerValue → Upstream → Option (List ℕ) → ℕ → K → Going K
@@ -85,6 +86,11 @@ module _ {J P K : Type 0} {g : Ghosts J} where
   abbrev pub recorders_behind : List (Shift J P K g) → List K
   recorders_behind [] = []
   recorders_behind (s ∷ ss) = s.recorder_behind ++ recorders_behind ss
+
+  -- the scrapers of the workers that serve the interfaces, in order
+  abbrev pub scrapers_before : List (Shift J P K g) → List Scraping
+  scrapers_before [] = []
+  scrapers_before (s ∷ ss) = s.scraper_before ++ scrapers_before ss
 
   -- the listener was new, handed out the peers that began turns and took back those that ended
   -- them, and then answered once that it is closed. The pass keeps its number
@@ -122,20 +128,22 @@ module _ {J P K : Type 0} {g : Ghosts J} where
       pub log : s.ended.log ≡ final.server.upstream.log
       pub lacked : s.lacked_memory ≡ final.lacked_memory
       pub recorded : s.recorder_behind ≡ final.recorder ∷ []
+      pub scraped : s.scraper_before ≡ []
       pub stops : s.ended.stops ≡ 0
 
   -- the turns of the interfaces' connections were one after another: the requests of each were
-  -- answered with the pass and the scraper, by the interface that it came to. The stop was called
-  -- where one of them asked for it
+  -- answered with the pass and the scraper that were given, by the interface that it came to. The
+  -- stop was called where one of them asked for it
   pub record HasAnswers (line_of : P → Line) (told : Option (Returns P)) (which : Which)
       (endpoint : Endpoint) (s : Shift J P K g) : Type 0 where
     pub tended : IsTended told endpoint s
     pub turns : List (Turn P Caller)
     pub turns_are : s.turns ≡ of_callers turns
-    pub scraper : Scraping
-    pub scraped : Scraping
-    pub serves : ServesTurns (AnswersTurn line_of which) (desk_by s.before 0 scraper false) turns
-        (desk_by s.behind s.ended.stops scraped s.lacked_memory)
+    pub first : Scraping
+    pub last : Scraping
+    pub scraped : s.scraper_before ≡ first ∷ []
+    pub serves : ServesTurns (AnswersTurn line_of which) (desk_by s.before 0 first false) turns
+        (desk_by s.behind s.ended.stops last s.lacked_memory)
     pub log : s.ended.log ≡ None
     pub given : s.recorder_before ≡ []
     pub recorded : s.recorder_behind ≡ []

@@ -10,12 +10,13 @@ use Rattle.exchange_record.specs.declared.recorder.Recorder.{Ghosts as Recording
 use Rattle.router.specs.declared.naming.Naming.{Ghosts}
 use Rattle.router.specs.declared.pass.Pass.{Pass}
 use Rattle.waiting.specs.Hands.{left_by, taken_by}
+use Rattle.scrape.specs.Scrapes.{Scraping}
 use Rattle.serving.specs.declared.parts.Apart.{Apart}
 use Rattle.serving.specs.declared.site.Site.{Site}
 use Rattle.serving.specs.Parts.{ended_by}
 use Rattle.serving.specs.Posts.{interface_jobs, jobs_of, posts_of}
 use Rattle.serving.specs.Shifts.{ServesPost, Shift, admissions, recorders_before}
-use Rattle.serving.specs.Shifts.{recorders_behind, returns}
+use Rattle.serving.specs.Shifts.{recorders_behind, returns, scrapers_before}
 
 module _ {J L D S K A B E F : Type 0} {g : Ghosts J} where
   -- the parts of a job for each listener of a site, and a hand at a lot for each worker
@@ -32,20 +33,21 @@ module _ {J L D S K A B E F : Type 0} {g : Ghosts J} where
   all_taken a = sum_by taken_by a.client_hands.items + sum_by taken_by a.caller_hands.items
 
 -- A job ran for each listener of a site, with a pass of its own, and these passes are left. Those
--- for clients had these recorders, in order. What came back is taken apart. Over all of them, the
--- connections that came, or were taken where they waited, are as many as those that were given
--- back, or left to wait
+-- for clients had these recorders, in order, and those for an interface these scrapers. What came
+-- back is taken apart. Over all of them, the connections that came, or were taken where they
+-- waited, are as many as those that were given back, or left to wait
 module _ {P J L D S K A B E F : Type 0} {g : Ghosts J} (line_of : P → Line)
     (address_of : P → Option SocketAddress) (k : Recording K) (state : L → Listening P)
     (upstream : D → Upstream) (calls : S → ℕ) where
   pub record HaveTended (site : Site) (moments : Option (List ℕ)) (told : Option (Returns P))
-      (passes rest : List (Pass J g)) (recorders : List K) (apart : Apart J L D S K A B E F g)
-      : Type 0 where
+      (passes rest : List (Pass J g)) (recorders : List K) (scrapers : List Scraping)
+      (apart : Apart J L D S K A B E F g) : Type 0 where
     pub shifts : List (Shift J P K g)
     pub before : passes ≡ map (λ s. s.before) shifts ++ rest
     pub behind : apart.passes.items ≡ map (λ s. s.behind) shifts
     pub given : recorders ≡ recorders_before shifts
     pub recorded : apart.recorders.items ≡ recorders_behind shifts
+    pub scraped : scrapers ≡ scrapers_before shifts
     pub served :
         AllZip (ServesPost line_of address_of k site.policy moments told) (posts_of site) shifts
     pub ended :

@@ -6,6 +6,7 @@ ghost use Rattle.std.specs.Vec.Iter.{into_iter_items};
 ghost use Rattle.serving.specs.declared.policy.Policy.{Policy};
 ghost use Rattle.linker_config.specs.declared.config.Port.{Port};
 ghost use Rattle.serving.specs.Jobs.{IsPosted, passes_of_jobs, recorders_of_jobs};
+ghost use Rattle.serving.specs.Jobs.{scrapers_of_jobs};
 ghost use Rattle.serving.specs.Hands.{AreNewHands};
 ghost use Rattle.serving.specs.Passes.{AreFree};
 ghost use Rattle.serving.specs.Policies.{IsHandledBy};
@@ -144,6 +145,7 @@ fn add_proxy_jobs<
     ensures free { AreFree (into_iter_items passes.new) }
     ensures recorders { recorders_of_jobs jobs.new.items
         ≡ recorders_of_jobs jobs.old.items ++ places.recorders.items }
+    ensures scrapers { scrapers_of_jobs jobs.new.items ≡ scrapers_of_jobs jobs.old.items }
     ensures posted { (posts : List Post)
         → AllZip (IsPosted N.L.state N.D.upstream C.to_come N.S.calls setup.now.site.now.policy
         (C.of_fork clock.now)
@@ -237,6 +239,8 @@ fn add_api_jobs<
     ensures scrapers { length (into_iter_items scrapers.new) + length interface.listeners.items
         ≡ length (into_iter_items scrapers.old) }
     ensures recorders { recorders_of_jobs jobs.new.items ≡ recorders_of_jobs jobs.old.items }
+    ensures scraped { scrapers_of_jobs jobs.new.items ++ into_iter_items scrapers.new
+        ≡ scrapers_of_jobs jobs.old.items ++ into_iter_items scrapers.old }
     ensures posted { (port : Port) → AreNewFrom N.L.state (N.state net.old).told port 0
         interface.listeners.items → (policy : Policy) → (moments : Option (List ℕ))
         → (posts : List Post) → AllZip
@@ -315,6 +319,10 @@ fn add_feed_jobs<
     ensures room { vec_capacity jobs.new ≡ vec_capacity jobs.old }
     ensures free { AreFree (into_iter_items passes.new) }
     ensures recorders { recorders_of_jobs jobs.new.items ≡ recorders_of_jobs jobs.old.items }
+    ensures scrapers { length (into_iter_items scrapers.new) + length listeners.items
+        ≡ length (into_iter_items scrapers.old) }
+    ensures scraped { scrapers_of_jobs jobs.new.items ++ into_iter_items scrapers.new
+        ≡ scrapers_of_jobs jobs.old.items ++ into_iter_items scrapers.old }
     ensures posted { (policy : Policy) → (moments : Option (List ℕ)) → (posts : List Post)
         → AllZip (IsPosted N.L.state N.D.upstream C.to_come N.S.calls policy moments
         (N.state net.old).told) posts jobs.old.items
@@ -373,6 +381,8 @@ pub(crate) fn add_jobs<
     ensures free { AreFree (into_iter_items passes.new) }
     ensures recorders { recorders_of_jobs jobs.new.items
         ≡ supplies.instruments.recorders.items }
+    ensures scrapers { scrapers_of_jobs jobs.new.items
+        ≡ supplies.instruments.scrapers.items }
     ensures posted { AllZip
         (IsPosted N.L.state N.D.upstream C.to_come N.S.calls setup.now.site.now.policy
         (C.of_fork clock.now)

@@ -34,13 +34,14 @@
 //! the seed of the listener's place, and the recorder that was given for it ([`Instruments`]). The
 //! recorder is told that a connection came or was taken up, of each of its exchanges, in order and
 //! once, and that it was left or has ended; and it comes back, in its place, as the last turn left
-//! it. Of a connection that waited it is known that stays led to it from one that came, each in
-//! turn with a pass that had seen all that the stays before it had seen (`client_stays`,
-//! `api_sessions`). A stop was called as often as the turns say. The connections that still waited
-//! were ended at the first listener, so over all listeners as many were finished as had been
-//! accepted. All listeners came back clean, in their order, and as many stops as were handed out.
-//! The passes ended with one history, of as many changes as [`Served`] tells, each loaded service
-//! among them; and it tells whether a stay ran out of memory.
+//! it. A stay of a caller of an interface goes on with the pass and the scraper, and the first has
+//! the scraper that was given for its listener. Of a connection that waited it is known that stays
+//! led to it from one that came, each in turn with a pass that had seen all that the stays before
+//! it had seen (`client_stays`, `api_sessions`). A stop was called as often as the turns say. The
+//! connections that still waited were ended at the first listener, so over all listeners as many
+//! were finished as had been accepted. All listeners came back clean, in their order, and as many
+//! stops as were handed out. The passes ended with one history, of as many changes as [`Served`]
+//! tells, each loaded service among them; and it tells whether a stay ran out of memory.
 //!
 //! It is not proved that the jobs run beside one another, nor which worker took up a connection
 //! that another one left.

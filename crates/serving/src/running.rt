@@ -1,6 +1,6 @@
 //! From a router that was opened to its end.
 ghost use Rattle.std.specs.Prelude.{◌≡◌, ℕ, ◌+◌, ◌≤◌, ◌<◌, ◌++◌, List, Err, true, false};
-ghost use Rattle.std.specs.Prelude.{[], length};
+ghost use Rattle.std.specs.Prelude.{[], length, map};
 ghost use Rattle.std.specs.Prelude.{IfOk, IsOk, OnOk, vec_len, vec_capacity};
 ghost use Rattle.line_base.specs.Counts.{Rose};
 ghost use Rattle.linker_config.specs.declared.loaded.LoadedItem.{LoadedItem};
@@ -342,8 +342,7 @@ fn make_stock<
         plan.now.site.now.workers (interface_jobs plan.now.site.now) blanks }
     requires equipped { AreInstrumentsFor plan.now.site.now instruments }
     ensures supplies { IfOk result (λ s. AreSupplied plan.now.site.now s.0.supplies) }
-    ensures recorders { IfOk result (λ s. s.0.supplies.instruments.recorders.items
-        ≡ instruments.recorders.items) }
+    ensures instruments { IfOk result (λ s. s.0.supplies.instruments ≡ instruments) }
     ensures apart { IfOk result (λ s. IsEmpty s.1 × HasRoom s.1 count) }
     ensures jobs { IfOk result (λ s. (s.2.items ≡ []) × (count ≤ vec_capacity s.2)) }
     ensures kept { (N.state net.new ≡ N.state net.old) × (N.faults net.new ≡ N.faults net.old) }
@@ -426,7 +425,8 @@ where
         → any_broken N.L.state N.D.upstream N.S.calls apart.new.parts.items ≡ false
         → HaveTended N.L.P.line N.L.P.address K.Recorder.own N.L.state N.D.upstream N.S.calls
         setup.now.site.now (C.of_fork clock.now) (N.state net.old).told inputs.passes.items
-        (into_iter_items result.1) inputs.supplies.instruments.recorders.items apart.new }
+        (into_iter_items result.1) inputs.supplies.instruments.recorders.items
+        (map X.told inputs.supplies.instruments.scrapers.items) apart.new }
 {
     let JobInputs {
         bound,
@@ -527,7 +527,8 @@ where
     ensures served { result.ran ≡ true → result.tally.failed ≡ false
         → HasRun N.L.P.line N.L.P.address K.Recorder.own plan.now.site.now (C.of_fork clock.now)
         resources.passes.items result.passes.items resources.instruments.recorders.items
-        result.recorders.items (N.state net.old) (N.state net.new) result.tally.lacked_memory }
+        result.recorders.items (map X.told resources.instruments.scrapers.items)
+        (N.state net.old) (N.state net.new) result.tally.lacked_memory }
 {
     let Resources {
         bound,
@@ -605,8 +606,9 @@ impl<J: Handling + Send + Sync, L: Listener> Serving<J, L> {
         ensures served { IfOk result
             (λ ran. (loaded : List LoadedItem) → HaveSeen loaded (passes_of self)
             → HasServed L.P.line L.P.address K.Recorder.own site.now (C.of_fork clock.now) loaded
-            (passes_of self) instruments.recorders.items ran.1.items (N.state net.old)
-            (N.state net.new) ran.0) }
+            (passes_of self) instruments.recorders.items ran.1.items
+            (map X.told instruments.scrapers.items) (N.state net.old) (N.state net.new)
+            ran.0) }
     {
         let Serving {
             router,

@@ -4,6 +4,9 @@ use Rattle.std.specs.Option.{option_copied}
 use Rattle.access_log.specs.declared.entry.Entry.{Entry}
 use Rattle.access_log.specs.declared.entry.RequestLine.{RequestLine}
 use Rattle.access_log.specs.Line.{line_text}
+use Rattle.count_words.specs.declared.words.CountWriter.{CountWriter}
+use Rattle.count_words.specs.declared.words.Counts.{Counts}
+use Rattle.count_words.specs.Seats.{WordsId, first_of, words_of}
 use Rattle.exchange_record.specs.declared.recorder.ConnectionStep.{ConnectionStep}
 use Rattle.exchange_record.specs.Told.{Told}
 use Rattle.exchange_tally.specs.declared.done.Timed.{Timed}
@@ -63,14 +66,16 @@ AreLinesOf (Some log) lines = counts_in log ≡ lines
 -- ---- the record of a worker
 
 -- the moments to come of its clock, when the exchange began that it was told of last, its counts
--- of exchanges, its log, if it has one, its counts of connections, and what it has published, by
--- places
+-- of exchanges, its log, if it has one, its counts of connections, in which words it publishes all
+-- counts, from which of them on, and what it has published there, by places
 pub record RecordValue : Type 0 where
   pub moments : Option (List ℕ)
   pub begun : ℕ
   pub tally : Tally
   pub log : Option Logged
   pub connections : ConnectionCounts
+  pub words : WordsId
+  pub first : ℕ
   pub published : List ℕ
 
 -- nothing was recorded yet: it has these moments, and this log
@@ -81,12 +86,23 @@ pub record IsFresh (moments : Option (List ℕ)) (log : Option Logged) (new : Re
     pub tally : (f : Figure) → count_in new.tally f ≡ 0
     pub connections : (step : ConnectionStep) → count_of step new.connections ≡ 0
 
+-- it publishes by this writer, in these words
+pub record IsSeated (counts : Counts) (writer : CountWriter) (new : RecordValue) : Type 0 where
+  pub words : new.words ≡ words_of counts
+  pub first : new.first ≡ first_of writer
+
+-- it publishes where it did before
+pub record KeepsSeat (old new : RecordValue) : Type 0 where
+  pub words : new.words ≡ old.words
+  pub first : new.first ≡ old.first
+
 -- an exchange begins now
 pub record Begins (old new : RecordValue) : Type 0 where
   pub begun : Tells old.moments new.moments new.begun
   pub tally : new.tally ≡ old.tally
   pub log : new.log ≡ old.log
   pub connections : new.connections ≡ old.connections
+  pub seat : KeepsSeat old new
 
 abbrev pub timed_by : Told → ℕ → ℕ → Timed
 timed_by told begun ended = record { done = told.done; begun = begun; ended = ended }
@@ -98,6 +114,7 @@ pub record Ends (old : RecordValue) (told : Told) (new : RecordValue) : Type 0 w
   pub tally : Adds old.tally (timed_by told old.begun ended) new.tally
   pub log : IsLoggedIn told (timed_by told old.begun ended) old.log new.log
   pub connections : new.connections ≡ old.connections
+  pub seat : KeepsSeat old new
 
 -- this became of a connection
 pub record Steps (old : RecordValue) (step : ConnectionStep) (new : RecordValue) : Type 0 where
@@ -106,3 +123,4 @@ pub record Steps (old : RecordValue) (step : ConnectionStep) (new : RecordValue)
   pub begun : new.begun ≡ old.begun
   pub tally : new.tally ≡ old.tally
   pub log : new.log ≡ old.log
+  pub seat : KeepsSeat old new

@@ -18,8 +18,8 @@
 //! worth, with the moments that the clock gave, and has one line in the log, or is counted as lost
 //! there (`Ends` of `specs/Recording.antt`). Each step of a connection raises its count by one.
 //! [`records_add_up`] is the law over many exchanges: each is added to the tally once, in order,
-//! with the moments that the clock gave as it began and as it ended. Its tests are
-//! `operator_tests`' module `recorded`.
+//! with the moments that the clock gave as it began and as it ended. A record tells in which words
+//! it publishes, and never publishes in others. Its tests are `operator_tests`' module `recorded`.
 //!
 //! # Example
 //! ```

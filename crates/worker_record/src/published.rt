@@ -1,7 +1,7 @@
 //! The counts of a worker, published as they are raised.
 ghost use Rattle.std.specs.Prelude.{◌≡◌, ◌+◌, ◌≤◌, ◌++◌, ◌∷◌, ℕ, List};
 ghost use Rattle.count_words.specs.Seats.{HasCountedNone, IsWriterOf, Writes, counts_of, first_of};
-ghost use Rattle.count_words.specs.Seats.{size_of};
+ghost use Rattle.count_words.specs.Seats.{size_of, words_of};
 ghost use Rattle.exchange_tally.specs.declared.figure.Figure.{Figure};
 ghost use Rattle.exchange_tally.specs.Figures.{place_of};
 ghost use Rattle.exchange_tally.specs.Tallies.{Adds, count_in};
@@ -26,7 +26,7 @@ const LOST: u32 = 47;
 
 /// The counts of a worker, each of which other threads can read as soon as it is raised.
 pub(crate) struct Published<'a> {
-    counts: &'a Counts,
+    pub(crate) counts: &'a Counts,
     pub(crate) writer: CountWriter,
     pub(crate) tally: Tally,
     pub(crate) lines: LineCounts,
@@ -59,6 +59,8 @@ impl<'a> Published<'a> {
         ensures figures { (f : Figure) → count_in result.tally f ≡ 0 }
         ensures lines { (result.lines.written ≡ 0) × (result.lines.lost ≡ 0) }
         ensures connections { (step : ConnectionStep) → count_of step result.connections ≡ 0 }
+        ensures words { words_of result.counts.now ≡ words_of counts.now }
+        ensures first { first_of result.writer ≡ first_of writer }
     {
         Published {
             counts,
@@ -82,6 +84,8 @@ impl<'a> Published<'a> {
         ensures tally { Adds self.old.tally timed.now self.new.tally }
         ensures lines { self.new.lines ≡ self.old.lines }
         ensures connections { self.new.connections ≡ self.old.connections }
+        ensures words { words_of self.new.counts.now ≡ words_of self.old.counts.now }
+        ensures first { first_of self.new.writer ≡ first_of self.old.writer }
     {
         self.tally.add(timed);
         publish_moved(self.counts, &mut self.writer, &self.tally, timed);
@@ -94,6 +98,8 @@ impl<'a> Published<'a> {
         ensures lines { self.new.lines ≡ lines }
         ensures tally { self.new.tally ≡ self.old.tally }
         ensures connections { self.new.connections ≡ self.old.connections }
+        ensures words { words_of self.new.counts.now ≡ words_of self.old.counts.now }
+        ensures first { first_of self.new.writer ≡ first_of self.old.writer }
     {
         self.counts
             .publish(&mut self.writer, WRITTEN, lines.written);
@@ -106,6 +112,8 @@ impl<'a> Published<'a> {
         ensures connections { self.new.connections ≡ after_step step self.old.connections }
         ensures tally { self.new.tally ≡ self.old.tally }
         ensures lines { self.new.lines ≡ self.old.lines }
+        ensures words { words_of self.new.counts.now ≡ words_of self.old.counts.now }
+        ensures first { first_of self.new.writer ≡ first_of self.old.writer }
     {
         let connections = self.connections.after(step);
         let count = connections.count(step);

@@ -1,14 +1,14 @@
 //! What a worker records of the exchanges that it serves.
 ghost use Rattle.std.specs.Prelude.{◌≡◌, option_map, slice_index_or};
 ghost use Rattle.std.specs.Option.{ForSome};
-ghost use Rattle.count_words.specs.Seats.{HasCountedNone, IsWriterOf};
+ghost use Rattle.count_words.specs.Seats.{HasCountedNone, IsWriterOf, first_of, words_of};
 ghost use Rattle.exchange_record.specs.Told.{told_of};
 ghost use Rattle.exchange_tally.specs.Figures.{place_of};
 ghost use Rattle.exchange_tally.specs.Tallies.{count_in};
 ghost use Rattle.line_log.specs.Logged.{HasNone};
 ghost use Rattle.worker_record.specs.Connections.{AreSteps};
 ghost use Rattle.worker_record.specs.Publishing.{AreLines};
-ghost use Rattle.worker_record.specs.Recording.{AreLinesOf, IsFresh, IsLoggedIn};
+ghost use Rattle.worker_record.specs.Recording.{AreLinesOf, IsFresh, IsLoggedIn, IsSeated};
 
 use crate::connections::ConnectionCounts;
 use crate::logging::AccessLog;
@@ -25,7 +25,7 @@ use std::marker::Model;
 /// lines of its access log, if it has one.
 ///
 /// Contracts see the moments to come of its clock, the moment at which an exchange began last, its
-/// counts, what its journal tells, and what it has published.
+/// counts, what its journal tells, the words in which it publishes, and what it has published.
 pub struct WorkerRecord<'a, C: Clock, L: Journal> {
     clock: C,
     begun: u64,
@@ -49,7 +49,7 @@ impl<'a, C: Clock + Drop, L: Journal + Drop> Drop for WorkerRecord<'a, C, L> {
 
 impl<'a, C: Clock, L: Journal> Model for WorkerRecord<'a, C, L> {
     ghost use Rattle.std.specs.Prelude.{option_map};
-    ghost use Rattle.count_words.specs.Seats.{counts_of};
+    ghost use Rattle.count_words.specs.Seats.{counts_of, first_of, words_of};
     ghost use Rattle.worker_record.specs.Recording.{AreLinesOf, RecordValue};
 
     ghost Value = { RecordValue };
@@ -60,6 +60,8 @@ impl<'a, C: Clock, L: Journal> Model for WorkerRecord<'a, C, L> {
       tally = r.published.tally;
       log = option_map (λ l. L.log l.journal) r.log;
       connections = r.published.connections;
+      words = words_of r.published.counts.now;
+      first = first_of r.published.writer;
       published = counts_of r.published.writer;
     } };
 
@@ -80,7 +82,8 @@ impl<'a, C: Clock, L: Journal> WorkerRecord<'a, C, L> {
         requires writer { IsWriterOf counts.now writer }
         requires none { HasCountedNone writer }
         requires journal { ForSome journal (λ j. HasNone (L.log j)) }
-        ensures { IsFresh (C.to_come clock) (option_map (λ j. L.log j) journal) result }
+        ensures fresh { IsFresh (C.to_come clock) (option_map (λ j. L.log j) journal) result }
+        ensures seat { IsSeated counts.now writer result }
     {
         WorkerRecord {
             clock,
@@ -158,6 +161,8 @@ fn write_log<L: Journal>(
     ensures lines { AreLinesOf (option_map (λ l. L.log l.journal) log.new) published.new.lines }
     ensures tally { published.new.tally ≡ published.old.tally }
     ensures connections { published.new.connections ≡ published.old.connections }
+    ensures words { words_of published.new.counts.now ≡ words_of published.old.counts.now }
+    ensures first { first_of published.new.writer ≡ first_of published.old.writer }
 {
     match log {
         Some(log) => {

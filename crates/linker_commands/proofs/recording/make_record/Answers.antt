@@ -10,5 +10,6 @@ returns-clause-new g c =
       forked = c.fork-clock.ensures.0;
       log = option_map log_of c.in-Ok.journal;
       log_is = c.in-Ok.ensures.new;
-      fresh = c.new.ensures;
+      fresh = c.new.ensures.fresh;
+      words_are = c.new.ensures.seat.words;
     }

@@ -6,6 +6,7 @@ use Rattle.serving.specs.declared.policy.Policy.{Policy}
 use Rattle.linker_config.specs.declared.config.Port.{Port}
 use Rattle.line_base.specs.Dials.{Upstream}
 use Rattle.serving.specs.Jobs.{IsPosted, RouterJob, pass_of, recorder_of, recorders_of_jobs}
+use Rattle.serving.specs.Jobs.{scraper_of, scrapers_of_jobs}
 use Rattle.serving.specs.Posts.{interface_post, posts_at}
 use Rattle.serving.specs.Returning.{with_stops}
 use Rattle.serving.specs.Running.{AreNewFrom}
@@ -14,7 +15,7 @@ use Rattle.serving.proofs.Moving.{as_few, both_fewer, fit_behind, last_stop, mov
 use Rattle.serving.proofs.Moving.{none_moved, one_fits, one_moved, one_there, room_there}
 use Rattle.serving.proofs.Moving.{still_enough}
 use Rattle.serving.proofs.Posting.{next_new, stops_moved}
-use Rattle.serving.proofs.Zipping.{handed, lists_same, none_posted, one_posted}
+use Rattle.serving.proofs.Zipping.{handed, lists_moved, lists_same, none_posted, one_posted}
 use Rattle.serving.proofs.jobs.add_api_jobs.Goals as goal
 
 pub loop-listener-init : goal.loop-listener-init
@@ -36,6 +37,7 @@ loop-listener-init g c =
       scrapers = ap (λ (n : ℕ). length (into_iter_items c.args.scrapers.now) + n) (sym many);
       enough_scrapers = as_few _ _ _ many c.requires.scrapers;
       recorders = refl;
+      scraped = refl;
       room = fit_behind _ _ _ _ many c.requires.room;
       capacity = refl;
       free = c.requires.free;
@@ -70,6 +72,7 @@ loop-listener-preserved g c =
       scrapers = both_fewer _ _ _ _ _ _ fewer_scrapers shorter inv.scrapers;
       enough_scrapers = still_enough _ _ _ _ fewer_scrapers shorter inv.enough_scrapers;
       recorders = lists_same (λ (j : RouterJob g.row.N-L-P.Denot g.row.J.Denot g.row.N-L.Denot g.row.N-D.Denot g.row.C.Denot g.row.K.Denot g.row.N-S.Denot g.row.X.Denot g.row.A.Denot g.row.B.Denot g.row.E.Denot g.row.F.Denot g.J.Handling g.J.Naming). recorder_of j) recorders_of_jobs refl (λ j js. refl) _ _ _ pushed.items refl ∙ inv.recorders;
+      scraped = lists_moved (λ (j : RouterJob g.row.N-L-P.Denot g.row.J.Denot g.row.N-L.Denot g.row.N-D.Denot g.row.C.Denot g.row.K.Denot g.row.N-S.Denot g.row.X.Denot g.row.A.Denot g.row.B.Denot g.row.E.Denot g.row.F.Denot g.J.Handling g.J.Naming). scraper_of j) scrapers_of_jobs refl (λ j js. refl) _ _ _ c.take_next-scraper.result _ _ _ pushed.items refl c.take_next-scraper.ensures inv.scraped;
       room = one_fits (vec_len c.push_reserved.new.self) _ _ _ _ _ pushed.len pushed.capacity shorter inv.room;
       capacity = pushed.capacity ∙ inv.capacity;
       free = free_rest _ _ c.take_next-pass.result taken inv.free;

@@ -5,7 +5,7 @@ use Rattle.std.specs.Vec.Iter.{into_iter_items}
 use Rattle.serving.specs.declared.policy.Policy.{Policy}
 use Rattle.linker_config.specs.declared.config.Port.{Port}
 use Rattle.serving.specs.Hands.{AreNewHands}
-use Rattle.serving.specs.Jobs.{IsPosted, passes_of_jobs, recorders_of_jobs}
+use Rattle.serving.specs.Jobs.{IsPosted, passes_of_jobs, recorders_of_jobs, scrapers_of_jobs}
 use Rattle.serving.specs.Passes.{AreFree}
 use Rattle.serving.specs.Posts.{Post, interface_post, posts_at}
 use Rattle.serving.specs.Returning.{with_stops}
@@ -24,6 +24,7 @@ invariant-loop-listener g l = record {
   scrapers : length (into_iter_items l.scrapers) + length l.fn.interface.listeners.items ≡ length (into_iter_items l.fn.scrapers) + length (into_iter_items l.listener-iterator);
   enough_scrapers : length (into_iter_items l.listener-iterator) ≤ length (into_iter_items l.scrapers);
   recorders : recorders_of_jobs l.jobs.items ≡ recorders_of_jobs l.fn.jobs.items;
+  scraped : scrapers_of_jobs l.jobs.items ++ into_iter_items l.scrapers ≡ scrapers_of_jobs l.fn.jobs.items ++ into_iter_items l.fn.scrapers;
   room : vec_len l.jobs + length (into_iter_items l.listener-iterator) ≤ vec_capacity l.jobs;
   capacity : vec_capacity l.jobs ≡ vec_capacity l.fn.jobs;
   free : AreFree (into_iter_items l.passes);

@@ -6,6 +6,7 @@ use Rattle.line_base.specs.Nets.{Returns}
 use Rattle.line_base.specs.Dials.{Upstream}
 use Rattle.serving.specs.Hands.{AreNewHands}
 use Rattle.serving.specs.Jobs.{IsPosted, RouterJob, passes_of_jobs, recorders_of_jobs}
+use Rattle.serving.specs.Jobs.{scrapers_of_jobs}
 use Rattle.serving.specs.Posts.{jobs_of, main_posts, posts_of}
 use Rattle.serving.specs.Running.{AreNewFeed, AreNewFrom}
 use Rattle.serving.proofs.Moving.{as_few}
@@ -13,7 +14,8 @@ use Rattle.serving.proofs.Posting.{all_stops, main_posted, told_kept}
 use Rattle.serving.proofs.Sharing.{all_posted, all_shared, at_least, few_of, first_called}
 use Rattle.serving.proofs.Sharing.{first_fits, first_shared, fourth_fits, fourth_shared, second_called}
 use Rattle.serving.proofs.Sharing.{second_fits, second_shared, third_called, third_fits}
-use Rattle.serving.proofs.Sharing.{third_shared}
+use Rattle.serving.proofs.Sharing.{none_called, third_shared}
+use Rattle.serving.proofs.Zipping.{nothing_left}
 use Rattle.serving.proofs.jobs.add_jobs.Goals as goal
 
 pub returns-clause-posted : goal.returns-clause-posted
@@ -75,6 +77,22 @@ returns-clause-recorders g c =
     let fourth = c.add_feed_jobs.ensures in
     fourth.recorders ∙ (third.recorders ∙ (second.recorders ∙ (first.recorders
     ∙ ap (λ (js : List (RouterJob g.row.N-L-P.Denot g.row.J.Denot g.row.N-L.Denot g.row.N-D.Denot g.row.C.Denot g.row.K.Denot g.row.N-S.Denot g.row.X.Denot g.row.A.Denot g.row.B.Denot g.row.E.Denot g.row.F.Denot g.J.Handling g.J.Naming)). recorders_of_jobs js ++ c.args.supplies.instruments.recorders.items) c.requires.none_yet)))
+
+pub returns-clause-scrapers : goal.returns-clause-scrapers
+returns-clause-scrapers g c =
+    let count = c.requires.listens.count in
+    let first = c.add_proxy_jobs.ensures in
+    let second = c.add_api_jobs.ensures in
+    let third = c.add_api_jobs-2.ensures in
+    let fourth = c.add_feed_jobs.ensures in
+    let given = c.into_iter-scrapers.ensures.rest in
+    let none = none_called c.args.setup.now.site.now c.args.bound _ _ _ _ count
+    (ap length given ∙ c.requires.supplied.instruments.scrapers) second.scrapers third.scrapers
+    fourth.scrapers in
+    nothing_left _ _ _ none (fourth.scraped ∙ (third.scraped ∙ (second.scraped
+    ∙ (ap (λ (xs : List g.row.X.Denot). xs ++ into_iter_items c.into_iter-scrapers.result)
+    (first.scrapers ∙ ap (λ (js : List (RouterJob g.row.N-L-P.Denot g.row.J.Denot g.row.N-L.Denot g.row.N-D.Denot g.row.C.Denot g.row.K.Denot g.row.N-S.Denot g.row.X.Denot g.row.A.Denot g.row.B.Denot g.row.E.Denot g.row.F.Denot g.J.Handling g.J.Naming)). scrapers_of_jobs js) c.requires.none_yet)
+    ∙ given))))
 
 pub add_proxy_jobs-requires-clause-enough : goal.add_proxy_jobs-requires-clause-enough
 add_proxy_jobs-requires-clause-enough g c κs within =

@@ -10,6 +10,7 @@ use Rattle.serving.specs.declared.policy.Policy.{Policy}
 use Rattle.linker_config.specs.declared.config.Port.{Port}
 use Rattle.line_base.specs.Dials.{Upstream}
 use Rattle.serving.specs.Jobs.{IsPosted, RouterJob, pass_of, recorder_of, recorders_of_jobs}
+use Rattle.serving.specs.Jobs.{scraper_of, scrapers_of_jobs}
 use Rattle.serving.specs.Posts.{client_post, posts_at}
 use Rattle.serving.specs.Returning.{with_stops}
 use Rattle.serving.specs.Running.{AreNewFrom}
@@ -20,7 +21,7 @@ use Rattle.serving.proofs.Moving.{none_moved, one_fits, one_moved, one_of_same, 
 use Rattle.serving.proofs.Moving.{room_there, still_enough, still_same}
 use Rattle.serving.proofs.Posting.{next_new, stops_moved}
 use Rattle.serving.proofs.Sharing.{as_many}
-use Rattle.serving.proofs.Zipping.{begins_with, handed, lists_moved, none_posted, nothing_left, one_posted}
+use Rattle.serving.proofs.Zipping.{begins_with, handed, lists_moved, lists_same, none_posted, nothing_left, one_posted}
 use Rattle.serving.proofs.jobs.add_proxy_jobs.Goals as goal
 
 pub loop-listener-init : goal.loop-listener-init
@@ -42,6 +43,7 @@ loop-listener-init g c =
       rooms = as_many _ _ _ rooms (as_few _ _ _ many c.requires.rooms);
       recorders = ap (λ (ks : List g.row.K.Denot). recorders_of_jobs c.args.jobs.now.items ++ ks) c.into_iter-recorders.ensures.rest;
       recorders_left = recorders ∙ (c.requires.recorders ∙ sym many);
+      scrapers = refl;
       hands = as_many _ _ _ hands (as_few _ _ _ many c.requires.hands);
       new_hands = subst AreNewHands (sym c.into_iter-hands.ensures.rest) c.requires.new_hands;
       room = fit_behind _ _ _ _ many c.requires.room;
@@ -80,6 +82,7 @@ loop-listener-preserved g c =
       rooms = still_enough _ _ _ _ fewer_rooms shorter inv.rooms;
       recorders = lists_moved (λ (j : RouterJob g.row.N-L-P.Denot g.row.J.Denot g.row.N-L.Denot g.row.N-D.Denot g.row.C.Denot g.row.K.Denot g.row.N-S.Denot g.row.X.Denot g.row.A.Denot g.row.B.Denot g.row.E.Denot g.row.F.Denot g.J.Handling g.J.Naming). recorder_of j) recorders_of_jobs refl (λ j js. refl) _ _ _ c.take_next-recorder.result _ _ _ pushed.items refl c.take_next-recorder.ensures inv.recorders;
       recorders_left = still_same _ _ _ _ fewer_recorders shorter inv.recorders_left;
+      scrapers = lists_same (λ (j : RouterJob g.row.N-L-P.Denot g.row.J.Denot g.row.N-L.Denot g.row.N-D.Denot g.row.C.Denot g.row.K.Denot g.row.N-S.Denot g.row.X.Denot g.row.A.Denot g.row.B.Denot g.row.E.Denot g.row.F.Denot g.J.Handling g.J.Naming). scraper_of j) scrapers_of_jobs refl (λ j js. refl) _ _ _ pushed.items refl ∙ inv.scrapers;
       hands = still_enough _ _ _ _ fewer_hands shorter inv.hands;
       new_hands = new_rest _ _ c.take_next-hand.result c.take_next-hand.ensures inv.new_hands;
       room = one_fits (vec_len c.push_reserved.new.self) _ _ _ _ _ pushed.len pushed.capacity shorter inv.room;

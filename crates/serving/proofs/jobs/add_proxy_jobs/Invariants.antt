@@ -2,7 +2,7 @@ use Rattle.std.proofs.Common.{◌≡◌, ◌+◌, ◌≤◌, ◌++◌, List, len
 use Rattle.std.specs.List.{AllZip}
 use Rattle.std.specs.Vec.Iter.{into_iter_items}
 use Rattle.serving.specs.Hands.{AreNewHands}
-use Rattle.serving.specs.Jobs.{IsPosted, passes_of_jobs, recorders_of_jobs}
+use Rattle.serving.specs.Jobs.{IsPosted, passes_of_jobs, recorders_of_jobs, scrapers_of_jobs}
 use Rattle.serving.specs.Passes.{AreFree}
 use Rattle.serving.specs.Posts.{Post, client_post, posts_at}
 use Rattle.serving.specs.Returning.{with_stops}
@@ -18,6 +18,7 @@ invariant-loop-listener g l = record {
   rooms : length (into_iter_items l.listener-iterator) ≤ length (into_iter_items l.rooms);
   recorders : recorders_of_jobs l.jobs.items ++ into_iter_items l.recorders ≡ recorders_of_jobs l.fn.jobs.items ++ l.fn.places.recorders.items;
   recorders_left : length (into_iter_items l.recorders) ≡ length (into_iter_items l.listener-iterator);
+  scrapers : scrapers_of_jobs l.jobs.items ≡ scrapers_of_jobs l.fn.jobs.items;
   hands : length (into_iter_items l.listener-iterator) ≤ length (into_iter_items l.hands);
   new_hands : AreNewHands (into_iter_items l.hands);
   room : vec_len l.jobs + length (into_iter_items l.listener-iterator) ≤ vec_capacity l.jobs;

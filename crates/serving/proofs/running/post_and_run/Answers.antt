@@ -55,6 +55,7 @@ returns g c =
       kept = posted.kept;
       tended = λ is good. have_tended line_of address_of g.K.Recorder g.N.L.Listener.state
           upstream g.C.Clock.to_come g.N.S.Stop.calls told_of site moments told jobs passes rest
-          c.args.inputs.supplies.instruments.recorders.items old new posted.posted handed
-          posted.recorders c.requires.nothing (ran.came is) good;
+          c.args.inputs.supplies.instruments.recorders.items
+          c.args.inputs.supplies.instruments.scrapers.items old new posted.posted handed
+          posted.recorders posted.scrapers c.requires.nothing (ran.came is) good;
     }

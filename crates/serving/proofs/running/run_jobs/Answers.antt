@@ -1,4 +1,4 @@
-use Rattle.std.proofs.Common.{ℕ, Bool, List, false, ap, arith, sym, subst, ◌∙◌}
+use Rattle.std.proofs.Common.{ℕ, Bool, List, false, map, ap, arith, sym, subst, ◌∙◌}
 use Rattle.std.specs.Vec.Iter.{into_iter_items}
 use Rattle.std.specs.Prelude.{Option}
 use Rattle.line_base.specs.declared.socket_address.SocketAddress.{SocketAddress}
@@ -6,6 +6,8 @@ use Rattle.line_base.specs.Dials.{Upstream}
 use Rattle.line_base.specs.Lines.{Line}
 use Rattle.line_base.specs.Nets.{Networking}
 use Rattle.router.specs.Closing.{numbers_of}
+use Rattle.scrape.specs.Scrapes.{Scraping}
+use Rattle.serving.specs.declared.instruments.Instruments.{Instruments}
 use Rattle.serving.specs.Faults.{TellsFaults}
 use Rattle.serving.specs.Running.{HasRun, Listens}
 use Rattle.serving.proofs.Chains.{no_fault}
@@ -48,12 +50,14 @@ pub returns : goal.returns
 returns g c =
     let line_of = λ (p : g.row.N-L-P.Denot). let l : Line = g.N.L.P.Peer.line p in l in
     let address_of = λ (p : g.row.N-L-P.Denot). let a : Option SocketAddress = g.N.L.P.Peer.address p in a in
+    let told_of = λ (x : g.row.X.Denot). let s : Scraping = g.X.Scrape.told x in s in
     let upstream = λ (d : g.row.N-D.Denot). let u : Upstream = g.N.D.Dialer.upstream d in u in
     let kept = c.make_stock.ensures.kept in
     let ran = c.post_and_run-ran.ensures in
     let closed = c.close_all-passes.ensures in
     let passes = c.close_all-passes.result.1.items in
     let given = c.args.resources.instruments.recorders.items in
+    let scrapers = map told_of c.args.resources.instruments.scrapers.items in
     let back = c.close_all-passes.result.2.items in
     record {
       numbers = ap numbers_of closed.passes ∙ ran.numbers;
@@ -61,21 +65,22 @@ returns g c =
           c.close_all-passes.result.0.failed) (ran.kept ∙ kept.1) closed.faults;
       served = λ is good. subst (λ (b : Bool). HasRun line_of address_of g.K.Recorder
           c.args.plan.now.site.now (g.C.Clock.of_fork c.args.clock.now)
-          c.args.resources.passes.items passes given back (g.N.Net.state c.args.net.now)
+          c.args.resources.passes.items passes given back scrapers (g.N.Net.state c.args.net.now)
           (g.N.Net.state c.close_all-passes.new.net) b) (sym closed.lacked)
           (subst (λ (n : Networking g.row.N-L-P.Denot). HasRun line_of address_of g.K.Recorder
           c.args.plan.now.site.now (g.C.Clock.of_fork c.args.clock.now)
-          c.args.resources.passes.items passes given back n
+          c.args.resources.passes.items passes given back scrapers n
           (g.N.Net.state c.close_all-passes.new.net) c.post_and_run-ran.new.apart.lacked_memory)
           kept.0
-          (subst (λ (ks : List g.row.K.Denot). HasRun line_of address_of g.K.Recorder
+          (subst (λ (i : Instruments g.row.K.Denot g.row.X.Denot). HasRun line_of address_of g.K.Recorder
           c.args.plan.now.site.now (g.C.Clock.of_fork c.args.clock.now)
-          c.args.resources.passes.items passes ks back (g.N.Net.state c.make_stock.new.net)
+          c.args.resources.passes.items passes i.recorders.items back (map told_of i.scrapers.items)
+          (g.N.Net.state c.make_stock.new.net)
           (g.N.Net.state c.close_all-passes.new.net) c.post_and_run-ran.new.apart.lacked_memory)
-          c.in-Ok.ensures.recorders
+          c.in-Ok.ensures.instruments
           (has_run line_of address_of g.K.Recorder g.N.L.Listener.state upstream
           g.N.S.Stop.calls c.args.plan.now.site.now (g.C.Clock.of_fork c.args.clock.now)
-          c.args.resources.passes.items (into_iter_items c.post_and_run-ran.result.1) passes _ back
+          c.args.resources.passes.items (into_iter_items c.post_and_run-ran.result.1) passes _ back _
           c.post_and_run-ran.new.apart (g.N.Net.state c.make_stock.new.net)
           (g.N.Net.state c.post_and_run-ran.new.net)
           (g.N.Net.state c.close_all-passes.new.net) g.J.Handling.rule g.J.Handling.tries
