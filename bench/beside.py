@@ -1,14 +1,15 @@
 #!/usr/bin/env python3
-"""How long an edit of a table, and a request for a name that nobody asked for before, take beside clients
-whose requests bring tables of their own that take long to delegate by.
+"""How long an edit of a table, and a request for a name that nobody asked for before, take beside
+clients whose requests bring tables of their own that take long to delegate by.
 
-It starts `linker serve`, makes edits and asks for new names for some seconds with nothing else going on,
-and again while the clients send one such request after the other. It prints how long one of these takes by
-itself, and of edits and new names the 50th and 99th percentile and the longest. No edit and no request for a
-new name should wait for another's delegation: with a processor for each client and two more, the 99th
-percentile beside them is meant to stay under 10 ms.
+It starts `linker serve`, makes edits and asks for new names for some seconds with nothing else
+going on, and again while the clients send one such request after the other. It prints how long one
+of these takes by itself, and of edits and new names the 50th and 99th percentile and the longest.
+No edit and no request for a new name should wait for another's delegation: with a processor for
+each client and two more, the 99th percentile beside them is meant to stay under 10 ms.
 
-usage: bench/beside.py [--program crates/linker/out/linker] [--seconds 10] [--clients 1] [--entries 1000]
+usage: bench/beside.py [--program crates/linker/out/linker] [--seconds 10] [--clients 1]
+                       [--entries 1000]
 """
 import argparse, http.client, json, os, socket, subprocess, tempfile, threading, time
 
@@ -54,7 +55,9 @@ def edit(client, number):
 
 
 def new_name(client, number):
-    seconds, status = client.ask("GET", "/", Host=f"name-{os.getpid()}-{time.monotonic_ns()}-{number}")
+    seconds, status = client.ask(
+        "GET", "/", Host=f"name-{os.getpid()}-{time.monotonic_ns()}-{number}"
+    )
     assert status == 502, status
     return seconds
 
@@ -76,7 +79,10 @@ def timed(act, client, seconds):
 
 def row(name, times):
     at = lambda share: 1_000 * times[min(len(times) - 1, int(share * len(times)))]
-    print(f"| {name} | {len(times):,} | {at(0.5):.2f} | {at(0.99):.2f} | {1_000 * times[-1]:.2f} |", flush=True)
+    print(
+        f"| {name} | {len(times):,} | {at(0.5):.2f} | {at(0.99):.2f} | {1_000 * times[-1]:.2f} |",
+        flush=True,
+    )
 
 
 def measured(name, ports, seconds):
@@ -84,7 +90,11 @@ def measured(name, ports, seconds):
     found = {}
     acts = {"an edit": (edit, ports[1]), "a new name": (new_name, ports[0])}
     threads = [
-        threading.Thread(target=lambda what=what, act=act, port=port: found.update({what: timed(act, Client(port), seconds)}))
+        threading.Thread(
+            target=lambda what=what, act=act, port=port: found.update(
+                {what: timed(act, Client(port), seconds)}
+            )
+        )
         for what, (act, port) in acts.items()
     ]
     for one in threads:
@@ -96,11 +106,20 @@ def measured(name, ports, seconds):
 
 
 def main():
-    parser = argparse.ArgumentParser(description=__doc__, formatter_class=argparse.RawDescriptionHelpFormatter)
-    parser.add_argument("--program", default=os.path.join(HERE, "..", "crates", "linker", "out", "linker"))
+    parser = argparse.ArgumentParser(
+        description=__doc__, formatter_class=argparse.RawDescriptionHelpFormatter
+    )
+    parser.add_argument(
+        "--program", default=os.path.join(HERE, "..", "crates", "linker", "out", "linker")
+    )
     parser.add_argument("--seconds", type=float, default=10)
     parser.add_argument("--clients", type=int, default=1)
-    parser.add_argument("--entries", type=int, default=1_000, help="entries that each lookup of a slow request matches, at most 1,023")
+    parser.add_argument(
+        "--entries",
+        type=int,
+        default=1_000,
+        help="entries that each lookup of a slow request matches, at most 1,023",
+    )
     options = parser.parse_args()
     table = slow_table(options.entries)
     assert len(table) < 65_000, "the table does not fit into a head"
@@ -113,18 +132,34 @@ def main():
                     "admin": {"port": ports[2]},
                     "namerd": {"port": ports[1]},
                     "namers": [{"kind": "io.l5d.fs", "rootDir": "disco"}],
-                    "routers": [{"protocol": "http", "dtab": "/host => /nowhere", "servers": [{"port": ports[0]}]}],
+                    "routers": [
+                        {
+                            "protocol": "http",
+                            "dtab": "/host => /nowhere",
+                            "servers": [{"port": ports[0]}],
+                        }
+                    ],
                     "workers": 4 + options.clients,
                 },
                 file,
             )
-        proxy = subprocess.Popen([os.path.abspath(options.program), "serve", "c.json"], cwd=folder, stdout=subprocess.PIPE, stderr=subprocess.DEVNULL)
+        proxy = subprocess.Popen(
+            [os.path.abspath(options.program), "serve", "c.json"],
+            cwd=folder,
+            stdout=subprocess.PIPE,
+            stderr=subprocess.DEVNULL,
+        )
         try:
             assert proxy.stdout.readline().startswith(b"serving"), "not serving"
-            _, status = Client(ports[1]).ask("POST", "/api/1/dtabs/default", body="/host => /nowhere")
+            _, status = Client(ports[1]).ask(
+                "POST", "/api/1/dtabs/default", body="/host => /nowhere"
+            )
             assert status in (204, 409), status
             alone = slow(Client(ports[0]), table)
-            print(f"a request with a table of {len(table):,} bytes takes {alone:.2f} s by itself; {options.clients} clients send them\n")
+            print(
+                f"a request with a table of {len(table):,} bytes takes {alone:.2f} s by itself; "
+                f"{options.clients} clients send them\n"
+            )
             print("| what | times | p50 ms | p99 ms | most ms |")
             print("|---|---|---|---|---|")
             measured("nothing beside", ports, options.seconds)

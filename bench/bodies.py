@@ -1,15 +1,17 @@
 #!/usr/bin/env python3
-"""How many content bytes of a body go through a second: passed on and passed back, over memory, by a length, and in chunks of 1 KiB and of 64 KiB;
-beside a plain copy of the same bytes, piece by piece; and how much memory it takes at most, for bodies of 64 MiB and of 1 GiB.
+"""How many content bytes of a body go through a second: passed on and passed back, over memory, by
+a length, and in chunks of 1 KiB and of 64 KiB; beside a plain copy of the same bytes, piece by
+piece; and how much memory it takes at most, for bodies of 64 MiB and of 1 GiB.
 
-The two ends are in memory: one copies the bytes from a block that it gives over and over, and the other into room of its own, as a socket does.
-It wants the toolchain's command rt, by which it proves, builds and runs a small program over the crates of bodies.
+The two ends are in memory: one copies the bytes from a block that it gives over and over, and the
+other into room of its own, as a socket does. It wants the toolchain's command rt, by which it
+proves, builds and runs a small program over the crates of bodies.
 
 usage: bench/bodies.py
 """
 from over_crates import output_of
 
-PROGRAM = r'''//! Times the passing of bodies.
+PROGRAM = r"""//! Times the passing of bodies.
 #![tactic(auto)]
 
 ghost use Rattle.std.specs.Prelude.{◌≡◌, ◌≤◌, ◌<◌, [], length, false, None, Some, List, ℕ, Option};
@@ -79,7 +81,8 @@ fn push_chunk(bytes: &mut Vec<u8>, size: usize) -> Result<(), AllocError> {
     bytes.extend_from_slice(b"\r\n")
 }
 
-/// The other end of a connection. It gives a block so many times, and then what is behind, and copies what it takes into its room.
+/// The other end of a connection. It gives a block so many times, and then what is behind, and
+/// copies what it takes into its room.
 #[derive(Drop)]
 struct End {
     block: Vec<u8>,
@@ -267,13 +270,21 @@ fn back(alloc: Global, body: Body, from: &mut End, to: &mut End) -> Result<u64, 
     let mut rest = Rest::room(alloc)?;
     let mut out = Vec::new(alloc);
     match from.dial(0x7f000001, 9001) {
-        Ok(()) => Ok(pass_back(from, &mut rest, body.framing(), true, &mut out, to).end.unwrap_or(0)),
+        Ok(()) => Ok(pass_back(from, &mut rest, body.framing(), true, &mut out, to)
+            .end
+            .unwrap_or(0)),
         Err(_) => Ok(0),
     }
 }
 
 /// Moves a body, and gives how many bytes were counted.
-fn moved(alloc: Global, way: Way, body: Body, from: &mut End, to: &mut End) -> Result<u64, AllocError> {
+fn moved(
+    alloc: Global,
+    way: Way,
+    body: Body,
+    from: &mut End,
+    to: &mut End,
+) -> Result<u64, AllocError> {
     match way {
         Way::Onward => onward(alloc, body, from, to),
         Way::Back => back(alloc, body, from, to),
@@ -326,7 +337,7 @@ fn main(rt: HostRuntime) -> io::Result<()> {
     }
     Ok(())
 }
-'''
+"""
 
 
 FRAMINGS = {"0": "by a length", "1024": "in chunks of 1 KiB", "65536": "in chunks of 64 KiB"}
@@ -338,7 +349,10 @@ def main():
             case ["bodies", "VmHWM:", most, unit]:
                 print(f"memory so far: {most} {unit} at most")
             case ["bodies", way, chunk, blocks, _, took, _]:
-                print(f"{way} {FRAMINGS[chunk]}, {int(blocks) // 16} MiB: {int(blocks) * 65536 / int(took) / 1000:.1f} GB a second")
+                print(
+                    f"{way} {FRAMINGS[chunk]}, {int(blocks) // 16} MiB: "
+                    f"{int(blocks) * 65536 / int(took) / 1000:.1f} GB a second"
+                )
 
 
 if __name__ == "__main__":

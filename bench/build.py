@@ -1,8 +1,10 @@
 #!/usr/bin/env python3
-"""Proves and builds crates and what they stand on, side by side (side_by_side.py), with a line a crate on standard error.
+"""Proves and builds crates and what they stand on, side by side (side_by_side.py), with a line a
+crate on standard error.
 
-What is made of a crate lies in its `out/` as soon as the crate is done: of a library its statements (statements.py), or the whole of it where a check of the crate
-has kept what it proved. A build that was interrupted goes on with the crates that were not done.
+What is made of a crate lies in its `out/` as soon as the crate is done: of a library its statements
+(statements.py), or the whole of it where a check of the crate has kept what it proved. A build that
+was interrupted goes on with the crates that were not done.
 
 usage: bench/build.py              the program
        bench/build.py CRATE ..     these libraries
@@ -11,7 +13,17 @@ import contextlib, fcntl, functools, hashlib, os, shutil, signal, subprocess, sy
 from concurrent.futures import ThreadPoolExecutor
 
 from over_crates import ROOT, at_or_below, listed_crates
-from side_by_side import Commands, Task, discard, in_lanes, lay_out, library_words, link_tree, processors, work_of
+from side_by_side import (
+    Commands,
+    Task,
+    discard,
+    in_lanes,
+    lay_out,
+    library_words,
+    link_tree,
+    processors,
+    work_of,
+)
 
 PROGRAM = "linker"
 
@@ -31,7 +43,8 @@ def out_of(root, crate):
 
 @contextlib.contextmanager
 def alone_with(path):
-    """Waits until nobody else is alone with a file or a folder, and then is. An `rt` is alone with the folder of each crate that it works on."""
+    """Waits until nobody else is alone with a file or a folder, and then is. An `rt` is alone with
+    the folder of each crate that it works on."""
     descriptor = os.open(path, os.O_RDONLY)
     try:
         try:
@@ -45,8 +58,8 @@ def alone_with(path):
 
 
 class Sums:
-    """Sums of what libraries are made of: the toolchain, their texts, and the libraries below them. A sum lies beside the library that was made: where it is
-    the same, `rt` need not be asked."""
+    """Sums of what libraries are made of: the toolchain, their texts, and the libraries below them.
+    A sum lies beside the library that was made: where it is the same, `rt` need not be asked."""
 
     def __init__(self, listed):
         self.listed, self.known = listed, {}
@@ -86,7 +99,8 @@ class NotBuilt(Exception):
 
 
 class Build:
-    """A build of some crates and those below them. Those that are not done have their repositories in the folder `rooms`."""
+    """A build of some crates and those below them. Those that are not done have their repositories
+    in the folder `rooms`."""
 
     def __init__(self, rooms, names):
         self.rooms, self.commands = rooms, Commands()
@@ -94,7 +108,8 @@ class Build:
         self.crates = at_or_below(names, self.listed)
         self.sums = Sums(self.listed)
         self.done, self.counting = 0, threading.Lock()
-        # removes the repositories of what is done, each of thousands of files, while the crates above are worked on
+        # removes the repositories of what is done, each of thousands of files, while the crates
+        # above are worked on
         self.remover = ThreadPoolExecutor(1)
 
     def run(self):
@@ -102,7 +117,9 @@ class Build:
         tasks = {}
         for crate in self.crates:
             waits_for = [below for below in self.listed[crate].libraries if below in self.listed]
-            tasks[crate] = Task(waits_for, work_of(ROOT, crate), functools.partial(self.build, crate))
+            tasks[crate] = Task(
+                waits_for, work_of(ROOT, crate), functools.partial(self.build, crate)
+            )
         with self.remover:
             in_lanes(tasks, processors(), self.commands)
 
@@ -118,11 +135,14 @@ class Build:
         with self.counting:
             self.done += 1
             took = in_minutes(time.monotonic() - start)
-            tell(f"{self.done} of {len(self.crates)} crates: {crate}, {took} ({in_minutes(used)} of processors)")
+            tell(
+                f"{self.done} of {len(self.crates)} crates: {crate}, {took} "
+                f"({in_minutes(used)} of processors)"
+            )
         return True
 
     def furnish(self, room, crate):
-        """Lays the crate out, with what is kept of it here unless an interrupted build left some."""
+        """Lays the crate out, with what is kept here unless an interrupted build left some."""
         lay_out(ROOT, crate, room)
         kept, own = out_of(ROOT, crate), out_of(room, crate)
         if os.path.isdir(kept) and not os.path.isdir(own):
@@ -133,9 +153,14 @@ class Build:
                     copy(os.path.join(kept, part), os.path.join(own, part))
 
     def prove(self, room, crate, jobs, niceness):
-        """Has `rt` prove the crate, and make the library or the program of it. Gives the processor seconds that it took."""
+        """Has `rt` prove the crate, and make the library or the program of it. Gives the processor
+        seconds that it took."""
         folder = os.path.join(room, "crates", crate)
-        words = ["rt", "run", "--jobs", str(jobs), "--", "replay"] if crate == PROGRAM else library_words(folder, jobs)
+        words = (
+            ["rt", "run", "--jobs", str(jobs), "--", "replay"]
+            if crate == PROGRAM
+            else library_words(folder, jobs)
+        )
         with open(os.path.join(room, "log"), "w+", errors="replace") as log:
             command = self.commands.done(words, folder, log, niceness)
             if command.returncode != 0:
@@ -156,8 +181,9 @@ class Build:
 
 
 def build(names):
-    """Builds these crates, in rooms beside the repository, since checks look for crates everywhere in it, and files can be linked there. The program is then as
-    old as the moment at which its texts began to be read."""
+    """Builds these crates, in rooms beside the repository, since checks look for crates everywhere
+    in it, and files can be linked there. The program is then as old as the moment at which its
+    texts began to be read."""
     start = time.time()
     rooms = os.path.join(os.path.dirname(ROOT), f".{os.path.basename(ROOT)}-building")
     os.makedirs(rooms, exist_ok=True)
@@ -179,9 +205,15 @@ def main():
     for number in (signal.SIGINT, signal.SIGTERM, signal.SIGHUP):
         signal.signal(number, lambda number, _: sys.exit(128 + number))
     with alone_with(os.path.join(ROOT, "crates.txt")):
-        if names == [PROGRAM] and subprocess.run([os.path.join(ROOT, "bench", "is_built")]).returncode == 0:
+        if (
+            names == [PROGRAM]
+            and subprocess.run([os.path.join(ROOT, "bench", "is_built")]).returncode == 0
+        ):
             return
-        tell("proving and building what is not built yet; all of it takes half an hour to an hour on four processors")
+        tell(
+            "proving and building what is not built yet; "
+            "all of it takes half an hour to an hour on four processors"
+        )
         try:
             build(names)
         except NotBuilt as error:

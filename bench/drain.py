@@ -120,8 +120,12 @@ def calls(program, requests=2_000):
     with socket.create_connection(("127.0.0.1", program.router), timeout=20) as connection:
         connection.sendall(REQUEST)
         reply_on(connection)
-        trace = subprocess.Popen(["strace", "-f", "-c", "-p", str(program.pid)],
-                                 stdout=subprocess.DEVNULL, stderr=subprocess.PIPE, text=True)
+        trace = subprocess.Popen(
+            ["strace", "-f", "-c", "-p", str(program.pid)],
+            stdout=subprocess.DEVNULL,
+            stderr=subprocess.PIPE,
+            text=True,
+        )
         time.sleep(1)
         for _ in range(requests):
             connection.sendall(REQUEST)
@@ -144,6 +148,7 @@ def main():
     parser.add_argument("--signal", action="store_true")
     options = parser.parse_args(words)
     import edge
+
     edge.PROGRAM = os.path.abspath(options.program)
     replica = Replica(answer)
     if options.calls:

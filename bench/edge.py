@@ -101,12 +101,14 @@ def proxy(replicas, workers, descriptors=None, server=None, before=(), keys=None
             "admin": {"port": admin},
             "namerd": {"port": namerd},
             "namers": [{"kind": "io.l5d.fs", "rootDir": "disco"}],
-            "routers": [{
-                "protocol": "http",
-                "dtab": "/svc => /#/io.l5d.fs",
-                "servers": [{"port": router, **(server or {})}],
-                **(keys or {}),
-            }],
+            "routers": [
+                {
+                    "protocol": "http",
+                    "dtab": "/svc => /#/io.l5d.fs",
+                    "servers": [{"port": router, **(server or {})}],
+                    **(keys or {}),
+                }
+            ],
             "workers": workers,
         }
         with open(os.path.join(folder, "c.json"), "w") as file:
@@ -117,8 +119,13 @@ def proxy(replicas, workers, descriptors=None, server=None, before=(), keys=None
                 resource.setrlimit(resource.RLIMIT_NOFILE, (descriptors, descriptors))
 
         with open(os.path.join(folder, "log"), "w+b") as log:
-            program = subprocess.Popen([*before, PROGRAM, "serve", "c.json"], cwd=folder,
-                                       preexec_fn=limit, stdout=subprocess.PIPE, stderr=log)
+            program = subprocess.Popen(
+                [*before, PROGRAM, "serve", "c.json"],
+                cwd=folder,
+                preexec_fn=limit,
+                stdout=subprocess.PIPE,
+                stderr=log,
+            )
             line = program.stdout.readline()
             program.router, program.namerd, program.admin = router, namerd, admin
             program.first_line = line
@@ -187,8 +194,10 @@ def early_reply(size):
         client.sendall(request("web", "POST", size) + b"x" * size)
         reply = read_all(client)
         is_done.wait(60)
-    check(f"an early reply: {bodies} of {size} bytes arrived",
-          bodies == [size] and reply.startswith(b"HTTP/1.1 202"))
+    check(
+        f"an early reply: {bodies} of {size} bytes arrived",
+        bodies == [size] and reply.startswith(b"HTTP/1.1 202"),
+    )
 
 
 def unread_body():
@@ -231,8 +240,10 @@ def waiting_at_the_stop():
                 replies.append(type(error).__name__)
             client.close()
         status = program.wait(30)
-    check(f"clients that wait at the stop: {replies}, status {status}",
-          replies == [b"202"] * 12 and status == 0)
+    check(
+        f"clients that wait at the stop: {replies}, status {status}",
+        replies == [b"202"] * 12 and status == 0,
+    )
 
 
 def stop_of_idle_workers():
@@ -250,8 +261,10 @@ def few_descriptors():
     with proxy({}, 16, 40) as program:
         pass
     wanted = re.search(r"(\d+) descriptors are wanted", program.log)
-    check(f"40 descriptors: status {program.returncode}, {program.log.splitlines()[-1:]}",
-          program.returncode == 6 and program.first_line == b"error net\n" and wanted)
+    check(
+        f"40 descriptors: status {program.returncode}, {program.log.splitlines()[-1:]}",
+        program.returncode == 6 and program.first_line == b"error net\n" and wanted,
+    )
     if not wanted:
         return
 
@@ -276,12 +289,15 @@ def few_descriptors():
             for asker in askers:
                 asker.join()
     good = replies.count(b"202")
-    check(f"{number} descriptors: {good} of 240 answered, status {program.returncode}",
-          good == 240 and program.returncode == 0)
+    check(
+        f"{number} descriptors: {good} of 240 answered, status {program.returncode}",
+        good == 240 and program.returncode == 0,
+    )
 
 
 def more_clients_than_descriptors():
     """Clients that keep their connections are all answered, and the oldest ones are ended."""
+
     def serve(connection):
         read_head(connection)
         connection.sendall(HEAD_OF_202)
@@ -297,9 +313,13 @@ def more_clients_than_descriptors():
         are_open = [is_open(client) for client in clients]
         for client in clients:
             client.close()
-    check(f"200 clients with 100 descriptors: {answered} answered, {are_open.count(True)} are open",
-          answered == 200 and not any(are_open[:100]) and all(are_open[-16:])
-          and program.returncode == 0)
+    check(
+        f"200 clients with 100 descriptors: {answered} answered, {are_open.count(True)} are open",
+        answered == 200
+        and not any(are_open[:100])
+        and all(are_open[-16:])
+        and program.returncode == 0,
+    )
 
 
 def is_open(client):
@@ -333,9 +353,11 @@ def kept_connections_to_interfaces():
         took = time.monotonic() - begin
         for client in kept:
             client.close()
-    check(f"8 kept connections to the interfaces: {statuses.count(200)} of 16 answered, "
-          f"a stop took {took:.2f} s, status {status}",
-          statuses == [200] * 16 and status == 0 and took < 3)
+    check(
+        f"8 kept connections to the interfaces: {statuses.count(200)} of 16 answered, "
+        f"a stop took {took:.2f} s, status {status}",
+        statuses == [200] * 16 and status == 0 and took < 3,
+    )
 
 
 def waits():
@@ -387,14 +409,18 @@ def waits():
 
     replicas = {"never": Replica(never), "large": Replica(large)}
     with proxy(replicas, 5) as program:
-        askers = [threading.Thread(target=ask, args=(program,), daemon=True)
-                  for ask in (silent, unread, unheard, cut)]
+        askers = [
+            threading.Thread(target=ask, args=(program,), daemon=True)
+            for ask in (silent, unread, unheard, cut)
+        ]
         for asker in askers:
             asker.start()
         for asker in askers:
             asker.join(90)
-    check(f"waits end after a minute: {ended}",
-          len(ended) == 4 and all(58 <= seconds <= 66 for seconds in ended.values()))
+    check(
+        f"waits end after a minute: {ended}",
+        len(ended) == 4 and all(58 <= seconds <= 66 for seconds in ended.values()),
+    )
 
 
 def accepts_that_fail():
@@ -427,9 +453,10 @@ def unanswered_dial():
         took = time.monotonic() - begin
     for one in waiting:
         one.close()
-    check(f"a dial that is not answered: {reply[9:12]} after {took:.2f} s",
-          reply.startswith(b"HTTP/1.1 502") and reply.endswith(b"\r\n\r\ndial\n")
-          and 9 <= took <= 12)
+    check(
+        f"a dial that is not answered: {reply[9:12]} after {took:.2f} s",
+        reply.startswith(b"HTTP/1.1 502") and reply.endswith(b"\r\n\r\ndial\n") and 9 <= took <= 12,
+    )
 
 
 def silent_behind_a_kept_connection():
@@ -453,14 +480,20 @@ def silent_behind_a_kept_connection():
         reply = read_all(client)
         took = time.monotonic() - begin
     targets = [target for target, _ in heads]
-    check(f"a replica that is silent behind a kept connection: {targets} over "
-          f"{len({peer for _, peer in heads})} connection, {reply[9:12]} after {took:.0f} s",
-          first.startswith(b"HTTP/1.1 202") and targets == [b"/", b"/silent"]
-          and heads[0][1] == heads[1][1] and reply.startswith(b"HTTP/1.1 50") and 58 <= took <= 66)
+    check(
+        f"a replica that is silent behind a kept connection: {targets} over "
+        f"{len({peer for _, peer in heads})} connection, {reply[9:12]} after {took:.0f} s",
+        first.startswith(b"HTTP/1.1 202")
+        and targets == [b"/", b"/silent"]
+        and heads[0][1] == heads[1][1]
+        and reply.startswith(b"HTTP/1.1 50")
+        and 58 <= took <= 66,
+    )
 
 
 def stopped_program():
     """Clients that wait while the program is stopped are answered once it goes on."""
+
     def serve(connection):
         read_head(connection)
         connection.sendall(HEAD_OF_202)
@@ -494,8 +527,10 @@ def stopped_program():
             statuses.append(status(lambda: read_head(client)[0]))
         for client in clients:
             client.close()
-    check(f"clients of a program that was stopped for 66 s: {statuses}",
-          statuses == [b"202"] * 4 and program.returncode == 0)
+    check(
+        f"clients of a program that was stopped for 66 s: {statuses}",
+        statuses == [b"202"] * 4 and program.returncode == 0,
+    )
 
 
 def main():

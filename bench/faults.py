@@ -63,8 +63,11 @@ async def echo_number(reader, writer):
     """An upstream: its reply's body is the residual path of the request, by the table."""
     with contextlib.suppress(asyncio.IncompleteReadError, ConnectionError):
         head = (await reader.readuntil(b"\r\n\r\n")).decode("latin-1").lower()
-        residuals = [line.partition(":")[2].strip() for line in head.split("\r\n")
-                     if line.startswith("l5d-dst-residual:")]
+        residuals = [
+            line.partition(":")[2].strip()
+            for line in head.split("\r\n")
+            if line.startswith("l5d-dst-residual:")
+        ]
         number = residuals[0] if residuals else "?"
         body = number.encode()
         writer.write(b"HTTP/1.1 200 OK\r\nContent-Length: %d\r\n\r\n" % len(body) + body)
@@ -159,7 +162,8 @@ async def swaps_during_load(router, namerd, upstream, counts):
         seen = 0
         while loop.time() < end or not ready.is_set():
             status, _, body = await ask(
-                router, "GET", "/", [("Host", "web")], reader=reader, writer=writer)
+                router, "GET", "/", [("Host", "web")], reader=reader, writer=writer
+            )
             now = int(body[1:]) if status == 200 and body[:1] == b"/" and body[1:].isdigit() else -1
             counts.expect(f"connection {number}: {status} {body!r} behind /{seen}", now >= seen)
             seen = max(seen, now)
@@ -175,8 +179,14 @@ async def swaps_during_load(router, namerd, upstream, counts):
             number += 1
             table = f"/svc/web => /$/inet/127.0.0.1/{upstream}/{number}".encode()
             status, fields, _ = await ask(
-                namerd, "PUT", "/api/1/dtabs/default",
-                [("Host", "n"), ("If-Match", f'"{version}"')], table, reader, writer)
+                namerd,
+                "PUT",
+                "/api/1/dtabs/default",
+                [("Host", "n"), ("If-Match", f'"{version}"')],
+                table,
+                reader,
+                writer,
+            )
             is_right = status == 204 and fields.get("etag") == f'"{version + 1}"'
             counts.expect(f"put {number}: {status} {fields.get('etag')}", is_right)
             version += 1
@@ -186,13 +196,19 @@ async def swaps_during_load(router, namerd, upstream, counts):
         return number
 
     *seen, swapped = await asyncio.gather(*(load(number) for number in range(KEPT)), swap())
-    counts.section(f"{requests} requests during {swapped} swaps in {SECONDS} s, "
-                   f"the last seen {max(seen)}", before)
-    status, fields, body = await ask(namerd, "GET", "/api/1/dtabs/default",
-                                     [("Host", "n"), ("Accept", "application/dtab")])
-    counts.expect(f"last table: {status} {fields.get('etag')} {body!r}",
-                  status == 200 and fields.get("etag") == f'"{version}"'
-                  and body.rstrip().endswith(f"/{swapped}".encode()))
+    counts.section(
+        f"{requests} requests during {swapped} swaps in {SECONDS} s, " f"the last seen {max(seen)}",
+        before,
+    )
+    status, fields, body = await ask(
+        namerd, "GET", "/api/1/dtabs/default", [("Host", "n"), ("Accept", "application/dtab")]
+    )
+    counts.expect(
+        f"last table: {status} {fields.get('etag')} {body!r}",
+        status == 200
+        and fields.get("etag") == f'"{version}"'
+        and body.rstrip().endswith(f"/{swapped}".encode()),
+    )
     status, _, body = await ask(router, "GET", "/", [("Host", "web")])
     return swapped
 
@@ -208,8 +224,9 @@ async def bad_upstreams(router, counts):
     is_right = whole.startswith(b"HTTP/1.1 200 OK\r\n") and whole.endswith(b"\r\n\r\nhalf")
     counts.expect(f"short: {whole!r}", is_right)
     writer.close()
-    counts.section("upstreams that close early, send no HTTP, end in a body or are not there",
-                   before)
+    counts.section(
+        "upstreams that close early, send no HTTP, end in a body or are not there", before
+    )
 
 
 async def bad_clients(router, counts):
@@ -241,8 +258,10 @@ async def slow_ends(router, counts, process):
         try:
             good = await asyncio.wait_for(ends, LIMIT + 30)
             took = loop.time() - began
-            counts.expect(f"{what}: ended after {took:.1f} s, {good}",
-                          good is True and LIMIT - 2 < took < LIMIT + 10)
+            counts.expect(
+                f"{what}: ended after {took:.1f} s, {good}",
+                good is True and LIMIT - 2 < took < LIMIT + 10,
+            )
         except (OSError, asyncio.TimeoutError, asyncio.IncompleteReadError) as fault:
             counts.expect(f"{what}: {fault!r} after {loop.time() - began:.1f} s", False)
 
@@ -272,7 +291,8 @@ async def slow_ends(router, counts, process):
     unread = socket.create_connection(("127.0.0.1", router))
     unread.sendall(b"GET / HTTP/1.1\r\nHost: endless\r\n\r\n")
     await asyncio.gather(
-        timed("no answer", unanswered()), timed("no request", unasked()), stopped())
+        timed("no answer", unanswered()), timed("no request", unasked()), stopped()
+    )
     try:
         at_once = asyncio.gather(*(status_of_one() for _ in range(WORKERS)))
         statuses = await asyncio.wait_for(at_once, LIMIT + 15)
@@ -280,16 +300,23 @@ async def slow_ends(router, counts, process):
     except asyncio.TimeoutError:
         counts.expect("workers behind them: not all serve", False)
     unread.close()
-    counts.section("an upstream that never answers, clients that never read or ask, and a program "
-                   "that is stopped for a moment", before)
+    counts.section(
+        "an upstream that never answers, clients that never read or ask, and a program "
+        "that is stopped for a moment",
+        before,
+    )
 
 
 async def main():
     counts = Counts()
     half = b"HTTP/1.1 200 OK\r\nContent-Length: 10\r\n\r\nhalf"
     upstreams = {
-        "early": answers(b""), "garbage": answers(b"garbage\r\n\r\n"), "short": answers(half),
-        "hangs": never_answers, "endless": never_ends, "meets": Meeting().serve,
+        "early": answers(b""),
+        "garbage": answers(b"garbage\r\n\r\n"),
+        "short": answers(half),
+        "hangs": never_answers,
+        "endless": never_ends,
+        "meets": Meeting().serve,
     }
     router, namerd, admin, number_port, closed_port, *others = free_ports(5 + len(upstreams))
     ports = {"closed": closed_port, **dict(zip(upstreams, others))}
@@ -297,12 +324,13 @@ async def main():
         await asyncio.start_server(serve, "127.0.0.1", ports[name])
         for name, serve in upstreams.items()
     ]
-    servers.append(
-        await asyncio.start_server(echo_number, "127.0.0.1", number_port, backlog=2048))
+    servers.append(await asyncio.start_server(echo_number, "127.0.0.1", number_port, backlog=2048))
     inet = "/$/inet/127.0.0.1"
     table = "; ".join(f"/svc/{name} => {inet}/{port}" for name, port in ports.items())
     config = {
-        "admin": {"port": admin}, "namerd": {"port": namerd}, "workers": WORKERS,
+        "admin": {"port": admin},
+        "namerd": {"port": namerd},
+        "workers": WORKERS,
         "routers": [{"protocol": "http", "dtab": table, "servers": [{"port": router}]}],
     }
     with tempfile.TemporaryDirectory() as work:
@@ -310,11 +338,20 @@ async def main():
         with open(path, "w") as file:
             json.dump(config, file)
         linker = await asyncio.create_subprocess_exec(
-            PROGRAM, "serve", path,
-            stdout=asyncio.subprocess.PIPE, stderr=asyncio.subprocess.DEVNULL)
+            PROGRAM,
+            "serve",
+            path,
+            stdout=asyncio.subprocess.PIPE,
+            stderr=asyncio.subprocess.DEVNULL,
+        )
         print((await linker.stdout.readline()).decode().rstrip(), flush=True)
-        status, fields, _ = await ask(namerd, "POST", "/api/1/dtabs/default", [("Host", "n")],
-                                      f"/svc/web => {inet}/{number_port}/0".encode())
+        status, fields, _ = await ask(
+            namerd,
+            "POST",
+            "/api/1/dtabs/default",
+            [("Host", "n")],
+            f"/svc/web => {inet}/{number_port}/0".encode(),
+        )
         counts.expect(f"create: {status}", status == 204 and fields.get("etag") == '"1"')
         await all_at_once(router, counts)
         await bad_upstreams(router, counts)
@@ -328,8 +365,10 @@ async def main():
         ended = await linker.wait()
         print(f"{rest.rstrip()}, status {ended}")
         words = rest.split()
-        counts.expect(f"end: {rest!r} {ended}", ended == 0 and words[:1] == ["closed"]
-                      and words[1:] and int(words[1]) == swapped + 1)
+        counts.expect(
+            f"end: {rest!r} {ended}",
+            ended == 0 and words[:1] == ["closed"] and words[1:] and int(words[1]) == swapped + 1,
+        )
     for server in servers:
         server.close()
     for wrong in counts.wrong[:20]:

@@ -19,7 +19,8 @@ PUTS, FOLLOWERS, POLLS = 500, 3, 1_000_000
 
 async def start(path):
     leader = await asyncio.create_subprocess_exec(
-        PROGRAM, "serve", path, stdout=asyncio.subprocess.PIPE, stderr=asyncio.subprocess.DEVNULL)
+        PROGRAM, "serve", path, stdout=asyncio.subprocess.PIPE, stderr=asyncio.subprocess.DEVNULL
+    )
     serving = (await leader.stdout.readline()).decode().rstrip()
     print(serving, flush=True)
     return leader
@@ -30,16 +31,25 @@ async def put_tables(namerd, numbers, text_of):
     fields = [("Host", "n"), ("Content-Type", "application/dtab")]
     for at, number in enumerate(numbers):
         status, _, _ = await faults.ask(
-            namerd, "PUT" if at else "POST", "/api/1/dtabs/default", fields,
-            text_of(number).encode())
+            namerd,
+            "PUT" if at else "POST",
+            "/api/1/dtabs/default",
+            fields,
+            text_of(number).encode(),
+        )
         assert status == 204, status
         await asyncio.sleep(0.004)
 
 
 async def follow(feed, lines):
     follower = await asyncio.create_subprocess_exec(
-        PROGRAM, "follow", f"127.0.0.1:{feed}", "default", str(POLLS),
-        stdout=asyncio.subprocess.PIPE)
+        PROGRAM,
+        "follow",
+        f"127.0.0.1:{feed}",
+        "default",
+        str(POLLS),
+        stdout=asyncio.subprocess.PIPE,
+    )
 
     async def read():
         while line := await follower.stdout.readline():
@@ -56,7 +66,9 @@ def places_of(lines):
 async def main():
     router, namerd, admin, feed = faults.free_ports(4)
     config = {
-        "admin": {"port": admin}, "namerd": {"port": namerd}, "feed": {"port": feed},
+        "admin": {"port": admin},
+        "namerd": {"port": namerd},
+        "feed": {"port": feed},
         "routers": [{"protocol": "http", "servers": [{"port": router}]}],
     }
     wrong = []
@@ -84,8 +96,8 @@ async def main():
             await follower.wait()
             await reading
         once = await asyncio.create_subprocess_exec(
-            PROGRAM, "follow", f"127.0.0.1:{feed}", "default", "1",
-            stdout=asyncio.subprocess.PIPE)
+            PROGRAM, "follow", f"127.0.0.1:{feed}", "default", "1", stdout=asyncio.subprocess.PIPE
+        )
         whole = (await once.communicate())[0].decode().splitlines()
         await faults.ask(admin, "POST", "/admin/shutdown", [("Host", "a")])
         await leader.stdout.read()

@@ -1,13 +1,14 @@
 #!/usr/bin/env python3
-"""Does the steps of the gate (`rt ci`) crate by crate, from nothing, and prints a line a crate: the seconds that its proof takes, its tests with all that they
-prove again, its must-fail edits, and the runs of a program as two compilers build it; and of the proof the functions that take longest.
+"""Does the steps of the gate (`rt ci`) crate by crate, from nothing, and prints a line a crate: the
+seconds that its proof takes, its tests with all that they prove again, its must-fail edits, and the
+runs of a program as two compilers build it; and of the proof the functions that take longest.
 
 usage: bench/gate.py [--jobs N]             all crates, in a fresh clone of what is committed
-       bench/gate.py [--jobs N] NAME ..     these alone, as they lie here, over the libraries that are built here (bench/build.py)
+       bench/gate.py [--jobs N] NAME ..     these alone, as they lie here, over the libraries that
+                                            are built here (bench/build.py)
 
-N steps are done side by side, each on one processor; N is the number of processors where it is left out. Seconds are those of the clock: beside other work
-they say little.
-"""
+N steps are done side by side, each on one processor; N is the number of processors where it is left
+out. Seconds are those of the clock: beside other work they say little. """
 import argparse, functools, os, re, shutil, signal, subprocess, sys, tempfile, threading, time
 
 from over_crates import ROOT, at_or_below, listed_crates
@@ -19,7 +20,8 @@ SHOWN_FUNCTIONS = 5
 
 
 class Gate:
-    """The steps of some crates of a repository. Each is done in a room of its own, below the folder `rooms`."""
+    """The steps of some crates of a repository. Each is done in a room of its own, below the folder
+    `rooms`."""
 
     def __init__(self, root, names, rooms):
         self.root, self.names, self.rooms = root, names, rooms
@@ -27,9 +29,15 @@ class Gate:
         self.seconds, self.functions, self.printing = {}, {}, threading.Lock()
 
     def run(self, lanes, is_whole):
-        """Does all steps, and tells whether all went well. In a whole repository nothing is built: a proof waits for those below, and gives them its library."""
+        """Does all steps, and tells whether all went well. In a whole repository nothing is built:
+        a proof waits for those below, and gives them its library."""
         self.is_whole = is_whole
-        print(f"{'crate':16} {'lines':>6}" + "".join(f"{step:>7}" for step in STEPS) + "  the functions whose proofs take longest", flush=True)
+        print(
+            f"{'crate':16} {'lines':>6}"
+            + "".join(f"{step:>7}" for step in STEPS)
+            + "  the functions whose proofs take longest",
+            flush=True,
+        )
         went_well = in_lanes(self.tasks(), lanes, self.commands)
         print(f"{'all':16} {'':6}" + "".join(f"{self.sum_of(step):7.0f}" for step in STEPS))
         if is_whole:
@@ -46,7 +54,9 @@ class Gate:
             for step in self.steps_of(crate):
                 waits_for = [(crate, "proof")]
                 if step == "proof":
-                    waits_for = [(below, step) for below in self.below(crate)] if self.is_whole else []
+                    waits_for = (
+                        [(below, step) for below in self.below(crate)] if self.is_whole else []
+                    )
                 tasks[crate, step] = Task(waits_for, size, functools.partial(self.do, crate, step))
         return tasks
 
@@ -85,14 +95,18 @@ class Gate:
         return is_well
 
     def proof(self, crate, room, log):
-        """Proves the crate, and notes how long each function took: one behind the other, each is told as it ends."""
+        """Proves the crate, and notes how long each function took: one behind the other, each is
+        told as it ends."""
         last, functions = None, []
-        with self.commands.started(["rt", "check", "--jobs", "1"], os.path.join(room, "crates", crate), subprocess.PIPE) as check:
+        with self.commands.started(
+            ["rt", "check", "--jobs", "1"], os.path.join(room, "crates", crate), subprocess.PIPE
+        ) as check:
             for line in check.stdout:
                 now = time.monotonic()
                 log.write(line)
                 function = re.match(r"checked (\S+), \d+ of \d+", line)
-                # what comes before the first function, as the libraries and the definitions, is not its own
+                # what comes before the first function, as the libraries and the definitions, is not
+                # its own
                 if function and last is not None:
                     functions.append((now - last, function[1].removeprefix(f"{crate}::")))
                 if function or last is not None and line.startswith("so far"):
@@ -107,11 +121,19 @@ class Gate:
         folder = os.path.join(room, "crates", crate)
         if self.commands.status_of(["rt", "lib", "--jobs", "1"], folder, log) != 0:
             return False
-        shutil.move(os.path.join(folder, "out", "rlib"), os.path.join(self.root, "crates", crate, "out", "rlib"))
+        shutil.move(
+            os.path.join(folder, "out", "rlib"),
+            os.path.join(self.root, "crates", crate, "out", "rlib"),
+        )
         return True
 
     def tests(self, crate, room, log):
-        return self.commands.status_of(["rt", "test", "--jobs", "1"], os.path.join(room, "crates", crate), log) == 0
+        return (
+            self.commands.status_of(
+                ["rt", "test", "--jobs", "1"], os.path.join(room, "crates", crate), log
+            )
+            == 0
+        )
 
     def edits(self, crate, room, log):
         return self.commands.status_of(["rt", "must-fail", crate], room, log) == 0
@@ -129,8 +151,15 @@ class Gate:
     def line_of(self, crate):
         """What the steps of a crate took."""
         lines = lines_of(self.root, crate)
-        steps = "".join(f"{self.seconds[crate, step]:7.0f}" if (crate, step) in self.seconds else f"{'-':>7}" for step in STEPS)
-        longest = ", ".join(f"{name} {seconds:.0f}" for seconds, name in self.functions[crate][:SHOWN_FUNCTIONS] if seconds >= 1)
+        steps = "".join(
+            f"{self.seconds[crate, step]:7.0f}" if (crate, step) in self.seconds else f"{'-':>7}"
+            for step in STEPS
+        )
+        longest = ", ".join(
+            f"{name} {seconds:.0f}"
+            for seconds, name in self.functions[crate][:SHOWN_FUNCTIONS]
+            if seconds >= 1
+        )
         return f"{crate:16} {lines:6}{steps}  {longest}"
 
     def sum_of(self, step):
@@ -138,7 +167,8 @@ class Gate:
 
     @functools.lru_cache(maxsize=None)
     def chain(self, crate):
-        """The seconds of the longest chain of proofs that ends with a crate's, and the crates of it."""
+        """The seconds of the longest chain of proofs that ends with a crate's, and the crates of
+        it."""
         length, crates = max((self.chain(below) for below in self.below(crate)), default=(0, ()))
         return length + self.seconds.get((crate, "proof"), 0), (*crates, crate)
 
@@ -154,7 +184,9 @@ def has_tests(folder):
 
 
 def main():
-    parser = argparse.ArgumentParser(usage=__doc__.partition("usage: ")[2].partition("\n\nN steps")[0])
+    parser = argparse.ArgumentParser(
+        usage=__doc__.partition("usage: ")[2].partition("\n\nN steps")[0]
+    )
     parser.add_argument("--jobs", type=int, default=processors())
     parser.add_argument("names", nargs="*")
     asked = parser.parse_args()
@@ -171,13 +203,21 @@ def main():
         root, rooms = ROOT, os.path.join(place, "rooms")
         os.mkdir(rooms)
         if asked.names:
-            below = [low for low in at_or_below(asked.names, listed) if any(low in at_or_below([name], listed)[:-1] for name in asked.names)]
+            below = [
+                low
+                for low in at_or_below(asked.names, listed)
+                if any(low in at_or_below([name], listed)[:-1] for name in asked.names)
+            ]
             if below:
-                subprocess.run([sys.executable, os.path.join(ROOT, "bench", "build.py"), *below], check=True)
+                subprocess.run(
+                    [sys.executable, os.path.join(ROOT, "bench", "build.py"), *below], check=True
+                )
         else:
             root = os.path.join(place, "clone")
             subprocess.run(["git", "clone", "-q", ROOT, root], check=True)
-        is_well = Gate(root, asked.names or list(listed), rooms).run(asked.jobs, is_whole=not asked.names)
+        is_well = Gate(root, asked.names or list(listed), rooms).run(
+            asked.jobs, is_whole=not asked.names
+        )
     print(f"{(time.monotonic() - start) / 60:.1f} minutes")
     sys.exit(0 if is_well else 1)
 

@@ -1,14 +1,16 @@
 #!/usr/bin/env python3
-"""How long heads take: reading one of ten fields, many times; reading one of 65,533 bytes that comes byte by byte; and reading and
-forwarding one that lists 16,300 names in a Connection field beside 10,900 other fields, in 65,000 bytes.
+"""How long heads take: reading one of ten fields, many times; reading one of 65,533 bytes that
+comes byte by byte; and reading and forwarding one that lists 16,300 names in a Connection field
+beside 10,900 other fields, in 65,000 bytes.
 
-It wants the toolchain's command rt, by which it proves, builds and runs a small program over the crates of heads.
+It wants the toolchain's command rt, by which it proves, builds and runs a small program over the
+crates of heads.
 
 usage: bench/heads.py
 """
 from over_crates import print_output_of
 
-PROGRAM = r'''//! Times the reading of heads.
+PROGRAM = r"""//! Times the reading of heads.
 #![tactic(auto)]
 
 use dtab_table::Dtab;
@@ -134,7 +136,11 @@ fn main(rt: HostRuntime) -> io::Result<()> {
     time_slow(&rt)?;
     time_hostile(&rt)
 }
-'''
+"""
 
 if __name__ == "__main__":
-    print_output_of("heads", PROGRAM, ["line_base", "line_doubles", "http_wire", "name_tree", "dtab_table", "forward"])
+    print_output_of(
+        "heads",
+        PROGRAM,
+        ["line_base", "line_doubles", "http_wire", "name_tree", "dtab_table", "forward"],
+    )

@@ -1,7 +1,7 @@
 #!/usr/bin/env python3
 """How long one pick takes `linker replay` whose request brings the worst table of its own, and how
-much memory: each row is one line `pick PATH 0 0 0 0 TABLE`, with a table of at most 65,536 bytes, as
-a client can send it in a field of its head. The last row is a `view`, whose table an operator
+much memory: each row is one line `pick PATH 0 0 0 0 TABLE`, with a table of at most 65,536 bytes,
+as a client can send it in a field of its head. The last row is a `view`, whose table an operator
 configured. Each runs on a stack of 4 MiB, half of what a worker's thread has.
 
 What a delegation costs is bounded by its lookups and the bytes of the paths that are looked up; the
@@ -19,7 +19,8 @@ MOST_BYTES = 65_536
 LONGEST_SHOWN = 4_096
 STACK_BYTES = 4 << 20
 
-# As many branches as a union may have whose leaves are all looked up: with the lookup of the union itself there are 10,000.
+# As many branches as a union may have whose leaves are all looked up: with the lookup of the union
+# itself there are 10,000.
 BRANCHES = 9_999
 
 
@@ -76,24 +77,85 @@ def rows():
     bound = f"/s=>{union('/b', 100)};/b=>{union(address, 98)}"
     return [
         # No alternative behind a `!` is tried: none is copied either.
-        ("alternatives that are not tried, 9,999 times", "/s", filled(spread + "/a=>!", "|/c"), "failing"),
-        ("alternatives that are not tried, with 1,000 labels behind each", deep, filled("/d=>!", "|/a"), "failing"),
+        (
+            "alternatives that are not tried, 9,999 times",
+            "/s",
+            filled(spread + "/a=>!", "|/c"),
+            "failing",
+        ),
+        (
+            "alternatives that are not tried, with 1,000 labels behind each",
+            deep,
+            filled("/d=>!", "|/a"),
+            "failing",
+        ),
         # Each lookup is of another path of 2,000 bytes, which is made of 1,000 labels.
         ("10,000 lookups of paths of 1,000 labels", deep, filled("/d=>/a", "&/a"), "too-wide"),
-        ("a leaf of 60,000 bytes, with 1,000 labels behind it", deep, "/d=>" + "/y" * 30_000, "too-deep"),
+        (
+            "a leaf of 60,000 bytes, with 1,000 labels behind it",
+            deep,
+            "/d=>" + "/y" * 30_000,
+            "too-deep",
+        ),
         # Each alternative and each branch is tried; none is a lookup.
-        ("alternatives that are all negative, 9,999 times", "/s", filled(spread + "/a=>~", "|~"), "negative"),
+        (
+            "alternatives that are all negative, 9,999 times",
+            "/s",
+            filled(spread + "/a=>~", "|~"),
+            "negative",
+        ),
         ("branches that all fail, 9,999 times", "/s", filled(spread + "/a=>!", "&!"), "failing"),
-        ("branches of weight 0, 9,999 times", "/s", filled(spread + "/a=>0*/c", "&0*/c"), "negative"),
-        ("marks and unions of a mark, 9,800 times", "/s", filled(twice + "/a=>~", "|1*~|~"), "negative"),
+        (
+            "branches of weight 0, 9,999 times",
+            "/s",
+            filled(spread + "/a=>0*/c", "&0*/c"),
+            "negative",
+        ),
+        (
+            "marks and unions of a mark, 9,800 times",
+            "/s",
+            filled(twice + "/a=>~", "|1*~|~"),
+            "negative",
+        ),
         # Entries that match, and entries of other shapes, which are looked for one by one.
-        ("1,000 entries that match, 9,999 times", "/s", spread + ";".join(["/a=>~"] * 1_000), "negative"),
-        ("1,000 entries of 30 labels that match, 9,800 times", many, to_x + ";".join(["/x" * 30 + "=>~"] * 1_000), "negative"),
-        ("1,000 shapes of prefixes, 9,999 times", "/s/" + "x" * 1_900 + "/x" * 11, spread + shapes(1_000, 11), "negative"),
-        ("1,000 shapes of 30 labels, 9,800 times", many, to_x + long_prefixes(1_000, 30, "/y"), "negative"),
-        ("1,000 shapes of 30 labels that match, 9,800 times", many, to_x + long_prefixes(1_000, 30, "/x"), "negative"),
-        # Each leaf that is bound keeps the labels behind its own; and unions that stand in each other.
-        ("9,800 bound leaves with 1,000 labels behind each", "/s" + long_rest, bound, f"1.1.1.1:1 {address} /x/x"),
+        (
+            "1,000 entries that match, 9,999 times",
+            "/s",
+            spread + ";".join(["/a=>~"] * 1_000),
+            "negative",
+        ),
+        (
+            "1,000 entries of 30 labels that match, 9,800 times",
+            many,
+            to_x + ";".join(["/x" * 30 + "=>~"] * 1_000),
+            "negative",
+        ),
+        (
+            "1,000 shapes of prefixes, 9,999 times",
+            "/s/" + "x" * 1_900 + "/x" * 11,
+            spread + shapes(1_000, 11),
+            "negative",
+        ),
+        (
+            "1,000 shapes of 30 labels, 9,800 times",
+            many,
+            to_x + long_prefixes(1_000, 30, "/y"),
+            "negative",
+        ),
+        (
+            "1,000 shapes of 30 labels that match, 9,800 times",
+            many,
+            to_x + long_prefixes(1_000, 30, "/x"),
+            "negative",
+        ),
+        # Each leaf that is bound keeps the labels behind its own; and unions that stand in each
+        # other.
+        (
+            "9,800 bound leaves with 1,000 labels behind each",
+            "/s" + long_rest,
+            bound,
+            f"1.1.1.1:1 {address} /x/x",
+        ),
         ("6,300 unions in each other", "/1", chain(address, 64), f"1.1.1.1:1 {address} /"),
     ]
 
@@ -103,7 +165,14 @@ def views():
     long_rest = "/x" * 1_000
     address = "/$/inet/1.1.1.1/1"
     bound = f"/s=>{union('/b', 100)};/b=>{union(address, 98)}"
-    return [("a view of 9,901 lookups of paths of 1,000 labels", "/s" + long_rest, bound, '{"lookups":[{"depth":0,"outcome":"bound"')]
+    return [
+        (
+            "a view of 9,901 lookups of paths of 1,000 labels",
+            "/s" + long_rest,
+            bound,
+            '{"lookups":[{"depth":0,"outcome":"bound"',
+        )
+    ]
 
 
 def small_stack():
@@ -111,11 +180,14 @@ def small_stack():
 
 
 def run(program, script_text):
-    """One run: the seconds of processor time, the most memory in MiB (never less than this script's own), and the last line of the reply."""
+    """One run: the seconds of processor time, the most memory in MiB (never less than this script's
+    own), and the last line of the reply."""
     with tempfile.TemporaryFile() as script, tempfile.TemporaryFile() as out:
         script.write(script_text)
         script.seek(0)
-        child = subprocess.Popen([program, "replay"], stdin=script, stdout=out, preexec_fn=small_stack)
+        child = subprocess.Popen(
+            [program, "replay"], stdin=script, stdout=out, preexec_fn=small_stack
+        )
         _, status, use = os.wait4(child.pid, 0)
         child.returncode = os.waitstatus_to_exitcode(status)
         out.seek(0)
@@ -130,11 +202,18 @@ def measure(program, name, table, script_text, reply):
     seconds = statistics.median(d[0] for d in done)
     told = done[0][2]
     shown = reply if told.startswith(reply) else f"{told[:40]}, and not {reply}"
-    print(f"| {name} | {len(table):,} | {shown} | {seconds:.3f} | {max(d[1] for d in done):.1f} |", flush=True)
+    print(
+        f"| {name} | {len(table):,} | {shown} | {seconds:.3f} | {max(d[1] for d in done):.1f} |",
+        flush=True,
+    )
 
 
 def main():
-    program = sys.argv[1] if len(sys.argv) > 1 else os.path.join(HERE, "..", "crates", "linker", "out", "linker")
+    program = (
+        sys.argv[1]
+        if len(sys.argv) > 1
+        else os.path.join(HERE, "..", "crates", "linker", "out", "linker")
+    )
     print("| row | bytes of the table | reply | CPU s | MiB |")
     print("|---|---|---|---|---|")
     for name, path, table, reply in rows():

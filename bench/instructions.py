@@ -43,15 +43,36 @@ def counted(keys, requests):
         with open(os.path.join(work, "disco", "web"), "w") as file:
             file.write(f"127.0.0.1 {replica.port}\n")
         with open(os.path.join(work, "c.json"), "w") as file:
-            json.dump({
-                "admin": {"port": admin}, "namerd": {"port": namerd}, "workers": 1,
-                "namers": [{"kind": "io.l5d.fs", "rootDir": "disco"}],
-                "routers": [{"protocol": "http", "dtab": "/svc => /#/io.l5d.fs",
-                             "servers": [{"port": router}], **keys}],
-            }, file)
+            json.dump(
+                {
+                    "admin": {"port": admin},
+                    "namerd": {"port": namerd},
+                    "workers": 1,
+                    "namers": [{"kind": "io.l5d.fs", "rootDir": "disco"}],
+                    "routers": [
+                        {
+                            "protocol": "http",
+                            "dtab": "/svc => /#/io.l5d.fs",
+                            "servers": [{"port": router}],
+                            **keys,
+                        }
+                    ],
+                },
+                file,
+            )
         program = subprocess.Popen(
-            ["valgrind", "--tool=callgrind", "--callgrind-out-file=counted", PROGRAM, "serve",
-             "c.json"], cwd=work, stdout=subprocess.PIPE, stderr=subprocess.DEVNULL)
+            [
+                "valgrind",
+                "--tool=callgrind",
+                "--callgrind-out-file=counted",
+                PROGRAM,
+                "serve",
+                "c.json",
+            ],
+            cwd=work,
+            stdout=subprocess.PIPE,
+            stderr=subprocess.DEVNULL,
+        )
         program.admin = admin
         program.stdout.readline()
         with socket.create_connection(("127.0.0.1", router), timeout=60) as client:

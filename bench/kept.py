@@ -1,12 +1,12 @@
 #!/usr/bin/env python3
 """Restarts replicas of three kinds under load, over kept connections: `bench/kept.py [PROGRAM]`.
 
-A `linker serve` with `routers[0].client.hostConnectionPool` stands in front of one replica, which is
-Python's server, Node's where `node` is installed, or nginx where `nginx` is. Each of them ends idle
-connections within milliseconds, so that many a kept connection is ended just as it is taken up.
-While 16 clients ask, the replica is restarted every half second: the next process takes over the
-listening socket, and the one before ends in the ordinary way. Each request has a number of its own,
-which its replica notes and answers with. It must hold that
+A `linker serve` with `routers[0].client.hostConnectionPool` stands in front of one replica, which
+is Python's server, Node's where `node` is installed, or nginx where `nginx` is. Each of them ends
+idle connections within milliseconds, so that many a kept connection is ended just as it is taken
+up. While 16 clients ask, the replica is restarted every half second: the next process takes over
+the listening socket, and the one before ends in the ordinary way. Each request has a number of its
+own, which its replica notes and answers with. It must hold that
 
 - each client gets 200 and its own number, for each request: none is lost, and no reply goes to
   another request;
@@ -66,7 +66,10 @@ const server = http.createServer((request, reply) => {
 server.keepAliveTimeout = 1;
 server.on("connection", () => fs.writeSync(noted, "connection\\n"));
 server.listen({ fd: Number(process.argv[2]) });
-process.on("SIGTERM", () => { server.close(() => process.exit(0)); server.closeIdleConnections(); });
+process.on("SIGTERM", () => {
+    server.close(() => process.exit(0));
+    server.closeIdleConnections();
+});
 """
 
 NGINX = """
@@ -94,8 +97,11 @@ class Children:
 
     async def start(self):
         number = self.listening.fileno()
-        self.running.append(await asyncio.create_subprocess_exec(
-            *self.words, str(number), os.path.join(self.work, "noted"), pass_fds=[number]))
+        self.running.append(
+            await asyncio.create_subprocess_exec(
+                *self.words, str(number), os.path.join(self.work, "noted"), pass_fds=[number]
+            )
+        )
         await asyncio.sleep(0.3)
 
     async def restart(self):
@@ -119,7 +125,8 @@ class Nginx:
 
     async def start(self):
         self.child = await asyncio.create_subprocess_exec(
-            "nginx", "-p", self.work, "-c", "nginx.conf", "-e", "stderr")
+            "nginx", "-p", self.work, "-c", "nginx.conf", "-e", "stderr"
+        )
         await asyncio.sleep(0.5)
 
     async def restart(self):
@@ -139,7 +146,8 @@ async def client(port, of_client, end, said):
         target = f"/{of_client}/{asked}"
         method, body = ("POST", b"x" * 100) if asked % 4 == 0 else ("GET", b"")
         status, _, reply = await faults.ask(
-            port, method, target, [("Host", "web")], body, reader=reader, writer=writer)
+            port, method, target, [("Host", "web")], body, reader=reader, writer=writer
+        )
         said[f"{method} {target}"] = status, reply
         if asked % 3 == 0:
             await asyncio.sleep(0.001 * (asked % 40))
@@ -153,17 +161,31 @@ async def served(replica, work):
     with open(os.path.join(work, "disco", "web"), "w") as file:
         file.write(f"127.0.0.1 {replica.port}\n")
     with open(os.path.join(work, "c.json"), "w") as file:
-        json.dump({
-            "admin": {"port": admin}, "namerd": {"port": namerd}, "workers": CLIENTS,
-            "namers": [{"kind": "io.l5d.fs", "rootDir": "disco"}],
-            "routers": [{
-                "protocol": "http", "dtab": "/svc => /#/io.l5d.fs",
-                "servers": [{"port": router}], "client": {"hostConnectionPool": {}},
-            }],
-        }, file)
+        json.dump(
+            {
+                "admin": {"port": admin},
+                "namerd": {"port": namerd},
+                "workers": CLIENTS,
+                "namers": [{"kind": "io.l5d.fs", "rootDir": "disco"}],
+                "routers": [
+                    {
+                        "protocol": "http",
+                        "dtab": "/svc => /#/io.l5d.fs",
+                        "servers": [{"port": router}],
+                        "client": {"hostConnectionPool": {}},
+                    }
+                ],
+            },
+            file,
+        )
     linker = await asyncio.create_subprocess_exec(
-        PROGRAM, "serve", "c.json", cwd=work,
-        stdout=asyncio.subprocess.PIPE, stderr=asyncio.subprocess.DEVNULL)
+        PROGRAM,
+        "serve",
+        "c.json",
+        cwd=work,
+        stdout=asyncio.subprocess.PIPE,
+        stderr=asyncio.subprocess.DEVNULL,
+    )
     await linker.stdout.readline()
     said, end = {}, asyncio.get_running_loop().time() + SECONDS
     clients = [asyncio.ensure_future(client(router, at, end, said)) for at in range(CLIENTS)]
@@ -184,14 +206,19 @@ async def round_of(name, replica, work):
     with open(os.path.join(work, "noted")) as file:
         noted = collections.Counter(file.read().split("\n"))
     connections = noted.pop("connection", None)
-    lost = {request: told for request, told in said.items()
-            if told != (200, request.split()[1].encode())}
+    lost = {
+        request: told
+        for request, told in said.items()
+        if told != (200, request.split()[1].encode())
+    }
     twice = [request for request in said if request.startswith("POST") and noted[request] != 1]
     never = [request for request in said if noted[request] == 0]
     again = sum(noted[request] - 1 for request in said if request.startswith("GET"))
-    print(f"{name}: {len(said)} requests, {len(lost)} lost, {len(twice)} POST not sent once, "
-          f"{again} GET sent again"
-          + ("" if connections is None else f", {connections} connections"), flush=True)
+    print(
+        f"{name}: {len(said)} requests, {len(lost)} lost, {len(twice)} POST not sent once, "
+        f"{again} GET sent again" + ("" if connections is None else f", {connections} connections"),
+        flush=True,
+    )
     wrong = []
     if lost:
         wrong.append(f"{name}: {list(lost.items())[:3]}")
@@ -207,6 +234,7 @@ async def round_of(name, replica, work):
 async def main():
     wrong = []
     with contextlib.ExitStack() as stack:
+
         def work():
             return stack.enter_context(tempfile.TemporaryDirectory())
 

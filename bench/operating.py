@@ -32,9 +32,11 @@ WARNING = "clearContext is not there"
 
 def keeping(heads, word):
     """A replica that keeps each head that it reads, behind its own word."""
+
     def serve(connection):
         heads.append((word, read_head(connection)[0].lower()))
         connection.sendall(REPLY)
+
     return Replica(serve)
 
 
@@ -47,19 +49,27 @@ def asked(program, text):
 def is_followed(heads, replies):
     """The tables of the second and the third request lead elsewhere, and go on."""
     texts = [head + b"\r\n" for _, head in heads]
-    return [word for word, _ in heads] == ["web", "other", "other"] \
-        and all(reply.endswith(b"hi") for reply in replies) and b"l5d-ctx-" not in texts[0] \
-        and b"\nl5d-ctx-dtab: /svc/web=>/svc/other\r" in texts[1] \
-        and b"\nl5d-ctx-dtab: /svc/more=>/svc/web;/svc/web=>/svc/other\r" in texts[2] \
+    return (
+        [word for word, _ in heads] == ["web", "other", "other"]
+        and all(reply.endswith(b"hi") for reply in replies)
+        and b"l5d-ctx-" not in texts[0]
+        and b"\nl5d-ctx-dtab: /svc/web=>/svc/other\r" in texts[1]
+        and b"\nl5d-ctx-dtab: /svc/more=>/svc/web;/svc/web=>/svc/other\r" in texts[2]
         and all(b"\nl5d-ctx-trace: 1\r" in text for text in texts[1:])
+    )
 
 
 def is_cleared(heads, replies):
     """The second request goes on as the first does, which has no table, and the third's name has no
     replica."""
-    return [word for word, _ in heads] == ["web", "web"] and heads[0] == heads[1] \
-        and b"l5d-ctx-" not in heads[0][1] and replies[1].endswith(b"hi") \
-        and replies[2].startswith(b"HTTP/1.1 502") and b"l5d-err: negative" in replies[2]
+    return (
+        [word for word, _ in heads] == ["web", "web"]
+        and heads[0] == heads[1]
+        and b"l5d-ctx-" not in heads[0][1]
+        and replies[1].endswith(b"hi")
+        and replies[2].startswith(b"HTTP/1.1 502")
+        and b"l5d-err: negative" in replies[2]
+    )
 
 
 def context(server):
@@ -71,16 +81,21 @@ def context(server):
     with proxy(replicas, 2, server=server) as program:
         replies = [asked(program, text) for text in asks]
     is_right = is_cleared if server.get("clearContext") else is_followed
-    check(f"the context where the server says {server}",
-          is_right(heads, replies) and all(b"l5d-dtab" not in head for _, head in heads),
-          "" if is_right(heads, replies) else f"{heads} {replies}")
+    check(
+        f"the context where the server says {server}",
+        is_right(heads, replies) and all(b"l5d-dtab" not in head for _, head in heads),
+        "" if is_right(heads, replies) else f"{heads} {replies}",
+    )
 
 
 def warned(server, is_warned):
     with proxy({}, 2, server=server) as program:
         pass
-    check(f"a warning where the server says {server}", (WARNING in program.log) == is_warned,
-          program.log if (WARNING in program.log) != is_warned else "")
+    check(
+        f"a warning where the server says {server}",
+        (WARNING in program.log) == is_warned,
+        program.log if (WARNING in program.log) != is_warned else "",
+    )
 
 
 def ready():
@@ -97,10 +112,16 @@ def ready():
             time.sleep(0.3)
             kept.sendall(asks[9:])
             behind = read_all(kept)
-    check("ready while it serves",
-          before.startswith(b"HTTP/1.1 200") and before.endswith(b"ready\n"), f"{before!r}")
-    check("not ready behind a shutdown",
-          behind.startswith(b"HTTP/1.1 503") and behind.endswith(b"not-ready\n"), f"{behind!r}")
+    check(
+        "ready while it serves",
+        before.startswith(b"HTTP/1.1 200") and before.endswith(b"ready\n"),
+        f"{before!r}",
+    )
+    check(
+        "not ready behind a shutdown",
+        behind.startswith(b"HTTP/1.1 503") and behind.endswith(b"not-ready\n"),
+        f"{behind!r}",
+    )
 
 
 def signalled(number):
@@ -119,8 +140,11 @@ def signalled(number):
         program.send_signal(number)
         reply = read_all(client)
         status = program.wait(20)
-    check(f"signal {number} where it is blocked", reply.endswith(b"hi") and status == 0,
-          f"{status} {reply!r}")
+    check(
+        f"signal {number} where it is blocked",
+        reply.endswith(b"hi") and status == 0,
+        f"{status} {reply!r}",
+    )
 
 
 def signalled_early():
@@ -128,13 +152,19 @@ def signalled_early():
     with tempfile.TemporaryDirectory() as folder:
         admin, namerd, router = edge.free_ports(3)
         with open(os.path.join(folder, "c.json"), "w") as file:
-            file.write('{"admin":{"port":%d},"namerd":{"port":%d},"routers":[{"protocol":"http",'
-                       '"servers":[{"port":%d}]}]}' % (admin, namerd, router))
+            file.write(
+                '{"admin":{"port":%d},"namerd":{"port":%d},"routers":[{"protocol":"http",'
+                '"servers":[{"port":%d}]}]}' % (admin, namerd, router)
+            )
         words = f"kill -TERM $$; exec {shlex.quote(edge.PROGRAM)} serve c.json"
-        ended = subprocess.run([*BLOCKED, "sh", "-c", words], cwd=folder, timeout=20,
-                               capture_output=True)
-    check("a signal before it listens", ended.returncode == 0 and b"closed 0" in ended.stdout,
-          f"{ended}")
+        ended = subprocess.run(
+            [*BLOCKED, "sh", "-c", words], cwd=folder, timeout=20, capture_output=True
+        )
+    check(
+        "a signal before it listens",
+        ended.returncode == 0 and b"closed 0" in ended.stdout,
+        f"{ended}",
+    )
 
 
 def ended(number):

@@ -31,7 +31,8 @@ def at_or_below(named, listed):
 
 
 def left_out(folder, names):
-    """What is not copied of a crate: its must-fail edits, and what checks keep, but for the library."""
+    """What is not copied of a crate: its must-fail edits, and what checks keep, but for the
+    library."""
     if os.path.basename(folder) == "out":
         return [name for name in names if name != "rlib"]
     return [name for name in names if name == "must-fail"]
@@ -46,11 +47,12 @@ def share(source, target):
 
 
 def output_of(name, program, named, proofs=None):
-    """The standard output of `rt run` for a program over the named libraries, which is proved and built first, as are those that are not built yet.
+    """The standard output of `rt run` for a program over the named libraries, which is proved and
+    built first, as are those that are not built yet.
 
-    `program` is the text of its main.rt, and `proofs` has the texts of its proof files by their paths. The command is that of the environment's RT, if it is
-    set. Where it fails, the script ends with what it wrote.
-    """
+    `program` is the text of its main.rt, and `proofs` has the texts of its proof files by their
+    paths. The command is that of the environment's RT, if it is set. Where it fails, the script
+    ends with what it wrote."""
     command = os.environ.get("RT", "rt")
     if not shutil.which(command):
         sys.exit(f"{name}: the toolchain's command {command} was not found")

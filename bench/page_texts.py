@@ -71,7 +71,7 @@ def wrapped(lines):
         return lines
     item = ITEM.match(lines[0])
     first = item[0] if item else re.match(r"\s*", lines[0])[0]
-    text = " ".join([lines[0][len(first):], *(line.strip() for line in lines[1:])])
+    text = " ".join([lines[0][len(first) :], *(line.strip() for line in lines[1:])])
     held = WHOLE.sub(lambda whole: whole[0].replace(" ", "\0"), text)
     later = " " * len(first)
     return [

@@ -106,7 +106,7 @@ def blocks_of(text):
             yield block[0], block[1], block[3], comment
             block, comment = None, ""
         elif block:
-            block[3].append(line[block[2]:] if not line[: block[2]].strip() else line)
+            block[3].append(line[block[2] :] if not line[: block[2]].strip() else line)
         elif line.strip():
             comment = line.strip() if line.strip().startswith("<!--") else ""
 
@@ -194,7 +194,7 @@ class Shell:
         for piece in self.pieces(MOST_SECONDS):
             came += piece
             if ended := re.search(rb"\x1e(\d+)\x1e", came):
-                came, status = came[: ended.start()] + came[ended.end():], int(ended[1])
+                came, status = came[: ended.start()] + came[ended.end() :], int(ended[1])
                 break
         if not step.written and STARTS_JOB.search(f"{step.command}\n"):
             self.let_jobs_begin()

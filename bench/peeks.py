@@ -1,11 +1,15 @@
 #!/usr/bin/env python3
-"""How long a pick by a kept delegation takes, of a service with eight replicas, for one to four threads, with and without a thread that makes about 1,000 changes
-of another namespace a second; in a small router, and in one with 4,096 services, 8,192 addresses and a table of 1,024 entries. Beside it the same look-up in
-plain Rust, maps behind a lock, where rustc is there. How long changes take in the large router: of a service's addresses, and of one of the table's entries. And how
-long reports take that change nothing: of a success, which takes no lock, and of a failure on an address that no service has, which takes it.
+"""How long a pick by a kept delegation takes, of a service with eight replicas, for one to four
+threads, with and without a thread that makes about 1,000 changes of another namespace a second; in
+a small router, and in one with 4,096 services, 8,192 addresses and a table of 1,024 entries. Beside
+it the same look-up in plain Rust, maps behind a lock, where rustc is there. How long changes take
+in the large router: of a service's addresses, and of one of the table's entries. And how long
+reports take that change nothing: of a success, which takes no lock, and of a failure on an address
+that no service has, which takes it.
 
-It wants the toolchain's command rt, by which it proves, builds and runs a small program over the router and all crates below it, which takes long where
-these were not built before. Times are processor times, each the least of several rounds.
+It wants the toolchain's command rt, by which it proves, builds and runs a small program over the
+router and all crates below it, which takes long where these were not built before. Times are
+processor times, each the least of several rounds.
 
 usage: bench/peeks.py
 """
@@ -15,7 +19,7 @@ from over_crates import output_of
 
 HERE = os.path.dirname(os.path.abspath(__file__))
 
-PROGRAM = r'''//! Times picks by what is kept, reports and changes.
+PROGRAM = r"""//! Times picks by what is kept, reports and changes.
 #![tactic(auto)]
 
 ghost use Rattle.std.specs.Prelude.{◌≡◌, ◌<◌, Some, IfSome};
@@ -47,7 +51,8 @@ const TURNS: u32 = 100_000;
 /// How many rounds there are of each kind.
 const ROUNDS: u32 = 5;
 
-/// How many passes there are. Those at even places are used, so that no two threads share a line of the processor's cache.
+/// How many passes there are. Those at even places are used, so that no two threads share a line
+/// of the processor's cache.
 const PASSES: u32 = 10;
 
 /// The place of the pass that writes.
@@ -135,7 +140,8 @@ fn service(alloc: Global, at: u32, moved: u32) -> Option<Change>
     )
 }
 
-/// A table with so many entries beside the one that the picks use; the first of them has this number in it.
+/// A table with so many entries beside the one that the picks use; the first of them has this
+/// number in it.
 fn table(alloc: Global, entries: u32, turn: u32) -> Option<Change>
     ensures { IfSome result (λ change. IsSoundChange (change_of change)) }
 {
@@ -215,7 +221,8 @@ fn keep<J: Naming, L: Ledger, R: Wait>(
     Some(())
 }
 
-/// A round of picks: how many threads pick, whether another one writes, how many threads still pick, and what they count.
+/// A round of picks: how many threads pick, whether another one writes, how many threads still
+/// pick, and what they count.
 #[derive(Drop)]
 struct Picking {
     pickers: u32,
@@ -366,7 +373,8 @@ fn report_or_rest<J: Naming, R: Wait + CpuClock>(
     }
 }
 
-/// So many threads report successes, which change nothing, or failures of an address that no service has: prints how long they took.
+/// So many threads report successes, which change nothing, or failures of an address that no
+/// service has: prints how long they took.
 fn report_round<J: Naming + Send + Sync, R: Wait + Threads + Clock + CpuClock + Print + Sync>(
     rt: &R,
     alloc: Global,
@@ -463,7 +471,8 @@ fn measure<J: Naming + Send + Sync, R: Wait + Threads + Clock + CpuClock + Print
     time_changes(rt, alloc, router, passes.last_mut()?, services, entries)
 }
 
-/// Measures a new router, and ends the process: the router is not ended, which would want all passes back.
+/// Measures a new router, and ends the process: the router is not ended, which would want all
+/// passes back.
 fn measured<J: Naming + Send + Sync, R: Wait + Threads + Clock + CpuClock + Print + Abort + Sync>(
     rt: &R,
     alloc: Global,
@@ -493,7 +502,7 @@ fn main(rt: HostRuntime) -> io::Result<()> {
         None => println!(rt; "peeks: no memory"),
     }
 }
-'''
+"""
 
 PROOFS = {
     "proofs/run/Invariants.antt": """use Rattle.router.specs.Opening.{beginning_of, naming_of, ledger_of}
@@ -549,10 +558,15 @@ for_each_mut-requires-sync-F g c κs within =
 """
 
 for ROUND, SHARED in [("pick_round", "Picking"), ("report_round", "Reporting")]:
-    PROOFS[f"proofs/{ROUND}/Answers.antt"] = CROSSING.replace("ROUND", ROUND).replace("SHARED", SHARED)
+    PROOFS[f"proofs/{ROUND}/Answers.antt"] = CROSSING.replace("ROUND", ROUND).replace(
+        "SHARED", SHARED
+    )
 
-LIBRARIES = """step_count name_tree dtab_table addr_book ns_store choose_core bind_core machine bind_cache one_history router_log load_words snap_cell router logbook left_right
-crossbeam_utils atomic_table"""
+LIBRARIES = """
+step_count name_tree dtab_table addr_book ns_store choose_core bind_core machine bind_cache
+one_history router_log load_words snap_cell router logbook left_right crossbeam_utils
+atomic_table
+"""
 
 
 def tell(who, lines):
@@ -562,21 +576,45 @@ def tell(who, lines):
             case ["peek", others, threads, changes, hits, took]:
                 size = "large" if int(others) > 0 else "small"
                 beside = "beside a writer" if int(changes) > 0 else "no writer"
-                picks.setdefault((size, beside, int(threads)), []).append(int(took) / max(int(hits), 1))
+                picks.setdefault((size, beside, int(threads)), []).append(
+                    int(took) / max(int(hits), 1)
+                )
             case ["report", good, threads, turns, took, wall]:
-                what = "a success, which changes nothing" if good == "true" else "a failure of no service's address"
-                reports.setdefault((what, int(threads)), []).append((int(took) / int(turns) / int(threads), int(turns) * int(threads) / int(wall) * 1000))
+                what = (
+                    "a success, which changes nothing"
+                    if good == "true"
+                    else "a failure of no service's address"
+                )
+                reports.setdefault((what, int(threads)), []).append(
+                    (
+                        int(took) / int(turns) / int(threads),
+                        int(turns) * int(threads) / int(wall) * 1000,
+                    )
+                )
             case ["change", service, table]:
                 services.append(int(service) / 1000)
                 tables.append(int(table) / 1000)
     for (size, beside, threads), took in picks.items():
-        print(f"{who}, {size}, {beside}, {threads} threads: {min(took):.0f} ns a pick, middle {statistics.median(took):.0f}")
+        print(
+            f"{who}, {size}, {beside}, {threads} threads: {min(took):.0f} ns a pick, "
+            f"middle {statistics.median(took):.0f}"
+        )
     for (what, threads), took in reports.items():
-        least, middle, most = min(t[0] for t in took), statistics.median(t[0] for t in took), max(t[1] for t in took)
-        print(f"{who}, a report of {what}, {threads} threads: {least:.0f} ns, middle {middle:.0f}; at most {most:.2f} million a second together")
+        least, middle, most = (
+            min(t[0] for t in took),
+            statistics.median(t[0] for t in took),
+            max(t[1] for t in took),
+        )
+        print(
+            f"{who}, a report of {what}, {threads} threads: {least:.0f} ns, middle {middle:.0f}; "
+            f"at most {most:.2f} million a second together"
+        )
     for what, took in [("a service's addresses", services), ("an entry of the table", tables)]:
         if took:
-            print(f"{who}, large, a change of {what}: {min(took):.0f} us, middle {statistics.median(took):.0f}")
+            print(
+                f"{who}, large, a change of {what}: {min(took):.0f} us, "
+                f"middle {statistics.median(took):.0f}"
+            )
 
 
 def main():
@@ -584,8 +622,13 @@ def main():
     if shutil.which("rustc"):
         with tempfile.TemporaryDirectory() as work:
             program = os.path.join(work, "peeks_beside")
-            subprocess.run(["rustc", "-O", "-o", program, os.path.join(HERE, "peeks_beside.rs")], check=True)
-            tell("plain maps behind a lock", subprocess.run([program], check=True, capture_output=True, text=True).stdout)
+            subprocess.run(
+                ["rustc", "-O", "-o", program, os.path.join(HERE, "peeks_beside.rs")], check=True
+            )
+            tell(
+                "plain maps behind a lock",
+                subprocess.run([program], check=True, capture_output=True, text=True).stdout,
+            )
 
 
 if __name__ == "__main__":

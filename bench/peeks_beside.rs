@@ -1,5 +1,6 @@
-//! What bench/peeks.py measures beside the router: the same look-up in maps behind a lock. A map from a path and a request's own table to a service and its names,
-//! the service's replicas with their weights, marks and slots, and a load for each slot.
+//! What bench/peeks.py measures beside the router: the same look-up in maps behind a lock. A map
+//! from a path and a request's own table to a service and its names, the service's replicas with
+//! their weights, marks and slots, and a load for each slot.
 use std::collections::HashMap;
 use std::sync::RwLock;
 use std::sync::atomic::{AtomicU32, AtomicU64, Ordering::SeqCst};
@@ -55,7 +56,12 @@ fn write_path(path: &Path, out: &mut Vec<u8>) {
 
 /// The replica whose part of the weights the word falls into, passing over one of them.
 fn drawn(list: &[(Addr, u64)], word: u64, but: Option<usize>) -> usize {
-    let whole: u64 = list.iter().enumerate().filter(|(at, _)| Some(*at) != but).map(|(_, replica)| replica.1).sum();
+    let whole: u64 = list
+        .iter()
+        .enumerate()
+        .filter(|(at, _)| Some(*at) != but)
+        .map(|(_, replica)| replica.1)
+        .sum();
     let mut left = ((word as u128 * whole as u128) >> 64) as u64;
     for (at, replica) in list.iter().enumerate() {
         if Some(at) == but {
@@ -80,15 +86,27 @@ fn peek(
     let state = state.read().unwrap();
     let leaf = state.kept.get(key)?;
     let list = state.services.get(&leaf.service)?;
-    if !state.marks.is_empty() && list.iter().any(|replica| state.marks.contains_key(&replica.0)) {
+    if !state.marks.is_empty()
+        && list
+            .iter()
+            .any(|replica| state.marks.contains_key(&replica.0))
+    {
         return None;
     }
     let one = drawn(list, words[0], None);
-    let other = if list.len() > 1 { drawn(list, words[1], Some(one)) } else { one };
+    let other = if list.len() > 1 {
+        drawn(list, words[1], Some(one))
+    } else {
+        one
+    };
     let (one, other) = (list[one], list[other]);
     let first = loads[*state.slots.get(&one.0)? as usize].load(SeqCst);
     let second = loads[*state.slots.get(&other.0)? as usize].load(SeqCst);
-    let taken = if first * other.1 <= second * one.1 { one } else { other };
+    let taken = if first * other.1 <= second * one.1 {
+        one
+    } else {
+        other
+    };
     write_path(&leaf.client, client);
     write_path(&leaf.residual, residual);
     Some((taken.0, first, second, state.place))
@@ -106,13 +124,19 @@ unsafe extern "C" {
 
 /// The processor time of this thread, in nanoseconds.
 fn processor_time() -> u64 {
-    let mut time = Timespec { seconds: 0, nanos: 0 };
+    let mut time = Timespec {
+        seconds: 0,
+        nanos: 0,
+    };
     unsafe { clock_gettime(3, &mut time) };
     time.seconds as u64 * 1_000_000_000 + time.nanos as u64
 }
 
 fn path(text: &str) -> Path {
-    text.split('/').skip(1).map(|label| label.as_bytes().to_vec()).collect()
+    text.split('/')
+        .skip(1)
+        .map(|label| label.as_bytes().to_vec())
+        .collect()
 }
 
 fn filled(services: u32) -> State {
@@ -123,14 +147,39 @@ fn filled(services: u32) -> State {
             state.slots.insert(*addr, slots);
             slots += 1;
         }
-        state.services.insert(service.into_bytes(), addrs.into_iter().map(|addr| (addr, 1_000_000)).collect());
+        state.services.insert(
+            service.into_bytes(),
+            addrs.into_iter().map(|addr| (addr, 1_000_000)).collect(),
+        );
     };
-    add(&mut state, "web".into(), (1..9).map(|at| Addr { ip: 0x0a02_0000 + at, port: 1 }).collect());
+    add(
+        &mut state,
+        "web".into(),
+        (1..9)
+            .map(|at| Addr {
+                ip: 0x0a02_0000 + at,
+                port: 1,
+            })
+            .collect(),
+    );
     for at in 0..services {
         let count = if at < 4089 { 2 } else { 1 };
-        add(&mut state, format!("s{at}"), (0..count).map(|i| Addr { ip: 0x0a00_0000 + i * 0x10000 + at, port: 1 }).collect());
+        add(
+            &mut state,
+            format!("s{at}"),
+            (0..count)
+                .map(|i| Addr {
+                    ip: 0x0a00_0000 + i * 0x10000 + at,
+                    port: 1,
+                })
+                .collect(),
+        );
     }
-    let leaf = Leaf { service: b"web".to_vec(), client: path("/#/io.l5d.fs/web"), residual: vec![] };
+    let leaf = Leaf {
+        service: b"web".to_vec(),
+        client: path("/#/io.l5d.fs/web"),
+        residual: vec![],
+    };
     state.kept.insert((path("/svc/web"), vec![]), leaf);
     state
 }
@@ -142,11 +191,19 @@ fn round(state: &RwLock<State>, loads: &[AtomicU64], services: u32, pickers: u32
         for _ in 0..pickers {
             scope.spawn(|| {
                 let key = (path("/svc/web"), vec![]);
-                let (mut client, mut residual) = (Vec::with_capacity(2048), Vec::with_capacity(2048));
+                let (mut client, mut residual) =
+                    (Vec::with_capacity(2048), Vec::with_capacity(2048));
                 let start = processor_time();
                 let mut found = 0;
                 for _ in 0..PICKS {
-                    let choice = peek(state, loads, std::hint::black_box(&key), [0, 1 << 63], &mut client, &mut residual);
+                    let choice = peek(
+                        state,
+                        loads,
+                        std::hint::black_box(&key),
+                        [0, 1 << 63],
+                        &mut client,
+                        &mut residual,
+                    );
                     if std::hint::black_box(&choice).is_some() {
                         found += 1;
                     }
@@ -170,7 +227,12 @@ fn round(state: &RwLock<State>, loads: &[AtomicU64], services: u32, pickers: u32
             });
         }
     });
-    println!("peeks: peek,{services},{pickers},{},{},{}", changes.load(SeqCst), hits.load(SeqCst), nanos.load(SeqCst));
+    println!(
+        "peeks: peek,{services},{pickers},{},{},{}",
+        changes.load(SeqCst),
+        hits.load(SeqCst),
+        nanos.load(SeqCst)
+    );
 }
 
 fn main() {

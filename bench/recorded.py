@@ -14,10 +14,10 @@ this script, and by a Prometheus server, where there is one.
   replies' bodies, the durations' count, asks for a replica, and the lines of the log. No count ever
   falls.
 - The delegations that are kept are one a name, and tables that are created or put are counted.
-- A target with a quotation mark, a backslash and bytes past ASCII is escaped; bytes that are no head
-  have a line; a name without a replica has its word.
-- Where the log can't be written, all requests are answered, the lost lines are counted, and standard
-  error says so once.
+- A target with a quotation mark, a backslash and bytes past ASCII is escaped; bytes that are no
+  head have a line; a name without a replica has its word.
+- Where the log can't be written, all requests are answered, the lost lines are counted, and
+  standard error says so once.
 - Prometheus has scraped the program each time, has its counts, and takes the histogram as one.
 - `promtool check metrics` finds nothing. (Debian's package `prometheus` has both programs; a run
   without them says which it did not try.)
@@ -35,7 +35,8 @@ ROOT = os.path.dirname(os.path.dirname(os.path.abspath(__file__)))
 BODY = b"hello, world\n"
 REPLY = b"HTTP/1.1 200 OK\r\nContent-Length: 13\r\n\r\n" + BODY
 LINE = re.compile(
-    r'(\d{4}-\d\d-\d\dT\d\d:\d\d:\d\d\.\d{3}Z) (\S+) "([^"]*)" (\S+) (\d+) (\d+) (\S+) (\S+) (\S+)')
+    r'(\d{4}-\d\d-\d\dT\d\d:\d\d:\d\d\.\d{3}Z) (\S+) "([^"]*)" (\S+) (\d+) (\d+) (\S+) (\S+) (\S+)'
+)
 
 faults = []
 
@@ -65,7 +66,9 @@ class Client(threading.Thread):
                     # a connection carries 10,000 requests at most
                     if at and at % 10_000 == 0:
                         connection = socket.create_connection(("127.0.0.1", self.port), timeout=60)
-                    connection.sendall(f"GET /{self.number}/{at} HTTP/1.1\r\nHost: web\r\n\r\n".encode())
+                    connection.sendall(
+                        f"GET /{self.number}/{at} HTTP/1.1\r\nHost: web\r\n\r\n".encode()
+                    )
                     head, rest = read_head(connection)
                     while len(rest) < len(BODY):
                         rest += connection.recv(65_536)
@@ -109,12 +112,19 @@ scrape_configs:
 """
 
     def __init__(self, path, folder, admin):
-        self.port, = free_ports(1)
+        (self.port,) = free_ports(1)
         with open(os.path.join(folder, "prometheus.yml"), "w") as file:
             file.write(self.CONFIG % admin)
         self.server = subprocess.Popen(
-            [path, "--config.file=prometheus.yml", "--storage.tsdb.path=data", "--log.level=error",
-             f"--web.listen-address=127.0.0.1:{self.port}"], cwd=folder)
+            [
+                path,
+                "--config.file=prometheus.yml",
+                "--storage.tsdb.path=data",
+                "--log.level=error",
+                f"--web.listen-address=127.0.0.1:{self.port}",
+            ],
+            cwd=folder,
+        )
 
     def ask(self, target):
         """What its interface answers, or nothing where it does not."""
@@ -166,8 +176,11 @@ def scraped_by(path, program):
 def falls(before, now):
     """The counts that are less than they were."""
     grows = ("_total", "_bucket", "_count", "_sum")
-    return [name for name, value in before.items()
-            if name.partition("{")[0].endswith(grows) and now.get(name, 0) < value]
+    return [
+        name
+        for name, value in before.items()
+        if name.partition("{")[0].endswith(grows) and now.get(name, 0) < value
+    ]
 
 
 def lines_of(folder, name):
@@ -200,11 +213,13 @@ def under_load(program, folder, clients, requests):
 
 def odd_ones(program):
     """Requests with lines of their own kind."""
+
     def send(text):
         with socket.create_connection(("127.0.0.1", program.router), timeout=30) as connection:
             connection.sendall(text)
             connection.shutdown(socket.SHUT_WR)
             read_all(connection)
+
     send(b'GET /"\\\xc3\xa9 HTTP/1.1\r\nHost: web\r\nConnection: close\r\n\r\n')
     send(b"no head\r\n\r\n")
     send(b"GET /none HTTP/1.1\r\nHost: none\r\nConnection: close\r\n\r\n")
@@ -223,8 +238,13 @@ def logged(folder, program, replica, count):
             torn += 1
             continue
         asked = re.fullmatch(r"GET (/\d+/\d+) HTTP/1.1", words[3])
-        is_whole = words[4] == "200" and words[5] == "13" and words[7] == "/svc/web" \
-            and words[8] == f"127.0.0.1:{replica.port}" and words[9] == "-"
+        is_whole = (
+            words[4] == "200"
+            and words[5] == "13"
+            and words[7] == "/svc/web"
+            and words[8] == f"127.0.0.1:{replica.port}"
+            and words[9] == "-"
+        )
         if asked and is_whole:
             targets.add(asked[1])
         else:
@@ -266,8 +286,9 @@ def counted(program, count, promtool):
     asks = found["linker_delegation_hits_total"] + found["linker_delegation_misses_total"]
     check("asks for a replica", asks == count + 2, f"{asks} for {count + 2}")
     if promtool:
-        checked = subprocess.run([promtool, "check", "metrics"], input=text, text=True,
-                                 capture_output=True)
+        checked = subprocess.run(
+            [promtool, "check", "metrics"], input=text, text=True, capture_output=True
+        )
         said = (checked.stdout + checked.stderr).strip()
         check("promtool check metrics", checked.returncode == 0 and not said, said)
     return len(found)
@@ -283,19 +304,23 @@ def told(prometheus, count, samples_told):
     check("no scrape failed", prometheus.value("min_over_time(up[1h])") == 1)
     found = prometheus.value("scrape_samples_scraped")
     check("it has every sample", found == samples_told, f"{found} of {samples_told}")
-    found = prometheus.value(
-        "histogram_quantile(0.5, linker_request_duration_seconds_bucket)")
-    check("half of the requests took less than", found is not None and 0 < found < 10,
-          f"{found} seconds")
+    found = prometheus.value("histogram_quantile(0.5, linker_request_duration_seconds_bucket)")
+    check(
+        "half of the requests took less than",
+        found is not None and 0 < found < 10,
+        f"{found} seconds",
+    )
 
 
 def tables(program):
     """Tables that are created or put are counted, and one that is deleted is not."""
+
     def edit(method, body):
         client = http.client.HTTPConnection("127.0.0.1", program.namerd, timeout=30)
         client.request(method, "/api/1/dtabs/default", body)
         client.getresponse().read()
         client.close()
+
     edit("POST", "/svc => /host")
     edit("PUT", "/svc => /other")
     edit("DELETE", None)
@@ -317,7 +342,8 @@ def unwritable(replica):
 
 
 def crowded():
-    """A log where idle clients take all descriptors that they may, and which is renamed meanwhile."""
+    """A log where idle clients take all descriptors that they may, renamed meanwhile."""
+
     def slow(connection):
         read_head(connection)
         time.sleep(0.05)
@@ -344,15 +370,19 @@ def crowded():
     keys = {"httpAccessLog": "access.log"}
     with proxy({"web": Replica(slow)}, 40, 260, keys=keys) as program:
         ask_all(program)
-        os.rename(os.path.join(program.folder, "access.log"),
-                  os.path.join(program.folder, "access.log.1"))
+        os.rename(
+            os.path.join(program.folder, "access.log"), os.path.join(program.folder, "access.log.1")
+        )
         time.sleep(1)
         ask_all(program)
         first, second = (lines_of(program.folder, name) for name in ("access.log.1", "access.log"))
         lost = samples(scrape(program)[2]).get("linker_access_log_lost_lines_total")
     check("requests with few descriptors", answered.count(True) == 640, answered.count(True))
-    check("their lines", (len(first), len(second), lost) == (320, 320, 0),
-          f"{len(first)} and {len(second)}, {lost} lost")
+    check(
+        "their lines",
+        (len(first), len(second), lost) == (320, 320, 0),
+        f"{len(first)} and {len(second)}, {lost} lost",
+    )
 
 
 def main():

@@ -56,7 +56,8 @@ async def client(port, end, said):
     loop, asked = asyncio.get_running_loop(), 0
     while loop.time() < end:
         status, _, body = await faults.ask(
-            port, "GET", "/", [("Host", "web")], reader=reader, writer=writer)
+            port, "GET", "/", [("Host", "web")], reader=reader, writer=writer
+        )
         asked += 1
         said[(status, body)] = said.get((status, body), 0) + 1
     writer.close()
@@ -70,7 +71,9 @@ async def round_of(retries, failures, fail):
     for replica, port in zip(replicas, ports):
         await replica.start(port)
     routed = {
-        "protocol": "http", "dtab": "/svc => /#/io.l5d.fs", "servers": [{"port": router}],
+        "protocol": "http",
+        "dtab": "/svc => /#/io.l5d.fs",
+        "servers": [{"port": router}],
         "client": {"failureAccrual": {"kind": "io.l5d.consecutiveFailures", "failures": failures}},
         **retries,
     }
@@ -79,13 +82,24 @@ async def round_of(retries, failures, fail):
         with open(os.path.join(work, "disco", "web"), "w") as file:
             file.writelines(f"127.0.0.1 {port}\n" for port in ports)
         with open(os.path.join(work, "c.json"), "w") as file:
-            json.dump({
-                "admin": {"port": admin}, "namerd": {"port": namerd}, "workers": CLIENTS,
-                "namers": [{"kind": "io.l5d.fs", "rootDir": "disco"}], "routers": [routed],
-            }, file)
+            json.dump(
+                {
+                    "admin": {"port": admin},
+                    "namerd": {"port": namerd},
+                    "workers": CLIENTS,
+                    "namers": [{"kind": "io.l5d.fs", "rootDir": "disco"}],
+                    "routers": [routed],
+                },
+                file,
+            )
         linker = await asyncio.create_subprocess_exec(
-            PROGRAM, "serve", "c.json", cwd=work,
-            stdout=asyncio.subprocess.PIPE, stderr=asyncio.subprocess.DEVNULL)
+            PROGRAM,
+            "serve",
+            "c.json",
+            cwd=work,
+            stdout=asyncio.subprocess.PIPE,
+            stderr=asyncio.subprocess.DEVNULL,
+        )
         await linker.stdout.readline()
         said, end = {}, asyncio.get_running_loop().time() + SECONDS
         clients = [asyncio.ensure_future(client(router, end, said)) for _ in range(CLIENTS)]
@@ -124,10 +138,15 @@ async def main():
         expect(f"{name}: how many fail", ({*said} == {good}) is bool(retries))
     said, asked, tries, status = await round_of(key, 1000, mute)
     most = CLIENTS * RESERVE + PERCENT * asked // 100
-    print(f"a replica ends each connection without a word: {told(said)}; "
-          f"{asked} requests, {tries - asked} retries, {most} at most", flush=True)
-    expect(f"retries: {tries - asked} of {most}, status {status}",
-           0 < tries - asked <= most and status == 0)
+    print(
+        f"a replica ends each connection without a word: {told(said)}; "
+        f"{asked} requests, {tries - asked} retries, {most} at most",
+        flush=True,
+    )
+    expect(
+        f"retries: {tries - asked} of {most}, status {status}",
+        0 < tries - asked <= most and status == 0,
+    )
     for what in wrong:
         print("wrong:", what)
     print(f"{len(wrong)} wrong")

@@ -1,15 +1,17 @@
 #!/usr/bin/env python3
-"""How long the router's own work on one request takes: a GET with eight header fields whose delegation is kept, one whose delegation has to be worked out, and a POST
-of 100 KB; and how many bytes the room of a server holds.
+"""How long the router's own work on one request takes: a GET with eight header fields whose
+delegation is kept, one whose delegation has to be worked out, and a POST of 100 KB; and how many
+bytes the room of a server holds.
 
-The two ends are in memory: the client gives one request a read, and the upstream its reply in one receive. It wants the toolchain's command rt, by which it proves,
-builds and runs a small program over the crates of sessions.
+The two ends are in memory: the client gives one request a read, and the upstream its reply in one
+receive. It wants the toolchain's command rt, by which it proves, builds and runs a small program
+over the crates of sessions.
 
 usage: bench/session.py
 """
 from over_crates import output_of
 
-PROGRAM = r'''//! Times sessions.
+PROGRAM = r"""//! Times sessions.
 #![tactic(auto)]
 
 ghost use Rattle.std.specs.Prelude.{◌≡◌, ◌≤◌, [], length, false, None, Some, List, ℕ, Option};
@@ -42,7 +44,8 @@ use std::{fs, io};
 /// The requests of a session.
 const REQUESTS: u32 = 9_999;
 
-/// The head of a GET. The host's four digits differ from one to the next where its delegation is to be worked out.
+/// The head of a GET. The host's four digits differ from one to the next where its delegation is
+/// to be worked out.
 const GET: &str = "GET /path/to/page?query=1 HTTP/1.1\r\nHost: h0000\r\nUser-Agent: curl/8.5.0\r\nAccept: */*\r\nAccept-Encoding: gzip, br\r\nAccept-Language: en\r\nCookie: session=0123456789abcdef\r\nReferer: http://example.org/\r\nX-Request-Id: 0123456789abcdef\r\n\r\n";
 
 /// Where the digits stand in it.
@@ -440,9 +443,10 @@ fn main(rt: HostRuntime) -> io::Result<()> {
     time_named::<Brand, _>(&rt, alloc, opened, &rule, set(service, list))?;
     time_rooms(&rt, alloc)
 }
-'''
+"""
 
-PROOFS = {"proofs/main/Invariants.antt": """use Rattle.router.specs.Opening.{beginning_of, naming_of, ledger_of}
+PROOFS = {
+    "proofs/main/Invariants.antt": """use Rattle.router.specs.Opening.{beginning_of, naming_of, ledger_of}
 use Rattle.session.proofs.main.Given as goal
 
 -- the router that was just opened
@@ -451,10 +455,15 @@ ghosts-time_named-J-Naming g a = naming_of (beginning_of a.opened)
 
 abbrev pub ghosts-time_named-J-Ledger : goal.ghosts-time_named-J-Ledger
 ghosts-time_named-J-Ledger g a = ledger_of (beginning_of a.opened)
-"""}
+"""
+}
 
-LIBRARIES = """line_base line_doubles step_count name_tree dtab_table addr_book ns_store choose_core bind_core machine bind_cache one_history router_log load_words snap_cell router http_wire identifier
-exchange_record proxy_session rand_core rand_pcg body_wire forward own_reply logbook left_right crossbeam_utils atomic_table httparse http"""
+LIBRARIES = """
+line_base line_doubles step_count name_tree dtab_table addr_book ns_store choose_core bind_core
+machine bind_cache one_history router_log load_words snap_cell router http_wire identifier
+exchange_record proxy_session rand_core rand_pcg body_wire forward own_reply logbook left_right
+crossbeam_utils atomic_table httparse http
+"""
 
 CASES = {
     "kept": "a GET with eight header fields, its delegation kept",

@@ -1,8 +1,8 @@
 """Works on several crates at once, each in a repository of its own.
 
-While an `rt` runs, it keeps every crate below its own to itself. So two of them in one repository mostly wait for each other. Here each crate gets a folder
-with what it stands on: copies of the texts, and links to the libraries that are built of them.
-"""
+While an `rt` runs, it keeps every crate below its own to itself. So two of them in one repository
+mostly wait for each other. Here each crate gets a folder with what it stands on: copies of the
+texts, and links to the libraries that are built of them. """
 import collections, contextlib, os, shutil, subprocess, sys, threading
 from concurrent.futures import FIRST_COMPLETED, ThreadPoolExecutor, wait
 
@@ -21,13 +21,15 @@ SECONDS_A_LIBRARY = 2
 # How many lines of code of a crate are proved in a second, where nothing better is known.
 LINES_A_SECOND = 10
 
-# The memory that a check may take, in bytes. A few take more, and `rt` makes a check again that was killed for it.
+# The memory that a check may take, in bytes. A few take more, and `rt` makes a check again that was
+# killed for it.
 MEMORY_OF_A_CHECK = 3_000_000_000
 
 
 def lay_out(root, name, place):
-    """Lays a crate and what it stands on out in a folder, as they are in a repository whose libraries below it are built. What stays in the folder of an
-    earlier time is the crate's own `out/`."""
+    """Lays a crate and what it stands on out in a folder, as they are in a repository whose
+    libraries below it are built. What stays in the folder of an earlier time is the crate's own
+    `out/`."""
     listed = listed_crates(root)
     crates = at_or_below([name], listed)
     os.makedirs(place, exist_ok=True)
@@ -45,7 +47,8 @@ def lay_out(root, name, place):
 
 
 def link_tree(source, target):
-    """Makes a folder with the same files as another: what is built is large, and its files are replaced and never changed."""
+    """Makes a folder with the same files as another: what is built is large, and its files are
+    replaced and never changed."""
     shutil.copytree(source, target, copy_function=share)
 
 
@@ -70,14 +73,16 @@ def lines_of(root, crate):
 
 
 def work_of(root, crate):
-    """How much there is to do for a crate: about the seconds that its first proof takes on one processor."""
+    """How much there is to do for a crate: about the seconds that its first proof takes on one
+    processor."""
     with open(os.path.join(root, "bench", "proof_seconds.txt")) as file:
         listed = dict(line.split() for line in file if not line.startswith("#"))
     return int(listed.get(crate, 0)) or lines_of(root, crate) // LINES_A_SECOND
 
 
 def library_words(folder, jobs):
-    """The command that proves the crate in a folder and makes its library: of statements, unless there is what a check of the crate kept."""
+    """The command that proves the crate in a folder and makes its library: of statements, unless
+    there is what a check of the crate kept."""
     if os.path.isdir(os.path.join(folder, "out", "incremental")):
         return ["rt", "lib", "--jobs", str(jobs)]
     return [sys.executable, os.path.join(ROOT, "bench", "statements.py"), str(jobs)]
@@ -108,7 +113,13 @@ class Commands:
             if self.is_over:
                 raise InterruptedError
             command = subprocess.Popen(
-                ["nice", "-n", str(niceness), *words], cwd=folder, stdin=subprocess.DEVNULL, stdout=output, stderr=subprocess.STDOUT, text=True, errors="replace"
+                ["nice", "-n", str(niceness), *words],
+                cwd=folder,
+                stdin=subprocess.DEVNULL,
+                stdout=output,
+                stderr=subprocess.STDOUT,
+                text=True,
+                errors="replace",
             )
             self.running.add(command)
         try:
@@ -145,10 +156,9 @@ class Commands:
 def gains(tasks, key):
     """Whether a task is done sooner with several processors.
 
-    A check with more than one reads the libraries below twice, one time after the other: to see what
-    there is to prove, and then on each of its processors. So it has to have more than twice that to
-    do of its own.
-    """
+    A check with more than one reads the libraries below twice, one time after the other: to see
+    what there is to prove, and then on each of its processors. So it has to have more than twice
+    that to do of its own."""
     below, found = set(), [key]
     while found:
         fresh = [other for other in tasks[found.pop()].waits_for if other not in below]
@@ -159,8 +169,8 @@ def gains(tasks, key):
 
 
 def in_lanes(tasks, lanes, commands):
-    """Does tasks side by side on so many processors, and gives for each whether it went well. `tasks`
-    has them by their keys, each behind those that it waits for.
+    """Does tasks side by side on so many processors, and gives for each whether it went well.
+    `tasks` has them by their keys, each behind those that it waits for.
 
     The one with the longest chain of others behind it comes first, since the whole takes no less
     time than that chain: it may use two processors, before all others, and up to four where no
@@ -181,7 +191,9 @@ def in_lanes(tasks, lanes, commands):
     with ThreadPoolExecutor(lanes + beside) as pool:
         try:
             while left or running:
-                ready = [key for key in left if all(below in went_well for below in tasks[key].waits_for)]
+                ready = [
+                    key for key in left if all(below in went_well for below in tasks[key].waits_for)
+                ]
                 for at, key in enumerate(ready):
                     first = [jobs for _, jobs, niceness in running.values() if niceness == FIRST]
                     idle = (beside if first else lanes) - sum(

@@ -1,9 +1,11 @@
 #!/usr/bin/env python3
-"""Proves the crate in the current folder, and makes a library of its statements: what other crates can cite of it, without its proofs.
+"""Proves the crate in the current folder, and makes a library of its statements: what other crates
+can cite of it, without its proofs.
 
-The crates above are checked over such libraries in less time and memory than over whole ones, as `rt lib` makes them. `rt` makes them for its verdicts, and keeps
-none: so this is a program over the toolchain's module `rtlib`. It leaves the stamp by which `rt` knows what a library is made of. Of the check itself nothing is
-kept. A toolchain without that module makes a whole library.
+The crates above are checked over such libraries in less time and memory than over whole ones, as
+`rt lib` makes them. `rt` makes them for its verdicts, and keeps none: so this is a program over the
+toolchain's module `rtlib`. It leaves the stamp by which `rt` knows what a library is made of. Of
+the check itself nothing is kept. A toolchain without that module makes a whole library.
 
 usage: statements.py JOBS
 """

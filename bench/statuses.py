@@ -1,7 +1,9 @@
 #!/usr/bin/env python3
-"""Runs the built program `linker` where each status but 6 and 7 is due, and compares the status and both outputs. (bench/starve.py has 7.)
+"""Runs the built program `linker` where each status but 6 and 7 is due, and compares the status and
+both outputs. (bench/starve.py has 7.)
 
-The input of status 4 is a folder, which can't be read, and so is its configuration; the output of status 5 is /dev/full, which takes nothing.
+The input of status 4 is a folder, which can't be read, and so is its configuration; the output of
+status 5 is /dev/full, which takes nothing.
 
 usage: bench/statuses.py [--program crates/linker/out/linker]
 """
@@ -18,7 +20,10 @@ CONFIG = b'{"routers":[{"protocol":"http"}]}'
 GOOD = b"ok router 127.0.0.1:4140 namerd 127.0.0.1:4180 admin 127.0.0.1:9990\n"
 
 # What is written to standard error where the configured table covers the prefix of requests' paths.
-COVERED = b"linker: an entry of routers[0].dtab covers routers[0].dstPrefix, so it is tried before every entry of the namespace\n"
+COVERED = (
+    b"linker: an entry of routers[0].dtab covers routers[0].dstPrefix, "
+    b"so it is tried before every entry of the namespace\n"
+)
 
 # Generated runs, and the lines that sum them up.
 RUNS = [
@@ -36,8 +41,12 @@ USAGE = b"usage: linker replay"
 
 
 def main():
-    parser = argparse.ArgumentParser(description=__doc__, formatter_class=argparse.RawDescriptionHelpFormatter)
-    parser.add_argument("--program", default=os.path.join(HERE, "..", "crates", "linker", "out", "linker"))
+    parser = argparse.ArgumentParser(
+        description=__doc__, formatter_class=argparse.RawDescriptionHelpFormatter
+    )
+    parser.add_argument(
+        "--program", default=os.path.join(HERE, "..", "crates", "linker", "out", "linker")
+    )
     program = parser.parse_args().program
     wrong = []
 
@@ -75,9 +84,26 @@ def main():
         replies = b"ok\n127.0.0.1:80 /$/inet/127.0.0.1/80 /b\n"
         check("a script", ["replay"], script(sample), 0, replies)
         check("no script", ["replay"], subprocess.DEVNULL, 0, b"")
-        for words, place in [([], 1), ([""], 1), (["--help"], 1), (["replays"], 1), (["replay", "x"], 2), (["replay", "replay"], 2), ([b"\xff"], 1), (["check"], 2), (["check", "-"], 2), (["check", "c", "d"], 3)]:
+        for words, place in [
+            ([], 1),
+            ([""], 1),
+            (["--help"], 1),
+            (["replays"], 1),
+            (["replay", "x"], 2),
+            (["replay", "replay"], 2),
+            ([b"\xff"], 1),
+            (["check"], 2),
+            (["check", "-"], 2),
+            (["check", "c", "d"], 3),
+        ]:
             check(f"words {words}", words, script(sample), 2, b"error words %d\n" % place)
-        check("a bad line", ["replay"], script(sample + b"picks /a\n" + sample), 3, replies + b"error line 3\n")
+        check(
+            "a bad line",
+            ["replay"],
+            script(sample + b"picks /a\n" + sample),
+            3,
+            replies + b"error line 3\n",
+        )
         descriptor = os.open(folder, os.O_RDONLY)
         check("an input that can't be read", ["replay"], descriptor, 4, b"error read\n")
         os.close(descriptor)
@@ -90,8 +116,19 @@ def main():
             check(what, ["check", path], subprocess.DEVNULL, status, written, stdout, warning)
 
         told("the example", os.path.join(HERE, "..", "examples", "linker.json"), 0, GOOD)
-        for table, warning in [(b"/svc => /host", COVERED), (b"/*/web => !; / => /host", COVERED), (b"/svc/web => /host", b""), (b"/host => /svc", b"")]:
-            told(f"the table {table.decode()}", config(CONFIG.replace(b"}]", b',"dtab":"%s"}]' % table)), 0, GOOD, warning=warning)
+        for table, warning in [
+            (b"/svc => /host", COVERED),
+            (b"/*/web => !; / => /host", COVERED),
+            (b"/svc/web => /host", b""),
+            (b"/host => /svc", b""),
+        ]:
+            told(
+                f"the table {table.decode()}",
+                config(CONFIG.replace(b"}]", b',"dtab":"%s"}]' % table)),
+                0,
+                GOOD,
+                warning=warning,
+            )
         told("the longest configuration", config(CONFIG.ljust(MOST_CONFIG)), 0, GOOD)
         told("a byte more", config(CONFIG.ljust(MOST_CONFIG + 1)), 3, b"error config long\n")
         told("no configuration", os.path.join(folder, "none"), 3, b"error config absent\n")
@@ -103,11 +140,32 @@ def main():
             told("a line that can't be written", config(CONFIG), 5, b"", full)
 
         for command, turns, seed, line in RUNS:
-            check(f"{command} {turns} {seed}", [command, str(turns), str(seed)], subprocess.DEVNULL, 0, line + b"\n")
-        for words, place in [(["storm"], 2), (["storm", "5"], 3), (["storm", "01", "5"], 2), (["storm", "1000001", "5"], 2), (["weave", "5", "x"], 3), (["weave", "5", str(2**64)], 3), (["weave", "5", "7", "x"], 4)]:
+            check(
+                f"{command} {turns} {seed}",
+                [command, str(turns), str(seed)],
+                subprocess.DEVNULL,
+                0,
+                line + b"\n",
+            )
+        for words, place in [
+            (["storm"], 2),
+            (["storm", "5"], 3),
+            (["storm", "01", "5"], 2),
+            (["storm", "1000001", "5"], 2),
+            (["weave", "5", "x"], 3),
+            (["weave", "5", str(2**64)], 3),
+            (["weave", "5", "7", "x"], 4),
+        ]:
             check(f"words {words}", words, subprocess.DEVNULL, 2, b"error words %d\n" % place)
         with open("/dev/full", "wb") as full:
-            check("a run's line that can't be written", ["storm", "0", "7"], subprocess.DEVNULL, 5, b"", full)
+            check(
+                "a run's line that can't be written",
+                ["storm", "0", "7"],
+                subprocess.DEVNULL,
+                5,
+                b"",
+                full,
+            )
 
     if wrong:
         sys.exit(f"wrong: {', '.join(wrong)}")

@@ -1,14 +1,16 @@
 #!/usr/bin/env python3
-"""How long a change takes that the cache is told of, beside 1,024 kept delegations of 20 looked-up paths each: one of 1,024 rules of a table changed, all of
-them, a service added or removed. And how long a delegation takes to be found among them.
+"""How long a change takes that the cache is told of, beside 1,024 kept delegations of 20 looked-up
+paths each: one of 1,024 rules of a table changed, all of them, a service added or removed. And how
+long a delegation takes to be found among them.
 
-It wants the toolchain's command rt, by which it proves, builds and runs a small program over the crates of the cache.
+It wants the toolchain's command rt, by which it proves, builds and runs a small program over the
+crates of the cache.
 
 usage: bench/touches.py
 """
 from over_crates import print_output_of
 
-PROGRAM = r'''//! Times what a change costs the cache.
+PROGRAM = r"""//! Times what a change costs the cache.
 #![tactic(auto)]
 
 use addr_book::Name;
@@ -86,7 +88,13 @@ fn hits(alloc: Global, cache: &Cache) -> Result<u32, AllocError> {
     Ok(count)
 }
 
-fn time_tables(rt: &HostRuntime, cache: &mut Cache, what: &str, old: &Dtab, new: &Dtab) -> io::Result<()> {
+fn time_tables(
+    rt: &HostRuntime,
+    cache: &mut Cache,
+    what: &str,
+    old: &Dtab,
+    new: &Dtab,
+) -> io::Result<()> {
     let start = Instant::now(rt)?;
     cache.touch_table(old, new);
     let took = start.elapsed(rt)?.as_micros();
@@ -120,7 +128,9 @@ fn main(rt: HostRuntime) -> io::Result<()> {
     time_service(&rt, &mut cache)?;
     time_finds(&rt, &cache)
 }
-'''
+"""
 
 if __name__ == "__main__":
-    print_output_of("touches", PROGRAM, ["name_tree", "dtab_table", "addr_book", "bind_core", "bind_cache"])
+    print_output_of(
+        "touches", PROGRAM, ["name_tree", "dtab_table", "addr_book", "bind_core", "bind_cache"]
+    )

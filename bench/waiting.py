@@ -95,7 +95,9 @@ class Load:
     def started(self, *words):
         return subprocess.Popen(
             [*on(self.processors), self.path, *map(str, words)],
-            stdin=subprocess.PIPE, stdout=subprocess.PIPE)
+            stdin=subprocess.PIPE,
+            stdout=subprocess.PIPE,
+        )
 
     def run(self, *words):
         """What clients of this kind say at their end."""
@@ -200,17 +202,27 @@ class Linker:
     def running(self, folder):
         self.port, self.namerd, admin = free_ports(3)
         with open(os.path.join(folder, "c.json"), "w") as file:
-            json.dump({
-                "admin": {"port": admin}, "namerd": {"port": self.namerd},
-                "workers": self.options.workers,
-                "routers": [{
-                    "protocol": "http", "servers": [{"port": self.port}],
-                    "client": {"hostConnectionPool": {"maxSize": 2}},
-                }],
-            }, file)
+            json.dump(
+                {
+                    "admin": {"port": admin},
+                    "namerd": {"port": self.namerd},
+                    "workers": self.options.workers,
+                    "routers": [
+                        {
+                            "protocol": "http",
+                            "servers": [{"port": self.port}],
+                            "client": {"hostConnectionPool": {"maxSize": 2}},
+                        }
+                    ],
+                },
+                file,
+            )
         process = subprocess.Popen(
             [*on(self.processors), os.path.abspath(self.options.program), "serve", "c.json"],
-            cwd=folder, stdout=subprocess.PIPE, stderr=subprocess.DEVNULL)
+            cwd=folder,
+            stdout=subprocess.PIPE,
+            stderr=subprocess.DEVNULL,
+        )
         with ended_at_last(process):
             self.pid, line = process.pid, process.stdout.readline()
             if not line.startswith(b"serving"):
@@ -223,8 +235,7 @@ class Linker:
             self.end(process, admin)
 
     def look_at_last_table(self):
-        status, _, text = ask(self.namerd, "GET", "/api/1/dtabs/default",
-                              Accept="application/dtab")
+        status, _, text = ask(self.namerd, "GET", "/api/1/dtabs/default", Accept="application/dtab")
         if status != 200 or not text.rstrip().endswith(f"/{self.number}".encode()):
             self.wrong.append(f"linker: the last table is {self.number}, and not {text!r}")
 
@@ -239,8 +250,9 @@ class Linker:
             return
         # Reports of failures are changes too: without one the tables are all.
         if process.returncode != 0 or rest.split() != [b"closed", str(self.number).encode()]:
-            self.wrong.append(f"linker: {rest!r}, status {process.returncode}, "
-                              f"{self.number} tables")
+            self.wrong.append(
+                f"linker: {rest!r}, status {process.returncode}, " f"{self.number} tables"
+            )
 
     def swap_tables(self, stop):
         """Puts tables, 200 a second, until it is told to stop."""
@@ -249,8 +261,13 @@ class Linker:
         try:
             while not stop.is_set():
                 match = f'"{self.number}"'
-                said = ask_over(connection, "PUT", "/api/1/dtabs/default",
-                                self.table(self.number + 1), **{"If-Match": match})
+                said = ask_over(
+                    connection,
+                    "PUT",
+                    "/api/1/dtabs/default",
+                    self.table(self.number + 1),
+                    **{"If-Match": match},
+                )
                 if said[:2] != (204, f'"{self.number + 1}"'):
                     self.wrong.append(f"linker: table {self.number + 1}: {said}")
                     return
@@ -279,11 +296,18 @@ class Nginx:
     def running(self, folder):
         (self.port,) = free_ports(1)
         with open(os.path.join(folder, "nginx.conf"), "w") as file:
-            file.write(NGINX.format(
-                processes=len(self.processors), connections=self.connections, port=self.port,
-                replica=self.replica, kept=self.options.workers))
+            file.write(
+                NGINX.format(
+                    processes=len(self.processors),
+                    connections=self.connections,
+                    port=self.port,
+                    replica=self.replica,
+                    kept=self.options.workers,
+                )
+            )
         process = subprocess.Popen(
-            [*on(self.processors), "nginx", "-p", folder, "-c", "nginx.conf", "-e", "stderr"])
+            [*on(self.processors), "nginx", "-p", folder, "-c", "nginx.conf", "-e", "stderr"]
+        )
         with ended_at_last(process):
             self.pid = process.pid
             time.sleep(0.5)
@@ -317,8 +341,21 @@ def faults_of(what, said, due=None):
 
 def no_figures():
     """The figures of a proxy before its first round, each a list over the rounds."""
-    return {key: [] for key in ("alone", "beside", "requests", "memory", "with_idle", "first",
-                                "first_beside", "opening", "again", "paced")}
+    return {
+        key: []
+        for key in (
+            "alone",
+            "beside",
+            "requests",
+            "memory",
+            "with_idle",
+            "first",
+            "first_beside",
+            "opening",
+            "again",
+            "paced",
+        )
+    }
 
 
 def idle_beside_busy(load, proxy, options, wrong, found):
@@ -345,8 +382,10 @@ def idle_beside_busy(load, proxy, options, wrong, found):
         found["first_beside"].append((probes["p50"], probes["p99"]))
     at_end = held["at_end"]
     if (ended := at_end["ended"] + at_end["reopened"]) > 0:
-        wrong.append(f"{proxy.name}: {ended:,} idle clients were ended within "
-                     f"{time.monotonic() - began:.0f} s")
+        wrong.append(
+            f"{proxy.name}: {ended:,} idle clients were ended within "
+            f"{time.monotonic() - began:.0f} s"
+        )
     wait_for_descriptors(proxy.pid, before + options.busy)
     wrong += faults_of(f"{proxy.name}: idle clients that ask again", at_end, 2 * options.idle)
     found["again"].append((at_end["p50"], at_end["p99"]))
@@ -422,66 +461,94 @@ def growth(found):
 
 def rows_of(options, figures):
     """The rows of the table: what was measured, a cell for each proxy, and what is aimed at."""
+
     def row(what, cell, aim=""):
         return [what, *(cell(found) for found in figures.values()), aim]
 
     linker, nginx = figures.get("linker"), figures.get("nginx")
     idle = f"{options.idle:,} idle"
-    yield row(f"requests a second of {options.busy} busy clients",
-              lambda found: f"{statistics.median(found['requests']):,.0f}")
-    yield row("processor time of a request",
-              lambda found: written(least(found["alone"]), "µs"))
+    yield row(
+        f"requests a second of {options.busy} busy clients",
+        lambda found: f"{statistics.median(found['requests']):,.0f}",
+    )
+    yield row("processor time of a request", lambda found: written(least(found["alone"]), "µs"))
     grown = linker and growth(linker)
     aim = f"at most {MOST_GROWTH} % more: {told(grown is not None and grown <= MOST_GROWTH)}"
-    yield row(f"the same beside {idle}",
-              lambda found: written(least(found["beside"]), "µs")
-              + (f", {growth(found):+.1f} %" if growth(found) is not None else ""),
-              aim if linker else "")
+    yield row(
+        f"the same beside {idle}",
+        lambda found: written(least(found["beside"]), "µs")
+        + (f", {growth(found):+.1f} %" if growth(found) is not None else ""),
+        aim if linker else "",
+    )
     yield row("resident memory before", lambda found: written(found["memory"][0], "MiB"))
     aim = linker and f"under {MOST_MEMORY} MB: " + told(
-        max(linker["with_idle"]) * 1.048576 < MOST_MEMORY)
-    yield row(f"the same with {idle}", lambda found: written(max(found["with_idle"]), "MiB"),
-              aim or "")
+        max(linker["with_idle"]) * 1.048576 < MOST_MEMORY
+    )
+    yield row(
+        f"the same with {idle}", lambda found: written(max(found["with_idle"]), "MiB"), aim or ""
+    )
     each = lambda found: (found["with_idle"][0] - found["memory"][0]) * 2**20 / options.idle
     yield row("of that an idle one", lambda found: f"{each(found):,.0f} bytes")
     yield row("a new connection's first answer, p50 / p99 ms", lambda found: times(found["first"]))
-    yield row(f"the same beside {idle}", lambda found: times(found["first_beside"]),
-              "not slower" if linker else "")
-    yield row(f"idle clients, {RATE:,} opened a second: answered",
-              lambda found: f"{min(one[2] for one in found['opening']):,}")
-    yield row("their first answers, p50 / p99 ms",
-              lambda found: times([one[:2] for one in found["opening"]]))
+    yield row(
+        f"the same beside {idle}",
+        lambda found: times(found["first_beside"]),
+        "not slower" if linker else "",
+    )
+    yield row(
+        f"idle clients, {RATE:,} opened a second: answered",
+        lambda found: f"{min(one[2] for one in found['opening']):,}",
+    )
+    yield row(
+        "their first answers, p50 / p99 ms",
+        lambda found: times([one[:2] for one in found["opening"]]),
+    )
     yield row("their next answers, behind the silence", lambda found: times(found["again"]))
     paced_ = f"{options.clients:,} clients, a request a second"
     count = options.clients * options.paced_seconds
-    yield row(f"{paced_}: answered",
-              lambda found: f"{min(said['answered'] for said in found['paced']):,} of {count:,}",
-              "all")
+    yield row(
+        f"{paced_}: answered",
+        lambda found: f"{min(said['answered'] for said in found['paced']):,} of {count:,}",
+        "all",
+    )
     middle = lambda rounds, key: statistics.median(said[key] for said in rounds)
     percentiles = lambda rounds: " / ".join(
-        f"{middle(rounds, key) / 1000:.2f}" for key in ("p50", "p99", "most"))
+        f"{middle(rounds, key) / 1000:.2f}" for key in ("p50", "p99", "most")
+    )
     aim = ""
     if linker and nginx:
         times_nginx = middle(linker["paced"], "p99") / max(middle(nginx["paced"], "p99"), 0.1)
-        aim = (f"p99 within {MOST_TIMES_NGINX} times nginx's: "
-               f"{told(times_nginx <= MOST_TIMES_NGINX)} ({times_nginx:.2f})")
-    yield row("their replies, p50 / p99 / longest ms",
-              lambda found: percentiles(found["paced"]), aim)
+        aim = (
+            f"p99 within {MOST_TIMES_NGINX} times nginx's: "
+            f"{told(times_nginx <= MOST_TIMES_NGINX)} ({times_nginx:.2f})"
+        )
+    yield row(
+        "their replies, p50 / p99 / longest ms", lambda found: percentiles(found["paced"]), aim
+    )
     if linker:
         swaps, seconds = linker["swaps"]
         swapped = lambda write: lambda found: write(found) if found is linker else ""
-        yield row(f"beside {swaps / seconds:.0f} swaps of the table a second: answered",
-                  swapped(lambda found: f"{found['swapped']['answered']:,} of {count:,}"), "all")
-        yield row("their replies, p50 / p99 / longest ms",
-                  swapped(lambda found: percentiles([found["swapped"]])))
-        yield row(f"{4 * options.busy} busy clients on {options.workers} workers beside the same: "
-                  "answered", swapped(lambda found: f"{found['many']['answered']:,} of "
-                                                    f"{found['many']['due']:,}"), "all")
+        yield row(
+            f"beside {swaps / seconds:.0f} swaps of the table a second: answered",
+            swapped(lambda found: f"{found['swapped']['answered']:,} of {count:,}"),
+            "all",
+        )
+        yield row(
+            "their replies, p50 / p99 / longest ms",
+            swapped(lambda found: percentiles([found["swapped"]])),
+        )
+        yield row(
+            f"{4 * options.busy} busy clients on {options.workers} workers beside the same: "
+            "answered",
+            swapped(lambda found: f"{found['many']['answered']:,} of " f"{found['many']['due']:,}"),
+            "all",
+        )
 
 
 def options_of_words():
     parser = argparse.ArgumentParser(
-        description=__doc__, formatter_class=argparse.RawDescriptionHelpFormatter)
+        description=__doc__, formatter_class=argparse.RawDescriptionHelpFormatter
+    )
     default = os.path.join(HERE, "..", "crates", "linker", "out", "linker")
     parser.add_argument("--program", default=default)
     parser.add_argument("--only", choices=("linker", "nginx"))
@@ -500,8 +567,11 @@ def main():
     options.idle = min(options.idle, limit - OTHER_DESCRIPTORS)
     options.clients = min(options.clients, limit - OTHER_DESCRIPTORS)
     for_proxies, for_load = halves_of_processors()
-    print(f"descriptors: {limit:,} at most a process; processors: {for_proxies} for the proxies, "
-          f"{for_load} for clients and replicas; {options.workers} workers", flush=True)
+    print(
+        f"descriptors: {limit:,} at most a process; processors: {for_proxies} for the proxies, "
+        f"{for_load} for clients and replicas; {options.workers} workers",
+        flush=True,
+    )
     with tempfile.TemporaryDirectory() as folder:
         load = Load(folder, for_load)
         with ended_at_last(load.started("replica")) as serving:
