@@ -283,11 +283,17 @@ fn first_wrong_visit(dialer: &mut MemDialer) -> Option<usize> {
     None
 }
 
+/// The pool of a dialer that keeps connections.
+const POOL: ConnectionPool = ConnectionPool {
+    max_size: 1,
+    idle_ms: 0,
+};
+
 /// A dialer whose calls 11 and 18 fail, the second by waiting.
 fn keeping_dialer(alloc: Global) -> Mem<MemDialer> {
     let waiting = vec![in alloc; 18]?;
     match dialer_of(alloc, &[], &[11, 18]) {
-        Ok(dialer) => Ok(dialer.keeping(true, waiting)),
+        Ok(dialer) => Ok(dialer.keeping(POOL, waiting)),
         Err(error) => Err(error),
     }
 }

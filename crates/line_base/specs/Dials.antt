@@ -1,19 +1,21 @@
 -- What a dialer tells of itself, and what its log gains at each call, where it is told.
 use Rattle.std.specs.Prelude.{◌≡◌, ◌⊎◌, ℕ, ◌<◌, Bool, true, false, List, [], ◌∷◌, ◌++◌, length}
 use Rattle.std.specs.Prelude.{take, Option, Some, None, Result, Ok, Err, MatchResult}
+use Rattle.line_base.specs.declared.dialer.ConnectionPool.{ConnectionPool}
 use Rattle.line_base.specs.declared.dialer.DialEvent.{DialEvent}
 use Rattle.line_base.specs.declared.dialer.DialEvent.TheVariants.{Dialed, Resumed, Sent, Got, Hung}
 
 -- a dialer: what it did, in order, where it tells it; the bytes that the other end has yet to give,
 -- where they are told; where the open connection leads, if one is open, by its address and its
--- port; where those lead that it keeps; whether it keeps any; whether its last send or receive
--- failed because it waited for too long; and how often a call failed. The count never falls, and
--- stands still at the last value of a `u64`
+-- port; where those lead that it keeps; how many it may keep, and for how long; whether it keeps
+-- any; whether its last send or receive failed because it waited for too long; and how often a call
+-- failed. The count never falls, and stands still at the last value of a `u64`
 pub record Upstream : Type 0 where
   pub log : Option (List DialEvent)
   pub left : Option (List ℕ)
   pub open_to : Option (ℕ × ℕ)
   pub kept : List (ℕ × ℕ)
+  pub pool : ConnectionPool
   pub keeps : Bool
   pub late : Bool
   pub faults : ℕ

@@ -82,6 +82,7 @@ pub trait Net {
     fn dialer(&mut self, pool: ConnectionPool) -> Self::D
         ensures closed { (Self.D.upstream result).open_to ≡ None }
         ensures none_kept { (Self.D.upstream result).kept ≡ [] }
+        ensures pool { (Self.D.upstream result).pool ≡ pool }
         ensures keeps { (Self.D.upstream result).keeps ≡ nat_lt 0 pool.max_size }
         ensures log { IsNewLog (state self.old).told (Self.D.upstream result).log }
         ensures kept { (state self.new ≡ state self.old) × (faults self.new ≡ faults self.old) };

@@ -1,6 +1,6 @@
 -- What the objects in memory hold.
-use Rattle.std.specs.Prelude.{◌≡◌, ℕ, ◌-◌, ◌^◌, ◌==◌, nat_le, max, Bool, false, if◌then◌else◌, List}
-use Rattle.std.specs.Prelude.{[], ◌∷◌, map, drop, Option, Some, None, Contains}
+use Rattle.std.specs.Prelude.{◌≡◌, ℕ, ◌-◌, ◌^◌, ◌==◌, nat_le, nat_lt, max, Bool, false, List}
+use Rattle.std.specs.Prelude.{[], ◌∷◌, if◌then◌else◌, map, drop, Option, Some, None, Contains}
 use Rattle.std.specs.Prelude.{slice_index_or, Result, Ok, Err}
 use Rattle.line_base.specs.Accepts.{Listening}
 use Rattle.line_base.specs.Counts.{raised}
@@ -9,6 +9,7 @@ use Rattle.line_base.specs.Files.{File, Filed}
 use Rattle.line_base.specs.Lines.{Line}
 use Rattle.line_base.specs.Nets.{Networking}
 use Rattle.line_base.specs.Streams.{Input, Output}
+use Rattle.line_base.specs.declared.dialer.ConnectionPool.{ConnectionPool}
 use Rattle.line_base.specs.declared.dialer.DialEvent.{DialEvent}
 use Rattle.line_base.specs.declared.event.Event.{Event}
 use Rattle.line_base.specs.declared.event.Event.TheVariants.{Closed}
@@ -122,14 +123,14 @@ pub record Meeting : Type 0 where
   pub address : Option SocketAddress
 
 -- a dialer: its log, where the open connection leads, the bytes that its other end has yet to give,
--- the connections that are kept, whether it keeps any, the replies of those to come, its plan, the
--- calls that are to fail by waiting, whether the last one did, and its faults
+-- the connections that are kept, the pool that it was made with, the replies of those to come, its
+-- plan, the calls that are to fail by waiting, whether the last one did, and its faults
 pub record Dialing : Type 0 where
   pub log : List DialEvent
   pub open_to : Option (ℕ × ℕ)
   pub left : List ℕ
   pub kept : List MemLink
-  pub keeps : Bool
+  pub pool : ConnectionPool
   pub replies : List (List ℕ)
   pub plan : Plan
   pub waiting : List ℕ
@@ -164,7 +165,8 @@ upstream_of d = record {
   left = Some d.left;
   open_to = d.open_to;
   kept = map address_of d.kept;
-  keeps = d.keeps;
+  pool = d.pool;
+  keeps = nat_lt 0 d.pool.max_size;
   late = d.late;
   faults = d.faults;
 }

@@ -1,6 +1,7 @@
 //! A dialer in memory.
 ghost use Rattle.std.specs.Prelude.{◌≡◌, ◌≤◌, ◌<◌, ◌+◌, ◌++◌, ◌∷◌, ◌==◌, true, false, [], length};
-ghost use Rattle.std.specs.Prelude.{map, min, None, IsSome, IsTrue, Some, IsErr, IfOk, IfSome};
+ghost use Rattle.std.specs.Prelude.{map, min, nat_lt, None, IsSome, IsTrue, Some, IsErr, IfOk};
+ghost use Rattle.std.specs.Prelude.{IfSome};
 ghost use Rattle.std.specs.Prelude.{IfNone, OnOk, OnErr, vec_len, vec_capacity, drop};
 ghost use Rattle.std.specs.Vec.Iter.{into_iter_items};
 ghost use Rattle.std.specs.Io.{ReadsAtMost, WritesAtMost};
@@ -16,7 +17,7 @@ ghost use Rattle.line_base.specs.declared.dialer.DialEvent.TheVariants.{Kept};
 use crate::link::MemLink;
 use crate::plan::CallPlan;
 use crate::unread::Unread;
-use line_base::{DialEvent, Dialer, Failed, Piece};
+use line_base::{ConnectionPool, DialEvent, Dialer, Failed, Piece};
 use std::alloc::Global;
 use std::marker::Model;
 use std::vec::IntoIter;
@@ -36,7 +37,7 @@ pub struct MemDialer {
     open_to: Option<(u32, u16)>,
     unread: Unread,
     kept: Vec<MemLink>,
-    keeps: bool,
+    pool: ConnectionPool,
     replies: IntoIter<Vec<u8>>,
     plan: CallPlan,
     waiting: Vec<u64>,
@@ -51,7 +52,7 @@ impl Drop for MemDialer {
             open_to: _,
             unread,
             kept,
-            keeps: _,
+            pool: _,
             replies,
             plan,
             waiting,
@@ -79,7 +80,7 @@ impl Model for MemDialer {
       open_to = d.open_to;
       left = d.unread;
       kept = d.kept.items;
-      keeps = d.keeps;
+      pool = d.pool;
       replies = map (λ r. r.items) (into_iter_items d.replies);
       plan = d.plan;
       waiting = d.waiting.items;
@@ -142,7 +143,8 @@ impl MemDialer {
         failing: Vec<u64>,
     ) -> MemDialer
         ensures log { (result.log ≡ []) × (result.open_to ≡ None) }
-        ensures kept { (result.kept ≡ []) × (result.keeps ≡ false) }
+        ensures kept { (result.kept ≡ [])
+            × (result.pool ≡ record { max_size = 0; idle_ms = 0 }) }
         ensures replies { result.replies ≡ map (λ r. r.items) replies.items }
         ensures plan { result.plan
             ≡ record { sizes = sizes.items; failing = failing.items; calls = 0 } }
@@ -154,7 +156,7 @@ impl MemDialer {
             open_to: None,
             unread: Unread::of(Vec::new(alloc)),
             kept: Vec::new(alloc),
-            keeps: false,
+            pool: ConnectionPool::NONE,
             replies: replies.into_iter(),
             plan: CallPlan::of(sizes, failing),
             waiting: Vec::new(alloc),
@@ -163,17 +165,18 @@ impl MemDialer {
         }
     }
 
-    /// The same dialer, which keeps connections where `keeps`. Of its sends and receives that fail,
-    /// those whose numbers are in `waiting` do so because they waited for too long.
-    pub fn keeping(self, keeps: bool, waiting: Vec<u64>) -> MemDialer
-        ensures keeps { (result.keeps ≡ keeps) × (result.waiting ≡ waiting.items) }
+    /// The same dialer, which keeps connections where the pool has room for one: as many as are put
+    /// aside, for any time. Of its sends and receives that fail, those whose numbers are in
+    /// `waiting` do so because they waited for too long.
+    pub fn keeping(self, pool: ConnectionPool, waiting: Vec<u64>) -> MemDialer
+        ensures pool { (result.pool ≡ pool) × (result.waiting ≡ waiting.items) }
         ensures same { (result.log ≡ self.log) × (result.open_to ≡ self.open_to)
             × (result.left ≡ self.left) × (result.kept ≡ self.kept)
             × (result.replies ≡ self.replies) × (result.plan ≡ self.plan)
             × (result.late ≡ self.late) × (result.faults ≡ self.faults) }
     {
         let mut dialer = self;
-        dialer.keeps = keeps;
+        dialer.pool = pool;
         dialer.waiting = waiting;
         dialer
     }
@@ -242,7 +245,7 @@ impl Dialer for MemDialer {
     ghost upstream = { upstream_of };
 
     fn keeps(&self) -> bool {
-        self.keeps
+        self.pool.max_size > 0
     }
 
     fn is_late(&self) -> bool {
@@ -254,7 +257,7 @@ impl Dialer for MemDialer {
         ensures opens { self.new.open_to ≡ dialed_to result (ip, port) }
         ensures log { LogsDial (Some self.old.log) (Some self.new.log) ip port result }
         ensures cause { HasCause self.old.faults self.new.faults result }
-        ensures others { (self.new.kept ≡ self.old.kept) × (self.new.keeps ≡ self.old.keeps) }
+        ensures others { (self.new.kept ≡ self.old.kept) × (self.new.pool ≡ self.old.pool) }
         ensures plan { self.new.plan ≡ called self.old.plan }
         ensures fails { FailsNext self.old.plan → IsErr result }
         ensures answered { OnOk result (Answered self.old self.new) }
@@ -279,7 +282,7 @@ impl Dialer for MemDialer {
         ensures faults { self.new.faults ≡ self.old.faults }
         ensures others { TakesOut result (ip, port) (upstream_of self.old).kept
             (upstream_of self.new).kept }
-        ensures keeps { self.new.keeps ≡ self.old.keeps }
+        ensures pool { self.new.pool ≡ self.old.pool }
         ensures quiet { result ≡ true → WasTaken (record { ip = ip; port = port; is_quiet = true })
             self.old.kept self.new.kept }
         ensures plan { self.new.plan ≡ called self.old.plan }
@@ -377,7 +380,7 @@ impl Dialer for MemDialer {
         ensures stays { (self.new.left ≡ self.old.left) × (self.new.replies ≡ self.old.replies)
             × (self.new.plan ≡ self.old.plan) }
         ensures kept { self.new.faults ≡ self.old.faults }
-        ensures others { (self.new.kept ≡ self.old.kept) × (self.new.keeps ≡ self.old.keeps)
+        ensures others { (self.new.kept ≡ self.old.kept) × (self.new.pool ≡ self.old.pool)
             × (self.new.late ≡ self.old.late) }
     {
         if self.open_to.is_some() {
@@ -388,13 +391,13 @@ impl Dialer for MemDialer {
 
     fn keep(&mut self)
         requires open_ { IsSome self.old.open_to }
-        requires keeps { IsTrue self.old.keeps }
+        requires keeps { IsTrue (nat_lt 0 self.old.pool.max_size) }
         ensures closes { self.new.open_to ≡ None }
         ensures log { Logs (Some self.old.log) (Some self.new.log) Kept }
         ensures kept { self.new.faults ≡ self.old.faults }
         ensures others { PutsAside self.old.open_to (upstream_of self.old).kept
             (upstream_of self.new).kept }
-        ensures keeps { (self.new.keeps ≡ self.old.keeps) × (self.new.late ≡ self.old.late) }
+        ensures pool { (self.new.pool ≡ self.old.pool) × (self.new.late ≡ self.old.late) }
         ensures stays { (self.new.left ≡ self.old.left) × (self.new.replies ≡ self.old.replies)
             × (self.new.plan ≡ self.old.plan) }
         ensures last { IfSome self.old.open_to (λ a. self.new.kept ≡ self.old.kept
@@ -415,7 +418,7 @@ impl Dialer for MemDialer {
         ensures log { KeepsLog (Some self.old.log) (Some self.new.log) }
         ensures kept { self.new.faults ≡ self.old.faults }
         ensures others { AreSomeOf (upstream_of self.new).kept (upstream_of self.old).kept }
-        ensures keeps { self.new.keeps ≡ self.old.keeps }
+        ensures pool { self.new.pool ≡ self.old.pool }
         ensures nothing { self.new ≡ self.old }
     {}
 }

@@ -394,7 +394,7 @@ impl<P: Peer + Drop + Send> Net for MemNet<P> {
     fn dialer(&mut self, pool: ConnectionPool) -> MemDialer
         ensures closed { (result.log ≡ []) × (result.open_to ≡ None) }
         ensures none_kept { (upstream_of result).kept ≡ [] }
-        ensures keeps { result.keeps ≡ nat_lt 0 pool.max_size }
+        ensures pool { result.pool ≡ pool }
         ensures kept { (self.new.state ≡ self.old.state) × (self.new.faults ≡ self.old.faults)
             × (self.new.plan ≡ self.old.plan) }
     {
@@ -405,7 +405,7 @@ impl<P: Peer + Drop + Send> Net for MemNet<P> {
             failing,
         } = next_dials(alloc, &mut self.dials);
         let dialer = MemDialer::of(alloc, replies, sizes, failing);
-        dialer.keeping(pool.max_size > 0, Vec::new(alloc))
+        dialer.keeping(pool, Vec::new(alloc))
     }
 
     fn stopper(&mut self) -> MemStop

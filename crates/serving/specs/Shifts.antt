@@ -22,7 +22,7 @@ use Rattle.api_sessions.specs.Stays.{Idle as Caller}
 use Rattle.scrape.specs.Scrapes.{Scraping}
 use Rattle.client_stays.specs.Chains.{Idle}
 use Rattle.serving.specs.Interfaces.{AnswersTurn, desk_by}
-use Rattle.serving.specs.Pools.{most_kept}
+use Rattle.serving.specs.Pools.{most_kept, pool_by}
 use Rattle.serving.specs.Posts.{Post, clients, interface}
 use Rattle.serving.specs.Sessions.{Attends, Going}
 
@@ -114,7 +114,8 @@ module _ {J P K : Type 0} {g : Ghosts J} where
       pub tended : IsTended told endpoint s
       pub dialer : Upstream
       pub new_dialer : IsNewLog told dialer.log × (dialer.open_to ≡ None)
-      pub pool : (dialer.kept ≡ []) × (dialer.keeps ≡ nat_lt 0 (most_kept policy.pool))
+      pub pool : dialer.pool ≡ pool_by policy.pool
+      pub kept : (dialer.kept ≡ []) × (dialer.keeps ≡ nat_lt 0 (most_kept policy.pool))
       pub clock : Option (List ℕ)
       pub forked : Begins moments clock
       pub recorder : K

@@ -8,7 +8,7 @@ use choose_core::Limits;
 use dtab_table::read_dtab;
 use http_wire::FieldName;
 use identifier::{Kind, Rule};
-use line_base::{Peer, SocketAddress};
+use line_base::{ConnectionPool, Peer, SocketAddress};
 use line_doubles::{MemClock, MemDialer, MemPeer, MemSink, MemSource};
 use machine::{Change, Settings};
 use name_tree::read_path;
@@ -31,6 +31,12 @@ pub(crate) const BOOK: &str = "/svc => /#/io.l5d.fs";
 
 /// How many calls of each kind move no more bytes than a scene says.
 const CALLS: usize = 1000;
+
+/// The pool of a dialer that keeps connections.
+const POOL: ConnectionPool = ConnectionPool {
+    max_size: 1,
+    idle_ms: 0,
+};
 
 /// The calls that fail. Those of each kind are counted from 0; a dial, a send and a receive are of
 /// one kind.
@@ -253,7 +259,7 @@ pub(crate) fn upstreams(alloc: Global, scene: &Scene<'_>) -> Mem<MemDialer> {
     match scene.keeping {
         Some(calls) => {
             let waiting = Vec::from_slice(alloc, calls)?;
-            Ok(unkept(alloc, scene)?.keeping(true, waiting))
+            Ok(unkept(alloc, scene)?.keeping(POOL, waiting))
         }
         None => unkept(alloc, scene),
     }

@@ -98,6 +98,7 @@ impl<R: Net + Clock> Dialer for SocketDialer<'_, R> {
       left = None;
       open_to = option_map (λ u. (u.ip, u.port)) d.current;
       kept = addresses d.pool.kept.items;
+      pool = d.pool.limits;
       keeps = nat_lt 0 d.pool.limits.max_size;
       late = d.is_late;
       faults = d.faults;

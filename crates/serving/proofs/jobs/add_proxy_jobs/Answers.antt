@@ -98,6 +98,7 @@ loop-listener-preserved g c =
             log = rw c.of.ensures.dialer (subst (λ (t : Option (Returns g.row.N-L-P.Denot)). IsNewLog t (g.N.D.Dialer.upstream c.dialer.result).log) inv.told c.dialer.ensures.log);
             hung = rw c.of.ensures.dialer c.dialer.ensures.closed;
             none_kept = rw c.of.ensures.dialer c.dialer.ensures.none_kept;
+            pool = rw c.of.ensures.dialer (c.dialer.ensures.pool ∙ c.pool_by.ensures);
             keeps =
                 rw c.of.ensures.dialer (c.dialer.ensures.keeps
                 ∙ ap (λ (p : ConnectionPool). nat_lt 0 p.max_size) c.pool_by.ensures);
