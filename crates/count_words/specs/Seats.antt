@@ -1,7 +1,6 @@
 -- What contracts say of the words, of a writer and of a reader.
 use Rattle.std.specs.Prelude.{◌≡◌, ◌≤◌, ◌<◌, ℕ, ◌+◌, ◌*◌, List, length, slice_index_or}
 use Rattle.atomic_table.specs.Seated.{TableId}
-use Rattle.count_words.specs.declared.rule.Knowledge.{Knowledge}
 use Rattle.count_words.specs.declared.words.CountReader.{CountReader}
 use Rattle.count_words.specs.declared.words.CountWriter.{CountWriter}
 use Rattle.count_words.specs.declared.words.Counts.{Counts}

@@ -90,10 +90,13 @@ fn main(rt: HostRuntime) -> ExitCode {
         let _ = eprintln!(rt; "linker: serving by {path}");
     }
     let serves = matches!(asked, Some(Asked::Serve(_)));
-    let watch = if serves {
+    let wanted = if serves {
         Watch::wanted(&mut FileSystem::of(&rt), &stops, &finish)
     } else {
-        None
+        Ok(None)
+    };
+    let Ok(watch) = wanted else {
+        return without_memory(&mut out);
     };
     let watching = match watch {
         Some(watch) => match thread::spawn(&rt, move || watch.run(&rt, &mut FileSystem::of(&rt))) {

@@ -1,6 +1,6 @@
 //! The watch for a signal that asks for an end, in a thread beside what serves.
-ghost use Rattle.std.specs.Prelude.{◌≡◌, IsSome, Ok};
-ghost use Rattle.signal_watch.specs.Watching.{Asks, AsksNothing, Holds};
+ghost use Rattle.std.specs.Prelude.{◌≡◌, ◌⊎◌, IfOk, IsNone, IsSome, Ok};
+ghost use Rattle.signal_watch.specs.Watching.{Asks, AsksNothing, Holds, HoldsNone, SeesNothing};
 
 use crate::finish::{Finish, FinishPause};
 use crate::remote_stop::RemoteStop;
@@ -25,22 +25,29 @@ impl<S: Drop> Drop for Watch<S> {
 
 impl<S: Stop + Drop> Watch<S> {
     /// A watch that calls the stops of this cell, and ends with this finish. There is none where
-    /// whoever started the process has blocked no signal that asks for an end, or where there is
-    /// no memory for it.
+    /// whoever started the process has blocked no signal that asks for an end, or no status file
+    /// tells that he has: signals end the process as any other then.
+    ///
+    /// # Errors
+    /// [`AllocError`](std::alloc::AllocError) where there was no memory for it, or to read the
+    /// status file.
     pub fn wanted<F: Folder>(
         folder: &mut F,
         stops: &StopCell<S>,
         finish: &Finish,
-    ) -> Option<Watch<S>>
-        ensures { IsSome result → Holds (F.filed folder.old).files }
+    ) -> Mem<Option<Watch<S>>>
+        ensures held { IfOk result (λ watch. IsSome watch → Holds (F.filed folder.old).files) }
+        ensures free { IfOk result (λ watch. IsNone watch → HoldsNone (F.filed folder.old).files
+            ⊎ SeesNothing (F.filed folder.old).files (F.filed folder.old).faults
+            (F.filed folder.new).faults) }
     {
-        if !is_watchable(folder).unwrap_or(false) {
-            return None;
+        if !is_watchable(folder)? {
+            return Ok(None);
         }
-        Some(Watch {
-            stops: stops.share().ok()?,
-            finish: finish.share().ok()?,
-        })
+        Ok(Some(Watch {
+            stops: stops.share()?,
+            finish: finish.share()?,
+        }))
     }
 
     /// Watches until a signal asks for an end, or until its finish has come.

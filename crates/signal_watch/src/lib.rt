@@ -17,18 +17,20 @@
 //! [`asks_to_stop`] and [`holds_stop`] say exactly by `specs/Status.antt` whether a signal that
 //! asks for an end waits, and whether it would: the bits of SIGTERM and SIGINT in the numbers of
 //! the lines `ShdPnd` and `SigBlk`. Where the folder tells its files, [`is_watchable`] answers by
-//! the status file, and [`watch`] says that it was asked only where that file asks for an end; a
-//! look that finds no signal is one at a file that asks for none. The stop is called exactly where
-//! the answer says that it was asked. A [`StoppableNet`] is the net below it in all that a net
-//! tells, but for the stops in its cell. What stands in the cell is shared, and no clause speaks of
-//! it: that a remote stop closes the listeners is tested over sockets, in `edge_tests`. The other
-//! tests are `signal_tests`.
+//! the status file, [`Watch::wanted`] gives a watch exactly by that answer, and [`watch`] says that
+//! it was asked only where that file asks for an end; a look that finds no signal is one at a file
+//! that asks for none. The stop is called exactly where the answer says that it was asked. A
+//! [`StoppableNet`] is the net below it in all that a net tells, but for the stops in its cell.
+//! What stands in the cell is shared, and no clause speaks of it: that a remote stop closes the
+//! listeners is tested over sockets, in `edge_tests`. The other tests are `signal_tests`.
 //!
 //! # Example
 //! ```
 //! let cell = StopCell::new(alloc)?;
 //! let finish = Finish::awaited(alloc)?;
-//! let watch = Watch::wanted(&mut folder, &cell, &finish)?;
+//! let Some(watch) = Watch::wanted(&mut folder, &cell, &finish)? else {
+//!     return serve(&mut net);  // no signal is blocked: one ends the program as any other
+//! };
 //! let mut net = StoppableNet::of(&rt, net, cell);
 //! let watching = thread::spawn(&rt, move || watch.run(&rt, &mut folder))?;
 //! serve(&mut net);

@@ -1,4 +1,4 @@
-use Rattle.std.proofs.Common.{ℕ, Bool, List, false, map, ap, arith, sym, subst, ◌∙◌}
+use Rattle.std.proofs.Common.{ℕ, Bool, false, map, ap, arith, sym, subst, ◌∙◌}
 use Rattle.std.specs.Vec.Iter.{into_iter_items}
 use Rattle.std.specs.Prelude.{Option}
 use Rattle.line_base.specs.declared.socket_address.SocketAddress.{SocketAddress}
