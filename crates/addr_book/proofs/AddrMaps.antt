@@ -20,7 +20,8 @@ second_equal Greater s e = cc
 pub addr_only : IsAntisymmetric addr_cmp
 addr_only x y e =
     let ips = nat_cmp-IsAntisymmetric x.ip y.ip (first_equal _ _ e) in
-    let ports = nat_cmp-IsAntisymmetric x.port y.port (second_equal (nat_cmp x.ip y.ip) (nat_cmp x.port y.port) e) in
+    let ports = nat_cmp-IsAntisymmetric x.port y.port
+    (second_equal (nat_cmp x.ip y.ip) (nat_cmp x.port y.port) e) in
     λ i. record { ip = ips i; port = ports i }
 
 pub name_only : IsAntisymmetric (slice_cmp nat_cmp)

@@ -1,15 +1,18 @@
 -- The tests of sameness tell what is equal.
-use Rattle.std.proofs.Common.{◌≡◌, Bool, true, false, ◌&&◌, List, Some, None, refl, sym, ap, subst, ◌∙◌}
+use Rattle.std.proofs.Common.{◌≡◌, Bool, true, false, ◌&&◌, List, Some, None, refl, sym, ap, subst}
+use Rattle.std.proofs.Common.{◌∙◌}
 use Rattle.std.specs.Prelude.{◌==◌, ◌↔◌, IsTrue}
 use Rattle.std.specs.Bool.{Decides}
 use Rattle.std.specs.Cmp.Lexicographic.{pointwise, pointwise_decides}
 use Rattle.std.proofs.lemmas.Slice.Eq.{bytes_eq-Decides}
 use Rattle.std.proofs.lemmas.Bool.Decides.{Decides-eqb}
 use Rattle.name_tree.specs.Path.{Labels}
-use Rattle.name_tree.specs.Value.{TreeValue, TreeValues, Branches, leaf, neg, fail, empty, alt, union, none, more, no_branch, branch}
+use Rattle.name_tree.specs.Value.{TreeValue, TreeValues, Branches, leaf, neg, fail, empty, alt}
+use Rattle.name_tree.specs.Value.{union, none, more, no_branch, branch}
 use Rattle.dtab_table.specs.Pattern.{Pattern}
 use Rattle.dtab_table.specs.Rules.{Rule}
-use Rattle.bind_cache.specs.Same.{same_path, same_tree, same_trees, same_branches, same_pattern, same_rule, same_rules}
+use Rattle.bind_cache.specs.Same.{same_path, same_tree, same_trees, same_branches, same_pattern}
+use Rattle.bind_cache.specs.Same.{same_rule, same_rules}
 use Rattle.bind_cache.specs.Kept.{Kept, is_key}
 
 pub both_true : (b c : Bool) → (b && c) ≡ true → (b ≡ true) × (c ≡ true)
@@ -67,56 +70,75 @@ mutual
 
   same_trees-refl : (ts : TreeValues) → same_trees ts ts ≡ true
   same_trees-refl none = refl
-  same_trees-refl (more t ts) = and_true (same_tree t t) (same_trees ts ts) (same_tree-refl t) (same_trees-refl ts)
+  same_trees-refl (more t ts) = and_true (same_tree t t) (same_trees ts ts) (same_tree-refl t)
+      (same_trees-refl ts)
 
   same_branches-refl : (bs : Branches) → same_branches bs bs ≡ true
   same_branches-refl no_branch = refl
   same_branches-refl (branch n t bs) =
-      and_true (n == n) (same_tree t t && same_branches bs bs) ((Decides-eqb n n).1 refl) (and_true (same_tree t t) (same_branches bs bs) (same_tree-refl t) (same_branches-refl bs))
+      and_true (n == n) (same_tree t t && same_branches bs bs) ((Decides-eqb n n).1 refl)
+      (and_true (same_tree t t) (same_branches bs bs) (same_tree-refl t) (same_branches-refl bs))
 
 pub same_tree-Decides : (t u : TreeValue) → Decides (same_tree t u) (t ≡ u)
-same_tree-Decides t u = (same_tree-is t u, λ e. subst (λ (x : TreeValue). same_tree t x ≡ true) e (same_tree-refl t))
+same_tree-Decides t u =
+    (same_tree-is t u, λ e. subst (λ (x : TreeValue). same_tree t x ≡ true) e (same_tree-refl t))
 
 pub same_pattern-Decides : (p q : Pattern) → Decides (same_pattern p q) (p ≡ q)
 same_pattern-Decides None None = (λ h. refl, λ e. refl)
 same_pattern-Decides None (Some m) = (λ h. absurd (cc), λ e. absurd (cc))
 same_pattern-Decides (Some l) None = (λ h. absurd (cc), λ e. absurd (cc))
-same_pattern-Decides (Some l) (Some m) = (λ h. ap Some ((bytes_eq-Decides l m).0 h), λ e. (bytes_eq-Decides l m).1 (cc))
+same_pattern-Decides (Some l) (Some m) =
+    (λ h. ap Some ((bytes_eq-Decides l m).0 h), λ e. (bytes_eq-Decides l m).1 (cc))
 
 rule_is : (r q : Rule) → r.prefix ≡ q.prefix → r.tree ≡ q.tree → r ≡ q
 rule_is r q p t =
-    let make : List Pattern → TreeValue → Rule = λ prefix tree. record { prefix = prefix; tree = tree } in
+    let make : List Pattern → TreeValue → Rule =
+    λ prefix tree. record { prefix = prefix; tree = tree } in
     ap (λ (x : List Pattern). make x r.tree) p ∙ ap (make q.prefix) t
 
 pub same_rule-Decides : (r q : Rule) → Decides (same_rule r q) (r ≡ q)
 unfolding same_rule
 same_rule-Decides r q = (
-  λ h. let parts = both_true (pointwise same_pattern r.prefix q.prefix) (same_tree r.tree q.tree) h in
-      rule_is r q ((pointwise_decides same_pattern-Decides r.prefix q.prefix).0 parts.0) ((same_tree-Decides r.tree q.tree).0 parts.1),
+  λ h. let parts = both_true (pointwise same_pattern r.prefix q.prefix)
+      (same_tree r.tree q.tree) h in
+      rule_is r q ((pointwise_decides same_pattern-Decides r.prefix q.prefix).0 parts.0)
+      ((same_tree-Decides r.tree q.tree).0 parts.1),
   λ e. and_true (pointwise same_pattern r.prefix q.prefix) (same_tree r.tree q.tree)
-      ((pointwise_decides same_pattern-Decides r.prefix q.prefix).1 (ap (λ (x : Rule). x.prefix) e)) ((same_tree-Decides r.tree q.tree).1 (ap (λ (x : Rule). x.tree) e)),
+      ((pointwise_decides same_pattern-Decides r.prefix q.prefix).1
+      (ap (λ (x : Rule). x.prefix) e))
+      ((same_tree-Decides r.tree q.tree).1 (ap (λ (x : Rule). x.tree) e)),
 )
 
 pub same_rules-Decides : (rs qs : List Rule) → Decides (same_rules rs qs) (rs ≡ qs)
 same_rules-Decides rs qs = pointwise_decides same_rule-Decides rs qs
 
 -- a key is that of a binding where both have the same path and the same rules
-pub is_key-Decides : (path : Labels) (local : List Rule) (k : Kept) → Decides (is_key path local k) ((path ≡ k.path) × (local ≡ k.local))
+pub is_key-Decides : (path : Labels) (local : List Rule) (k : Kept)
+    → Decides (is_key path local k) ((path ≡ k.path) × (local ≡ k.local))
 is_key-Decides path local k = (
-  λ h. let parts = both_true (same_path path k.path) (same_rules local k.local) h in ((same_path-Decides path k.path).0 parts.0, (same_rules-Decides local k.local).0 parts.1),
-  λ e. and_true (same_path path k.path) (same_rules local k.local) ((same_path-Decides path k.path).1 e.0) ((same_rules-Decides local k.local).1 e.1),
+  λ h. let parts = both_true (same_path path k.path) (same_rules local k.local) h in
+      ((same_path-Decides path k.path).0 parts.0, (same_rules-Decides local k.local).0 parts.1),
+  λ e. and_true (same_path path k.path) (same_rules local k.local)
+      ((same_path-Decides path k.path).1 e.0) ((same_rules-Decides local k.local).1 e.1),
 )
 
 -- the test of a key, path first
-pub path_differs : (path : Labels) (local : List Rule) (k : Kept) (b : Bool) → IsTrue b ↔ (path ≡ k.path) → b ≡ false → false ≡ is_key path local k
+pub path_differs : (path : Labels) (local : List Rule) (k : Kept) (b : Bool)
+    → IsTrue b ↔ (path ≡ k.path) → b ≡ false → false ≡ is_key path local k
 path_differs path local k b tells off =
-    let P : Bool → Type 0 = λ x. same_path path k.path ≡ x → false ≡ (x && same_rules local k.local) in
+    let P : Bool → Type 0 = λ x. same_path path k.path ≡ x
+    → false ≡ (x && same_rules local k.local) in
     let each : P (same_path path k.path) =
     elim (same_path path k.path) as P [
-      | true ↦ (λ e. let has : IsTrue b = tells.1 ((same_path-Decides path k.path).0 e) in absurd (cc))
+      | true ↦ (λ e. let has : IsTrue b = tells.1 ((same_path-Decides path k.path).0 e) in
+          absurd (cc))
       | false ↦ (λ e. refl)
     ] in
     each refl
 
-pub path_same : (path : Labels) (local : List Rule) (k : Kept) (b rest : Bool) → IsTrue b ↔ (path ≡ k.path) → IsTrue b → rest ≡ same_rules local k.local → rest ≡ is_key path local k
-path_same path local k b rest tells has is = is ∙ ap (λ (x : Bool). x && same_rules local k.local) (sym ((same_path-Decides path k.path).1 (tells.0 has)))
+pub path_same : (path : Labels) (local : List Rule) (k : Kept) (b rest : Bool)
+    → IsTrue b ↔ (path ≡ k.path) → IsTrue b → rest ≡ same_rules local k.local
+    → rest ≡ is_key path local k
+path_same path local k b rest tells has is =
+    is ∙ ap (λ (x : Bool). x && same_rules local k.local)
+    (sym ((same_path-Decides path k.path).1 (tells.0 has)))

@@ -1,13 +1,19 @@
 -- A tree without what makes no lookup is walked as the tree itself: it tells the same, after the
 -- same lookups.
-use Rattle.std.proofs.Common.{◌≡◌, ℕ, Bool, true, false, List, [], ◌∷◌, ◌++◌, inl, inr, refl, sym, ap, subst, ◌∙◌}
+use Rattle.std.proofs.Common.{◌≡◌, ℕ, Bool, true, false, List, [], ◌∷◌, ◌++◌, inl, inr, refl, sym}
+use Rattle.std.proofs.Common.{ap, subst, ◌∙◌}
 use Rattle.std.specs.Prelude.{◌||◌, ◌==◌, if◌then◌else◌}
 use Rattle.addr_book.specs.Found.{Found}
 use Rattle.name_tree.specs.Path.{Labels}
-use Rattle.name_tree.specs.Value.{TreeValue, TreeValues, Branches, leaf, neg, fail, empty, alt, union, none, more, no_branch, branch, append_rest}
-use Rattle.name_tree.specs.Lean.{tried_before, choice, Parts, part_before, branches_then, marks, union_left, lean, lean_all, lean_each}
+use Rattle.name_tree.specs.Value.{TreeValue, TreeValues, Branches, leaf, neg, fail, empty, alt}
+use Rattle.name_tree.specs.Value.{union, none, more, no_branch, branch, append_rest}
+use Rattle.name_tree.specs.Lean.{tried_before, choice, Parts, part_before, branches_then, marks}
+use Rattle.name_tree.specs.Lean.{union_left, lean, lean_all, lean_each}
 use Rattle.dtab_table.specs.LeanTrees.{unless_neg, lean_trees}
-use Rattle.bind_core.specs.Delegation.{Ending, too_deep, Visit, Told, Evaluated, or_else, is_too_deep, is_failing, is_empty, some_end, found_at, found_in, kept, joint_visits, together, walk, walk_all, walk_each, first_of}
+use Rattle.bind_core.specs.Delegation.{Ending, too_deep, Visit, Told, Evaluated, or_else}
+use Rattle.bind_core.specs.Delegation.{is_too_deep, is_failing, is_empty, some_end, found_at}
+use Rattle.bind_core.specs.Delegation.{found_in, kept, joint_visits, together, walk, walk_all}
+use Rattle.bind_core.specs.Delegation.{walk_each, first_of}
 use Rattle.bind_core.specs.Laws.{AreWalkedLean}
 use Rattle.dtab_table.proofs.LeanRests.{lean-rest}
 use Rattle.bind_core.proofs.Stacks.{ended}

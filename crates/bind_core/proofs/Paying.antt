@@ -1,10 +1,12 @@
 -- The turns of the loop are paid by the lookups.
-use Rattle.std.proofs.Common.{◌≡◌, ℕ, ◌+◌, ◌*◌, ◌≤◌, ◌⊎◌, inl, inr, List, [], ◌∷◌, ◌++◌, true, false, refl, sym, ap, subst, ◌∙◌, arith}
+use Rattle.std.proofs.Common.{◌≡◌, ℕ, ◌+◌, ◌*◌, ◌≤◌, ◌⊎◌, inl, inr, List, [], ◌∷◌, ◌++◌, true}
+use Rattle.std.proofs.Common.{false, refl, sym, ap, subst, ◌∙◌, arith}
 use Rattle.std.specs.Prelude.{◌==◌, if◌then◌else◌}
 use Rattle.std.proofs.lemmas.Bool.Decides.{nat_tests}
 use Rattle.std.proofs.Math.Nat.{mul-add, mul-one}
 use Rattle.name_tree.specs.Path.{Labels}
-use Rattle.name_tree.specs.Value.{TreeValue, Branches, leaf, neg, fail, empty, alt, union, tree_values, no_branch, branch}
+use Rattle.name_tree.specs.Value.{TreeValue, Branches, leaf, neg, fail, empty, alt, union}
+use Rattle.name_tree.specs.Value.{tree_values, no_branch, branch}
 use Rattle.dtab_table.specs.declared.lean_tree.LeanTree.{LeanTree}
 use Rattle.dtab_table.specs.Dtab.{rewrites}
 use Rattle.dtab_table.specs.LeanTrees.{lean_trees, lent_trees}
@@ -18,12 +20,17 @@ use Rattle.bind_core.specs.declared.outcome.Outcome.TheVariants as outcome
 use Rattle.bind_core.specs.declared.rewritten.Rewritten.{Rewritten}
 use Rattle.bind_core.specs.declared.work.Task.{Task}
 use Rattle.bind_core.specs.declared.work.Task.TheVariants as task
-use Rattle.bind_core.specs.Delegation.{Ending, negative, failing, no_replica, too_deep, too_wide, bound}
+use Rattle.bind_core.specs.Delegation.{Ending, negative, failing, no_replica, too_deep, too_wide}
+use Rattle.bind_core.specs.Delegation.{bound}
 use Rattle.bind_core.specs.Outcome.{ending_of}
 use Rattle.bind_core.specs.Rewritten.{tree_of}
 use Rattle.bind_core.specs.Stack.{ends_all, weighted, choice_names, union_branches}
-use Rattle.bind_core.specs.Depth.{depth_of, depth_of_all, depth_of_each, greatest_depth, turns_per_lookup}
-use Rattle.bind_core.specs.Turns.{is_mark, BeginAll, BeginEach, marks_in, IsTrim, AreTrim, EachTrim, ListTrim, FrameTrim, StackTrim, own_turns, owed_turns, told_ahead, IsPaid, IsDue, CanLookUp, IsNext, IsToldOn, IsTried, IsTurn, IsNextOf, IsFirst}
+use Rattle.bind_core.specs.Depth.{depth_of, depth_of_all, depth_of_each, greatest_depth}
+use Rattle.bind_core.specs.Depth.{turns_per_lookup}
+use Rattle.bind_core.specs.Turns.{is_mark, BeginAll, BeginEach, marks_in, IsTrim, AreTrim, EachTrim}
+use Rattle.bind_core.specs.Turns.{ListTrim, FrameTrim, StackTrim, own_turns, owed_turns, told_ahead}
+use Rattle.bind_core.specs.Turns.{IsPaid, IsDue, CanLookUp, IsNext, IsToldOn, IsTried, IsTurn}
+use Rattle.bind_core.specs.Turns.{IsNextOf, IsFirst}
 use Rattle.bind_core.proofs.Trimming.{rewrites_trim}
 
 -- ---- stacks

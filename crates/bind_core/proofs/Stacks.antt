@@ -1,17 +1,21 @@
 -- What a stack makes of an ending.
-use Rattle.std.proofs.Common.{◌≡◌, ◌+◌, ◌≤◌, List, [], ◌∷◌, ◌++◌, length, true, refl, ap, ◌∙◌, arith, append_assoc, length-append}
+use Rattle.std.proofs.Common.{◌≡◌, ◌+◌, ◌≤◌, List, [], ◌∷◌, ◌++◌, length, true, refl, ap, ◌∙◌}
+use Rattle.std.proofs.Common.{arith, append_assoc, length-append}
 use Rattle.std.proofs.lemmas.List.{append-nil}
 use Rattle.dtab_table.specs.Rules.{Rule}
 use Rattle.bind_core.specs.declared.frame.Frame.{Frame}
 use Rattle.bind_core.specs.declared.frame.Frame.TheVariants as frame
-use Rattle.bind_core.specs.Delegation.{Names, Visit, Told, lookup, walk_each, negative, failing, no_replica, too_deep, too_wide, bound, or_else}
+use Rattle.bind_core.specs.Delegation.{Names, Visit, Told, lookup, walk_each, negative, failing}
+use Rattle.bind_core.specs.Delegation.{no_replica, too_deep, too_wide, bound, or_else}
 use Rattle.bind_core.specs.Kept.{kept_of}
-use Rattle.bind_core.specs.Stack.{ends_all, stack_work, union_branches, closed, choice_told, frame_on, resume}
+use Rattle.bind_core.specs.Stack.{ends_all, stack_work, union_branches, closed, choice_told}
+use Rattle.bind_core.specs.Stack.{frame_on, resume}
 use Rattle.bind_core.proofs.Closing.{closed-more, closed-ended}
 use Rattle.bind_core.proofs.Unions.{union_told-more, union_told-ended}
 
 pub or_else-assoc : (a b c : Told) → or_else (or_else a b) c ≡ or_else a (or_else b c)
-or_else-assoc (negative, n) (negative, m) c = ap (λ (k : List Visit). (c.0, k)) (append_assoc n m c.1)
+or_else-assoc (negative, n) (negative, m) c =
+    ap (λ (k : List Visit). (c.0, k)) (append_assoc n m c.1)
 or_else-assoc (negative, n) (failing, m) c = refl
 or_else-assoc (negative, n) (no_replica, m) c = refl
 or_else-assoc (negative, n) (too_deep, m) c = refl
@@ -55,25 +59,35 @@ module _ (rules : List Rule) (names : Names) where
   frame_on-more (frame.FirstOf f) t =
       let told = choice_told rules names f in
       omega (arith, or_else-more t told, closed-more f.visit (or_else t told))
-  frame_on-more (frame.Union f) t = union_told-more (kept_of f.gathered) f.weight t (walk_each (lookup rules names f.left) (union_branches f))
+  frame_on-more (frame.Union f) t = union_told-more (kept_of f.gathered) f.weight t
+      (walk_each (lookup rules names f.left) (union_branches f))
 
   frame_on-ended : (f : Frame) (t : Told) → ends_all t.0 ≡ true → frame_on rules names f t ≡ t
-  frame_on-ended (frame.FirstOf f) t ends = ap (closed f.visit) (or_else-ended t (choice_told rules names f) ends) ∙ closed-ended f.visit t ends
-  frame_on-ended (frame.Union f) t ends = union_told-ended (kept_of f.gathered) f.weight t (walk_each (lookup rules names f.left) (union_branches f)) ends
+  frame_on-ended (frame.FirstOf f) t ends =
+      ap (closed f.visit) (or_else-ended t (choice_told rules names f) ends)
+      ∙ closed-ended f.visit t ends
+  frame_on-ended (frame.Union f) t ends =
+      union_told-ended (kept_of f.gathered) f.weight t
+      (walk_each (lookup rules names f.left) (union_branches f)) ends
 
   -- frames that were put on later go first
-  pub resume-append : (fs gs : List Frame) (t : Told) → resume rules names (fs ++ gs) t ≡ resume rules names fs (resume rules names gs t)
+  pub resume-append : (fs gs : List Frame) (t : Told)
+      → resume rules names (fs ++ gs) t ≡ resume rules names fs (resume rules names gs t)
   resume-append [] gs t = refl
   resume-append (f ∷ fs) gs t = ap (frame_on rules names f) (resume-append fs gs t)
 
-  pub resume-ended : (fs : List Frame) (t : Told) → ends_all t.0 ≡ true → resume rules names fs t ≡ t
+  pub resume-ended : (fs : List Frame) (t : Told) → ends_all t.0 ≡ true
+      → resume rules names fs t ≡ t
   resume-ended [] t ends = refl
-  resume-ended (f ∷ fs) t ends = ap (frame_on rules names f) (resume-ended fs t ends) ∙ frame_on-ended f t ends
+  resume-ended (f ∷ fs) t ends = ap (frame_on rules names f) (resume-ended fs t ends)
+      ∙ frame_on-ended f t ends
 
   pub resume-more : (fs : List Frame) (t : Told) → length t.1 ≤ length (resume rules names fs t).1
   resume-more [] t = omega arith
-  resume-more (f ∷ fs) t = omega (arith, resume-more fs t, frame_on-more f (resume rules names fs t))
+  resume-more (f ∷ fs) t =
+      omega (arith, resume-more fs t, frame_on-more f (resume rules names fs t))
 
-pub stack_work-append : (rules : List Rule) (fs gs : List Frame) → stack_work rules (fs ++ gs) ≡ stack_work rules fs + stack_work rules gs
+pub stack_work-append : (rules : List Rule) (fs gs : List Frame)
+    → stack_work rules (fs ++ gs) ≡ stack_work rules fs + stack_work rules gs
 stack_work-append rules [] gs = omega arith
 stack_work-append rules (f ∷ fs) gs = omega (arith, stack_work-append rules fs gs)

@@ -1,5 +1,7 @@
 -- The steps that change a stack: each leads to what it was asked for.
-use Rattle.std.proofs.Common.{◌≡◌, ℕ, zero, suc, ◌+◌, ◌-◌, ◌<◌, ◌≤◌, List, [], ◌∷◌, ◌++◌, length, Bool, true, false, inl, inr, Option, Some, None, refl, sym, ap, subst, ◌∙◌, arith, length-append}
+use Rattle.std.proofs.Common.{◌≡◌, ℕ, zero, suc, ◌+◌, ◌-◌, ◌<◌, ◌≤◌, List, [], ◌∷◌, ◌++◌, length}
+use Rattle.std.proofs.Common.{Bool, true, false, inl, inr, Option, Some, None, refl, sym, ap, subst}
+use Rattle.std.proofs.Common.{◌∙◌, arith, length-append}
 use Rattle.std.specs.Prelude.{nat_lt, IsTrue, Result, IfOk, MatchOption}
 use Rattle.std.proofs.lemmas.Bool.{cases_lt}
 use Rattle.std.proofs.lemmas.Bool.Decides.{nat_tests}
@@ -20,18 +22,25 @@ use Rattle.bind_core.specs.declared.outcome.Outcome.TheVariants as outcome
 use Rattle.bind_core.specs.declared.work.Work.{Work}
 use Rattle.bind_core.specs.declared.work.Task.{Task}
 use Rattle.bind_core.specs.declared.work.Task.TheVariants as task
-use Rattle.bind_core.specs.Delegation.{Ending, Names, Visit, Told, first_of, visited, lookup, named_ending, walk, walk_each, most_deep, most_wide, most_path_bytes, negative, too_deep, or_else}
+use Rattle.bind_core.specs.Delegation.{Ending, Names, Visit, Told, first_of, visited, lookup}
+use Rattle.bind_core.specs.Delegation.{named_ending, walk, walk_each, most_deep, most_wide}
+use Rattle.bind_core.specs.Delegation.{most_path_bytes, negative, too_deep, or_else}
 use Rattle.bind_core.specs.Kept.{kept_of, nothing_kept}
 use Rattle.bind_core.specs.Outcome.{ending_of, ended_as, traced}
 use Rattle.bind_core.specs.Rewritten.{labels_of, tree_of}
 use Rattle.bind_core.specs.declared.rewritten.HeldPath.{HeldPath}
 use Rattle.bind_core.specs.declared.rewritten.Rewritten.{Rewritten}
-use Rattle.bind_core.specs.Stack.{ends_all, behind, closed, end_items, with_item, tree_work, list_work, path_work, each_work, choice_work, choice_names, choice_on, union_work, union_branches, union_on, lookup_on, Fits, IsStep, LeadsTo}
+use Rattle.bind_core.specs.Stack.{ends_all, behind, closed, end_items, with_item, tree_work}
+use Rattle.bind_core.specs.Stack.{list_work, path_work, each_work, choice_work, choice_names}
+use Rattle.bind_core.specs.Stack.{choice_on, union_work, union_branches, union_on, lookup_on, Fits}
+use Rattle.bind_core.specs.Stack.{IsStep, LeadsTo}
 use Rattle.bind_core.proofs.Leaning.{first_of-lean}
 use Rattle.bind_core.proofs.Trees.{walk_all-tree_values, all_work-tree_values}
-use Rattle.bind_core.proofs.Narrow.{IsNarrow, walk_each-AreNarrow, lookup-IsNarrow, or_else-IsNarrow, first_of-IsNarrow, named_ending-IsNarrow}
+use Rattle.bind_core.proofs.Narrow.{IsNarrow, walk_each-AreNarrow, lookup-IsNarrow}
+use Rattle.bind_core.proofs.Narrow.{or_else-IsNarrow, first_of-IsNarrow, named_ending-IsNarrow}
 use Rattle.bind_core.proofs.Unions.{union_told-together}
-use Rattle.bind_core.proofs.Closing.{length-closed, kept-closed, kept-begun, closed-begun, closed-before}
+use Rattle.bind_core.proofs.Closing.{length-closed, kept-closed, kept-begun, closed-begun}
+use Rattle.bind_core.proofs.Closing.{closed-before}
 use Rattle.bind_core.proofs.Stacks.{or_else-assoc, ended}
 
 -- what a test of a length says where it fails

@@ -1,11 +1,15 @@
 -- What there is to try of a table's trees is trim, and no deeper than the trees are.
-use Rattle.std.proofs.Common.{◌≡◌, ℕ, ◌+◌, ◌<◌, ◌≤◌, List, [], ◌∷◌, ◌++◌, Bool, true, false, inl, inr, Option, Some, None, refl, ap, arith}
+use Rattle.std.proofs.Common.{◌≡◌, ℕ, ◌+◌, ◌<◌, ◌≤◌, List, [], ◌∷◌, ◌++◌, Bool, true, false, inl}
+use Rattle.std.proofs.Common.{inr, Option, Some, None, refl, ap, arith}
 use Rattle.std.specs.Prelude.{max, option_map}
 use Rattle.std.specs.Option.{option_to_list}
 use Rattle.std.proofs.lemmas.Bool.Decides.{nat_tests}
 use Rattle.name_tree.specs.Path.{Labels}
-use Rattle.name_tree.specs.Value.{TreeValue, TreeValues, Branches, leaf, neg, fail, empty, alt, union, none, more, no_branch, branch, append_rest, append_rest_all, append_rest_branches}
-use Rattle.name_tree.specs.Lean.{tried_before, choice, Parts, part_before, branches_then, marks, union_left, lean, lean_all, lean_each}
+use Rattle.name_tree.specs.Value.{TreeValue, TreeValues, Branches, leaf, neg, fail, empty, alt}
+use Rattle.name_tree.specs.Value.{union, none, more, no_branch, branch, append_rest}
+use Rattle.name_tree.specs.Value.{append_rest_all, append_rest_branches}
+use Rattle.name_tree.specs.Lean.{tried_before, choice, Parts, part_before, branches_then, marks}
+use Rattle.name_tree.specs.Lean.{union_left, lean, lean_all, lean_each}
 use Rattle.dtab_table.specs.Dtab.{rewrite, rewrites, rest_behind}
 use Rattle.dtab_table.specs.LeanTrees.{unless_neg, lean_trees}
 use Rattle.dtab_table.specs.Rules.{Rule}

@@ -1,5 +1,7 @@
 -- The turns of the loop: each keeps what the stack comes to, and leaves less work.
-use Rattle.std.proofs.Common.{◌≡◌, ℕ, ◌+◌, ◌<◌, ◌≤◌, List, [], ◌∷◌, ◌++◌, length, map, Bool, true, false, inl, inr, Option, None, Some, Global, refl, sym, ap, subst, ◌∙◌, arith}
+use Rattle.std.proofs.Common.{◌≡◌, ℕ, ◌+◌, ◌<◌, ◌≤◌, List, [], ◌∷◌, ◌++◌, length, map, Bool, true}
+use Rattle.std.proofs.Common.{false, inl, inr, Option, None, Some, Global, refl, sym, ap, subst}
+use Rattle.std.proofs.Common.{◌∙◌, arith}
 use Rattle.std.specs.Prelude.{nat_lt, if◌then◌else◌, Result, Ok, Err, IfOk}
 use Rattle.std.specs.Option.{is_some}
 use Rattle.std.specs.declared.vec.IntoIter.{IntoIter}
@@ -22,9 +24,14 @@ use Rattle.bind_core.specs.declared.work.Task.TheVariants as task
 use Rattle.bind_core.specs.Outcome.{ending_of, ended_as, traced}
 use Rattle.bind_core.specs.Rewritten.{tree_of}
 use Rattle.bind_core.specs.declared.rewritten.Rewritten.{Rewritten}
-use Rattle.bind_core.specs.Delegation.{Ending, Names, Visit, negative, Told, kept, or_else, walk, walk_each, lookup, named_ending, most_wide}
+use Rattle.bind_core.specs.Delegation.{Ending, Names, Visit, negative, Told, kept, or_else, walk}
+use Rattle.bind_core.specs.Delegation.{walk_each, lookup, named_ending, most_wide}
 use Rattle.bind_core.specs.Kept.{Kept, kept_of, kept_with, kept_ending}
-use Rattle.bind_core.specs.Stack.{ends_all, behind, closed, end_items, tree_work, list_work, each_work, path_work, choice_work, union_work, frame_work, stack_work, task_work, choice_names, union_branches, choice_told, choice_on, lookup_on, union_on, frame_on, resume, task_told, weighted, Fits, LeadsTo, IsStep, IsAnswer}
+use Rattle.bind_core.specs.Stack.{ends_all, behind, closed, end_items, tree_work, list_work}
+use Rattle.bind_core.specs.Stack.{each_work, path_work, choice_work, union_work, frame_work}
+use Rattle.bind_core.specs.Stack.{stack_work, task_work, choice_names, union_branches, choice_told}
+use Rattle.bind_core.specs.Stack.{choice_on, lookup_on, union_on, frame_on, resume, task_told}
+use Rattle.bind_core.specs.Stack.{weighted, Fits, LeadsTo, IsStep, IsAnswer}
 use Rattle.bind_core.specs.Turns.{IsTurn, IsFirst}
 use Rattle.addr_book.specs.Found.{Found}
 use Rattle.bind_core.proofs.Trees.{walk_each-weighted, each_work-weighted, walk_each-some}

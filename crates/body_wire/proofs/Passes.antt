@@ -414,11 +414,13 @@ module _ (framing : Framing) (form : Form) (limit : ℕ) (d0 d1 : Decoder) (head
   on_no_fault failed = cc
 
 -- where a turn wants more, more may come
-pub turn_waits : (d0 d1 : Decoder) (rest0 rest1 waiting now : List ℕ) (turn : Result StopCause TurnFault)
+pub turn_waits : (d0 d1 : Decoder) (rest0 rest1 waiting now : List ℕ)
+    (turn : Result StopCause TurnFault)
     → Turns d0 d1 rest0 rest1 waiting now turn → turn ≡ Ok More → length rest1 < most_left d1
 turn_waits d0 d1 rest0 rest1 waiting now turn t more =
     let sends : TurnSends (waiting ++ t.put) now d1 rest1 (Ok More) =
-    subst (λ (r : Result StopCause TurnFault). TurnSends (waiting ++ t.put) now d1 rest1 r) more t.sends in
+    subst (λ (r : Result StopCause TurnFault). TurnSends (waiting ++ t.put) now d1 rest1 r) more
+    t.sends in
     sends.1.waits.1
 
 -- the bytes of one turn are fewer than those that may come

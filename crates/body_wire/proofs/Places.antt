@@ -78,7 +78,8 @@ run_at (Content left) framing old new run taken passed bytes is within form limi
         size = c.size;
         got = c.got + run;
         chunk = subst
-            (λ (f : Form). InChunk f (taken ++ bytes) (passed ++ bytes) new.count c.size (c.got + run))
+            (λ (f : Form). InChunk f (taken ++ bytes) (passed ++ bytes) new.count c.size
+            (c.got + run))
             (sym form)
             (subst (λ (n : ℕ). InChunk old.form (taken ++ bytes) (passed ++ bytes) n c.size
             (c.got + run)) (sym count)

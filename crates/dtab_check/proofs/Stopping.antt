@@ -2,9 +2,13 @@
 use Rattle.std.proofs.Common.{◌≡◌, ℕ, Bool, true, false, List, [], ◌∷◌, ◌++◌, refl, sym, ap, ◌∙◌}
 use Rattle.std.specs.Prelude.{◌||◌, if◌then◌else◌}
 use Rattle.name_tree.specs.Path.{Labels}
-use Rattle.name_tree.specs.Value.{TreeValue, TreeValues, Branches, leaf, neg, fail, empty, alt, union, none, more, no_branch, branch}
+use Rattle.name_tree.specs.Value.{TreeValue, TreeValues, Branches, leaf, neg, fail, empty, alt}
+use Rattle.name_tree.specs.Value.{union, none, more, no_branch, branch}
 use Rattle.addr_book.specs.Found.{Found}
-use Rattle.bind_core.specs.Delegation.{Ending, negative, failing, no_replica, too_deep, too_wide, bound, Told, Evaluated, or_else, is_too_deep, is_failing, is_empty, some_end, found_at, found_in, kept, together, walk, walk_all, walk_each, first_of}
+use Rattle.bind_core.specs.Delegation.{Ending, negative, failing, no_replica, too_deep, too_wide}
+use Rattle.bind_core.specs.Delegation.{bound, Told, Evaluated, or_else, is_too_deep, is_failing}
+use Rattle.bind_core.specs.Delegation.{is_empty, some_end, found_at, found_in, kept, together, walk}
+use Rattle.bind_core.specs.Delegation.{walk_all, walk_each, first_of}
 use Rattle.bind_core.proofs.Narrow.{IsNarrow, first_of-IsNarrow}
 use Rattle.bind_core.proofs.Stacks.{or_else-assoc}
 
@@ -45,15 +49,19 @@ abbrev some_found : List (ℕ × Found) → Bool
 some_found [] = false
 some_found (m ∷ ms) = true
 
-kept-stops : (deep : Bool) (found : List (ℕ × Found)) (fails lacks : Bool) → stops (if deep then too_deep else kept found fails lacks) ≡ (deep || (some_found found || (fails || lacks)))
+kept-stops : (deep : Bool) (found : List (ℕ × Found)) (fails lacks : Bool)
+    → stops (if deep then too_deep else kept found fails lacks)
+    ≡ (deep || (some_found found || (fails || lacks)))
 kept-stops true found fails lacks = refl
 kept-stops false [] true lacks = refl
 kept-stops false [] false true = refl
 kept-stops false [] false false = refl
 kept-stops false (m ∷ ms) fails lacks = refl
 
-one_more : (e : Ending) (n : ℕ) (found : List (ℕ × Found)) (deep fails lacks some : Bool) → some ≡ (deep || (some_found found || (fails || lacks)))
-    → (stops e || some) ≡ ((is_too_deep e || deep) || (some_found (found_at n e ++ found) || ((is_failing e || fails) || (is_empty e || lacks))))
+one_more : (e : Ending) (n : ℕ) (found : List (ℕ × Found)) (deep fails lacks some : Bool)
+    → some ≡ (deep || (some_found found || (fails || lacks)))
+    → (stops e || some) ≡ ((is_too_deep e || deep)
+    || (some_found (found_at n e ++ found) || ((is_failing e || fails) || (is_empty e || lacks))))
 one_more negative n found deep fails lacks some h = h
 one_more too_wide n found deep fails lacks some h = h
 one_more too_deep n found deep fails lacks some h = refl
@@ -67,28 +75,41 @@ one_more no_replica n [] false true lacks some h = refl
 one_more no_replica n [] false false lacks some h = refl
 one_more no_replica n (m ∷ ms) false fails lacks some h = refl
 
-some_end-stops : (bs : List Evaluated) → some_end stops bs ≡ (some_end is_too_deep bs || (some_found (found_in bs) || (some_end is_failing bs || some_end is_empty bs)))
+some_end-stops : (bs : List Evaluated) → some_end stops bs
+    ≡ (some_end is_too_deep bs
+    || (some_found (found_in bs) || (some_end is_failing bs || some_end is_empty bs)))
 some_end-stops [] = refl
-some_end-stops (b ∷ bs) = one_more b.told.0 b.weight (found_in bs) (some_end is_too_deep bs) (some_end is_failing bs) (some_end is_empty bs) (some_end stops bs) (some_end-stops bs)
+some_end-stops (b ∷ bs) = one_more b.told.0 b.weight (found_in bs) (some_end is_too_deep bs)
+    (some_end is_failing bs) (some_end is_empty bs) (some_end stops bs) (some_end-stops bs)
 
 pub together-IsStop : (bs : List Evaluated) → some_end stops bs ≡ true → IsStop (together bs)
-together-IsStop bs h = kept-stops (some_end is_too_deep bs) (found_in bs) (some_end is_failing bs) (some_end is_empty bs) ∙ (sym (some_end-stops bs) ∙ h)
+together-IsStop bs h = kept-stops (some_end is_too_deep bs) (found_in bs) (some_end is_failing bs)
+    (some_end is_empty bs) ∙ (sym (some_end-stops bs) ∙ h)
 
 module _ (look : Labels → Told) where
   -- some trees are tried, and then others
-  pub first_of-append : (ts us : List TreeValue) → first_of look (ts ++ us) ≡ or_else (first_of look ts) (first_of look us)
+  pub first_of-append : (ts us : List TreeValue) → first_of look (ts ++ us)
+      ≡ or_else (first_of look ts) (first_of look us)
   first_of-append [] us = refl
-  first_of-append (t ∷ ts) us = ap (or_else (walk look t)) (first_of-append ts us) ∙ sym (or_else-assoc (walk look t) (first_of look ts) (first_of look us))
+  first_of-append (t ∷ ts) us = ap (or_else (walk look t)) (first_of-append ts us)
+      ∙ sym (or_else-assoc (walk look t) (first_of look ts) (first_of look us))
 
-  pub first_of-IsStop_left : (ts us : List TreeValue) → IsStop (first_of look ts) → IsStop (first_of look (ts ++ us))
-  first_of-IsStop_left ts us h = rw (first_of-append ts us) (or_else-IsStop_left (first_of look ts) (first_of look us) h)
+  pub first_of-IsStop_left : (ts us : List TreeValue) → IsStop (first_of look ts)
+      → IsStop (first_of look (ts ++ us))
+  first_of-IsStop_left ts us h = rw (first_of-append ts us)
+      (or_else-IsStop_left (first_of look ts) (first_of look us) h)
 
-  pub first_of-stop : (ts us : List TreeValue) → IsStop (first_of look ts) → first_of look (ts ++ us) ≡ first_of look ts
-  first_of-stop ts us h = first_of-append ts us ∙ or_else-stop (first_of look ts) (first_of look us) h
+  pub first_of-stop : (ts us : List TreeValue) → IsStop (first_of look ts)
+      → first_of look (ts ++ us) ≡ first_of look ts
+  first_of-stop ts us h = first_of-append ts us
+      ∙ or_else-stop (first_of look ts) (first_of look us) h
 
   module _ (narrow : (path : Labels) → IsNarrow (look path)) where
-    pub first_of-IsStop_right : (ts us : List TreeValue) → IsStop (first_of look us) → IsStop (first_of look (ts ++ us))
-    first_of-IsStop_right ts us h = rw (first_of-append ts us) (or_else-IsStop_right (first_of look ts) (first_of look us) (first_of-IsNarrow look narrow ts) h)
+    pub first_of-IsStop_right : (ts us : List TreeValue) → IsStop (first_of look us)
+        → IsStop (first_of look (ts ++ us))
+    first_of-IsStop_right ts us h = rw (first_of-append ts us)
+        (or_else-IsStop_right (first_of look ts) (first_of look us)
+        (first_of-IsNarrow look narrow ts) h)
 
 -- two ways to look paths up that always tell the same
 module _ (look other : Labels → Told) (same : (path : Labels) → other path ≡ look path) where

@@ -1,19 +1,24 @@
 -- The laws of the recogniser of prefixes.
-use Rattle.std.proofs.Common.{◌≡◌, ℕ, List, [], ◌∷◌, ◌++◌, true, false, Option, Some, refl, sym, ap, subst, ◌∙◌, append_assoc}
+use Rattle.std.proofs.Common.{◌≡◌, ℕ, List, [], ◌∷◌, ◌++◌, true, false, Option, Some, refl, sym, ap}
+use Rattle.std.proofs.Common.{subst, ◌∙◌, append_assoc}
 use Rattle.std.specs.Prelude.{◌==◌, IfSome, ⊤}
 use Rattle.std.proofs.lemmas.Bool.{eqb-true}
 use Rattle.std.proofs.lemmas.List.{append-nil}
-use Rattle.std.proofs.lemmas.Option.{none-some, same_Some, option_and_then_some, MatchOption-at_some}
+use Rattle.std.proofs.lemmas.Option.{none-some, same_Some, option_and_then_some}
+use Rattle.std.proofs.lemmas.Option.{MatchOption-at_some}
 use Rattle.name_tree.specs.Grammar.{is_blank, AreBlanks, no_blank, blank}
 use Rattle.dtab_table.specs.Pattern.{Pattern}
 use Rattle.dtab_table.specs.TableGrammar.{SpellsPrefix, PrefixText, prefix}
 use Rattle.name_tree.specs.Path.{is_plain}
 use Rattle.name_tree.specs.Recogniser.{run, value_from}
-use Rattle.dtab_table.specs.PrefixReading.{Walk, walk_start, next_walk, end_walk, is_prefix_byte, PrefixAt, before, inside, behind, next_prefix, end_prefix}
+use Rattle.dtab_table.specs.PrefixReading.{Walk, walk_start, next_walk, end_walk, is_prefix_byte}
+use Rattle.dtab_table.specs.PrefixReading.{PrefixAt, before, inside, behind, next_prefix}
+use Rattle.dtab_table.specs.PrefixReading.{end_prefix}
 use Rattle.name_tree.proofs.Answered.{if_test, if_mapped, if_mapped_from}
 use Rattle.name_tree.proofs.Bytes.{each_blank}
 use Rattle.name_tree.proofs.Blanks.{blanks_snoc}
-use Rattle.dtab_table.proofs.PrefixWalks.{prefix_walk, walk_byte, walk_can_end, WalkFront, walk_step, walk_begun, walk_end}
+use Rattle.dtab_table.proofs.PrefixWalks.{prefix_walk, walk_byte, walk_can_end, WalkFront}
+use Rattle.dtab_table.proofs.PrefixWalks.{walk_step, walk_begun, walk_end}
 use Rattle.name_tree.proofs.Recognisers.{Recognises, completes}
 
 abbrev from : PrefixAt → List ℕ → Option (List Pattern)
@@ -25,7 +30,8 @@ blank-prefix b h = each_blank (λ c. is_prefix_byte c ≡ false) refl refl refl 
 
 -- from the spelling to the reading
 
-blanks_before : {a : List ℕ} → AreBlanks a → (more : List ℕ) → from before (a ++ more) ≡ from before more
+blanks_before : {a : List ℕ} → AreBlanks a → (more : List ℕ)
+    → from before (a ++ more) ≡ from before more
 blanks_before no_blank more = refl
 blanks_before (blank h r) more = rw h (blanks_before r more)
 
@@ -33,21 +39,28 @@ blanks_behind : {a : List ℕ} → AreBlanks a → (ls : List Pattern) → from 
 blanks_behind no_blank ls = refl
 blanks_behind (blank h r) ls = rw h (blanks_behind r ls)
 
-walk_in : (s : List ℕ) (at to : Walk) → run next_walk at s ≡ Some to → (more : List ℕ) → from (inside at) (s ++ more) ≡ from (inside to) more
+walk_in : (s : List ℕ) (at to : Walk) → run next_walk at s ≡ Some to → (more : List ℕ)
+    → from (inside at) (s ++ more) ≡ from (inside to) more
 walk_in [] at to e more = ap (λ x. from (inside x) more) (same_Some at to e)
 walk_in (b ∷ bs) at to e more =
     option_and_then_some (λ x. run next_walk x bs) (next_walk at b) to e
-    (λ via i r. let test : is_prefix_byte b ≡ true = MatchOption-at_some ⊤ (λ _. is_prefix_byte b ≡ true) via i (walk_byte at b) in rw (test, i) (walk_in bs via to r more))
+    (λ via i r. let test : is_prefix_byte b ≡ true =
+    MatchOption-at_some ⊤ (λ _. is_prefix_byte b ≡ true) via i (walk_byte at b) in
+    rw (test, i) (walk_in bs via to r more))
 
-walk_ends : {a : List ℕ} → AreBlanks a → (at : Walk) (ls : List Pattern) → end_walk at ≡ Some ls → from (inside at) a ≡ Some ls
+walk_ends : {a : List ℕ} → AreBlanks a → (at : Walk) (ls : List Pattern) → end_walk at ≡ Some ls
+    → from (inside at) a ≡ Some ls
 walk_ends no_blank at ls e = e
 walk_ends (blank {b = b} h r) at ls e = rw (blank-prefix b h, h, e) (blanks_behind r ls)
 
 prefix_reads : {s : List ℕ} {ls : List Pattern} → PrefixText s ls → from before s ≡ Some ls
 prefix_reads (prefix {a = a} {s = s} {b = b} {ps = ls} x r y) =
     let w = prefix_walk r in
-    let whole : a ++ s ++ b ≡ a ++ (47 ∷ (w.tail ++ b)) = append_assoc a s b ∙ ap (λ t. a ++ (t ++ b)) w.head in
-    ap (from before) whole ∙ (blanks_before x (47 ∷ (w.tail ++ b)) ∙ (walk_in w.tail walk_start w.at w.reads b ∙ walk_ends y w.at ls w.ends))
+    let whole : a ++ s ++ b ≡ a ++ (47 ∷ (w.tail ++ b)) =
+    append_assoc a s b ∙ ap (λ t. a ++ (t ++ b)) w.head in
+    ap (from before) whole
+    ∙ (blanks_before x (47 ∷ (w.tail ++ b))
+    ∙ (walk_in w.tail walk_start w.at w.reads b ∙ walk_ends y w.at ls w.ends))
 
 -- from the reading to the spelling
 
@@ -72,7 +85,8 @@ Front before s = AreBlanks s
 Front (inside at) s = Inside at s
 Front (behind ls) s = Behind ls s
 
-behind_more : (ls : List Pattern) (s : List ℕ) → Behind ls s → (b : ℕ) → is_blank b ≡ true → Behind ls (s ++ b ∷ [])
+behind_more : (ls : List Pattern) (s : List ℕ) → Behind ls s → (b : ℕ) → is_blank b ≡ true
+    → Behind ls (s ++ b ∷ [])
 behind_more ls s f b h = record {
   blanks = f.blanks;
   walked = f.walked;
@@ -83,7 +97,8 @@ behind_more ls s f b h = record {
   are_after = blanks_snoc b f.are_after h;
 }
 
-walk_ended : (at : Walk) (s : List ℕ) → Inside at s → (ls : List Pattern) → end_walk at ≡ Some ls → Behind ls s
+walk_ended : (at : Walk) (s : List ℕ) → Inside at s → (ls : List Pattern) → end_walk at ≡ Some ls
+    → Behind ls s
 walk_ended at s f ls e = record {
   blanks = f.blanks;
   walked = f.walked;
@@ -94,26 +109,46 @@ walk_ended at s f ls e = record {
   are_after = no_blank;
 }
 
-step : (q : PrefixAt) (s : List ℕ) → Front q s → (b : ℕ) → IfSome (next_prefix q b) (λ to. Front to (s ++ b ∷ []))
+step : (q : PrefixAt) (s : List ℕ) → Front q s → (b : ℕ)
+    → IfSome (next_prefix q b) (λ to. Front to (s ++ b ∷ []))
 step before s f b =
     if_test (λ to. Front to (s ++ b ∷ [])) (is_blank b) _ _ (λ h. blanks_snoc b f h)
     (λ _. if_test (λ to. Front to (s ++ b ∷ [])) (b == 47) _ _
-    (λ h. record { blanks = s; walked = 47 ∷ []; same = ap (λ c. s ++ c ∷ []) (eqb-true b 47 h); are_blanks = f; walks = walk_begun }) (λ _. tt))
+    (λ h. record {
+      blanks = s;
+      walked = 47 ∷ [];
+      same = ap (λ c. s ++ c ∷ []) (eqb-true b 47 h);
+      are_blanks = f;
+      walks = walk_begun;
+    }) (λ _. tt))
 step (inside at) s f b =
     if_test (λ to. Front to (s ++ b ∷ [])) (is_prefix_byte b) _ _
-    (λ _. if_mapped_from (λ to. Front to (s ++ b ∷ [])) (λ to. WalkFront to (f.walked ++ b ∷ [])) (λ to. inside to) (next_walk at b) (walk_step at f.walked f.walks b)
-    (λ to k. record { blanks = f.blanks; walked = f.walked ++ b ∷ []; same = rw f.same (append_assoc f.blanks f.walked (b ∷ [])); are_blanks = f.are_blanks; walks = k }))
+    (λ _. if_mapped_from (λ to. Front to (s ++ b ∷ [])) (λ to. WalkFront to (f.walked ++ b ∷ []))
+    (λ to. inside to) (next_walk at b) (walk_step at f.walked f.walks b)
+    (λ to k. record {
+      blanks = f.blanks;
+      walked = f.walked ++ b ∷ [];
+      same =
+          rw f.same (append_assoc f.blanks f.walked (b ∷ []));
+      are_blanks = f.are_blanks;
+      walks = k;
+    }))
     (λ _. if_test (λ to. Front to (s ++ b ∷ [])) (is_blank b) _ _
-    (λ h. if_mapped (λ to. Front to (s ++ b ∷ [])) (λ ls. behind ls) (end_walk at) (λ ls e. behind_more ls s (walk_ended at s f ls e) b h)) (λ _. tt))
-step (behind ls) s f b = if_test (λ to. Front to (s ++ b ∷ [])) (is_blank b) _ _ (λ h. behind_more ls s f b h) (λ _. tt)
+    (λ h. if_mapped (λ to. Front to (s ++ b ∷ [])) (λ ls. behind ls) (end_walk at)
+    (λ ls e. behind_more ls s (walk_ended at s f ls e) b h)) (λ _. tt))
+step (behind ls) s f b = if_test (λ to. Front to (s ++ b ∷ [])) (is_blank b) _ _
+    (λ h. behind_more ls s f b h) (λ _. tt)
 
 behind_text : (ls : List Pattern) (s : List ℕ) → Behind ls s → PrefixText s ls
-behind_text ls s f = subst (λ (t : List ℕ). PrefixText t ls) (sym f.same) (prefix f.are_blanks f.spells f.are_after)
+behind_text ls s f = subst (λ (t : List ℕ). PrefixText t ls) (sym f.same)
+    (prefix f.are_blanks f.spells f.are_after)
 
-ends : (q : PrefixAt) (s : List ℕ) → Front q s → (v : List Pattern) → end_prefix q ≡ Some v → PrefixText s v
+ends : (q : PrefixAt) (s : List ℕ) → Front q s → (v : List Pattern) → end_prefix q ≡ Some v
+    → PrefixText s v
 ends before s f v e = absurd (none-some v e)
 ends (inside at) s f v e = behind_text v s (walk_ended at s f v e)
-ends (behind ls) s f v e = subst (λ (k : List Pattern). PrefixText s k) (same_Some ls v e) (behind_text ls s f)
+ends (behind ls) s f v e = subst (λ (k : List Pattern). PrefixText s k) (same_Some ls v e)
+    (behind_text ls s f)
 
 -- each state can be completed
 can_end : (q : PrefixAt) → (more : List ℕ) × (v : List Pattern) × (from q more ≡ Some v)
@@ -126,6 +161,7 @@ can_end (behind ls) = ([], ls, refl)
 pub prefix_laws : Recognises next_prefix end_prefix before PrefixText
 prefix_laws = record {
   reads = λ s v r. prefix_reads r;
-  gives = λ s v e. completes next_prefix end_prefix (λ q t. Front q t) PrefixText step ends s before [] no_blank v e;
+  gives = λ s v e. completes next_prefix end_prefix
+      (λ q t. Front q t) PrefixText step ends s before [] no_blank v e;
   can_end = can_end;
 }

@@ -4,7 +4,8 @@ use Rattle.std.specs.Prelude.{MatchResult, IfOk}
 use Rattle.name_tree.proofs.Sounds.{label_is}
 use Rattle.name_tree.proofs.Recognisers.{one_value}
 use Rattle.dtab_table.specs.Pattern.{Pattern}
-use Rattle.dtab_table.specs.TableGrammar.{SpellsPattern, star, named, SpellsPatterns, pattern, patterns, SpellsPrefix, root, under, PrefixText, prefix}
+use Rattle.dtab_table.specs.TableGrammar.{SpellsPattern, star, named, SpellsPatterns, pattern}
+use Rattle.dtab_table.specs.TableGrammar.{patterns, SpellsPrefix, root, under, PrefixText, prefix}
 use Rattle.dtab_table.specs.PrefixReading.{before, next_prefix, end_prefix}
 use Rattle.dtab_table.specs.TableCanon.{IsPattern, ArePatterns}
 use Rattle.dtab_table.specs.declared.read.PrefixFault.{PrefixFault}
@@ -28,14 +29,19 @@ text_patterns : {s : List ℕ} {ps : List Pattern} → PrefixText s ps → ArePa
 text_patterns (prefix x r y) = prefix_patterns r
 
 -- a prefix that was read has labels
-pub sound_prefix : {X : Type 0} (view : X → List Pattern) (text : List ℕ) (read : Result X PrefixFault) → MatchResult read (λ x. PrefixText text (view x)) (PrefixFaultFits text)
+pub sound_prefix : {X : Type 0} (view : X → List Pattern) (text : List ℕ)
+    (read : Result X PrefixFault) → MatchResult read (λ x. PrefixText text (view x))
+    (PrefixFaultFits text)
     → IfOk read (λ x. ArePatterns (view x))
 sound_prefix view text (Ok x) h = text_patterns h
 sound_prefix view text (Err fault) h = tt
 
 -- the text of a prefix is read, where there is memory
-pub only : {X : Type 0} (view : X → List Pattern) (text : List ℕ) (read : Result X PrefixFault) → MatchResult read (λ x. PrefixText text (view x)) (PrefixFaultFits text)
-    → (ps : List Pattern) → PrefixText text ps → MatchResult read (λ x. view x ≡ ps) (λ fault. fault ≡ OutOfMemory)
-only view text (Ok x) h ps k = one_value next_prefix end_prefix before PrefixText prefix_laws text (view x) ps h k
+pub only : {X : Type 0} (view : X → List Pattern) (text : List ℕ) (read : Result X PrefixFault)
+    → MatchResult read (λ x. PrefixText text (view x)) (PrefixFaultFits text)
+    → (ps : List Pattern) → PrefixText text ps
+    → MatchResult read (λ x. view x ≡ ps) (λ fault. fault ≡ OutOfMemory)
+only view text (Ok x) h ps k = one_value next_prefix end_prefix before PrefixText prefix_laws text
+    (view x) ps h k
 only view text (Err NotPrefix) h ps k = absurd (h ps k)
 only view text (Err OutOfMemory) h ps k = refl

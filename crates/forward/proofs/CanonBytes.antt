@@ -1,5 +1,7 @@
 -- The canonical texts of paths, trees and tables have the bytes that a field's value may have.
-use Rattle.std.proofs.Common.{◌≡◌, ℕ, zero, suc, ◌+◌, ◌/◌, ◌%◌, ◌^◌, ◌<◌, ◌≤◌, ◌||◌, arith, Bool, true, false, cond, eqb, List, [], ◌∷◌, ◌++◌, codes, Some, None, refl, sym, subst, All, IsTrue}
+use Rattle.std.proofs.Common.{◌≡◌, ℕ, zero, suc, ◌+◌, ◌/◌, ◌%◌, ◌^◌, ◌<◌, ◌≤◌, ◌||◌, arith, Bool}
+use Rattle.std.proofs.Common.{true, false, cond, eqb, List, [], ◌∷◌, ◌++◌, codes, Some, None, refl}
+use Rattle.std.proofs.Common.{sym, subst, All, IsTrue}
 use Rattle.std.specs.Fmt.{decimal}
 use Rattle.std.specs.List.{flat_map}
 use Rattle.std.specs.Str.Parse.{AllDigits}
@@ -11,12 +13,20 @@ use Rattle.std.proofs.lemmas.List.Elements.{All-append, All-cons, All-head, All-
 use Rattle.std.proofs.lemmas.List.Sums.{AllPass-from_list_all}
 use Rattle.std.proofs.lemmas.Str.Parse.{digit_at}
 use Rattle.httparse.specs.Grammar.{AllPass, is_value_byte}
-use Rattle.name_tree.specs.Path.{Label, Labels, is_plain, hex_digit, canon_byte, canon_label, canon_path}
-use Rattle.name_tree.specs.Value.{TreeValue, leaf, neg, fail, empty, alt, union, TreeValues, none, more, Branches, no_branch, branch}
-use Rattle.name_tree.specs.Canon.{decimals_text, point_text, canon_weight, grouped, is_alt, is_union, canon, canon_alts, canon_more_alts, canon_branches, canon_more_branches, IsSound, AreSound, AreSoundBranches, IsByteLabel, AreByteLabels, HasLabels, HaveLabels, BranchesHaveLabels}
+use Rattle.name_tree.specs.Path.{Label, Labels, is_plain, hex_digit, canon_byte, canon_label}
+use Rattle.name_tree.specs.Path.{canon_path}
+use Rattle.name_tree.specs.Value.{TreeValue, leaf, neg, fail, empty, alt, union, TreeValues, none}
+use Rattle.name_tree.specs.Value.{more, Branches, no_branch, branch}
+use Rattle.name_tree.specs.Canon.{decimals_text, point_text, canon_weight, grouped, is_alt}
+use Rattle.name_tree.specs.Canon.{is_union, canon, canon_alts, canon_more_alts, canon_branches}
+use Rattle.name_tree.specs.Canon.{canon_more_branches, IsSound, AreSound, AreSoundBranches}
+use Rattle.name_tree.specs.Canon.{IsByteLabel, AreByteLabels, HasLabels, HaveLabels}
+use Rattle.name_tree.specs.Canon.{BranchesHaveLabels}
 use Rattle.dtab_table.specs.Pattern.{Pattern}
 use Rattle.dtab_table.specs.Rules.{Rule}
-use Rattle.dtab_table.specs.TableCanon.{canon_pattern, canon_prefix, canon_rule, canon_more, canon_table, IsPattern, ArePatterns, IsSoundRule, AreSoundRules}
+use Rattle.dtab_table.specs.TableCanon.{canon_pattern, canon_prefix, canon_rule, canon_more}
+use Rattle.dtab_table.specs.TableCanon.{canon_table, IsPattern, ArePatterns, IsSoundRule}
+use Rattle.dtab_table.specs.TableCanon.{AreSoundRules}
 
 abbrev pub IsValue : ℕ → Type 0
 IsValue b = IsTrue (is_value_byte b)
@@ -39,7 +49,8 @@ hex_byte n small = grind (arith, nat_tests)
 byte_text : (b : ℕ) → b < 256 → All IsValue (canon_byte b)
 byte_text b small = by_test (is_plain b) refl
   where
-    by_test : (t : Bool) → is_plain b ≡ t → All IsValue (cond t (b ∷ []) (92 ∷ 120 ∷ hex_digit (b / 16) ∷ hex_digit (b % 16) ∷ []))
+    by_test : (t : Bool) → is_plain b ≡ t
+        → All IsValue (cond t (b ∷ []) (92 ∷ 120 ∷ hex_digit (b / 16) ∷ hex_digit (b % 16) ∷ []))
     by_test true test = first b [] (plain_byte b test) (All-nil IsValue)
     by_test false test =
         first 92 (120 ∷ hex_digit (b / 16) ∷ hex_digit (b % 16) ∷ []) refl
@@ -51,7 +62,9 @@ bytes_text : (bs : List ℕ) → All (λ b. b < 256) bs → All IsValue (flat_ma
 bytes_text [] small = All-nil IsValue
 bytes_text (b ∷ bs) small =
     subst (All IsValue) (sym (flat_map-cons canon_byte b bs))
-    (both (canon_byte b) (flat_map canon_byte bs) (byte_text b (All-head (λ c. c < 256) b bs small)) (bytes_text bs (All-tail (λ c. c < 256) b bs small)))
+    (both (canon_byte b) (flat_map canon_byte bs)
+    (byte_text b (All-head (λ c. c < 256) b bs small))
+    (bytes_text bs (All-tail (λ c. c < 256) b bs small)))
 
 label_text : (l : Label) → IsByteLabel l → All IsValue (canon_label l)
 label_text l is = first 47 (flat_map canon_byte l) refl (bytes_text l is.1)
@@ -59,7 +72,8 @@ label_text l is = first 47 (flat_map canon_byte l) refl (bytes_text l is.1)
 labels_text : (ls : Labels) → AreByteLabels ls → All IsValue (flat_map canon_label ls)
 labels_text [] are = All-nil IsValue
 labels_text (l ∷ ls) are =
-    subst (All IsValue) (sym (flat_map-cons canon_label l ls)) (both (canon_label l) (flat_map canon_label ls) (label_text l are.0) (labels_text ls are.1))
+    subst (All IsValue) (sym (flat_map-cons canon_label l ls))
+    (both (canon_label l) (flat_map canon_label ls) (label_text l are.0) (labels_text ls are.1))
 
 pub path_text : (ls : Labels) → AreByteLabels ls → All IsValue (canon_path ls)
 path_text [] are = first 47 [] refl (All-nil IsValue)
@@ -69,7 +83,8 @@ path_text (l ∷ ls) are = labels_text (l ∷ ls) are
 
 digits_text : (ds : List ℕ) → AllDigits 10 ds → All IsValue ds
 digits_text [] all = All-nil IsValue
-digits_text (d ∷ ds) all = first d ds (digit d (digit_at (d ∷ []) 0 (all.0, tt) (omega arith))) (digits_text ds all.1)
+digits_text (d ∷ ds) all = first d ds (digit d (digit_at (d ∷ []) 0 (all.0, tt) (omega arith)))
+    (digits_text ds all.1)
   where
     digit : (x : ℕ) → (48 ≤ x) × (x ≤ 57) → IsValue x
     digit x range = let low = range.0 in let high = range.1 in grind (arith, nat_tests, low, high)
@@ -90,7 +105,8 @@ decimals (suc k) rest small = by_test (eqb rest 0) (decimals k (rest % 10 ^ k) (
     by_test : (t : Bool) → All IsValue (decimals_text k (rest % 10 ^ k))
         → All IsValue (cond t [] ((48 + rest / 10 ^ k) ∷ decimals_text k (rest % 10 ^ k)))
     by_test true others = All-nil IsValue
-    by_test false others = first (48 + rest / 10 ^ k) (decimals_text k (rest % 10 ^ k)) (digit (rest / 10 ^ k) ((div-lt_iff_lt-mul some).1 (omega (arith, small)))) others
+    by_test false others = first (48 + rest / 10 ^ k) (decimals_text k (rest % 10 ^ k))
+        (digit (rest / 10 ^ k) ((div-lt_iff_lt-mul some).1 (omega (arith, small)))) others
 
 point : (rest : ℕ) → rest < 10 ^ 6 → All IsValue (point_text rest)
 point rest small = by_test (eqb rest 0)
@@ -101,12 +117,15 @@ point rest small = by_test (eqb rest 0)
 
 weight_text : (n : ℕ) → n < 10 ^ 12 → All IsValue (canon_weight n)
 weight_text n small =
-    both (decimal (n / 1000000)) (point_text (n % 1000000)) (decimal_text (n / 1000000) (omega (arith, small))) (point (n % 1000000) (omega arith))
+    both (decimal (n / 1000000)) (point_text (n % 1000000))
+    (decimal_text (n / 1000000) (omega (arith, small))) (point (n % 1000000) (omega arith))
 
 -- ---- trees
 
 group_text : (b : Bool) (text : List ℕ) → All IsValue text → All IsValue (grouped b text)
-group_text true text all = both (codes "(" ++ text) (codes ")") (both (codes "(") text (first 40 [] refl (All-nil IsValue)) all) (first 41 [] refl (All-nil IsValue))
+group_text true text all = both (codes "(" ++ text) (codes ")")
+    (both (codes "(") text (first 40 [] refl (All-nil IsValue)) all)
+    (first 41 [] refl (All-nil IsValue))
 group_text false text all = all
 
 -- a literal
@@ -116,9 +135,11 @@ literal text all = all
 star_text : All IsValue (codes " * ")
 star_text = AllPass-from_list_all is_value_byte (codes " * ") refl
 
-branch_text : (n : ℕ) (b : Bool) (text : List ℕ) → n < 10 ^ 12 → All IsValue text → All IsValue (canon_weight n ++ codes " * " ++ grouped b text)
+branch_text : (n : ℕ) (b : Bool) (text : List ℕ) → n < 10 ^ 12 → All IsValue text
+    → All IsValue (canon_weight n ++ codes " * " ++ grouped b text)
 branch_text n b text small all =
-    both (canon_weight n ++ codes " * ") (grouped b text) (both (canon_weight n) (codes " * ") (weight_text n small) star_text) (group_text b text all)
+    both (canon_weight n ++ codes " * ") (grouped b text)
+    (both (canon_weight n) (codes " * ") (weight_text n small) star_text) (group_text b text all)
 
 mutual
   tree_text : (t : TreeValue) → IsSound t → HasLabels t → All IsValue (canon t)
@@ -132,29 +153,42 @@ mutual
   alts_text : (ts : TreeValues) → AreSound ts → HaveLabels ts → All IsValue (canon_alts ts)
   alts_text none sound labels = All-nil IsValue
   alts_text (more t ts) sound labels =
-      both (grouped (is_alt t) (canon t)) (canon_more_alts ts) (group_text (is_alt t) (canon t) (tree_text t sound.0 labels.0)) (more_alts_text ts sound.1 labels.1)
+      both (grouped (is_alt t) (canon t)) (canon_more_alts ts)
+      (group_text (is_alt t) (canon t) (tree_text t sound.0 labels.0))
+      (more_alts_text ts sound.1 labels.1)
 
-  more_alts_text : (ts : TreeValues) → AreSound ts → HaveLabels ts → All IsValue (canon_more_alts ts)
+  more_alts_text : (ts : TreeValues) → AreSound ts → HaveLabels ts
+      → All IsValue (canon_more_alts ts)
   more_alts_text none sound labels = All-nil IsValue
   more_alts_text (more t ts) sound labels =
       both (codes " | " ++ grouped (is_alt t) (canon t)) (canon_more_alts ts)
-      (both (codes " | ") (grouped (is_alt t) (canon t)) (AllPass-from_list_all is_value_byte (codes " | ") refl) (group_text (is_alt t) (canon t) (tree_text t sound.0 labels.0)))
+      (both (codes " | ") (grouped (is_alt t) (canon t))
+      (AllPass-from_list_all is_value_byte (codes " | ") refl)
+      (group_text (is_alt t) (canon t) (tree_text t sound.0 labels.0)))
       (more_alts_text ts sound.1 labels.1)
 
-  branches_text : (bs : Branches) → AreSoundBranches bs → BranchesHaveLabels bs → All IsValue (canon_branches bs)
+  branches_text : (bs : Branches) → AreSoundBranches bs → BranchesHaveLabels bs
+      → All IsValue (canon_branches bs)
   branches_text no_branch sound labels = All-nil IsValue
   branches_text (branch n t bs) sound labels =
-      both (canon_weight n ++ codes " * " ++ grouped (is_alt t || is_union t) (canon t)) (canon_more_branches bs)
-      (branch_text n (is_alt t || is_union t) (canon t) sound.0 (tree_text t sound.1 labels.0)) (more_branches_text bs sound.2 labels.1)
+      both (canon_weight n ++ codes " * " ++ grouped (is_alt t || is_union t) (canon t))
+      (canon_more_branches bs)
+      (branch_text n (is_alt t || is_union t) (canon t) sound.0 (tree_text t sound.1 labels.0))
+      (more_branches_text bs sound.2 labels.1)
 
-  more_branches_text : (bs : Branches) → AreSoundBranches bs → BranchesHaveLabels bs → All IsValue (canon_more_branches bs)
+  more_branches_text : (bs : Branches) → AreSoundBranches bs → BranchesHaveLabels bs
+      → All IsValue (canon_more_branches bs)
   more_branches_text no_branch sound labels = All-nil IsValue
   more_branches_text (branch n t bs) sound labels =
-      both (codes " & " ++ canon_weight n ++ codes " * " ++ grouped (is_alt t || is_union t) (canon t)) (canon_more_branches bs)
-      (both (codes " & " ++ canon_weight n ++ codes " * ") (grouped (is_alt t || is_union t) (canon t))
+      both (codes " & " ++ canon_weight n ++ codes " * "
+      ++ grouped (is_alt t || is_union t) (canon t)) (canon_more_branches bs)
+      (both (codes " & " ++ canon_weight n ++ codes " * ")
+      (grouped (is_alt t || is_union t) (canon t))
       (both (codes " & " ++ canon_weight n) (codes " * ")
-      (both (codes " & ") (canon_weight n) (AllPass-from_list_all is_value_byte (codes " & ") refl) (weight_text n sound.0)) star_text)
-      (group_text (is_alt t || is_union t) (canon t) (tree_text t sound.1 labels.0))) (more_branches_text bs sound.2 labels.1)
+      (both (codes " & ") (canon_weight n) (AllPass-from_list_all is_value_byte (codes " & ") refl)
+      (weight_text n sound.0)) star_text)
+      (group_text (is_alt t || is_union t) (canon t) (tree_text t sound.1 labels.0)))
+      (more_branches_text bs sound.2 labels.1)
 
 -- ---- tables
 
@@ -165,7 +199,9 @@ pattern_text (Some l) is = label_text l is
 patterns_text : (ps : List Pattern) → ArePatterns ps → All IsValue (flat_map canon_pattern ps)
 patterns_text [] are = All-nil IsValue
 patterns_text (p ∷ ps) are =
-    subst (All IsValue) (sym (flat_map-cons canon_pattern p ps)) (both (canon_pattern p) (flat_map canon_pattern ps) (pattern_text p are.0) (patterns_text ps are.1))
+    subst (All IsValue) (sym (flat_map-cons canon_pattern p ps))
+    (both (canon_pattern p) (flat_map canon_pattern ps) (pattern_text p are.0)
+    (patterns_text ps are.1))
 
 prefix_text : (ps : List Pattern) → ArePatterns ps → All IsValue (canon_prefix ps)
 prefix_text [] are = first 47 [] refl (All-nil IsValue)
@@ -174,14 +210,18 @@ prefix_text (p ∷ ps) are = patterns_text (p ∷ ps) are
 rule_text : (r : Rule) → IsSoundRule r → All IsValue (canon_rule r)
 rule_text r sound =
     both (canon_prefix r.prefix ++ codes "=>") (canon r.tree)
-    (both (canon_prefix r.prefix) (codes "=>") (prefix_text r.prefix sound.patterns) (AllPass-from_list_all is_value_byte (codes "=>") refl))
+    (both (canon_prefix r.prefix) (codes "=>") (prefix_text r.prefix sound.patterns)
+    (AllPass-from_list_all is_value_byte (codes "=>") refl))
     (tree_text r.tree sound.sound sound.labels)
 
 more_text : (rs : List Rule) → AreSoundRules rs → All IsValue (canon_more rs)
 more_text [] are = All-nil IsValue
 more_text (r ∷ rs) are =
-    both (codes ";" ++ canon_rule r) (canon_more rs) (both (codes ";") (canon_rule r) (first 59 [] refl (All-nil IsValue)) (rule_text r are.0)) (more_text rs are.1)
+    both (codes ";" ++ canon_rule r) (canon_more rs)
+    (both (codes ";") (canon_rule r) (first 59 [] refl (All-nil IsValue)) (rule_text r are.0))
+    (more_text rs are.1)
 
 pub table_text : (rs : List Rule) → AreSoundRules rs → All IsValue (canon_table rs)
 table_text [] are = All-nil IsValue
-table_text (r ∷ rs) are = both (canon_rule r) (canon_more rs) (rule_text r are.0) (more_text rs are.1)
+table_text (r ∷ rs) are = both (canon_rule r) (canon_more rs) (rule_text r are.0)
+    (more_text rs are.1)

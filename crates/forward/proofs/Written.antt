@@ -1,5 +1,8 @@
 -- The head that is written is read as it was meant.
-use Rattle.std.proofs.Common.{◌≡◌, ◌≢◌, ℕ, ◌-◌, ◌<◌, ◌≤◌, ◌&&◌, ◌||◌, not, arith, Bool, true, false, cond, eqb, ltb, List, [], ◌∷◌, ◌++◌, length, map, filter, take, drop, get_or, codes, Option, Some, None, Ok, IsSomeAnd, refl, sym, ap, ◌∙◌, subst, All, IsTrue, append_assoc, append-nil, length-append}
+use Rattle.std.proofs.Common.{◌≡◌, ◌≢◌, ℕ, ◌-◌, ◌<◌, ◌≤◌, ◌&&◌, ◌||◌, not, arith, Bool, true, false}
+use Rattle.std.proofs.Common.{cond, eqb, ltb, List, [], ◌∷◌, ◌++◌, length, map, filter, take, drop}
+use Rattle.std.proofs.Common.{get_or, codes, Option, Some, None, Ok, IsSomeAnd, refl, sym, ap, ◌∙◌}
+use Rattle.std.proofs.Common.{subst, All, IsTrue, append_assoc, append-nil, length-append}
 use Rattle.std.specs.Str.{bytes_eq}
 use Rattle.std.specs.Fmt.{decimal}
 use Rattle.std.specs.List.{flat_map, list_all, list_any, position_or_len}
@@ -9,9 +12,12 @@ use Rattle.std.proofs.Math.Seq.{drop-append_seam, drop-length, take-append_seam,
 use Rattle.std.proofs.lemmas.Bool.Decides.{nat_tests}
 use Rattle.std.proofs.lemmas.List.{map-append, take_all}
 use Rattle.std.proofs.lemmas.List.Concat.{flat_map-cons}
-use Rattle.std.proofs.lemmas.List.Elements.{All-append, All-cons, All-filter, All-head, All-map, All-nil, All-weaker, filter-append}
+use Rattle.std.proofs.lemmas.List.Elements.{All-append, All-cons, All-filter, All-head, All-map}
+use Rattle.std.proofs.lemmas.List.Elements.{All-nil, All-weaker, filter-append}
 use Rattle.std.proofs.lemmas.List.Sums.{AllPass-from_list_all, position_or_len_is}
-use Rattle.httparse.specs.Grammar.{crlf as cr_lf, print_field, print_request, is_token_byte, is_uri_byte, is_value_byte, trim_ows, IsField, IsRequestHead, IsToken, RequestHead, Field as Line}
+use Rattle.httparse.specs.Grammar.{crlf as cr_lf, print_field, print_request, is_token_byte}
+use Rattle.httparse.specs.Grammar.{is_uri_byte, is_value_byte, trim_ows, IsField, IsRequestHead}
+use Rattle.httparse.specs.Grammar.{IsToken, RequestHead, Field as Line}
 use Rattle.httparse.specs.Spans.{name_and_value}
 use Rattle.httparse.proofs.GrammarLemmas.{print_request-append}
 use Rattle.name_tree.specs.Path.{canon_path}
@@ -22,7 +28,9 @@ use Rattle.http_wire.specs.declared.head.Field.{Field}
 use Rattle.http_wire.specs.declared.head.Head.{Head}
 use Rattle.http_wire.specs.declared.frames.Framing.{Framing}
 use Rattle.http_wire.specs.Fields.{is_named, same_ignoring_case, values_of}
-use Rattle.http_wire.specs.FirstLine.{ends_in_other_version, first_line, is_other_version, is_version, last_nine, line_at, skip_empty_lines, without_return}
+use Rattle.http_wire.specs.FirstLine.{ends_in_other_version, first_line, is_other_version}
+use Rattle.http_wire.specs.FirstLine.{is_version, last_nine, line_at, skip_empty_lines}
+use Rattle.http_wire.specs.FirstLine.{without_return}
 use Rattle.http_wire.specs.Framing.{framed, length_framing}
 use Rattle.http_wire.specs.Heads.{most, window, BeginsWith, IsSoundField}
 use Rattle.http_wire.specs.Parsed.{pair_of}
@@ -30,8 +38,10 @@ use Rattle.http_wire.specs.Sound.{IsSoundHead}
 use Rattle.http_wire.proofs.Lengths.{led, length_agreed, trimmed_digits}
 use Rattle.http_wire.proofs.Looks.{differ, skip-other, token_byte_low, uri_byte_low}
 use Rattle.forward.specs.declared.going.Going.{Going}
-use Rattle.forward.specs.Dropped.{goes_on, has_name_of, kept, kept_but, named_in_connection, never_kept}
-use Rattle.forward.specs.Forwarded.{closing_lines, forwarded, framing_lines, lines, request_line, residual_lines, table_lines, via}
+use Rattle.forward.specs.Dropped.{goes_on, has_name_of, kept, kept_but, named_in_connection}
+use Rattle.forward.specs.Dropped.{never_kept}
+use Rattle.forward.specs.Forwarded.{closing_lines, forwarded, framing_lines, lines, request_line}
+use Rattle.forward.specs.Forwarded.{residual_lines, table_lines, via}
 use Rattle.forward.specs.Laws.{HeadsReadBack, IsPlainWay, IsRequestFraming, table_texts}
 use Rattle.httparse.specs.Ascii.{crlf_bytes}
 use Rattle.http_wire.specs.Lines.{ended, field_line, line_of}
@@ -54,7 +64,8 @@ table_pairs (rule ∷ rules) = (codes "l5d-ctx-dtab", canon_table (rule ∷ rule
 
 abbrev residual_pairs : List ℕ → List Pair
 residual_pairs [] = []
-residual_pairs (b ∷ bytes) = cond (bytes_eq (b ∷ bytes) (codes "/")) [] ((codes "l5d-dst-residual", b ∷ bytes) ∷ [])
+residual_pairs (b ∷ bytes) = cond (bytes_eq (b ∷ bytes) (codes "/")) []
+    ((codes "l5d-dst-residual", b ∷ bytes) ∷ [])
 
 abbrev first_pairs : Head → Going → List Pair
 first_pairs head to = (codes "Host", to.host.now) ∷ map pair_of (kept head.fields)
@@ -64,13 +75,15 @@ via_pairs head to = (codes "Via", via head.version) ∷ table_pairs (rules_of to
 
 abbrev own_pairs : Going → List Pair
 own_pairs to =
-    (codes "l5d-dst-service", canon_path to.service.now) ∷ (codes "l5d-dst-client", to.client.now) ∷ residual_pairs to.residual.now
+    (codes "l5d-dst-service", canon_path to.service.now) ∷ (codes "l5d-dst-client", to.client.now)
+    ∷ residual_pairs to.residual.now
 
 abbrev last_pairs : Bool → List Pair
 last_pairs closes = cond closes ((codes "Connection", codes "close") ∷ []) []
 
 abbrev pairs : Head → Going → List Pair
-pairs head to = (((first_pairs head to ++ framing_pairs to.framing) ++ via_pairs head to) ++ own_pairs to) ++ last_pairs to.closes
+pairs head to = (((first_pairs head to ++ framing_pairs to.framing) ++ via_pairs head to)
+    ++ own_pairs to) ++ last_pairs to.closes
 
 abbrev pair_line : Pair → List ℕ
 pair_line p = line_of p.0 p.1
@@ -93,7 +106,8 @@ residual_is : (bytes : List ℕ) → residual_lines bytes ≡ map pair_line (res
 residual_is [] = refl
 residual_is (b ∷ bytes) = by_test (bytes_eq (b ∷ bytes) (codes "/"))
   where
-    by_test : (t : Bool) → cond t [] (line_of (codes "l5d-dst-residual") (b ∷ bytes) ∷ []) ≡ map pair_line (cond t [] ((codes "l5d-dst-residual", b ∷ bytes) ∷ []))
+    by_test : (t : Bool) → cond t [] (line_of (codes "l5d-dst-residual") (b ∷ bytes) ∷ [])
+        ≡ map pair_line (cond t [] ((codes "l5d-dst-residual", b ∷ bytes) ∷ []))
     by_test true = refl
     by_test false = refl
 
@@ -102,18 +116,23 @@ closing_is true = refl
 closing_is false = refl
 
 map_five : {A B : Type 0} (f : A → B) (a b c d e : List A)
-    → map f ((((a ++ b) ++ c) ++ d) ++ e) ≡ (((map f a ++ map f b) ++ map f c) ++ map f d) ++ map f e
+    → map f ((((a ++ b) ++ c) ++ d) ++ e) ≡ (((map f a ++ map f b) ++ map f c) ++ map f d)
+    ++ map f e
 map_five f a b c d e = simp map-append
 
-lines_are : (head : Head) (to : Going) → lines head to ≡ request_line head.method to.target.now ∷ map pair_line (pairs head to)
+lines_are : (head : Head) (to : Going) → lines head to
+    ≡ request_line head.method to.target.now ∷ map pair_line (pairs head to)
 lines_are head to =
     (λ i. request_line head.method to.target.now
-    ∷ ((((line_of (codes "Host") to.host.now ∷ kept_lines (kept head.fields) i) ++ framing_is to.framing i)
+    ∷ ((((line_of (codes "Host") to.host.now ∷ kept_lines (kept head.fields) i)
+    ++ framing_is to.framing i)
     ++ line_of (codes "Via") (via head.version) ∷ table_is (rules_of to.local.now) i)
-    ++ line_of (codes "l5d-dst-service") (canon_path to.service.now) ∷ line_of (codes "l5d-dst-client") to.client.now ∷ residual_is to.residual.now i)
+    ++ line_of (codes "l5d-dst-service") (canon_path to.service.now)
+    ∷ line_of (codes "l5d-dst-client") to.client.now ∷ residual_is to.residual.now i)
     ++ closing_is to.closes i)
     ∙ ap (λ (ls : List (List ℕ)). request_line head.method to.target.now ∷ ls)
-    (sym (map_five pair_line (first_pairs head to) (framing_pairs to.framing) (via_pairs head to) (own_pairs to) (last_pairs to.closes)))
+    (sym (map_five pair_line (first_pairs head to) (framing_pairs to.framing) (via_pairs head to)
+    (own_pairs to) (last_pairs to.closes)))
 
 -- ---- the parts of the head
 
@@ -123,7 +142,8 @@ line_field p = record { name = p.0; raw = 32 ∷ p.1; end = cr_lf }
 ended_is : (ps : List Pair) → ended (map pair_line ps) ≡ flat_map print_field (map line_field ps)
 ended_is [] = refl
 ended_is (p ∷ ps) =
-    (λ i. (append_assoc p.0 (58 ∷ 32 ∷ []) p.1 i ++ crlf_bytes) ++ ended_is ps i) ∙ sym (flat_map-cons print_field (line_field p) (map line_field ps))
+    (λ i. (append_assoc p.0 (58 ∷ 32 ∷ []) p.1 i ++ crlf_bytes) ++ ended_is ps i)
+    ∙ sym (flat_map-cons print_field (line_field p) (map line_field ps))
 
 abbrev parts : Head → Going → RequestHead
 parts head to = record {
@@ -136,7 +156,8 @@ parts head to = record {
   last = cr_lf;
 }
 
-regrouped : (m t s : List ℕ) → (((((m ++ 32 ∷ []) ++ t) ++ codes " HTTP/1.1") ++ crlf_bytes) ++ s) ++ crlf_bytes
+regrouped : (m t s : List ℕ) → (((((m ++ 32 ∷ []) ++ t) ++ codes " HTTP/1.1") ++ crlf_bytes) ++ s)
+    ++ crlf_bytes
     ≡ m ++ 32 ∷ (t ++ 32 ∷ (codes "HTTP/1.1" ++ (crlf_bytes ++ ((s ++ crlf_bytes) ++ []))))
 regrouped m t s = simp (append_assoc, append-nil)
 
@@ -144,8 +165,10 @@ printed : (head : Head) (to : Going) → forwarded head to ≡ print_request (pa
 unfolding forwarded
 printed head to =
     ap (λ (ls : List (List ℕ)). ended ls ++ crlf_bytes) (lines_are head to)
-    ∙ (ap (λ (t : List ℕ). ((request_line head.method to.target.now ++ crlf_bytes) ++ t) ++ crlf_bytes) (ended_is (pairs head to))
-    ∙ (regrouped head.method to.target.now (flat_map print_field (map line_field (pairs head to))) ∙ sym (print_request-append (parts head to) [])))
+    ∙ (ap (λ (t : List ℕ). ((request_line head.method to.target.now ++ crlf_bytes) ++ t)
+    ++ crlf_bytes) (ended_is (pairs head to))
+    ∙ (regrouped head.method to.target.now (flat_map print_field (map line_field (pairs head to)))
+    ∙ sym (print_request-append (parts head to) [])))
 
 -- ---- each part is of its class
 
@@ -155,7 +178,8 @@ IsSoundPair p = IsToken p.0 × All IsValue p.1
 token : (text : List ℕ) → 0 < length text → list_all is_token_byte text ≡ true → IsToken text
 token text some all = (some, AllPass-from_list_all is_token_byte text all)
 
-one : (name value : List ℕ) → IsToken name → All IsValue value → All IsSoundPair ((name, value) ∷ [])
+one : (name value : List ℕ) → IsToken name → All IsValue value
+    → All IsSoundPair ((name, value) ∷ [])
 one name value is all = All-cons IsSoundPair (name, value) [] (is, all) (All-nil IsSoundPair)
 
 host_name : IsToken (codes "Host")
@@ -194,21 +218,28 @@ connection_name : IsToken (codes "Connection")
 unfolding is_token_byte
 connection_name = token (codes "Connection") (omega arith) refl
 
-sound_first : (head : Head) (to : Going) → IsSoundHead head → All IsValue to.host.now → All IsSoundPair (first_pairs head to)
+sound_first : (head : Head) (to : Going) → IsSoundHead head → All IsValue to.host.now
+    → All IsSoundPair (first_pairs head to)
 unfolding kept_but
 sound_first head to sound host =
-    All-cons IsSoundPair (codes "Host", to.host.now) (map pair_of (kept head.fields)) (host_name, host)
-    (All-map IsSoundPair pair_of (kept head.fields) (All-filter (goes_on never_kept (named_in_connection head.fields)) IsSoundField head.fields sound.fields))
+    All-cons IsSoundPair (codes "Host", to.host.now) (map pair_of (kept head.fields))
+    (host_name, host)
+    (All-map IsSoundPair pair_of (kept head.fields)
+    (All-filter (goes_on never_kept (named_in_connection head.fields)) IsSoundField head.fields
+    sound.fields))
 
 sound_framing : (f : Framing) → IsRequestFraming f → All IsSoundPair (framing_pairs f)
 sound_framing Framing.Nothing is = All-nil IsSoundPair
-sound_framing (Framing.Length n) is = one (codes "Content-Length") (decimal n) length_name (decimal_text n (omega (arith, is)))
-sound_framing Framing.Chunked is = one (codes "Transfer-Encoding") (codes "chunked") coding_name (AllPass-from_list_all is_value_byte (codes "chunked") refl)
+sound_framing (Framing.Length n) is =
+    one (codes "Content-Length") (decimal n) length_name (decimal_text n (omega (arith, is)))
+sound_framing Framing.Chunked is = one (codes "Transfer-Encoding") (codes "chunked") coding_name
+    (AllPass-from_list_all is_value_byte (codes "chunked") refl)
 sound_framing Framing.ToEnd is = All-nil IsSoundPair
 
 sound_table : (rules : List Rule) → AreSoundRules rules → All IsSoundPair (table_pairs rules)
 sound_table [] are = All-nil IsSoundPair
-sound_table (r ∷ rs) are = one (codes "l5d-ctx-dtab") (canon_table (r ∷ rs)) table_name (table_text (r ∷ rs) are)
+sound_table (r ∷ rs) are = one (codes "l5d-ctx-dtab") (canon_table (r ∷ rs)) table_name
+    (table_text (r ∷ rs) are)
 
 via_text : (minor : ℕ) → All IsValue (via minor)
 via_text minor = by_test (eqb minor 0)
@@ -231,34 +262,44 @@ sound_last true =
     (AllPass-from_list_all is_value_byte (codes "close") refl)
 sound_last false = All-nil IsSoundPair
 
-five : (a b c d e : List Pair) → All IsSoundPair a → All IsSoundPair b → All IsSoundPair c → All IsSoundPair d → All IsSoundPair e
+five : (a b c d e : List Pair) → All IsSoundPair a → All IsSoundPair b → All IsSoundPair c
+    → All IsSoundPair d → All IsSoundPair e
     → All IsSoundPair ((((a ++ b) ++ c) ++ d) ++ e)
 five a b c d e x y z u v =
     All-append IsSoundPair (((a ++ b) ++ c) ++ d) e
-    (All-append IsSoundPair ((a ++ b) ++ c) d (All-append IsSoundPair (a ++ b) c (All-append IsSoundPair a b x y) z) u) v
+    (All-append IsSoundPair ((a ++ b) ++ c) d
+    (All-append IsSoundPair (a ++ b) c (All-append IsSoundPair a b x y) z) u) v
 
-sound_pairs : (head : Head) (to : Going) → IsSoundHead head → IsPlainWay to → All IsSoundPair (pairs head to)
+sound_pairs : (head : Head) (to : Going) → IsSoundHead head → IsPlainWay to
+    → All IsSoundPair (pairs head to)
 sound_pairs head to sound way =
-    five (first_pairs head to) (framing_pairs to.framing) (via_pairs head to) (own_pairs to) (last_pairs to.closes)
+    five (first_pairs head to) (framing_pairs to.framing) (via_pairs head to) (own_pairs to)
+    (last_pairs to.closes)
     (sound_first head to sound way.host_bytes) (sound_framing to.framing way.framing)
-    (All-cons IsSoundPair (codes "Via", via head.version) (table_pairs (rules_of to.local.now)) (via_name, via_text head.version)
+    (All-cons IsSoundPair (codes "Via", via head.version) (table_pairs (rules_of to.local.now))
+    (via_name, via_text head.version)
     (sound_table (rules_of to.local.now) way.local))
-    (All-cons IsSoundPair (codes "l5d-dst-service", canon_path to.service.now) ((codes "l5d-dst-client", to.client.now) ∷ residual_pairs to.residual.now)
+    (All-cons IsSoundPair (codes "l5d-dst-service", canon_path to.service.now)
+    ((codes "l5d-dst-client", to.client.now) ∷ residual_pairs to.residual.now)
     (service_name, path_text to.service.now way.service)
-    (All-cons IsSoundPair (codes "l5d-dst-client", to.client.now) (residual_pairs to.residual.now) (client_name, way.client)
+    (All-cons IsSoundPair (codes "l5d-dst-client", to.client.now) (residual_pairs to.residual.now)
+    (client_name, way.client)
     (sound_residual to.residual.now way.residual)))
     (sound_last to.closes)
 
 good_field : (p : Pair) → IsSoundPair p → IsField (line_field p)
 good_field p sound = record { name = sound.0; raw = All-cons IsValue 32 p.1 refl sound.1 }
 
-valid : (head : Head) (to : Going) → IsSoundHead head → IsPlainWay to → IsRequestHead (parts head to)
+valid : (head : Head) (to : Going) → IsSoundHead head → IsPlainWay to
+    → IsRequestHead (parts head to)
 valid head to sound way = record {
   method = sound.method;
   target = (way.target.some, way.target.bytes);
   target_text = way.target.utf8;
   minor = omega arith;
-  fields = All-map IsField line_field (pairs head to) (All-weaker IsSoundPair (λ p. IsField (line_field p)) good_field (pairs head to) (sound_pairs head to sound way));
+  fields = All-map IsField line_field (pairs head to)
+      (All-weaker IsSoundPair (λ p. IsField (line_field p)) good_field (pairs head to)
+      (sound_pairs head to sound way));
 }
 
 -- ---- what is read
@@ -267,9 +308,16 @@ abbrev back : Pair → Field
 back p = record { name = p.0; value = trim_ows (32 ∷ p.1) }
 
 abbrev read : Head → Going → Head
-read head to = record { method = head.method; target = to.target.now; version = 1; fields = map back (pairs head to) }
+read head to = record {
+  method = head.method;
+  target = to.target.now;
+  version = 1;
+  fields =
+      map back (pairs head to);
+}
 
-same_pairs : (ps : List Pair) → map (λ (f : Field). (f.name, f.value)) (map back ps) ≡ map name_and_value (map line_field ps)
+same_pairs : (ps : List Pair) → map (λ (f : Field). (f.name, f.value)) (map back ps)
+    ≡ map name_and_value (map line_field ps)
 same_pairs [] = refl
 same_pairs (p ∷ ps) = ap (λ (qs : List Pair). (p.0, trim_ows (32 ∷ p.1)) ∷ qs) (same_pairs ps)
 
@@ -281,24 +329,32 @@ line_found line rest clean =
     let all = line ++ 10 ∷ rest in
     let place : position_or_len feed all ≡ length line =
     position_or_len_is feed all (length line) 0 (omega (arith, length-append line (10 ∷ rest)))
-    (λ k below. ap feed (get_or-append line (10 ∷ rest) 0 k below) ∙ differ (get_or line k 0) 10 (clean k 0 below))
+    (λ k below. ap feed (get_or-append line (10 ∷ rest) 0 k below)
+    ∙ differ (get_or line k 0) 10 (clean k 0 below))
     (λ within. ap feed (get_or-append_seam line 10 rest 0)) in
-    let inside : ltb (position_or_len feed all) (length all) ≡ true = rw place (grind (arith, nat_tests, length-append line (10 ∷ rest))) in
-    ap (λ (t : Bool). option_map (λ (n : ℕ). take n all) (cond t (Some (position_or_len feed all)) None)) inside
+    let inside : ltb (position_or_len feed all) (length all) ≡ true =
+    rw place (grind (arith, nat_tests, length-append line (10 ∷ rest))) in
+    ap (λ (t : Bool). option_map (λ (n : ℕ). take n all)
+    (cond t (Some (position_or_len feed all)) None)) inside
     ∙ ap Some (ap (λ (n : ℕ). take n all) place ∙ take-append_seam line (10 ∷ rest))
 
 served : (front : List ℕ) → ends_in_other_version ((front ++ codes " HTTP/1.1") ++ 13 ∷ []) ≡ false
 unfolding ends_in_other_version is_version
 served front =
     let text = front ++ codes " HTTP/1.1" in
-    let long : length (text ++ 13 ∷ []) - 1 ≡ length text = omega (arith, length-append text (13 ∷ [])) in
+    let long : length (text ++ 13 ∷ []) - 1 ≡ length text =
+    omega (arith, length-append text (13 ∷ [])) in
     let return : eqb (get_or (text ++ 13 ∷ []) (length (text ++ 13 ∷ []) - 1) 0) 13 ≡ true =
-    ap (λ (n : ℕ). eqb (get_or (text ++ 13 ∷ []) n 0) 13) long ∙ ap (λ (b : ℕ). eqb b 13) (get_or-append_seam text 13 [] 0) in
+    ap (λ (n : ℕ). eqb (get_or (text ++ 13 ∷ []) n 0) 13) long
+    ∙ ap (λ (b : ℕ). eqb b 13) (get_or-append_seam text 13 [] 0) in
     let bare : without_return (text ++ 13 ∷ []) ≡ text =
-    ap (λ (t : Bool). cond t (take (length (text ++ 13 ∷ []) - 1) (text ++ 13 ∷ [])) (text ++ 13 ∷ [])) return
+    ap (λ (t : Bool). cond t (take (length (text ++ 13 ∷ []) - 1) (text ++ 13 ∷ []))
+    (text ++ 13 ∷ [])) return
     ∙ (ap (λ (n : ℕ). take n (text ++ 13 ∷ [])) long ∙ take-append_seam text (13 ∷ [])) in
-    let before : length text - 9 ≡ length front = omega (arith, length-append front (codes " HTTP/1.1")) in
-    let nine : last_nine text ≡ codes " HTTP/1.1" = ap (λ (n : ℕ). drop n text) before ∙ drop-append_seam front (codes " HTTP/1.1") in
+    let before : length text - 9 ≡ length front =
+    omega (arith, length-append front (codes " HTTP/1.1")) in
+    let nine : last_nine text ≡ codes " HTTP/1.1" = ap (λ (n : ℕ). drop n text) before
+    ∙ drop-append_seam front (codes " HTTP/1.1") in
     ap (λ (t : List ℕ). is_other_version (last_nine t)) bare ∙ ap is_other_version nine
 
 abbrev IsNoFeed : ℕ → Type 0
@@ -308,18 +364,23 @@ no_feed : (b : ℕ) → IsTrue (not (eqb b 10)) → IsNoFeed b
 no_feed b test same = grind (arith, nat_tests, test, same)
 
 literal : (text : List ℕ) → list_all (λ b. not (eqb b 10)) text ≡ true → All IsNoFeed text
-literal text test = All-weaker (λ b. IsTrue (not (eqb b 10))) IsNoFeed no_feed text (AllPass-from_list_all (λ (b : ℕ). not (eqb b 10)) text test)
+literal text test = All-weaker (λ b. IsTrue (not (eqb b 10))) IsNoFeed no_feed text
+    (AllPass-from_list_all (λ (b : ℕ). not (eqb b 10)) text test)
 
-clean_line : (head : Head) (to : Going) → IsSoundHead head → IsPlainWay to → All (λ b. b ≢ 10) (request_line head.method to.target.now ++ 13 ∷ [])
+clean_line : (head : Head) (to : Going) → IsSoundHead head → IsPlainWay to
+    → All (λ b. b ≢ 10) (request_line head.method to.target.now ++ 13 ∷ [])
 clean_line head to sound way =
     All-append IsNoFeed (request_line head.method to.target.now) (13 ∷ [])
     (All-append IsNoFeed ((head.method ++ codes " ") ++ to.target.now) (codes " HTTP/1.1")
     (All-append IsNoFeed (head.method ++ codes " ") to.target.now
     (All-append IsNoFeed head.method (codes " ")
-    (All-weaker (λ b. IsTrue (is_token_byte b)) IsNoFeed (λ b t. (token_byte_low b t).0) head.method sound.method.1) (literal (codes " ") refl))
-    (All-weaker (λ b. IsTrue (is_uri_byte b)) IsNoFeed uri_byte_low to.target.now way.target.bytes)) (literal (codes " HTTP/1.1") refl)) (literal (13 ∷ []) refl)
+    (All-weaker (λ b. IsTrue (is_token_byte b)) IsNoFeed
+    (λ b t. (token_byte_low b t).0) head.method sound.method.1) (literal (codes " ") refl))
+    (All-weaker (λ b. IsTrue (is_uri_byte b)) IsNoFeed uri_byte_low to.target.now
+    way.target.bytes)) (literal (codes " HTTP/1.1") refl)) (literal (13 ∷ []) refl)
 
-no_empty_line : (method rest : List ℕ) → IsToken method → skip_empty_lines (method ++ rest) ≡ method ++ rest
+no_empty_line : (method rest : List ℕ) → IsToken method
+    → skip_empty_lines (method ++ rest) ≡ method ++ rest
 no_empty_line [] rest token_ = absurd (omega (arith, token_.0))
 no_empty_line (m ∷ ms) rest token_ =
     let low = token_byte_low m (All-head (λ b. IsTrue (is_token_byte b)) m ms token_.1) in
@@ -332,18 +393,29 @@ line_served head to sound way =
     let line = request_line head.method to.target.now in
     let behind = (10 ∷ ended (map pair_line (pairs head to))) ++ crlf_bytes in
     let whole : ended (lines head to) ++ crlf_bytes ≡ (line ++ 13 ∷ []) ++ behind =
-    ap (λ (ls : List (List ℕ)). ended ls ++ crlf_bytes) (lines_are head to) ∙ cut line (ended (map pair_line (pairs head to))) in
-    let split : (line ++ 13 ∷ []) ++ behind ≡ head.method ++ (((32 ∷ to.target.now) ++ codes " HTTP/1.1") ++ 13 ∷ behind) = regroup head.method to.target.now behind in
-    let skipped : skip_empty_lines (ended (lines head to) ++ crlf_bytes) ≡ (line ++ 13 ∷ []) ++ behind =
-    ap skip_empty_lines (whole ∙ split) ∙ (no_empty_line head.method (((32 ∷ to.target.now) ++ codes " HTTP/1.1") ++ 13 ∷ behind) sound.method ∙ sym split) in
-    let found : line_at (skip_empty_lines (ended (lines head to) ++ crlf_bytes)) ≡ Some (line ++ 13 ∷ []) =
-    ap line_at skipped ∙ line_found (line ++ 13 ∷ []) (ended (map pair_line (pairs head to)) ++ crlf_bytes) (clean_line head to sound way) in
-    subst (λ (o : Option (List ℕ)). IsSomeAnd o (λ l. ends_in_other_version l ≡ false)) (sym found) (served ((head.method ++ codes " ") ++ to.target.now))
+    ap (λ (ls : List (List ℕ)). ended ls ++ crlf_bytes) (lines_are head to)
+    ∙ cut line (ended (map pair_line (pairs head to))) in
+    let split : (line ++ 13 ∷ []) ++ behind ≡ head.method
+    ++ (((32 ∷ to.target.now) ++ codes " HTTP/1.1") ++ 13 ∷ behind) =
+    regroup head.method to.target.now behind in
+    let skipped : skip_empty_lines (ended (lines head to) ++ crlf_bytes)
+    ≡ (line ++ 13 ∷ []) ++ behind =
+    ap skip_empty_lines (whole ∙ split)
+    ∙ (no_empty_line head.method (((32 ∷ to.target.now) ++ codes " HTTP/1.1") ++ 13 ∷ behind)
+    sound.method ∙ sym split) in
+    let found : line_at (skip_empty_lines (ended (lines head to) ++ crlf_bytes))
+    ≡ Some (line ++ 13 ∷ []) =
+    ap line_at skipped ∙ line_found (line ++ 13 ∷ [])
+    (ended (map pair_line (pairs head to)) ++ crlf_bytes) (clean_line head to sound way) in
+    subst (λ (o : Option (List ℕ)). IsSomeAnd o (λ l. ends_in_other_version l ≡ false)) (sym found)
+    (served ((head.method ++ codes " ") ++ to.target.now))
   where
-    cut : (line rest : List ℕ) → ((line ++ crlf_bytes) ++ rest) ++ crlf_bytes ≡ (line ++ 13 ∷ []) ++ ((10 ∷ rest) ++ crlf_bytes)
+    cut : (line rest : List ℕ) → ((line ++ crlf_bytes) ++ rest) ++ crlf_bytes
+        ≡ (line ++ 13 ∷ []) ++ ((10 ∷ rest) ++ crlf_bytes)
     cut line rest = simp append_assoc
 
-    regroup : (m t rest : List ℕ) → ((((m ++ codes " ") ++ t) ++ codes " HTTP/1.1") ++ 13 ∷ []) ++ rest ≡ m ++ (((32 ∷ t) ++ codes " HTTP/1.1") ++ 13 ∷ rest)
+    regroup : (m t rest : List ℕ) → ((((m ++ codes " ") ++ t) ++ codes " HTTP/1.1") ++ 13 ∷ [])
+        ++ rest ≡ m ++ (((32 ∷ t) ++ codes " HTTP/1.1") ++ 13 ∷ rest)
     regroup m t rest = simp append_assoc
 
 -- ---- what frames and routes
@@ -351,24 +423,31 @@ line_served head to sound way =
 abbrev told : List ℕ → List Pair → List (List ℕ)
 told name ps = values_of name (map back ps)
 
-told_more : (name : List ℕ) (xs ys : List Pair) → told name (xs ++ ys) ≡ told name xs ++ told name ys
+told_more : (name : List ℕ) (xs ys : List Pair) → told name (xs ++ ys)
+    ≡ told name xs ++ told name ys
 unfolding values_of
 told_more name xs ys =
-    ap (λ (fs : List Field). map (λ (f : Field). f.value) (filter (is_named name) fs)) (map-append back xs ys)
+    ap (λ (fs : List Field). map (λ (f : Field). f.value) (filter (is_named name) fs))
+    (map-append back xs ys)
     ∙ (ap (map (λ (f : Field). f.value)) (filter-append (is_named name) (map back xs) (map back ys))
-    ∙ map-append (λ (f : Field). f.value) (filter (is_named name) (map back xs)) (filter (is_named name) (map back ys)))
+    ∙ map-append (λ (f : Field). f.value) (filter (is_named name) (map back xs))
+    (filter (is_named name) (map back ys)))
 
 told_five : (name : List ℕ) (a b c d e : List Pair)
-    → told name ((((a ++ b) ++ c) ++ d) ++ e) ≡ (((told name a ++ told name b) ++ told name c) ++ told name d) ++ told name e
+    → told name ((((a ++ b) ++ c) ++ d) ++ e)
+    ≡ (((told name a ++ told name b) ++ told name c) ++ told name d) ++ told name e
 told_five name a b c d e =
     told_more name (((a ++ b) ++ c) ++ d) e
     ∙ ap (λ (t : List (List ℕ)). t ++ told name e)
     (told_more name ((a ++ b) ++ c) d
-    ∙ ap (λ (t : List (List ℕ)). t ++ told name d) (told_more name (a ++ b) c ∙ ap (λ (t : List (List ℕ)). t ++ told name c) (told_more name a b)))
+    ∙ ap (λ (t : List (List ℕ)). t ++ told name d)
+    (told_more name (a ++ b) c ∙ ap (λ (t : List (List ℕ)). t ++ told name c) (told_more name a b)))
 
-none_of : {A : Type 0} (p : A → Bool) (xs : List A) → list_any p xs ≡ false → All (λ x. p x ≡ false) xs
+none_of : {A : Type 0} (p : A → Bool) (xs : List A) → list_any p xs ≡ false
+    → All (λ x. p x ≡ false) xs
 none_of p [] none = All-nil (λ x. p x ≡ false)
-none_of p (x ∷ xs) none = All-cons (λ y. p y ≡ false) x xs (first (p x) none) (none_of p xs (later (p x) none))
+none_of p (x ∷ xs) none = All-cons (λ y. p y ≡ false) x xs (first (p x) none)
+    (none_of p xs (later (p x) none))
   where
     first : (t : Bool) → (t || list_any p xs) ≡ false → t ≡ false
     first true is = is
@@ -379,15 +458,20 @@ none_of p (x ∷ xs) none = All-cons (λ y. p y ≡ false) x xs (first (p x) non
     later false is = is
 
 -- a field that goes on has none of the names that never do
-apart : (listed : List (List ℕ)) (field : Field) (k : ℕ) → goes_on never_kept listed field ≡ true → k < length never_kept
+apart : (listed : List (List ℕ)) (field : Field) (k : ℕ) → goes_on never_kept listed field ≡ true
+    → k < length never_kept
     → is_named (get_or never_kept k []) field ≡ false
 apart listed field k on within = by_test (has_name_of never_kept field) refl on
   where
-    by_test : (t : Bool) → has_name_of never_kept field ≡ t → (not t && not (has_name_of listed field)) ≡ true → is_named (get_or never_kept k []) field ≡ false
+    by_test : (t : Bool) → has_name_of never_kept field ≡ t
+        → (not t && not (has_name_of listed field)) ≡ true
+        → is_named (get_or never_kept k []) field ≡ false
     by_test true same holds = absurd (cc)
-    by_test false same holds = none_of (λ (name : List ℕ). is_named name field) never_kept same k [] within
+    by_test false same holds = none_of (λ (name : List ℕ). is_named name field) never_kept same k
+        [] within
 
-kept_none : (k : ℕ) (listed : List (List ℕ)) (name : List ℕ) (fields : List Field) → k < length never_kept
+kept_none : (k : ℕ) (listed : List (List ℕ)) (name : List ℕ) (fields : List Field)
+    → k < length never_kept
     → ((f : Field) → is_named name (back (pair_of f)) ≡ is_named (get_or never_kept k []) f)
     → told name (map pair_of (filter (goes_on never_kept listed) fields)) ≡ []
 unfolding values_of
@@ -395,16 +479,24 @@ kept_none k listed name [] within same = refl
 kept_none k listed name (f ∷ fs) within same =
     by_test (goes_on never_kept listed f) refl (kept_none k listed name fs within same)
   where
-    by_test : (t : Bool) → goes_on never_kept listed f ≡ t → told name (map pair_of (filter (goes_on never_kept listed) fs)) ≡ []
-        → told name (map pair_of (cond t (f ∷ filter (goes_on never_kept listed) fs) (filter (goes_on never_kept listed) fs))) ≡ []
+    by_test : (t : Bool) → goes_on never_kept listed f ≡ t
+        → told name (map pair_of (filter (goes_on never_kept listed) fs)) ≡ []
+        → told name (map pair_of
+        (cond t (f ∷ filter (goes_on never_kept listed) fs)
+        (filter (goes_on never_kept listed) fs))) ≡ []
     by_test false on later = later
     by_test true on later =
-        let other : is_named name (back (pair_of f)) ≡ false = same f ∙ apart listed f k on within in
-        ap (λ (t : Bool). map (λ (g : Field). g.value) (cond t (back (pair_of f) ∷ filter (is_named name) (map back (map pair_of (filter (goes_on never_kept listed) fs))))
-        (filter (is_named name) (map back (map pair_of (filter (goes_on never_kept listed) fs)))))) other ∙ later
+        let other : is_named name (back (pair_of f)) ≡ false =
+        same f ∙ apart listed f k on within in
+        ap (λ (t : Bool). map (λ (g : Field). g.value)
+        (cond t (back (pair_of f) ∷ filter (is_named name)
+        (map back (map pair_of (filter (goes_on never_kept listed) fs))))
+        (filter (is_named name) (map back (map pair_of (filter (goes_on never_kept listed) fs))))))
+        other ∙ later
 
 framing_told : (f : Framing) → IsRequestFraming f
-    → framed 1 (told (codes "transfer-encoding") (framing_pairs f)) (told (codes "content-length") (framing_pairs f)) ≡ Ok f
+    → framed 1 (told (codes "transfer-encoding") (framing_pairs f))
+    (told (codes "content-length") (framing_pairs f)) ≡ Ok f
 unfolding values_of same_ignoring_case trim_ows
 framing_told Framing.Nothing is = refl
 framing_told (Framing.Length n) is =
@@ -413,20 +505,25 @@ framing_told (Framing.Length n) is =
 framing_told Framing.Chunked is = refl
 framing_told Framing.ToEnd is = absurd is
 
-table_told : (name : List ℕ) (rules : List Rule) → same_ignoring_case (codes "l5d-ctx-dtab") name ≡ false → told name (table_pairs rules) ≡ []
+table_told : (name : List ℕ) (rules : List Rule) → same_ignoring_case (codes "l5d-ctx-dtab") name
+    ≡ false → told name (table_pairs rules) ≡ []
 unfolding values_of
 table_told name [] other = refl
 table_told name (r ∷ rs) other =
-    ap (λ (t : Bool). map (λ (f : Field). f.value) (cond t (back (codes "l5d-ctx-dtab", canon_table (r ∷ rs)) ∷ []) [])) other
+    ap (λ (t : Bool). map (λ (f : Field). f.value)
+    (cond t (back (codes "l5d-ctx-dtab", canon_table (r ∷ rs)) ∷ []) [])) other
 
-residual_told : (name : List ℕ) (bytes : List ℕ) → same_ignoring_case (codes "l5d-dst-residual") name ≡ false → told name (residual_pairs bytes) ≡ []
+residual_told : (name : List ℕ) (bytes : List ℕ)
+    → same_ignoring_case (codes "l5d-dst-residual") name ≡ false
+    → told name (residual_pairs bytes) ≡ []
 unfolding values_of
 residual_told name [] other = refl
 residual_told name (b ∷ bytes) other = by_test (bytes_eq (b ∷ bytes) (codes "/"))
   where
     by_test : (t : Bool) → told name (cond t [] ((codes "l5d-dst-residual", b ∷ bytes) ∷ [])) ≡ []
     by_test true = refl
-    by_test false = ap (λ (t : Bool). map (λ (f : Field). f.value) (cond t (back (codes "l5d-dst-residual", b ∷ bytes) ∷ []) [])) other
+    by_test false = ap (λ (t : Bool). map (λ (f : Field). f.value)
+        (cond t (back (codes "l5d-dst-residual", b ∷ bytes) ∷ []) [])) other
 
 closing_told : (name : List ℕ) (closes : Bool)
     → same_ignoring_case (codes "Connection") name ≡ false → told name (last_pairs closes) ≡ []
@@ -442,29 +539,39 @@ alone xs = simp append-nil
 -- the values of a framing field are those of the framing alone
 framing_values : (name : List ℕ) (k : ℕ) (head : Head) (to : Going) → k < length never_kept
     → ((f : Field) → is_named name (back (pair_of f)) ≡ is_named (get_or never_kept k []) f)
-    → told name ((codes "Host", to.host.now) ∷ []) ≡ [] → told name ((codes "Via", via head.version) ∷ []) ≡ []
-    → told name ((codes "l5d-dst-service", canon_path to.service.now) ∷ (codes "l5d-dst-client", to.client.now) ∷ []) ≡ [] → told name (last_pairs to.closes) ≡ []
-    → same_ignoring_case (codes "l5d-ctx-dtab") name ≡ false → same_ignoring_case (codes "l5d-dst-residual") name ≡ false
+    → told name ((codes "Host", to.host.now) ∷ []) ≡ []
+    → told name ((codes "Via", via head.version) ∷ []) ≡ []
+    → told name ((codes "l5d-dst-service", canon_path to.service.now)
+    ∷ (codes "l5d-dst-client", to.client.now) ∷ []) ≡ [] → told name (last_pairs to.closes) ≡ []
+    → same_ignoring_case (codes "l5d-ctx-dtab") name ≡ false
+    → same_ignoring_case (codes "l5d-dst-residual") name ≡ false
     → told name (pairs head to) ≡ told name (framing_pairs to.framing)
 unfolding kept_but
 framing_values name k head to within same host via_ own last table residual =
     let firsts : told name (first_pairs head to) ≡ [] =
     told_more name ((codes "Host", to.host.now) ∷ []) (map pair_of (kept head.fields))
-    ∙ (λ i. host i ++ kept_none k (named_in_connection head.fields) name head.fields within same i) in
+    ∙ (λ i. host i ++ kept_none k (named_in_connection head.fields) name head.fields within same i)
+    in
     let vias : told name (via_pairs head to) ≡ [] =
-    told_more name ((codes "Via", via head.version) ∷ []) (table_pairs (rules_of to.local.now)) ∙ (λ i. via_ i ++ table_told name (rules_of to.local.now) table i) in
+    told_more name ((codes "Via", via head.version) ∷ []) (table_pairs (rules_of to.local.now))
+    ∙ (λ i. via_ i ++ table_told name (rules_of to.local.now) table i) in
     let owns : told name (own_pairs to) ≡ [] =
-    told_more name ((codes "l5d-dst-service", canon_path to.service.now) ∷ (codes "l5d-dst-client", to.client.now) ∷ []) (residual_pairs to.residual.now)
+    told_more name ((codes "l5d-dst-service", canon_path to.service.now)
+    ∷ (codes "l5d-dst-client", to.client.now) ∷ []) (residual_pairs to.residual.now)
     ∙ (λ i. own i ++ residual_told name to.residual.now residual i) in
-    told_five name (first_pairs head to) (framing_pairs to.framing) (via_pairs head to) (own_pairs to) (last_pairs to.closes)
-    ∙ ((λ i. (((firsts i ++ told name (framing_pairs to.framing)) ++ vias i) ++ owns i) ++ last i) ∙ alone (told name (framing_pairs to.framing)))
+    told_five name (first_pairs head to) (framing_pairs to.framing) (via_pairs head to)
+    (own_pairs to) (last_pairs to.closes)
+    ∙ ((λ i. (((firsts i ++ told name (framing_pairs to.framing)) ++ vias i) ++ owns i) ++ last i)
+    ∙ alone (told name (framing_pairs to.framing)))
 
-codings : (head : Head) (to : Going) → told (codes "transfer-encoding") (pairs head to) ≡ told (codes "transfer-encoding") (framing_pairs to.framing)
+codings : (head : Head) (to : Going) → told (codes "transfer-encoding") (pairs head to)
+    ≡ told (codes "transfer-encoding") (framing_pairs to.framing)
 unfolding values_of same_ignoring_case
 codings head to = framing_values (codes "transfer-encoding") 2 head to (omega arith) (λ f. refl)
     refl refl refl (closing_told (codes "transfer-encoding") to.closes refl) refl refl
 
-lengths : (head : Head) (to : Going) → told (codes "content-length") (pairs head to) ≡ told (codes "content-length") (framing_pairs to.framing)
+lengths : (head : Head) (to : Going) → told (codes "content-length") (pairs head to)
+    ≡ told (codes "content-length") (framing_pairs to.framing)
 unfolding values_of same_ignoring_case
 lengths head to = framing_values (codes "content-length") 1 head to (omega arith) (λ f. refl)
     refl refl refl (closing_told (codes "content-length") to.closes refl) refl refl
@@ -480,15 +587,18 @@ tables head to = framing_values (codes "l5d-dtab") 10 head to (omega arith) (λ 
     none Framing.Chunked = refl
     none Framing.ToEnd = refl
 
-hosts : (head : Head) (to : Going) → told (codes "host") (pairs head to) ≡ trim_ows (32 ∷ to.host.now) ∷ []
+hosts : (head : Head) (to : Going) → told (codes "host") (pairs head to)
+    ≡ trim_ows (32 ∷ to.host.now) ∷ []
 unfolding values_of same_ignoring_case kept_but
 hosts head to =
     let name = codes "host" in
     let firsts : told name (first_pairs head to) ≡ trim_ows (32 ∷ to.host.now) ∷ [] =
-    ap (λ (vs : List (List ℕ)). trim_ows (32 ∷ to.host.now) ∷ vs) (kept_none 0 (named_in_connection head.fields) name head.fields (omega arith) (λ f. refl)) in
+    ap (λ (vs : List (List ℕ)). trim_ows (32 ∷ to.host.now) ∷ vs)
+    (kept_none 0 (named_in_connection head.fields) name head.fields (omega arith) (λ f. refl)) in
     let vias : told name (via_pairs head to) ≡ [] = table_told name (rules_of to.local.now) refl in
     let owns : told name (own_pairs to) ≡ [] = residual_told name to.residual.now refl in
-    told_five name (first_pairs head to) (framing_pairs to.framing) (via_pairs head to) (own_pairs to) (last_pairs to.closes)
+    told_five name (first_pairs head to) (framing_pairs to.framing) (via_pairs head to)
+    (own_pairs to) (last_pairs to.closes)
     ∙ (λ i. (((firsts i ++ none to.framing i) ++ vias i) ++ owns i)
     ++ closing_told name to.closes refl i)
   where
@@ -498,7 +608,8 @@ hosts head to =
     none Framing.Chunked = refl
     none Framing.ToEnd = refl
 
-own_table : (rules : List Rule) → told (codes "l5d-ctx-dtab") (table_pairs rules) ≡ map trim_ows (table_texts rules)
+own_table : (rules : List Rule) → told (codes "l5d-ctx-dtab") (table_pairs rules)
+    ≡ map trim_ows (table_texts rules)
 unfolding values_of same_ignoring_case
 own_table [] = refl
 own_table (r ∷ rs) = ap (λ (t : List ℕ). t ∷ []) (led (canon_table (r ∷ rs)))
@@ -506,16 +617,21 @@ own_table (r ∷ rs) = ap (λ (t : List ℕ). t ∷ []) (led (canon_table (r ∷
 between : (xs : List (List ℕ)) → (xs ++ []) ++ [] ≡ xs
 between xs = simp append-nil
 
-brought : (head : Head) (to : Going) → told (codes "l5d-ctx-dtab") (pairs head to) ≡ map trim_ows (table_texts (rules_of to.local.now))
+brought : (head : Head) (to : Going) → told (codes "l5d-ctx-dtab") (pairs head to)
+    ≡ map trim_ows (table_texts (rules_of to.local.now))
 unfolding values_of same_ignoring_case kept_but
 brought head to =
     let name = codes "l5d-ctx-dtab" in
-    let firsts : told name (first_pairs head to) ≡ [] = kept_none 11 (named_in_connection head.fields) name head.fields (omega arith) (λ f. refl) in
-    let vias : told name (via_pairs head to) ≡ map trim_ows (table_texts (rules_of to.local.now)) = own_table (rules_of to.local.now) in
+    let firsts : told name (first_pairs head to) ≡ [] =
+    kept_none 11 (named_in_connection head.fields) name head.fields (omega arith) (λ f. refl) in
+    let vias : told name (via_pairs head to) ≡ map trim_ows (table_texts (rules_of to.local.now)) =
+    own_table (rules_of to.local.now) in
     let owns : told name (own_pairs to) ≡ [] = residual_told name to.residual.now refl in
-    told_five name (first_pairs head to) (framing_pairs to.framing) (via_pairs head to) (own_pairs to) (last_pairs to.closes)
+    told_five name (first_pairs head to) (framing_pairs to.framing) (via_pairs head to)
+    (own_pairs to) (last_pairs to.closes)
     ∙ ((λ i. (((firsts i ++ none to.framing i) ++ vias i) ++ owns i)
-    ++ closing_told name to.closes refl i) ∙ between (map trim_ows (table_texts (rules_of to.local.now))))
+    ++ closing_told name to.closes refl i)
+    ∙ between (map trim_ows (table_texts (rules_of to.local.now))))
   where
     none : (f : Framing) → told (codes "l5d-ctx-dtab") (framing_pairs f) ≡ []
     none Framing.Nothing = refl
@@ -525,19 +641,33 @@ brought head to =
 
 -- ---- all of it
 
-begins : (head : Head) (to : Going) → IsSoundHead head → IsPlainWay to → length (forwarded head to) ≤ most
+begins : (head : Head) (to : Going) → IsSoundHead head → IsPlainWay to
+    → length (forwarded head to) ≤ most
     → BeginsWith (forwarded head to) (read head to) (length (forwarded head to))
 unfolding window
 begins head to sound way few =
     let bytes = forwarded head to in
     let all : take most bytes ≡ bytes = take_all most bytes few in
-    let none : drop (length bytes) (take most bytes) ≡ [] = ap (drop (length bytes)) all ∙ drop-length bytes in
+    let none : drop (length bytes) (take most bytes) ≡ [] =
+    ap (drop (length bytes)) all ∙ drop-length bytes in
     record {
       parts = parts head to;
-      line = subst (λ (xs : List ℕ). IsSomeAnd (first_line xs) (λ l. ends_in_other_version l ≡ false)) (sym all) (line_served head to sound way);
-      reads = (valid head to sound way, all ∙ (printed head to ∙ ap (λ (rest : List ℕ). print_request (parts head to) ++ rest) (sym none)));
+      line = subst (λ (xs : List ℕ). IsSomeAnd (first_line xs)
+          (λ l. ends_in_other_version l ≡ false)) (sym all) (line_served head to sound way);
+      reads = (
+        valid head to sound way,
+        all
+            ∙ (printed head to ∙ ap (λ (rest : List ℕ). print_request (parts head to) ++ rest)
+            (sym none)),
+      );
       long = ap length (printed head to ∙ append-nil (print_request (parts head to)));
-      is = record { method = refl; target = refl; version = refl; fields = same_pairs (pairs head to) };
+      is = record {
+        method = refl;
+        target = refl;
+        version = refl;
+        fields =
+            same_pairs (pairs head to);
+      };
     }
 
 pub heads_read_back : HeadsReadBack
@@ -548,7 +678,8 @@ heads_read_back head to sound way few = (
     method = refl;
     target = refl;
     version = refl;
-    framing = (λ i. framed 1 (codings head to i) (lengths head to i)) ∙ framing_told to.framing way.framing;
+    framing = (λ i. framed 1 (codings head to i) (lengths head to i))
+        ∙ framing_told to.framing way.framing;
     host = hosts head to ∙ ap (λ (t : List ℕ). t ∷ []) (led to.host.now ∙ way.host);
     no_table = tables head to;
     table = brought head to;

@@ -1,5 +1,9 @@
 -- What a request asks has the bytes that may go on.
-use Rattle.std.proofs.Common.{rules, ◌≡◌, ◌≢◌, ◌<◌, ◌+◌, ◌&&◌, ℕ, zero, suc, Bool, true, false, not, cond, eqb, length, List, [], ◌∷◌, ◌++◌, map, filter, drop, get_or, codes, refl, sym, ap, ◌∙◌, subst, arith, inl, inr, All, IsTrue, IsUtf8, Option, Some, None, IfSome, Result, Ok, Err, IfOk, append_assoc, length-append}
+use Rattle.std.proofs.Common.{rules, ◌≡◌, ◌≢◌, ◌<◌, ◌+◌, ◌&&◌, ℕ, zero, suc, Bool, true, false, not}
+use Rattle.std.proofs.Common.{cond, eqb, length, List, [], ◌∷◌, ◌++◌, map, filter, drop, get_or}
+use Rattle.std.proofs.Common.{codes, refl, sym, ap, ◌∙◌, subst, arith, inl, inr, All, IsTrue}
+use Rattle.std.proofs.Common.{IsUtf8, Option, Some, None, IfSome, Result, Ok, Err, IfOk}
+use Rattle.std.proofs.Common.{append_assoc, length-append}
 use Rattle.std.specs.Str.{bytes_eq, IsAscii}
 use Rattle.std.specs.List.{list_any, prefix_len}
 use Rattle.std.specs.declared.vec.Vec.{Vec}
@@ -8,13 +12,15 @@ use Rattle.std.specs.Option.{option_map}
 use Rattle.std.proofs.Math.Seq.{drop-append_seam}
 use Rattle.std.proofs.lemmas.Bool.Decides.{nat_tests}
 use Rattle.std.proofs.lemmas.List.{length-take, length-map}
-use Rattle.std.proofs.lemmas.List.Elements.{All-cons, All-drop, All-head, All-nil, All-tail, All-take, All-weaker}
+use Rattle.std.proofs.lemmas.List.Elements.{All-cons, All-drop, All-head, All-nil, All-tail}
+use Rattle.std.proofs.lemmas.List.Elements.{All-take, All-weaker}
 use Rattle.std.proofs.lemmas.Slice.Eq.{bytes_eq-Decides}
 use Rattle.std.proofs.lemmas.Str.{IsUtf8-append, IsUtf8-from_ascii}
 use Rattle.httparse.specs.Grammar.{AllPass, is_uri_byte, is_value_byte}
 use Rattle.http_uri.specs.Uri.{uri_scheme, uri_authority, uri_data}
 use Rattle.http_uri.specs.ByteClasses.{at_sign, lowercase}
-use Rattle.http_uri.specs.Grammar.{IsAbsoluteForm, IsForm, IsOriginForm, IsTail, StartsOrigin, normal_scheme, without_fragment}
+use Rattle.http_uri.specs.Grammar.{IsAbsoluteForm, IsForm, IsOriginForm, IsTail, StartsOrigin}
+use Rattle.http_uri.specs.Grammar.{normal_scheme, without_fragment}
 use Rattle.http_wire.specs.declared.head.Field.{Field}
 use Rattle.http_wire.specs.declared.target.Target.{Target}
 use Rattle.http_wire.specs.declared.target.TargetFault.{TargetFault}
@@ -48,21 +54,26 @@ no_byte : IsAscii []
 no_byte i = omega arith
 
 one_byte : (b : ℕ) → IsUri b → b < 128 → IsSoundTarget (b ∷ [])
-one_byte b uri low = visible (b ∷ []) (omega arith) (All-cons IsUri b [] uri (All-nil IsUri)) (IsUtf8-from_ascii (b ∷ []) (low_byte b low))
+one_byte b uri low = visible (b ∷ []) (omega arith) (All-cons IsUri b [] uri (All-nil IsUri))
+    (IsUtf8-from_ascii (b ∷ []) (low_byte b low))
 
 -- the bytes before a fragment's sign
 front : (b : ℕ) (bs : List ℕ) → not (eqb b 35) ≡ true → 0 < length (without_fragment (b ∷ bs))
 front b bs other =
     let p : ℕ → Bool = λ x. not (eqb x 35) in
-    let some : prefix_len p (b ∷ bs) ≡ 1 + prefix_len p bs = ap (λ (t : Bool). cond t (1 + prefix_len p bs) 0) other in
+    let some : prefix_len p (b ∷ bs) ≡ 1 + prefix_len p bs =
+    ap (λ (t : Bool). cond t (1 + prefix_len p bs) 0) other in
     omega (arith, length-take (prefix_len p (b ∷ bs)) (b ∷ bs), some)
 
 begun : (text : List ℕ) → 0 < length text → StartsOrigin text → 0 < length (without_fragment text)
 begun [] some starts = absurd (omega (arith, some))
-begun (b ∷ bs) some (inl star) = subst (λ (t : List ℕ). 0 < length (without_fragment t)) (sym star) (front 42 [] refl)
-begun (b ∷ bs) some (inr slash) = subst (λ (x : ℕ). 0 < length (without_fragment (x ∷ bs))) (sym slash) (front 47 bs refl)
+begun (b ∷ bs) some (inl star) = subst (λ (t : List ℕ). 0 < length (without_fragment t)) (sym star)
+    (front 42 [] refl)
+begun (b ∷ bs) some (inr slash) = subst (λ (x : ℕ). 0 < length (without_fragment (x ∷ bs)))
+    (sym slash) (front 47 bs refl)
 
-origin : (text : List ℕ) → IsSoundTarget text → IsOriginForm text → IsSoundTarget (without_fragment text)
+origin : (text : List ℕ) → IsSoundTarget text → IsOriginForm text
+    → IsSoundTarget (without_fragment text)
 origin text sound form = record {
   some = begun text sound.some form.0;
   bytes = All-take IsUri (prefix_len (λ x. not (eqb x 35)) text) text sound.bytes;
@@ -70,29 +81,35 @@ origin text sound form = record {
 }
 
 -- what stands behind an authority
-behind : (method tail kept : List ℕ) → All IsUri tail → IsTail tail kept → IsSoundTarget (line_behind method tail)
+behind : (method tail kept : List ℕ) → All IsUri tail → IsTail tail kept
+    → IsSoundTarget (line_behind method tail)
 behind method tail kept bytes is = by_length (eqb (length (without_fragment tail)) 0) refl
   where
     clean : All IsUri (without_fragment tail)
     clean = All-take IsUri (prefix_len (λ x. not (eqb x 35)) tail) tail bytes
 
     text : IsTail tail kept → IsUtf8 (without_fragment tail)
-    text (inl (none, root)) = subst (λ (t : List ℕ). IsUtf8 (without_fragment t)) (sym none) (IsUtf8-from_ascii [] no_byte)
+    text (inl (none, root)) = subst (λ (t : List ℕ). IsUtf8 (without_fragment t)) (sym none)
+        (IsUtf8-from_ascii [] no_byte)
     text (inr (ends, input, same)) = input.kept.utf8
 
     by_method : (t : Bool) → IsSoundTarget (cond t (codes "*") (codes "/"))
     by_method true = one_byte 42 (search rules) (omega arith)
     by_method false = one_byte 47 (search rules) (omega arith)
 
-    by_query : (t : Bool) → 0 < length (without_fragment tail) → IsSoundTarget (cond t (47 ∷ without_fragment tail) (without_fragment tail))
+    by_query : (t : Bool) → 0 < length (without_fragment tail)
+        → IsSoundTarget (cond t (47 ∷ without_fragment tail) (without_fragment tail))
     by_query true some =
-        visible (47 ∷ without_fragment tail) (omega arith) (All-cons IsUri 47 (without_fragment tail) (search rules) clean)
-        (IsUtf8-append (47 ∷ []) (without_fragment tail) (one_byte 47 (search rules) (omega arith)).utf8 (text is))
+        visible (47 ∷ without_fragment tail) (omega arith)
+        (All-cons IsUri 47 (without_fragment tail) (search rules) clean)
+        (IsUtf8-append (47 ∷ []) (without_fragment tail)
+        (one_byte 47 (search rules) (omega arith)).utf8 (text is))
     by_query false some = visible (without_fragment tail) some clean (text is)
 
     by_length : (t : Bool) → eqb (length (without_fragment tail)) 0 ≡ t
         → IsSoundTarget (cond t (cond (bytes_eq method (codes "OPTIONS")) (codes "*") (codes "/"))
-        (cond (eqb (get_or (without_fragment tail) 0 0) 63) (47 ∷ without_fragment tail) (without_fragment tail)))
+        (cond (eqb (get_or (without_fragment tail) 0 0) 63) (47 ∷ without_fragment tail)
+        (without_fragment tail)))
     by_length true test = by_method (bytes_eq method (codes "OPTIONS"))
     by_length false test =
         let some : 0 < length (without_fragment tail) = grind (arith, nat_tests, test) in
@@ -100,31 +117,47 @@ behind method tail kept bytes is = by_length (eqb (length (without_fragment tail
 
 -- a scheme that is read as `http` has four bytes
 four : (name : List ℕ) → codes "http" ≡ normal_scheme name → length name ≡ 4
-four name is = by_tests (bytes_eq (lowercase name) (codes "http")) (bytes_eq (lowercase name) (codes "https")) refl is
+four name is = by_tests (bytes_eq (lowercase name) (codes "http"))
+    (bytes_eq (lowercase name) (codes "https")) refl is
   where
-    by_tests : (s t : Bool) → bytes_eq (lowercase name) (codes "http") ≡ s → codes "http" ≡ cond s (codes "http") (cond t (codes "https") name) → length name ≡ 4
-    by_tests true t test same = sym (length-map name _) ∙ ap length ((bytes_eq-Decides (lowercase name) (codes "http")).0 test)
+    by_tests : (s t : Bool) → bytes_eq (lowercase name) (codes "http") ≡ s
+        → codes "http" ≡ cond s (codes "http") (cond t (codes "https") name) → length name ≡ 4
+    by_tests true t test same = sym (length-map name _)
+        ∙ ap length ((bytes_eq-Decides (lowercase name) (codes "http")).0 test)
     by_tests false true test same = absurd (omega (arith, ap length same))
     by_tests false false test same = sym (ap length same)
 
 parts : (xs ys : List ℕ) → All IsUri (xs ++ ys) → All IsUri ys
-parts xs ys all = subst (All IsUri) (drop-append_seam xs ys) (All-drop IsUri (length xs) (xs ++ ys) all)
+parts xs ys all = subst (All IsUri) (drop-append_seam xs ys)
+    (All-drop IsUri (length xs) (xs ++ ys) all)
 
 first_part : (xs ys : List ℕ) → All IsUri (xs ++ ys) → All IsUri xs
 first_part [] ys all = All-nil IsUri
-first_part (x ∷ xs) ys all = All-cons IsUri x xs (All-head IsUri x (xs ++ ys) all) (first_part xs ys (All-tail IsUri x (xs ++ ys) all))
+first_part (x ∷ xs) ys all = All-cons IsUri x xs (All-head IsUri x (xs ++ ys) all)
+    (first_part xs ys (All-tail IsUri x (xs ++ ys) all))
 
-absolute : (method text scheme authority kept : List ℕ) → IsSoundTarget text → IsAbsoluteForm text scheme authority kept → scheme ≡ codes "http"
-    → IsSoundTarget (line_behind method (drop (length authority + 7) text)) × AllPass is_value_byte authority
+absolute : (method text scheme authority kept : List ℕ) → IsSoundTarget text
+    → IsAbsoluteForm text scheme authority kept → scheme ≡ codes "http"
+    → IsSoundTarget (line_behind method (drop (length authority + 7) text))
+    × AllPass is_value_byte authority
 absolute method text scheme authority kept sound form http =
     let all : All IsUri ((form.name ++ codes "://") ++ (authority ++ form.tail)) =
-    subst (All IsUri) (form.spelled ∙ append_assoc (form.name ++ codes "://") authority form.tail) sound.bytes in
-    let rest : All IsUri (authority ++ form.tail) = parts (form.name ++ codes "://") (authority ++ form.tail) all in
+    subst (All IsUri) (form.spelled ∙ append_assoc (form.name ++ codes "://") authority form.tail)
+    sound.bytes in
+    let rest : All IsUri (authority ++ form.tail) =
+    parts (form.name ++ codes "://") (authority ++ form.tail) all in
     let long : length authority + 7 ≡ length ((form.name ++ codes "://") ++ authority) =
-    omega (arith, length-append (form.name ++ codes "://") authority, length-append form.name (codes "://"), four form.name (sym http ∙ form.normal)) in
+    omega (
+      arith,
+      length-append (form.name ++ codes "://") authority,
+      length-append form.name (codes "://"),
+      four form.name (sym http ∙ form.normal),
+    ) in
     let tail : drop (length authority + 7) text ≡ form.tail =
-    (λ i. drop (long i) (form.spelled i)) ∙ drop-append_seam ((form.name ++ codes "://") ++ authority) form.tail in (
-      subst (λ (t : List ℕ). IsSoundTarget (line_behind method t)) (sym tail) (behind method form.tail kept (parts authority form.tail rest) form.is_tail),
+    (λ i. drop (long i) (form.spelled i))
+    ∙ drop-append_seam ((form.name ++ codes "://") ++ authority) form.tail in (
+      subst (λ (t : List ℕ). IsSoundTarget (line_behind method t)) (sym tail)
+          (behind method form.tail kept (parts authority form.tail rest) form.is_tail),
       All-weaker IsUri IsValue uri_is_value authority (first_part authority form.tail rest),
     )
 
@@ -132,9 +165,12 @@ absolute method text scheme authority kept sound form http =
 abbrev IsSoundPair : Form → Type 0
 IsSoundPair form = IsSoundTarget form.line × IfSome form.authority (AllPass is_value_byte)
 
-served_form : (method text : List ℕ) (scheme authority : Option (List ℕ)) (kept : List ℕ) (form : Form) → IsSoundTarget text
-    → IsForm text scheme authority kept → served method text scheme authority ≡ Some form → IsSoundPair form
-served_form method text None None kept form sound is given = by_test (bytes_eq text (codes "*") && not (bytes_eq method (codes "OPTIONS"))) given
+served_form : (method text : List ℕ) (scheme authority : Option (List ℕ)) (kept : List ℕ)
+    (form : Form) → IsSoundTarget text
+    → IsForm text scheme authority kept → served method text scheme authority ≡ Some form
+    → IsSoundPair form
+served_form method text None None kept form sound is given =
+    by_test (bytes_eq text (codes "*") && not (bytes_eq method (codes "OPTIONS"))) given
   where
     plain : Form
     plain = record { authority = None; line = without_fragment text }
@@ -147,26 +183,37 @@ served_form method text None None kept form sound is given = by_test (bytes_eq t
 served_form method text None (Some authority) kept form sound is given = absurd (cc)
 served_form method text (Some scheme) None kept form sound is given = absurd is
 served_form method text (Some scheme) (Some authority) kept form sound is given =
-    by_tests (bytes_eq scheme (codes "http")) (list_any (λ (b : ℕ). eqb b at_sign) authority) refl given
+    by_tests (bytes_eq scheme (codes "http")) (list_any (λ (b : ℕ). eqb b at_sign) authority) refl
+    given
   where
     whole : Form
-    whole = record { authority = Some authority; line = line_behind method (drop (length authority + 7) text) }
+    whole = record {
+      authority = Some authority;
+      line =
+          line_behind method (drop (length authority + 7) text);
+    }
 
-    by_tests : (s t : Bool) → bytes_eq scheme (codes "http") ≡ s → cond (s && not t) (Some whole) None ≡ Some form → IsSoundPair form
+    by_tests : (s t : Bool) → bytes_eq scheme (codes "http") ≡ s
+        → cond (s && not t) (Some whole) None ≡ Some form → IsSoundPair form
     by_tests false t test some = absurd (cc)
     by_tests true true test some = absurd (cc)
     by_tests true false test some =
         let same : whole ≡ form = cc in
-        subst IsSoundPair same (absolute method text scheme authority kept sound is ((bytes_eq-Decides scheme (codes "http")).0 test))
+        subst IsSoundPair same
+        (absolute method text scheme authority kept sound is
+        ((bytes_eq-Decides scheme (codes "http")).0 test))
 
 pub sound_target : (method text : List ℕ) (result : Result Target TargetFault)
-    → IfOk result (λ (target : Target). (method ≢ codes "CONNECT") × IsServed method text (form_of target))
+    → IfOk result (λ (target : Target). (method ≢ codes "CONNECT")
+    × IsServed method text (form_of target))
     → IsSoundTarget text → IfOk result IsSoundForm
 sound_target method text (Ok target) (other, (uri, spells, form)) sound =
-    let pair = served_form method text (uri_scheme uri) (uri_authority uri) (uri_data uri) (form_of target) sound spells.1 form in
+    let pair = served_form method text (uri_scheme uri) (uri_authority uri) (uri_data uri)
+    (form_of target) sound spells.1 form in
     record { line = pair.0; authority = by_authority target.authority pair.1 }
   where
-    by_authority : (a : Option (Vec ℕ Global)) → IfSome (option_map (λ (v : Vec ℕ Global). v.items) a) (AllPass is_value_byte)
+    by_authority : (a : Option (Vec ℕ Global))
+        → IfSome (option_map (λ (v : Vec ℕ Global). v.items) a) (AllPass is_value_byte)
         → IfSome a (λ (v : Vec ℕ Global). AllPass is_value_byte v.items)
     by_authority None all = tt
     by_authority (Some v) all = all
@@ -175,24 +222,36 @@ sound_target method text (Err e) shown sound = tt
 -- ---- hosts
 
 -- the values of sound fields
-values : (name : List ℕ) (fields : List Field) → All IsSoundField fields → All (AllPass is_value_byte) (values_of name fields)
+values : (name : List ℕ) (fields : List Field) → All IsSoundField fields
+    → All (AllPass is_value_byte) (values_of name fields)
 unfolding values_of
 values name [] all = All-nil (AllPass is_value_byte)
-values name (f ∷ fs) all = by_test (is_named name f) (values name fs (All-tail IsSoundField f fs all))
+values name (f ∷ fs) all = by_test (is_named name f)
+    (values name fs (All-tail IsSoundField f fs all))
   where
-    by_test : (t : Bool) → All (AllPass is_value_byte) (map (λ (g : Field). g.value) (filter (is_named name) fs))
-        → All (AllPass is_value_byte) (map (λ (g : Field). g.value) (cond t (f ∷ filter (is_named name) fs) (filter (is_named name) fs)))
-    by_test true others = All-cons (AllPass is_value_byte) f.value (map (λ (g : Field). g.value) (filter (is_named name) fs)) (All-head IsSoundField f fs all).1 others
+    by_test : (t : Bool) → All (AllPass is_value_byte)
+        (map (λ (g : Field). g.value) (filter (is_named name) fs))
+        → All (AllPass is_value_byte)
+        (map (λ (g : Field). g.value)
+        (cond t (f ∷ filter (is_named name) fs) (filter (is_named name) fs)))
+    by_test true others = All-cons (AllPass is_value_byte) f.value
+        (map (λ (g : Field). g.value) (filter (is_named name) fs))
+        (All-head IsSoundField f fs all).1 others
     by_test false others = others
 
-field_host : (minor : ℕ) (hosts : List (List ℕ)) (authority : Option (List ℕ)) (host : List ℕ) → All (AllPass is_value_byte) hosts
-    → IfSome authority (AllPass is_value_byte) → option_map (over authority) (host_field minor hosts) ≡ Some host → AllPass is_value_byte host
+field_host : (minor : ℕ) (hosts : List (List ℕ)) (authority : Option (List ℕ)) (host : List ℕ)
+    → All (AllPass is_value_byte) hosts
+    → IfSome authority (AllPass is_value_byte)
+    → option_map (over authority) (host_field minor hosts) ≡ Some host → AllPass is_value_byte host
 field_host minor [] authority host all named is = by_test (eqb minor 0) is
   where
-    by_test : (t : Bool) → option_map (over authority) (cond t (Some []) None) ≡ Some host → AllPass is_value_byte host
-    by_test true some = let same : over authority [] ≡ host = cc in subst (AllPass is_value_byte) same (chosen authority [] named (All-nil IsValue))
+    by_test : (t : Bool) → option_map (over authority) (cond t (Some []) None) ≡ Some host
+        → AllPass is_value_byte host
+    by_test true some = let same : over authority [] ≡ host = cc in
+        subst (AllPass is_value_byte) same (chosen authority [] named (All-nil IsValue))
       where
-        chosen : (a : Option (List ℕ)) (h : List ℕ) → IfSome a (AllPass is_value_byte) → AllPass is_value_byte h → AllPass is_value_byte (over a h)
+        chosen : (a : Option (List ℕ)) (h : List ℕ) → IfSome a (AllPass is_value_byte)
+            → AllPass is_value_byte h → AllPass is_value_byte (over a h)
         chosen None h named own = own
         chosen (Some t) h named own = named
     by_test false none = absurd (cc)
@@ -200,20 +259,25 @@ field_host minor (h ∷ []) authority host all named is =
     let same : over authority h ≡ host = cc in
     subst (AllPass is_value_byte) same (chosen authority named)
   where
-    chosen : (a : Option (List ℕ)) → IfSome a (AllPass is_value_byte) → AllPass is_value_byte (over a h)
+    chosen : (a : Option (List ℕ)) → IfSome a (AllPass is_value_byte)
+        → AllPass is_value_byte (over a h)
     chosen None named = All-head (AllPass is_value_byte) h [] all
     chosen (Some t) named = named
 field_host minor (h ∷ g ∷ hs) authority host all named is = absurd (cc)
 
-pub sound_host : (minor : ℕ) (fields : List Field) (authority : Option (Vec ℕ Global)) (result : Result (Vec ℕ Global) HostFault)
+pub sound_host : (minor : ℕ) (fields : List Field) (authority : Option (Vec ℕ Global))
+    (result : Result (Vec ℕ Global) HostFault)
     → GivesHost (host_of minor fields (option_map (λ (v : Vec ℕ Global). v.items) authority)) result
-    → All IsSoundField fields → IfSome authority (λ (v : Vec ℕ Global). AllPass is_value_byte v.items)
+    → All IsSoundField fields → IfSome authority
+    (λ (v : Vec ℕ Global). AllPass is_value_byte v.items)
     → IfOk result (λ (host : Vec ℕ Global). AllPass is_value_byte host.items)
 sound_host minor fields authority (Ok host) gives all named =
-    field_host minor (values_of (codes "host") fields) (option_map (λ (v : Vec ℕ Global). v.items) authority) host.items
+    field_host minor (values_of (codes "host") fields)
+    (option_map (λ (v : Vec ℕ Global). v.items) authority) host.items
     (values (codes "host") fields all) (by_authority authority named) gives
   where
-    by_authority : (a : Option (Vec ℕ Global)) → IfSome a (λ (v : Vec ℕ Global). AllPass is_value_byte v.items)
+    by_authority : (a : Option (Vec ℕ Global))
+        → IfSome a (λ (v : Vec ℕ Global). AllPass is_value_byte v.items)
         → IfSome (option_map (λ (v : Vec ℕ Global). v.items) a) (AllPass is_value_byte)
     by_authority None named = tt
     by_authority (Some v) named = named

@@ -1,5 +1,7 @@
 -- What comes of a wait for the next request of a connection.
-use Rattle.std.proofs.Common.{◌≡◌, ◌<◌, ◌≤◌, ℕ, true, inl, List, [], ◌∷◌, ◌++◌, length, take, refl, sym, ap, ◌∙◌, subst, arith, Option, Some, None, Result, Ok, Err, append-nil}
+use Rattle.std.proofs.Common.{◌≡◌, ◌<◌, ◌≤◌, ℕ, true, inl, List, [], ◌∷◌, ◌++◌, length, take, refl}
+use Rattle.std.proofs.Common.{sym, ap, ◌∙◌, subst, arith, Option, Some, None, Result, Ok, Err}
+use Rattle.std.proofs.Common.{append-nil}
 use Rattle.std.specs.Io.KnownBytes.{Consumes, IsAtEnd, Keeps}
 use Rattle.std.proofs.KnownBytes.{Consumes-nil, Keeps-refl, Keeps-trans}
 use Rattle.line_base.specs.Counts.{raised}
@@ -16,7 +18,8 @@ use Rattle.http_wire.specs.Heads.{most_piece}
 use Rattle.http_wire.specs.Next.{Awaits, HasBegun, ReadsOff, awaited_of}
 use Rattle.http_wire.specs.Reading.{HasCauses, ReadsHead}
 use Rattle.http_wire.specs.Rest.{FillsNext, FillsNextIn, GivesNone, GivesPiece}
-use Rattle.http_wire.proofs.Turning.{causes_after, ended_at_once, nothing_unfinished, prompt_more, reads_behind}
+use Rattle.http_wire.proofs.Turning.{causes_after, ended_at_once, nothing_unfinished, prompt_more}
+use Rattle.http_wire.proofs.Turning.{reads_behind}
 
 -- ---- in a room
 

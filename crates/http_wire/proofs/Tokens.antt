@@ -9,4 +9,8 @@ unfolding is_token_byte is_name_byte
 same_byte b token = token
 
 pub same_token : (bytes : List ℕ) → IsToken bytes → IsName bytes
-same_token bytes token = (token.0, All-weaker (λ b. IsTrue (is_token_byte b)) (λ b. IsTrue (is_name_byte b)) same_byte bytes token.1)
+same_token bytes token = (
+  token.0,
+  All-weaker (λ b. IsTrue (is_token_byte b))
+      (λ b. IsTrue (is_name_byte b)) same_byte bytes token.1,
+)

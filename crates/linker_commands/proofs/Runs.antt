@@ -33,7 +33,8 @@ tells_end course line end result old new is code (inr failed) =
     inr (inr (ap code_of failed.0, failed.1, line, inl is, failed.2))
 
 -- a front of what the course writes was written, and then memory was wanting
-pub tells_memory : (course : Course) (result : ExitStatus) (old mid new : Output) (front rest : List ℕ)
+pub tells_memory : (course : Course) (result : ExitStatus) (old mid new : Output)
+    (front rest : List ℕ)
     → output_of course ≡ front ++ rest → Appends old.held mid.held front → mid.faults ≡ old.faults
     → Begins course front → Tells memory_line status.Memory mid new result
     → EndsCourse course old new (code_of result)

@@ -254,7 +254,8 @@ pub serves_from : {P : Type 0} (line_of : P → Line) (address_of : P → Option
     (code : ℕ)
     → mid.files ≡ files.files → mid.faults ≡ files.faults → IsConfig files.files path c
     → ((named : List ℕ) → IsConfig mid.files named c → (course : Course)
-    × Serves line_of address_of moments named mid files_after net net_after course × EndsCourse course
+    × Serves line_of address_of moments named mid files_after net net_after course
+    × EndsCourse course
     old new code)
     → (course : Course) × Serves line_of address_of moments path files files_after net net_after
     course

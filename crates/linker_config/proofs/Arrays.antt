@@ -9,7 +9,8 @@ only-other [] h = refl
 only-other (v ∷ []) h = absurd (h refl)
 only-other (v ∷ w ∷ vs) h = refl
 
-pub at_most_one-more : (vs : List Value) → length vs ≢ 0 → length vs ≢ 1 → at_most_one (items_view vs) ≡ None
+pub at_most_one-more : (vs : List Value) → length vs ≢ 0 → length vs ≢ 1
+    → at_most_one (items_view vs) ≡ None
 at_most_one-more [] h g = absurd (h refl)
 at_most_one-more (v ∷ []) h g = absurd (g refl)
 at_most_one-more (v ∷ w ∷ vs) h g = refl

@@ -17,7 +17,8 @@ use Rattle.linker_config.specs.declared.reading.RunSettings.{RunSettings}
 use Rattle.linker_config.specs.declared.router_settings.RouterSettings.{RouterSettings}
 use Rattle.linker_config.specs.declared.server.ServerSettings.{ServerSettings}
 use Rattle.linker_config.specs.Keys.{Told, and_then, keys_told}
-use Rattle.linker_config.specs.Values.{exactly, if_there, needed_text, number_at, or_default, text_at}
+use Rattle.linker_config.specs.Values.{exactly, if_there, needed_text, number_at, or_default}
+use Rattle.linker_config.specs.Values.{text_at}
 use Rattle.linker_config.specs.Client.{client_told, usual_client}
 use Rattle.linker_config.specs.Config.{Configured, run_told}
 use Rattle.linker_config.specs.Feed.{feed_told}
@@ -25,7 +26,8 @@ use Rattle.linker_config.specs.Identifier.{identifier_told}
 use Rattle.linker_config.specs.Listening.{Named}
 use Rattle.linker_config.specs.Logging.{log_of}
 use Rattle.linker_config.specs.Retries.{retries_told}
-use Rattle.linker_config.specs.Router.{NameRules, Routed, name_rules_told, router_keys, router_place}
+use Rattle.linker_config.specs.Router.{NameRules, Routed, name_rules_told, router_keys}
+use Rattle.linker_config.specs.Router.{router_place}
 use Rattle.linker_config.specs.Router.{router_settings_told, router_told}
 use Rattle.linker_config.specs.Server.{servers_told, usual_server}
 
@@ -57,7 +59,8 @@ in_halves (Err fault) b c d e f first second whole = refl
 abbrev pub rules_by : List TableRule → Labels → Kind → NameRules
 rules_by base prefix kind = record { base = base; prefix = prefix; kind = kind }
 
-abbrev pub settings_by : Option (List ℕ) → ServerSettings → ClientSettings → Option Tries → RouterSettings
+abbrev pub settings_by : Option (List ℕ) → ServerSettings → ClientSettings → Option Tries
+    → RouterSettings
 settings_by log server client retries =
     record { server = server; client = client; retries = retries; access_log = log }
 
@@ -76,7 +79,8 @@ routed_by rules settings =
     }
 
 -- a router of which the keys are known, and that speaks HTTP
-pub router_halves : (d : Data) → keys_told router_place router_keys (codes "protocol" ∷ []) d ≡ Ok tt
+pub router_halves : (d : Data) → keys_told router_place router_keys (codes "protocol" ∷ []) d
+    ≡ Ok tt
     → needed_text router_place (codes "protocol") (exactly (codes "http")) d ≡ Ok tt
     → router_told d ≡ and_then (name_rules_told d) (λ rules. and_then (router_settings_told d)
     (λ settings. Ok (routed_by rules settings)))
@@ -103,7 +107,8 @@ pub run_last : {V : Type 0} (d : Data) (next : RunSettings → Told V)
     ≡ and_then (run_told d) next
 unfolding run_told
 run_last d next =
-    in_three (number_at [] (codes "workers") 16 1 256 d) (number_at [] (codes "seed") 0 0 (2 ^ 64 - 1) d)
+    in_three (number_at [] (codes "workers") 16 1 256 d)
+    (number_at [] (codes "seed") 0 0 (2 ^ 64 - 1) d)
     (if_there feed_told (get (codes "feed") d)) run_by next
 
 -- a configuration of its parts

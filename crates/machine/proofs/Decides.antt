@@ -17,12 +17,19 @@ use Rattle.machine.specs.Ready.{store_then}
 use Rattle.machine.specs.Decided.{IsDecidedAnyhow}
 use Rattle.machine.proofs.Sounds.{sound_set, sound_removed}
 
-module _ (state : StateValue) (name : List ℕ) (ready : ReadyStore) (sound : AreSoundSpaces state.store.spaces) where
-  module _ (rules : List Rule) (next : ℕ) (is_next : next ≡ state.store.next) (stored : prepared_of ready ≡ after_set state.store name rules) (table : AreSoundRules rules) where
+module _ (state : StateValue) (name : List ℕ) (ready : ReadyStore)
+    (sound : AreSoundSpaces state.store.spaces) where
+  module _ (rules : List Rule) (next : ℕ) (is_next : next ≡ state.store.next)
+      (stored : prepared_of ready ≡ after_set state.store name rules)
+      (table : AreSoundRules rules) where
     sound_stored : AreSoundSpaces (prepared_of ready).spaces
-    sound_stored = subst (λ (s : Store). AreSoundSpaces s.spaces) (sym stored) (sound_set state.store.spaces name (record { version = state.store.next; rules = rules }) sound table)
+    sound_stored = subst (λ (s : Store). AreSoundSpaces s.spaces) (sym stored)
+        (sound_set state.store.spaces name (record { version = state.store.next; rules = rules })
+        sound table)
 
-    pub created : create_refusal state.store name ≡ None → IsDecidedAnyhow state (create name rules) (Accepted (reply.Version next) (part.Store ready))
+    pub created : create_refusal state.store name ≡ None
+        → IsDecidedAnyhow state (create name rules)
+        (Accepted (reply.Version next) (part.Store ready))
     created taken settings = record {
       taken = ap (option_map store_reply) taken;
       reply = ap version is_next;
@@ -30,7 +37,9 @@ module _ (state : StateValue) (name : List ℕ) (ready : ReadyStore) (sound : Ar
       sound = sound_stored;
     }
 
-    pub replaced : (expected : Option ℕ) → put_refusal state.store name expected ≡ None → IsDecidedAnyhow state (put name expected rules) (Accepted (reply.Version next) (part.Store ready))
+    pub replaced : (expected : Option ℕ) → put_refusal state.store name expected ≡ None
+        → IsDecidedAnyhow state (put name expected rules)
+        (Accepted (reply.Version next) (part.Store ready))
     replaced expected taken settings = record {
       taken = ap (option_map store_reply) taken;
       reply = ap version is_next;
@@ -38,11 +47,13 @@ module _ (state : StateValue) (name : List ℕ) (ready : ReadyStore) (sound : Ar
       sound = sound_stored;
     }
 
-  pub deleted_from : (expected : Option ℕ) → prepared_of ready ≡ after_delete state.store name → delete_refusal state.store name expected ≡ None
+  pub deleted_from : (expected : Option ℕ) → prepared_of ready ≡ after_delete state.store name
+      → delete_refusal state.store name expected ≡ None
       → IsDecidedAnyhow state (delete name expected) (Accepted reply.Deleted (part.Store ready))
   deleted_from expected is taken settings = record {
     taken = ap (option_map store_reply) taken;
     reply = refl;
     part = ap store_then is;
-    sound = subst (λ (s : Store). AreSoundSpaces s.spaces) (sym is) (sound_removed state.store.spaces name sound);
+    sound = subst (λ (s : Store). AreSoundSpaces s.spaces) (sym is)
+        (sound_removed state.store.spaces name sound);
   }

@@ -16,8 +16,13 @@ not_equal : (m n : ℕ) → nat_eq m n ≡ false → m ≡ n → ⊥
 not_equal m n differ same = grind (arith, nat_tests)
 
 -- two trees of different kinds are not the same
-pub apart : (v w x y : TreeValue) → x ≡ v → y ≡ w → nat_eq (kind v) (kind w) ≡ false → IsTrue false ↔ (x ≡ y)
-apart v w x y is are differ = (λ no. absurd (cc), λ same. absurd (not_equal (kind v) (kind w) differ (ap kind (sym is ∙ (same ∙ are)))))
+pub apart : (v w x y : TreeValue) → x ≡ v → y ≡ w → nat_eq (kind v) (kind w) ≡ false
+    → IsTrue false ↔ (x ≡ y)
+apart v w x y is are differ = (
+  λ no. absurd (cc),
+  λ same.
+      absurd (not_equal (kind v) (kind w) differ (ap kind (sym is ∙ (same ∙ are)))),
+)
 
 -- a tree is itself
 pub alike : (v x : TreeValue) → x ≡ v → IsTrue true ↔ (v ≡ x)

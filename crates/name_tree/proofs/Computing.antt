@@ -1,5 +1,6 @@
 -- What is computed is what the grammar says.
-use Rattle.std.proofs.Common.{◌≡◌, ℕ, zero, suc, ◌≤◌, arith, List, [], ◌∷◌, length, take, Bool, true, false, Option, Some, None, Result, Ok, Err, refl, ap, inl, inr}
+use Rattle.std.proofs.Common.{◌≡◌, ℕ, zero, suc, ◌≤◌, arith, List, [], ◌∷◌, length, take, Bool}
+use Rattle.std.proofs.Common.{true, false, Option, Some, None, Result, Ok, Err, refl, ap, inl, inr}
 use Rattle.std.specs.Prelude.{◌&&◌, ◌==◌, ◌⊎◌, nat_le, if◌then◌else◌, slice_get, MatchResult}
 use Rattle.std.proofs.lemmas.Option.{same_Some}
 use Rattle.std.proofs.lemmas.Bool.Decides.{nat_tests}
@@ -38,43 +39,62 @@ flat_is : (n : ℕ) (text : List ℕ) → is_flat n text ≡ true → (at : ℕ)
 flat_is n [] flat at deep = let h = deep.0 in cc
 flat_is n (b ∷ bs) flat zero deep =
     let here : b ≡ 40 = same_Some b 40 deep.0 in
-    let test : (b == 40 && nat_le most_open n) ≡ true = let h = deep.1 in grind (arith, nat_tests) in
-    let f : (if b == 40 && nat_le most_open n then false else is_flat (open_after n b) bs) ≡ true = flat in
+    let test : (b == 40 && nat_le most_open n) ≡ true = let h = deep.1 in
+    grind (arith, nat_tests) in
+    let f : (if b == 40 && nat_le most_open n then false else is_flat (open_after n b) bs) ≡ true =
+    flat in
     let g : false ≡ true = rw test at f in cc
-flat_is n (b ∷ bs) flat (suc at) deep = flat_is (open_after n b) bs (behind_test (b == 40 && nat_le most_open n) _ flat) at (deep.0, deep.1)
+flat_is n (b ∷ bs) flat (suc at) deep =
+    flat_is (open_after n b) bs (behind_test (b == 40 && nat_le most_open n) _ flat) at
+    (deep.0, deep.1)
 
-is_flat_where : (n : ℕ) (text : List ℕ) → ((at : ℕ) → IsDeepFrom n text at → ⊥) → is_flat n text ≡ true
+is_flat_where : (n : ℕ) (text : List ℕ) → ((at : ℕ) → IsDeepFrom n text at → ⊥)
+    → is_flat n text ≡ true
 is_flat_where n [] none = refl
 is_flat_where n (b ∷ bs) none =
     let rest = is_flat_where (open_after n b) bs (λ at d. none (suc at) (d.0, d.1)) in
-    let test : (b == 40 && nat_le most_open n) ≡ false = fails _ (λ h. none 0 (ap Some (paren_is b n h), paren_deep b n h)) in rw test rest
+    let test : (b == 40 && nat_le most_open n) ≡ false =
+    fails _ (λ h. none 0 (ap Some (paren_is b n h), paren_deep b n h)) in rw test rest
 
-within_both : (s t : Bool) {V : Type 0} (o : Option V) (v : V) → (if s && t then o else None) ≡ Some v → (s ≡ true) × (t ≡ true) × (o ≡ Some v)
+within_both : (s t : Bool) {V : Type 0} (o : Option V) (v : V)
+    → (if s && t then o else None) ≡ Some v → (s ≡ true) × (t ≡ true) × (o ≡ Some v)
 within_both true true o v h = (refl, refl, h)
 within_both true false o v h = cc
 within_both false t o v h = cc
 
-module _ {V : Type 0} (value : List ℕ → Option V) (Text : List ℕ → V → Type 0) (gives : (s : List ℕ) (v : V) → value s ≡ Some v → Text s v)
+module _ {V : Type 0} (value : List ℕ → Option V) (Text : List ℕ → V → Type 0)
+    (gives : (s : List ℕ) (v : V) → value s ≡ Some v → Text s v)
     (reads : (s : List ℕ) (v : V) → Text s v → value s ≡ Some v) where
   pub computes : Computes (in_limits value) Text
   computes text v = (
     λ e. let h = within_both (nat_le (length text) most_bytes) (is_flat 0 text) (value text) v e in
         let short : length text ≤ most_bytes = let k = h.0 in grind (arith, nat_tests) in
-        record { short = short; flat = λ at deep. flat_is 0 text h.1 at deep; stands = gives text v h.2 },
-    λ k. let test : nat_le (length text) most_bytes ≡ true = let h = k.short in grind (arith, nat_tests) in rw (test, is_flat_where 0 text k.flat) (reads text v k.stands),
+        record {
+          short = short;
+          flat = λ at deep. flat_is 0 text h.1 at deep;
+          stands =
+              gives text v h.2;
+        },
+    λ k. let test : nat_le (length text) most_bytes ≡ true = let h = k.short in
+        grind (arith, nat_tests) in rw (test, is_flat_where 0 text k.flat) (reads text v k.stands),
   )
 
 pub computes_paths : Computes path_of PathText
 unfolding path_of
-computes_paths = computes (value_from next_path end_path before_path) PathText path_laws.gives path_laws.reads
+computes_paths = computes (value_from next_path end_path before_path) PathText path_laws.gives
+    path_laws.reads
 
 pub computes_trees : Computes tree_of TreeText
 unfolding tree_of
-computes_trees = computes (value_from next_state ended_state tree_start) TreeText tree_laws.gives tree_laws.reads
+computes_trees = computes (value_from next_state ended_state tree_start) TreeText tree_laws.gives
+    tree_laws.reads
 
 -- what was read was computed
-pub computed : {V X : Type 0} (value : List ℕ → Option V) (Text : List ℕ → V → Type 0) → Computes value Text → (view : X → V) (text : List ℕ) (read : Result X TextFault)
-    → MatchResult read (λ x. IsValue Text text (view x)) (FaultFits Text text) → MatchResult read (λ x. value text ≡ Some (view x)) (λ fault. (fault ≡ OutOfMemory) ⊎ (value text ≡ None))
+pub computed : {V X : Type 0} (value : List ℕ → Option V) (Text : List ℕ → V → Type 0)
+    → Computes value Text → (view : X → V) (text : List ℕ) (read : Result X TextFault)
+    → MatchResult read (λ x. IsValue Text text (view x)) (FaultFits Text text)
+    → MatchResult read (λ x. value text ≡ Some (view x))
+    (λ fault. (fault ≡ OutOfMemory) ⊎ (value text ≡ None))
 computed value Text law view text (Ok x) h = (law text (view x)).1 h
 computed {V} value Text law view text (Err fault) h = go (value text) refl
   where

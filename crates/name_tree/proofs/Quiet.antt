@@ -22,4 +22,5 @@ pub quiet_path : (n b : ℕ) → is_path_byte b ≡ true → open_after n b ≡ 
 unfolding is_plain
 quiet_path n b h =
     let P : ℕ → Type 0 = λ c. is_path_byte c ≡ true in
-    quiet n b (fails (b == 40) (λ e. true≢false (sym (subst P (eqb-true b 40 e) h)))) (fails (b == 41) (λ e. true≢false (sym (subst P (eqb-true b 41 e) h))))
+    quiet n b (fails (b == 40) (λ e. true≢false (sym (subst P (eqb-true b 40 e) h))))
+    (fails (b == 41) (λ e. true≢false (sym (subst P (eqb-true b 41 e) h))))

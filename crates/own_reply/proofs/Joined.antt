@@ -7,8 +7,11 @@ use Rattle.own_reply.specs.Reply.{text_of, connection_of, head_of, length_line, 
 
 -- the same bytes, grouped as they are added and as the definition has them
 regrouped : (before status type err len connection end : List ℕ)
-    → (((((before ++ ((status ++ end) ++ [])) ++ ((type ++ end) ++ [])) ++ ((err ++ end) ++ [])) ++ ((len ++ end) ++ [])) ++ connection) ++ end
-    ≡ before ++ (((status ++ end) ++ ((type ++ end) ++ ((err ++ end) ++ ((len ++ end) ++ connection)))) ++ end)
+    → (((((before ++ ((status ++ end) ++ [])) ++ ((type ++ end) ++ [])) ++ ((err ++ end) ++ []))
+    ++ ((len ++ end) ++ [])) ++ connection) ++ end
+    ≡ before
+    ++ (((status ++ end) ++ ((type ++ end) ++ ((err ++ end) ++ ((len ++ end) ++ connection))))
+    ++ end)
 regrouped before status type err len connection end = simp (append_assoc, append-nil)
 
 -- the bytes after each line are the bytes before them and the head
@@ -24,5 +27,6 @@ pub head_joined : (err : OwnError) (closing : Bool) (r0 r1 r2 r3 r4 r5 r6 text :
 unfolding head_of
 head_joined err closing r0 r1 r2 r3 r4 r5 r6 text t e1 e2 e3 e4 e5 e6 =
     rw (e6, e5, e4, e3, e2, e1, t)
-    (regrouped r0 (status_line err) (line_of (codes "Content-Type") (codes "text/plain")) (line_of (codes "l5d-err") (text_of err)) (length_line err)
+    (regrouped r0 (status_line err) (line_of (codes "Content-Type") (codes "text/plain"))
+    (line_of (codes "l5d-err") (text_of err)) (length_line err)
     (ended (connection_of closing)) crlf_bytes)

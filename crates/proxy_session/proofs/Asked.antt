@@ -1,5 +1,8 @@
 -- What a request asks has the bytes that may go on.
-use Rattle.std.proofs.Common.{◌≡◌, ◌<◌, ◌+◌, ◌&&◌, ℕ, zero, suc, Bool, true, false, not, cond, eqb, length, List, [], ◌∷◌, ◌++◌, map, filter, drop, get_or, codes, refl, sym, ap, ◌∙◌, subst, arith, inl, inr, All, IsTrue, IsUtf8, Option, Some, None, IfSome, append_assoc, length-append}
+use Rattle.std.proofs.Common.{◌≡◌, ◌<◌, ◌+◌, ◌&&◌, ℕ, zero, suc, Bool, true, false, not, cond, eqb}
+use Rattle.std.proofs.Common.{length, List, [], ◌∷◌, ◌++◌, map, filter, drop, get_or, codes, refl}
+use Rattle.std.proofs.Common.{sym, ap, ◌∙◌, subst, arith, inl, inr, All, IsTrue, IsUtf8, Option}
+use Rattle.std.proofs.Common.{Some, None, IfSome, append_assoc, length-append}
 use Rattle.std.specs.Str.{bytes_eq, IsAscii}
 use Rattle.std.specs.List.{list_any, prefix_len}
 use Rattle.std.specs.Option.{option_map}
@@ -12,13 +15,15 @@ use Rattle.std.proofs.lemmas.Str.{IsUtf8-append, IsUtf8-from_ascii}
 use Rattle.httparse.specs.Grammar.{AllPass}
 use Rattle.http_uri.specs.Uri.{uri_scheme, uri_authority, uri_data}
 use Rattle.http_uri.specs.ByteClasses.{at_sign, lowercase}
-use Rattle.http_uri.specs.Grammar.{IsAbsoluteForm, IsForm, IsOriginForm, IsTail, StartsOrigin, normal_scheme, without_fragment}
+use Rattle.http_uri.specs.Grammar.{IsAbsoluteForm, IsForm, IsOriginForm, IsTail, StartsOrigin}
+use Rattle.http_uri.specs.Grammar.{normal_scheme, without_fragment}
 use Rattle.http_wire.specs.declared.head.Field.{Field}
 use Rattle.http_wire.specs.Fields.{is_named, values_of}
 use Rattle.http_wire.specs.Host.{host_of, host_field, over}
 use Rattle.http_wire.specs.Target.{line_behind, served, Form, IsServed}
 use Rattle.proxy_session.proofs.Received.{HasText}
-use Rattle.proxy_session.proofs.FieldTexts.{back, empty_text, front, is_target_byte, visible_text, IsFieldText}
+use Rattle.proxy_session.proofs.FieldTexts.{back, empty_text, front, is_target_byte, visible_text}
+use Rattle.proxy_session.proofs.FieldTexts.{IsFieldText}
 
 abbrev IsUri : ℕ → Type 0
 IsUri b = IsTrue (is_target_byte b)

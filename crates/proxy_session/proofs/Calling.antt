@@ -1,5 +1,6 @@
 -- What the router's calls do to a pass, over plain lists.
-use Rattle.std.proofs.Common.{◌≡◌, ℕ, Bool, true, false, refl, sym, subst, ◌∙◌, inl, inr, Option, Some, None, length}
+use Rattle.std.proofs.Common.{◌≡◌, ℕ, Bool, true, false, refl, sym, subst, ◌∙◌, inl, inr, Option}
+use Rattle.std.proofs.Common.{Some, None, length}
 use Rattle.std.specs.Prelude.{IfSome, ◌<◌}
 use Rattle.bind_cache.specs.Stored.{kept_of}
 use Rattle.bind_cache.specs.Kept.{Kept}
@@ -23,15 +24,18 @@ use Rattle.router.specs.Chosen.{HasWord}
 use Rattle.router.specs.Asking.{IsPeeked, IsPicked, Picks as PicksOf}
 use Rattle.router.specs.Changing.{IsChanged, IsRemembered}
 use Rattle.router.specs.Loads.{MayHaveRead}
-use Rattle.router.specs.Passes.{Entered, NotLetIn, SawMore, Unanswered, number_in, seen_in, reads_in}
+use Rattle.router.specs.Passes.{Entered, NotLetIn, SawMore, Unanswered, number_in, seen_in}
+use Rattle.router.specs.Passes.{reads_in}
 use Rattle.router.specs.Peeked.{IsSaid}
 use Rattle.router.specs.Picked.{IsFresh, is_kept_for, loads_by, said_by, fresh_by}
 use Rattle.proxy_session.specs.declared.asking.AdmittedAnswer.{AdmittedAnswer}
 use Rattle.proxy_session.specs.declared.asking.AdmittedAnswer.TheVariants as admitted
 use Rattle.proxy_session.specs.declared.asking.AdmittedPeek.TheVariants as peeked
 use Rattle.proxy_session.specs.Asking.{FindingAnew, StopsAnew}
-use Rattle.proxy_session.specs.Callers.{Caller, Asks, Finds, Misses, Reports, Returns, SeesMore, caller_of}
-use Rattle.proxy_session.specs.AskAnswers.{Picks, PicksOnce, ReturnsSome, Sees, StopsPick, fresh_in, picked_of, said_in}
+use Rattle.proxy_session.specs.Callers.{Caller, Asks, Finds, Misses, Reports, Returns, SeesMore}
+use Rattle.proxy_session.specs.Callers.{caller_of}
+use Rattle.proxy_session.specs.AskAnswers.{Picks, PicksOnce, ReturnsSome, Sees, StopsPick, fresh_in}
+use Rattle.proxy_session.specs.AskAnswers.{picked_of, said_in}
 
 -- two views of a pass that agree are one
 pub same_caller : (a b : Caller) → a.number ≡ b.number → a.seen ≡ b.seen → a.items ≡ b.items
@@ -59,7 +63,8 @@ module _ (settings : SettingsValue) (old new : Caller) (ask : AskValue) (names :
   hit_says choice (none why) finds is = absurd is
 
   none_says : (why : Why) (place : ℕ) (said : PickValue) → Finds settings old new ask true said
-      → IsSaid said (peek.HitNone why place) names → Sees settings old new ask names (peeked.None why)
+      → IsSaid said (peek.HitNone why place) names
+      → Sees settings old new ask names (peeked.None why)
   none_says why place (replica r) finds is = absurd is
   none_says why place (none w) finds is =
       subst (λ (v : Why). Finds settings old new ask true (none v)) (sym is.0) finds
@@ -95,7 +100,8 @@ module _ {J : Type 0} {g : Ghosts J} where
             word = hit_word _ choice names h.said h.word;
           };
         } in
-        subst (λ (b : Caller). Sees g.settings b (caller_of new) ask names (peeked.Hit choice)) since
+        subst (λ (b : Caller). Sees g.settings b (caller_of new) ask names (peeked.Hit choice))
+        since
         (hit_says g.settings (caller_of mid) (caller_of new) ask names choice _ finds h.said)
 
     pub sees_none : (why : Why) (place : ℕ) → IsPeeked mid new ask names (peek.HitNone why place)
@@ -210,7 +216,8 @@ module _ {J : Type 0} {g : Ghosts J} where
     }
 
 -- what was picked since the views of the pass were one
-pub picks_since : (settings : SettingsValue) (before mid new : Caller) (ask : AskValue) (p : AdmittedAnswer)
+pub picks_since : (settings : SettingsValue) (before mid new : Caller) (ask : AskValue)
+    (p : AdmittedAnswer)
     → mid ≡ before → Picks settings mid new ask p → Picks settings before new ask p
 picks_since settings before mid new ask p since picks =
     subst (λ (b : Caller). Picks settings b new ask p) since picks

@@ -210,7 +210,8 @@ module _
         finds
 
     -- what was found for the request's ask was tried, or there was none
-    pub asks_sent : (said : PickValue) (names : Names) (f : ReplicaPick) (how : Attempt) (done : Done)
+    pub asks_sent : (said : PickValue) (names : Names) (f : ReplicaPick) (how : Attempt)
+        (done : Done)
         (finds : FoundThen said found_by) → Says said names f → going.hit ≡ is_first finds
         → new.words ≡ old.words
         → FoundAs settings going names f before behind mid new how done

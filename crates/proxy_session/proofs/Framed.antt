@@ -1,5 +1,6 @@
 -- How the body of a request may be framed.
-use Rattle.std.proofs.Common.{◌≡◌, ◌<◌, ◌^◌, ◌&&◌, ℕ, Bool, true, false, cond, eqb, ltb, length, List, [], ◌∷◌, codes, refl, subst, arith, Option, Some, None, Ok, Err}
+use Rattle.std.proofs.Common.{◌≡◌, ◌<◌, ◌^◌, ◌&&◌, ℕ, Bool, true, false, cond, eqb, ltb, length}
+use Rattle.std.proofs.Common.{List, [], ◌∷◌, codes, refl, subst, arith, Option, Some, None, Ok, Err}
 use Rattle.std.specs.Char.{is_ascii_digit}
 use Rattle.std.specs.List.{list_all}
 use Rattle.std.specs.Option.{option_and_then}
@@ -9,7 +10,8 @@ use Rattle.http_wire.specs.declared.head.Field.{Field}
 use Rattle.http_wire.specs.declared.frames.Framing.{Framing}
 use Rattle.http_wire.specs.declared.frames.FramingFault.{FramingFault}
 use Rattle.http_wire.specs.Fields.{same_ignoring_case, values_of}
-use Rattle.http_wire.specs.Framing.{agreed, coding_framing, framed, framing_of, length_framing, number_of, pieces_of, says}
+use Rattle.http_wire.specs.Framing.{agreed, coding_framing, framed, framing_of, length_framing}
+use Rattle.http_wire.specs.Framing.{number_of, pieces_of, says}
 use Rattle.forward.specs.Laws.{IsRequestFraming}
 
 -- a length that is written is below 2^63

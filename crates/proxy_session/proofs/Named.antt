@@ -1,11 +1,14 @@
 -- The path that a request names has bytes in its labels.
-use Rattle.std.proofs.Common.{◌≡◌, ◌<◌, ℕ, zero, suc, Bool, true, false, cond, eqb, leb, length, List, [], ◌∷◌, ◌++◌, filter, take, codes, refl, subst, arith, All, IsTrue, Option, Some, None}
+use Rattle.std.proofs.Common.{◌≡◌, ◌<◌, ℕ, zero, suc, Bool, true, false, cond, eqb, leb, length}
+use Rattle.std.proofs.Common.{List, [], ◌∷◌, ◌++◌, filter, take, codes, refl, subst, arith, All}
+use Rattle.std.proofs.Common.{IsTrue, Option, Some, None}
 use Rattle.std.specs.Str.{bytes_eq}
 use Rattle.std.specs.Char.{to_ascii_lowercase}
 use Rattle.std.specs.List.{before_first, onto_first, position_or_len, slice_get, slice_split}
 use Rattle.std.specs.Option.{option_and_then, option_map}
 use Rattle.std.proofs.lemmas.Bool.Decides.{nat_tests}
-use Rattle.std.proofs.lemmas.List.Elements.{All-cons, All-head, All-map, All-nil, All-tail, All-take, All-weaker}
+use Rattle.std.proofs.lemmas.List.Elements.{All-cons, All-head, All-map, All-nil, All-tail}
+use Rattle.std.proofs.lemmas.List.Elements.{All-take, All-weaker}
 use Rattle.std.proofs.lemmas.List.Sums.{AllPass-from_list_all}
 use Rattle.httparse.specs.Grammar.{AllPass}
 use Rattle.http_uri.specs.ByteClasses.{question_mark, slash}
@@ -18,12 +21,15 @@ use Rattle.http_wire.specs.declared.head.Field.{Field}
 use Rattle.http_wire.specs.declared.head.Head.{Head}
 use Rattle.http_wire.specs.Fields.{first_value, lower, same_ignoring_case, values_of}
 use Rattle.identifier.specs.declared.rule.Kind.{Kind}
-use Rattle.identifier.specs.declared.rule.Kind.TheVariants.{Token, MethodAndHost, Segments, PathField, Static}
+use Rattle.identifier.specs.declared.rule.Kind.TheVariants.{Token, MethodAndHost, Segments}
+use Rattle.identifier.specs.declared.rule.Kind.TheVariants.{PathField, Static}
 use Rattle.identifier.specs.declared.rule.Rule.{Rule}
-use Rattle.identifier.specs.Naming.{by_method_and_host, by_token, first_of, has_byte, identified, named_by, one_label, path_in, pieces_of}
+use Rattle.identifier.specs.Naming.{by_method_and_host, by_token, first_of, has_byte, identified}
+use Rattle.identifier.specs.Naming.{named_by, one_label, path_in, pieces_of}
 use Rattle.proxy_session.proofs.Asked.{value_texts, IsByteTarget}
 use Rattle.proxy_session.proofs.Received.{HasText, IsReceived}
-use Rattle.proxy_session.proofs.FieldTexts.{bytes_are, field_bytes, is_byte, target_bytes, IsFieldText}
+use Rattle.proxy_session.proofs.FieldTexts.{bytes_are, field_bytes, is_byte, target_bytes}
+use Rattle.proxy_session.proofs.FieldTexts.{IsFieldText}
 use Rattle.proxy_session.specs.Laws.{HasByteLabels, IsByteRule}
 
 abbrev IsByte : ℕ → Type 0

@@ -1,10 +1,13 @@
 -- What is known of a head that was read off bytes.
-use Rattle.std.proofs.Common.{◌≡◌, ℕ, ◌≤◌, List, [], ◌∷◌, ◌++◌, map, drop, sym, ap, subst, All, IsTrue}
+use Rattle.std.proofs.Common.{◌≡◌, ℕ, ◌≤◌, List, [], ◌∷◌, ◌++◌, map, drop, sym, ap, subst, All}
+use Rattle.std.proofs.Common.{IsTrue}
 use Rattle.std.specs.List.{flat_map}
 use Rattle.std.proofs.lemmas.List.Concat.{flat_map-cons}
 use Rattle.std.proofs.lemmas.List.Elements.{All-cons, All-head, All-nil, All-tail, All-take}
 use Rattle.httparse.specs.Ascii.{colon, space}
-use Rattle.httparse.specs.Grammar.{print_blank, print_end, print_field, print_request, print_section, print_version, trim_ows, AllPass, IsField, IsToken, RequestHead, Field as Line}
+use Rattle.httparse.specs.Grammar.{print_blank, print_end, print_field, print_request}
+use Rattle.httparse.specs.Grammar.{print_section, print_version, trim_ows, AllPass, IsField}
+use Rattle.httparse.specs.Grammar.{IsToken, RequestHead, Field as Line}
 use Rattle.httparse.specs.Spans.{name_and_value}
 use Rattle.http_wire.specs.declared.head.Field.{Field}
 use Rattle.http_wire.specs.declared.head.Head.{Head}
@@ -12,7 +15,8 @@ use Rattle.http_wire.specs.Heads.{most, window, BeginsWith}
 use Rattle.http_wire.specs.Parsed.{pair_of}
 use Rattle.http_wire.specs.Sound.{IsSoundHead, IsSoundTarget}
 use Rattle.http_wire.proofs.Sound.{sound_fields}
-use Rattle.proxy_session.proofs.FieldTexts.{back, both_pass, front, is_byte, trimmed_text, IsFieldText}
+use Rattle.proxy_session.proofs.FieldTexts.{back, both_pass, front, is_byte, trimmed_text}
+use Rattle.proxy_session.proofs.FieldTexts.{IsFieldText}
 use Rattle.httparse.specs.Grammar.{is_value_byte}
 
 abbrev IsByte : ℕ → Type 0

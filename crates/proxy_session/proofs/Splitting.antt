@@ -65,7 +65,8 @@ module _ (settings : SettingsValue) (head : Head) (last : Bool) (sought : Sought
         number =
             done_number settings s.held new.caller (report_of s.how) x.to.addr moments new.moments
             s.reported
-            ∙ (s.holds.number ∙ finding_number settings old.caller x.found _ (replica x.to) x.finds);
+            ∙ (s.holds.number ∙ finding_number settings old.caller x.found _
+            (replica x.to) x.finds);
       }
 
   pub failed_stay : (n : ℕ) (before behind : Option BudgetValue) (old new : Standing)

@@ -1,9 +1,11 @@
 -- The retries that a budget grants are bounded by what was paid in.
-use Rattle.std.proofs.Common.{◌≡◌, ℕ, ◌+◌, ◌-◌, ◌*◌, ◌/◌, ◌≤◌, nat_le, Bool, true, false, List, [], ◌∷◌, refl, subst, arith}
+use Rattle.std.proofs.Common.{◌≡◌, ℕ, ◌+◌, ◌-◌, ◌*◌, ◌/◌, ◌≤◌, nat_le, Bool, true, false, List, []}
+use Rattle.std.proofs.Common.{◌∷◌, refl, subst, arith}
 use Rattle.std.proofs.lemmas.Bool.Decides.{nat_tests}
 use Rattle.retry_budget.specs.declared.tries.Tries.{Tries}
 use Rattle.retry_budget.specs.Budget.{BudgetValue, behind_request, behind_spend, can_spend, opening}
-use Rattle.retry_budget.specs.Laws.{Event, request, spend, granted, granted_of, requests_in, RetriesAreBounded}
+use Rattle.retry_budget.specs.Laws.{Event, request, spend, granted, granted_of, requests_in}
+use Rattle.retry_budget.specs.Laws.{RetriesAreBounded}
 
 takes : (n : ℕ) → nat_le 100 n ≡ true → 100 + (n - 100) ≤ n
 takes n is = grind (arith, nat_tests)

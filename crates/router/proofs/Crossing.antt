@@ -43,10 +43,22 @@ use Rattle.router.proofs.Trees.{dtab_send, dtab_sync, outcome_send, outcome_sync
 
 -- ---- the state
 space_send : IsSend Namespace.the_row
-space_send = declared_send Namespace.the_type (name.the_send, (search sendable, (search (as_row_send, dtab_send, dtab_sync, crosses, sendable) depth 40, tt)))
+space_send = declared_send Namespace.the_type (
+  name.the_send,
+  (
+    search sendable,
+    (search (as_row_send, dtab_send, dtab_sync, crosses, sendable) depth 40, tt),
+  ),
+)
 
 space_sync : IsSync Namespace.the_row
-space_sync = declared_sync Namespace.the_type (name.the_sync, (search sendable, (search (as_row_sync, dtab_send, dtab_sync, crosses, sendable) depth 40, tt)))
+space_sync = declared_sync Namespace.the_type (
+  name.the_sync,
+  (
+    search sendable,
+    (search (as_row_sync, dtab_send, dtab_sync, crosses, sendable) depth 40, tt),
+  ),
+)
 
 spaces_send : IsSend Spaces.the_row
 spaces_send = declared_send Spaces.the_type (search (as_row_send, space_send, crosses) depth 40, tt)
@@ -55,16 +67,20 @@ spaces_sync : IsSync Spaces.the_row
 spaces_sync = declared_sync Spaces.the_type (search (as_row_sync, space_sync, crosses) depth 40, tt)
 
 store_send : IsSend Store.the_row
-store_send = declared_send Store.the_type (search (as_row_send, spaces_send, spaces_sync, crosses) depth 40, (search sendable, tt))
+store_send = declared_send Store.the_type
+    (search (as_row_send, spaces_send, spaces_sync, crosses) depth 40, (search sendable, tt))
 
 store_sync : IsSync Store.the_row
-store_sync = declared_sync Store.the_type (search (as_row_sync, spaces_send, spaces_sync, crosses) depth 40, (search sendable, tt))
+store_sync = declared_sync Store.the_type
+    (search (as_row_sync, spaces_send, spaces_sync, crosses) depth 40, (search sendable, tt))
 
 state_send : IsSend State.the_row
-state_send = declared_send State.the_type (store_send, (book.the_send, (marks.the_send, (search sendable, tt))))
+state_send = declared_send State.the_type
+    (store_send, (book.the_send, (marks.the_send, (search sendable, tt))))
 
 state_sync : IsSync State.the_row
-state_sync = declared_sync State.the_type (store_sync, (book.the_sync, (marks.the_sync, (search sendable, tt))))
+state_sync = declared_sync State.the_type
+    (store_sync, (book.the_sync, (marks.the_sync, (search sendable, tt))))
 
 settings_send : IsSend Settings.the_row
 settings_send = declared_send Settings.the_type (name.the_send, (dtab_send, (limits.the_send, tt)))
@@ -74,7 +90,10 @@ settings_sync = declared_sync Settings.the_type (name.the_sync, (dtab_sync, (lim
 
 -- ---- what is published
 part_send : IsSend Part.the_row
-part_send = variants_send Part.enum ((declared_send ReadyStore.the_type (store_send, tt), tt), ((ready_book.the_send, tt), ((report.the_send, tt), tt)))
+part_send = variants_send Part.enum (
+  (declared_send ReadyStore.the_type (store_send, tt), tt),
+  ((ready_book.the_send, tt), ((report.the_send, tt), tt)),
+)
 
 ready_send : IsSend Ready.the_row
 ready_send = declared_send Ready.the_type (part_send, (search sendable, tt))
@@ -101,26 +120,78 @@ change_send = variants_send Change.enum (
 )
 
 binding_send : IsSend Binding.the_row
-binding_send = declared_send Binding.the_type (path.the_send, (dtab_send, (outcome_send, (paths.the_send, (search sendable, (search sendable, (search sendable, (search sendable, tt))))))))
+binding_send = declared_send Binding.the_type (
+  path.the_send,
+  (
+    dtab_send,
+    (
+      outcome_send,
+      (
+        paths.the_send,
+        (search sendable, (search sendable, (search sendable, (search sendable, tt)))),
+      ),
+    ),
+  ),
+)
 
 binding_sync : IsSync Binding.the_row
-binding_sync = declared_sync Binding.the_type (path.the_sync, (dtab_sync, (outcome_sync, (paths.the_sync, (search sendable, (search sendable, (search sendable, (search sendable, tt))))))))
+binding_sync = declared_sync Binding.the_type (
+  path.the_sync,
+  (
+    dtab_sync,
+    (
+      outcome_sync,
+      (
+        paths.the_sync,
+        (search sendable, (search sendable, (search sendable, (search sendable, tt)))),
+      ),
+    ),
+  ),
+)
 
 update_send : IsSend Update.the_row
 update_send = variants_send Update.enum (
   (search sendable, (search sendable, (change_send, (ready_send, tt)))),
   (
-    (search sendable, (search sendable, (search (as_row_send, binding_send, binding_sync, crosses) depth 40, tt))),
+    (
+      search sendable,
+      (
+        search sendable,
+        (search (as_row_send, binding_send, binding_sync, crosses) depth 40, tt),
+      ),
+    ),
     tt,
   ),
 )
 
 -- ---- the value
 cache_send : IsSend Cache.the_row
-cache_send = declared_send Cache.the_type (search (as_row_send, binding_send, binding_sync, cells.the_send, deed.the_send, crosses, sendable) depth 40, (chains.the_send, tt))
+cache_send = declared_send Cache.the_type (
+  search (
+    as_row_send,
+    binding_send,
+    binding_sync,
+    cells.the_send,
+    deed.the_send,
+    crosses,
+    sendable,
+  ) depth 40,
+  (chains.the_send, tt),
+)
 
 cache_sync : IsSync Cache.the_row
-cache_sync = declared_sync Cache.the_type (search (as_row_sync, binding_send, binding_sync, cells.the_sync, deed.the_sync, crosses, sendable) depth 40, (chains.the_sync, tt))
+cache_sync = declared_sync Cache.the_type (
+  search (
+    as_row_sync,
+    binding_send,
+    binding_sync,
+    cells.the_sync,
+    deed.the_sync,
+    crosses,
+    sendable,
+  ) depth 40,
+  (chains.the_sync, tt),
+)
 
 current_send : IsSend Current.the_row
 current_send = declared_send Current.the_type (
@@ -135,20 +206,37 @@ current_sync = declared_sync Current.the_type (
 )
 
 -- ---- the router and its passes
-module _ (T : RattleType) (n : naming.Ghosts T.Denot) (l : ledger.Ghosts T.Denot) (s : IsSend T) where
+module _ (T : RattleType) (n : naming.Ghosts T.Denot) (l : ledger.Ghosts T.Denot)
+    (s : IsSend T) where
   desk_field : IsSend (Desk.the_field T n l).row
-  desk_field = search (sendable, crosses, current_send, current_sync, update_send, cell_handles, ledger_book.the_send, share.the_send) depth 40
+  desk_field = search (
+    sendable,
+    crosses,
+    current_send,
+    current_sync,
+    update_send,
+    cell_handles,
+    ledger_book.the_send,
+    share.the_send,
+  ) depth 40
 
   pub desk_send : IsSend (Desk.the_row T n l)
   desk_send = as_row_send (Desk.the_field T n l) desk_field
 
   pub router_sync : IsSync (Router.the_row T n l)
-  router_sync = declared_sync (Router.the_type T n l) (search (as_row_sync, desk_send, crosses) depth 40, (loads_sync, (search sendable, tt)))
+  router_sync = declared_sync (Router.the_type T n l)
+      (search (as_row_sync, desk_send, crosses) depth 40, (loads_sync, (search sendable, tt)))
 
   pub pass_send : IsSend (Pass.the_row T n l)
   pass_send = declared_send (Pass.the_type T n l) (
     search (as_row_send, cell_handles, current_send, current_sync) depth 40,
-    (load_seat_send, (search (share.the_send, sendable) depth 40, (search sendable, (search sendable, (search sendable, tt))))),
+    (
+      load_seat_send,
+      (
+        search (share.the_send, sendable) depth 40,
+        (search sendable, (search sendable, (search sendable, tt))),
+      ),
+    ),
   )
 
   pub ticket_send : IsSend (Ticket.the_row T n l)

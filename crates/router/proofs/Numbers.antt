@@ -1,5 +1,7 @@
--- Numbers of which no two are one, each below a bound, and as many as that: each number below it is among them.
-use Rattle.std.proofs.Common.{◌≡◌, ◌≢◌, ℕ, zero, suc, ◌+◌, ◌<◌, ◌≤◌, ◌==◌, Bool, true, false, List, [], ◌∷◌, length, Some, slice_get, refl, arith, ap, sym, ◌∙◌}
+-- Numbers of which no two are one, each below a bound, and as many as that: each number below it is
+-- among them.
+use Rattle.std.proofs.Common.{◌≡◌, ◌≢◌, ℕ, zero, suc, ◌+◌, ◌<◌, ◌≤◌, ◌==◌, Bool, true, false, List}
+use Rattle.std.proofs.Common.{[], ◌∷◌, length, Some, slice_get, refl, arith, ap, sym, ◌∙◌}
 use Rattle.std.specs.Prelude.{All, nat_lt, ◌⊎◌}
 use mathlib.Core.Logic.{inl, inr}
 use Rattle.std.proofs.lemmas.Bool.Decides.{nat_tests}
@@ -21,7 +23,8 @@ below zero ns = 0
 below (suc m) ns = below m ns + times m ns
 
 differ : (a b : ℕ) → (a == b) ≡ false → a ≡ b → ⊥
-differ a b is e = let t : (a == b) ≡ true = grind (arith, nat_tests) in absurd (let f : true ≡ false = sym t ∙ is in cc)
+differ a b is e = let t : (a == b) ≡ true = grind (arith, nat_tests) in
+    absurd (let f : true ≡ false = sym t ∙ is in cc)
 
 unequal : (a b : ℕ) → (a ≡ b → ⊥) → (a == b) ≡ false
 unequal a b other = unequal_case (a == b) refl where
@@ -37,11 +40,17 @@ lt_false n m le = grind (arith, nat_tests)
 
 lt_next : (n m : ℕ) → one_if (nat_lt n (suc m)) ≡ one_if (nat_lt n m) + one_if (n == m)
 lt_next n m = lt_case (nat_lt n m) (n == m) refl refl where
-  lt_case : (s t : Bool) → nat_lt n m ≡ s → (n == m) ≡ t → one_if (nat_lt n (suc m)) ≡ one_if s + one_if t
-  lt_case true true a b = absurd (let lt : n < m = grind (arith, nat_tests) in let e : n ≡ m = grind (arith, nat_tests) in omega (arith, lt, e))
-  lt_case true false a b = let lt : n < m = grind (arith, nat_tests) in ap one_if (lt_true n (suc m) (omega (arith, lt)))
-  lt_case false true a b = let e : n ≡ m = grind (arith, nat_tests) in ap one_if (lt_true n (suc m) (omega (arith, e)))
-  lt_case false false a b = let le : m ≤ n = grind (arith, nat_tests) in let ne : n ≢ m = differ n m b in ap one_if (lt_false n (suc m) (let h : (n == m) ≡ false = b in grind (arith, nat_tests)))
+  lt_case : (s t : Bool) → nat_lt n m ≡ s → (n == m) ≡ t
+      → one_if (nat_lt n (suc m)) ≡ one_if s + one_if t
+  lt_case true true a b = absurd (let lt : n < m = grind (arith, nat_tests) in
+      let e : n ≡ m = grind (arith, nat_tests) in omega (arith, lt, e))
+  lt_case true false a b = let lt : n < m = grind (arith, nat_tests) in
+      ap one_if (lt_true n (suc m) (omega (arith, lt)))
+  lt_case false true a b = let e : n ≡ m = grind (arith, nat_tests) in
+      ap one_if (lt_true n (suc m) (omega (arith, e)))
+  lt_case false false a b = let le : m ≤ n = grind (arith, nat_tests) in
+      let ne : n ≢ m = differ n m b in ap one_if
+      (lt_false n (suc m) (let h : (n == m) ≡ false = b in grind (arith, nat_tests)))
 
 below_none : (m : ℕ) → below m [] ≡ 0
 below_none zero = refl
@@ -88,15 +97,22 @@ IsThere k ns = (i : ℕ) × (slice_get ns i ≡ Some k)
 found : (k : ℕ) (ns : List ℕ) → IsThere k ns ⊎ All (λ n. n ≢ k) ns
 found k [] = inr (All-nil (λ (n : ℕ). n ≢ k))
 found k (n ∷ ns) = found_case (n == k) refl (found k ns) where
-  found_case : (t : Bool) → (n == k) ≡ t → IsThere k ns ⊎ All (λ m. m ≢ k) ns → IsThere k (n ∷ ns) ⊎ All (λ m. m ≢ k) (n ∷ ns)
+  found_case : (t : Bool) → (n == k) ≡ t → IsThere k ns ⊎ All (λ m. m ≢ k) ns
+      → IsThere k (n ∷ ns) ⊎ All (λ m. m ≢ k) (n ∷ ns)
   found_case true is rest = let e : n ≡ k = grind (arith, nat_tests) in inl (0, ap Some e)
   found_case false is (inl there) = inl (suc there.0, there.1)
   found_case false is (inr none) = inr (All-cons (λ (m : ℕ). m ≢ k) n ns (differ n k is) none)
 
-pub all_there : (m : ℕ) (ns : List ℕ) → Distinct ns → All (λ n. n < m) ns → m ≤ length ns → (k : ℕ) → k < m → (i : ℕ) × (slice_get ns i ≡ Some k)
+pub all_there : (m : ℕ) (ns : List ℕ) → Distinct ns → All (λ n. n < m) ns → m ≤ length ns → (k : ℕ)
+    → k < m → (i : ℕ) × (slice_get ns i ≡ Some k)
 all_there m ns d all many k lt = there_case (found k ns) where
   there_case : IsThere k ns ⊎ All (λ n. n ≢ k) ns → (i : ℕ) × (slice_get ns i ≡ Some k)
   there_case (inl there) = there
   there_case (inr none) =
       let both : Distinct (k ∷ ns) = (none, d) in
-      absurd (omega (arith, many, no_more m (k ∷ ns) both (All-cons (λ (n : ℕ). n < m) k ns lt all)))
+      absurd (omega (
+        arith,
+        many,
+        no_more m (k ∷ ns) both
+            (All-cons (λ (n : ℕ). n < m) k ns lt all),
+      ))

@@ -15,7 +15,9 @@ use Rattle.router.specs.Picked.{IsWorkedOut}
 
 module _ (settings : SettingsValue) (ops : List Operation) (k : Kept) where
   answer_by : (a b c d : Bool) → not (a || (b || (c || d))) ≡ true
-      → (if a then remembered.Large k.cost k.bytes else if b then remembered.Late k.place (place_of ops) else if c then remembered.Had else if d then remembered.KeptSpent else remembered.Kept) ≡ remembered.Kept
+      → (if a then remembered.Large k.cost k.bytes else if b then remembered.Late k.place
+      (place_of ops) else if c then remembered.Had else if d then remembered.KeptSpent else
+      remembered.Kept) ≡ remembered.Kept
   answer_by true b c d is = absurd cc
   answer_by false true c d is = absurd cc
   answer_by false false true d is = absurd cc
@@ -26,9 +28,14 @@ module _ (settings : SettingsValue) (ops : List Operation) (k : Kept) where
   kept_answer is = answer_by (is_large k) (is_late ops k) (is_had settings ops k) (are_spent ops) is
 
   -- a delegation that was worked out in a state that was seen fits, where it is kept
-  pub remembered_fits : (front : List Operation) → IsPrefix front ops → AllFit settings opening_value ops → IsWorkedOut settings (value_of settings front).state k → is_kept settings ops k ≡ true → Fits settings (value_of settings ops) (kept 0 0 k)
+  pub remembered_fits : (front : List Operation) → IsPrefix front ops
+      → AllFit settings opening_value ops → IsWorkedOut settings (value_of settings front).state k
+      → is_kept settings ops k ≡ true → Fits settings (value_of settings ops) (kept 0 0 k)
   remembered_fits front p fit worked is =
       let whole : front ++ p.0 ≡ ops = p.1 in
-      let place = worked.place ∙ place_is settings front (fit_front settings opening_value front p.0 (subst (λ (l : List Operation). AllFit settings opening_value l) (sym whole) fit)) in
+      let place = worked.place ∙ place_is settings front
+      (fit_front settings opening_value front p.0
+      (subst (λ (l : List Operation). AllFit settings opening_value l) (sym whole) fit)) in
       subst (λ (l : List Operation). Fits settings (value_of settings l) (kept 0 0 k)) whole
-      (kept_fits settings front p.0 k place worked.right (subst (λ (l : List Operation). is_kept settings l k ≡ true) (sym whole) is) 0 0)
+      (kept_fits settings front p.0 k place worked.right
+      (subst (λ (l : List Operation). is_kept settings l k ≡ true) (sym whole) is) 0 0)

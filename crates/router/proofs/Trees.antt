@@ -1,19 +1,24 @@
--- Trees, tables of rules, and what paths come to may go to other threads, and be shared by them. Trees and bound branches lead back to themselves: each layer of them is shown so
+-- Trees, tables of rules, and what paths come to may go to other threads, and be shared by them.
+-- Trees and bound branches lead back to themselves: each layer of them is shown so
 -- where what lies in it is.
 use denote.Param.Send.{IsSend, IsSync, sendable, view_send, view_sync}
-use denote.Param.SendFields.{as_row_send, as_row_sync, declared_send, declared_sync, variants_send, variants_sync}
+use denote.Param.SendFields.{as_row_send, as_row_sync, declared_send, declared_sync, variants_send}
+use denote.Param.SendFields.{variants_sync}
 use denote.Hole.FixSend.{Sends, Syncs, fix_send, fix_sync}
 use Rattle.std.proofs.Crossing.{crosses}
 use Rattle.name_tree.specs.contracts.tree.Tree as Tree
 use Rattle.name_tree.specs.contracts.tree.Trees as Trees
 use Rattle.name_tree.specs.contracts.tree.Branches as Branches
 use Rattle.name_tree.specs.contracts.tree.Tree.TheKnot as tree
-use Rattle.name_tree.specs.declared.tree.Tree.TheBlock.{the_members, member-Tree, member-Trees, member-Branch, member-Branches}
+use Rattle.name_tree.specs.declared.tree.Tree.TheBlock.{the_members, member-Tree, member-Trees}
+use Rattle.name_tree.specs.declared.tree.Tree.TheBlock.{member-Branch, member-Branches}
 use Rattle.name_tree.proofs.path.Path.TheSendSync as path
 use Rattle.addr_book.specs.contracts.bound.Bound as Bound
 use Rattle.addr_book.specs.contracts.bound.BoundList as BoundList
 use Rattle.addr_book.specs.contracts.bound.Bound.TheKnot as bound
-use Rattle.addr_book.specs.declared.bound.Bound.TheBlock.{the_members as bound_members, member-Bound, member-BoundItem, member-BoundList}
+use Rattle.addr_book.specs.declared.bound.Bound.TheBlock.{the_members as bound_members}
+use Rattle.addr_book.specs.declared.bound.Bound.TheBlock.{member-Bound, member-BoundItem}
+use Rattle.addr_book.specs.declared.bound.Bound.TheBlock.{member-BoundList}
 use Rattle.addr_book.proofs.leaf.Leaf.TheSendSync as leaf
 use Rattle.dtab_table.below.dtab_index.proofs.column.Column.TheSendSync as column
 use Rattle.dtab_table.below.dtab_index.specs.contracts.index.Index as Index
@@ -29,16 +34,46 @@ use Rattle.bind_core.specs.contracts.outcome.Outcome as Outcome
 
 -- ---- trees
 tree_sends : (i : the_members) → Sends tree.ring i
-tree_sends member-Tree = record { send = λ h s. variants_send (tree.type-Tree (h member-Trees) (h member-Branches)) (search (tt, as_row_send, path.the_send, sendable, crosses) depth 40) }
-tree_sends member-Trees = record { send = λ h s. declared_send (tree.type-Trees (h member-Tree)) (search (tt, as_row_send, sendable, crosses) depth 40) }
-tree_sends member-Branch = record { send = λ h s. declared_send (tree.type-Branch (h member-Tree)) (search (tt, as_row_send, sendable, crosses) depth 40) }
-tree_sends member-Branches = record { send = λ h s. declared_send (tree.type-Branches (h member-Branch)) (search (tt, as_row_send, sendable, crosses) depth 40) }
+tree_sends member-Tree =
+    record {
+      send = λ h s. variants_send (tree.type-Tree (h member-Trees) (h member-Branches))
+          (search (tt, as_row_send, path.the_send, sendable, crosses) depth 40);
+    }
+tree_sends member-Trees =
+    record {
+      send = λ h s. declared_send (tree.type-Trees (h member-Tree))
+          (search (tt, as_row_send, sendable, crosses) depth 40);
+    }
+tree_sends member-Branch =
+    record {
+      send = λ h s. declared_send (tree.type-Branch (h member-Tree))
+          (search (tt, as_row_send, sendable, crosses) depth 40);
+    }
+tree_sends member-Branches = record {
+  send = λ h s. declared_send (tree.type-Branches (h member-Branch))
+      (search (tt, as_row_send, sendable, crosses) depth 40);
+}
 
 tree_syncs : (i : the_members) → Syncs tree.ring i
-tree_syncs member-Tree = record { sync = λ h s. variants_sync (tree.type-Tree (h member-Trees) (h member-Branches)) (search (tt, as_row_sync, path.the_sync, sendable, crosses) depth 40) }
-tree_syncs member-Trees = record { sync = λ h s. declared_sync (tree.type-Trees (h member-Tree)) (search (tt, as_row_sync, sendable, crosses) depth 40) }
-tree_syncs member-Branch = record { sync = λ h s. declared_sync (tree.type-Branch (h member-Tree)) (search (tt, as_row_sync, sendable, crosses) depth 40) }
-tree_syncs member-Branches = record { sync = λ h s. declared_sync (tree.type-Branches (h member-Branch)) (search (tt, as_row_sync, sendable, crosses) depth 40) }
+tree_syncs member-Tree =
+    record {
+      sync = λ h s. variants_sync (tree.type-Tree (h member-Trees) (h member-Branches))
+          (search (tt, as_row_sync, path.the_sync, sendable, crosses) depth 40);
+    }
+tree_syncs member-Trees =
+    record {
+      sync = λ h s. declared_sync (tree.type-Trees (h member-Tree))
+          (search (tt, as_row_sync, sendable, crosses) depth 40);
+    }
+tree_syncs member-Branch =
+    record {
+      sync = λ h s. declared_sync (tree.type-Branch (h member-Tree))
+          (search (tt, as_row_sync, sendable, crosses) depth 40);
+    }
+tree_syncs member-Branches = record {
+  sync = λ h s. declared_sync (tree.type-Branches (h member-Branch))
+      (search (tt, as_row_sync, sendable, crosses) depth 40);
+}
 
 inner_tree_send : IsSend tree.hole-Tree
 inner_tree_send = fix_send tree.ring tree_sends member-Tree
@@ -53,22 +88,32 @@ inner_branch_sync : IsSync tree.hole-Branch
 inner_branch_sync = fix_sync tree.ring tree_syncs member-Branch
 
 trees_send : IsSend Trees.the_row
-trees_send = declared_send Trees.the_type (search (as_row_send, inner_tree_send, crosses, sendable) depth 40)
+trees_send = declared_send Trees.the_type
+    (search (as_row_send, inner_tree_send, crosses, sendable) depth 40)
 
 trees_sync : IsSync Trees.the_row
-trees_sync = declared_sync Trees.the_type (search (as_row_sync, inner_tree_sync, crosses, sendable) depth 40)
+trees_sync = declared_sync Trees.the_type
+    (search (as_row_sync, inner_tree_sync, crosses, sendable) depth 40)
 
 branches_send : IsSend Branches.the_row
-branches_send = declared_send Branches.the_type (search (as_row_send, inner_branch_send, crosses, sendable) depth 40)
+branches_send = declared_send Branches.the_type
+    (search (as_row_send, inner_branch_send, crosses, sendable) depth 40)
 
 branches_sync : IsSync Branches.the_row
-branches_sync = declared_sync Branches.the_type (search (as_row_sync, inner_branch_sync, crosses, sendable) depth 40)
+branches_sync = declared_sync Branches.the_type
+    (search (as_row_sync, inner_branch_sync, crosses, sendable) depth 40)
 
 tree_send : IsSend Tree.the_row
-tree_send = variants_send Tree.enum ((search (as_row_send, path.the_send, sendable), tt), (tt, (tt, (tt, ((trees_send, tt), ((branches_send, tt), tt))))))
+tree_send = variants_send Tree.enum (
+  (search (as_row_send, path.the_send, sendable), tt),
+  (tt, (tt, (tt, ((trees_send, tt), ((branches_send, tt), tt))))),
+)
 
 tree_sync : IsSync Tree.the_row
-tree_sync = variants_sync Tree.enum ((search (as_row_sync, path.the_sync, sendable), tt), (tt, (tt, (tt, ((trees_sync, tt), ((branches_sync, tt), tt))))))
+tree_sync = variants_sync Tree.enum (
+  (search (as_row_sync, path.the_sync, sendable), tt),
+  (tt, (tt, (tt, ((trees_sync, tt), ((branches_sync, tt), tt))))),
+)
 
 -- ---- indexes
 index_entry_send : IsSend IndexEntry.the_row
@@ -97,11 +142,13 @@ index_part_sync =
 
 index_send : IsSend Index.the_row
 index_send = view_send IndexInside.the_row _ _ _ _
-    (declared_send IndexInside.the_type (search (as_row_send, index_part_send, crosses) depth 40, tt))
+    (declared_send IndexInside.the_type
+    (search (as_row_send, index_part_send, crosses) depth 40, tt))
 
 index_sync : IsSync Index.the_row
 index_sync = view_sync IndexInside.the_row _ _ _ _
-    (declared_sync IndexInside.the_type (search (as_row_sync, index_part_sync, crosses) depth 40, tt))
+    (declared_sync IndexInside.the_type
+    (search (as_row_sync, index_part_sync, crosses) depth 40, tt))
 
 -- ---- tables
 entry_send : IsSend Entry.the_row
@@ -112,28 +159,56 @@ entry_sync = declared_sync Entry.the_type (prefix.the_sync, (tree_sync, tt))
 
 parts_send : IsSend Parts.the_row
 parts_send = view_send Inside.the_row _ _ _ _
-    (declared_send Inside.the_type (search (as_row_send, entry_send, crosses) depth 40, (search (as_row_send, tree_send, crosses, sendable) depth 40, (index_send, tt))))
+    (declared_send Inside.the_type (
+      search (as_row_send, entry_send, crosses) depth 40,
+      (search (as_row_send, tree_send, crosses, sendable) depth 40, (index_send, tt)),
+    ))
 
 parts_sync : IsSync Parts.the_row
 parts_sync = view_sync Inside.the_row _ _ _ _
-    (declared_sync Inside.the_type (search (as_row_sync, entry_sync, crosses) depth 40, (search (as_row_sync, tree_sync, crosses, sendable) depth 40, (index_sync, tt))))
+    (declared_sync Inside.the_type (
+      search (as_row_sync, entry_sync, crosses) depth 40,
+      (search (as_row_sync, tree_sync, crosses, sendable) depth 40, (index_sync, tt)),
+    ))
 
 pub dtab_send : IsSend Dtab.the_row
-dtab_send = declared_send Dtab.the_type (search (as_row_send, parts_send, parts_sync, crosses, sendable) depth 40, tt)
+dtab_send = declared_send Dtab.the_type
+    (search (as_row_send, parts_send, parts_sync, crosses, sendable) depth 40, tt)
 
 pub dtab_sync : IsSync Dtab.the_row
-dtab_sync = declared_sync Dtab.the_type (search (as_row_sync, parts_send, parts_sync, crosses, sendable) depth 40, tt)
+dtab_sync = declared_sync Dtab.the_type
+    (search (as_row_sync, parts_send, parts_sync, crosses, sendable) depth 40, tt)
 
 -- ---- outcomes
 bound_sends : (i : bound_members) → Sends bound.ring i
-bound_sends member-Bound = record { send = λ h s. variants_send (bound.type-Bound (h member-BoundList)) (search (tt, as_row_send, leaf.the_send, sendable, crosses) depth 40) }
-bound_sends member-BoundItem = record { send = λ h s. declared_send (bound.type-BoundItem (h member-Bound)) (search (tt, as_row_send, sendable, crosses) depth 40) }
-bound_sends member-BoundList = record { send = λ h s. declared_send (bound.type-BoundList (h member-BoundItem)) (search (tt, as_row_send, sendable, crosses) depth 40) }
+bound_sends member-Bound =
+    record {
+      send = λ h s. variants_send (bound.type-Bound (h member-BoundList))
+          (search (tt, as_row_send, leaf.the_send, sendable, crosses) depth 40);
+    }
+bound_sends member-BoundItem = record {
+  send = λ h s. declared_send (bound.type-BoundItem (h member-Bound))
+      (search (tt, as_row_send, sendable, crosses) depth 40);
+}
+bound_sends member-BoundList = record {
+  send = λ h s. declared_send (bound.type-BoundList (h member-BoundItem))
+      (search (tt, as_row_send, sendable, crosses) depth 40);
+}
 
 bound_syncs : (i : bound_members) → Syncs bound.ring i
-bound_syncs member-Bound = record { sync = λ h s. variants_sync (bound.type-Bound (h member-BoundList)) (search (tt, as_row_sync, leaf.the_sync, sendable, crosses) depth 40) }
-bound_syncs member-BoundItem = record { sync = λ h s. declared_sync (bound.type-BoundItem (h member-Bound)) (search (tt, as_row_sync, sendable, crosses) depth 40) }
-bound_syncs member-BoundList = record { sync = λ h s. declared_sync (bound.type-BoundList (h member-BoundItem)) (search (tt, as_row_sync, sendable, crosses) depth 40) }
+bound_syncs member-Bound =
+    record {
+      sync = λ h s. variants_sync (bound.type-Bound (h member-BoundList))
+          (search (tt, as_row_sync, leaf.the_sync, sendable, crosses) depth 40);
+    }
+bound_syncs member-BoundItem = record {
+  sync = λ h s. declared_sync (bound.type-BoundItem (h member-Bound))
+      (search (tt, as_row_sync, sendable, crosses) depth 40);
+}
+bound_syncs member-BoundList = record {
+  sync = λ h s. declared_sync (bound.type-BoundList (h member-BoundItem))
+      (search (tt, as_row_sync, sendable, crosses) depth 40);
+}
 
 inner_item_send : IsSend bound.hole-BoundItem
 inner_item_send = fix_send bound.ring bound_sends member-BoundItem
@@ -142,10 +217,12 @@ inner_item_sync : IsSync bound.hole-BoundItem
 inner_item_sync = fix_sync bound.ring bound_syncs member-BoundItem
 
 list_send : IsSend BoundList.the_row
-list_send = declared_send BoundList.the_type (search (as_row_send, inner_item_send, crosses, sendable) depth 40)
+list_send = declared_send BoundList.the_type
+    (search (as_row_send, inner_item_send, crosses, sendable) depth 40)
 
 list_sync : IsSync BoundList.the_row
-list_sync = declared_sync BoundList.the_type (search (as_row_sync, inner_item_sync, crosses, sendable) depth 40)
+list_sync = declared_sync BoundList.the_type
+    (search (as_row_sync, inner_item_sync, crosses, sendable) depth 40)
 
 bound_send : IsSend Bound.the_row
 bound_send = variants_send Bound.enum ((leaf.the_send, tt), ((list_send, tt), tt))

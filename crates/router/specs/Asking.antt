@@ -52,7 +52,8 @@ module _ {J : Type 0} {g : Ghosts J} where
   pub record IsPeeked (old new : Pass J g) (ask : AskValue) (names : Names) (p : Peek) : Type 0
     where
       pub entered : Entered old new (asked ask)
-      pub answer : IsPeek g.settings (value_of g.settings (seen_in new)) (place_of (seen_in new)) ask
+      pub answer : IsPeek g.settings (value_of g.settings (seen_in new))
+          (place_of (seen_in new)) ask
           (reads_in old) (reads_in new) names p
 
   abbrev pub Peeks : Pass J g → Pass J g → AskValue → Names → Peek → Type 0

@@ -12,18 +12,25 @@ use Rattle.router_log.specs.Operation.{changed, kept}
 use Rattle.router_log.specs.Value.{Value, applied, Fits}
 use Rattle.router_log.specs.Taking.{with_change, may_stand, with_kept}
 
-pub change_taken : (settings : SettingsValue) (value : Value) (caller serial : ℕ) (change : ChangeValue) (ready : ReadyValue) → IsReadyFor settings value.state change ready
-    → with_change settings value change ready ≡ applied settings value (changed caller serial change)
+pub change_taken : (settings : SettingsValue) (value : Value) (caller serial : ℕ)
+    (change : ChangeValue) (ready : ReadyValue) → IsReadyFor settings value.state change ready
+    → with_change settings value change ready
+    ≡ applied settings value (changed caller serial change)
 change_taken settings value caller serial change ready is =
     let accepted = is.accepted in
-    let next : absorbed value.state ready ≡ after settings value.state change = absorbing_is_changing settings value.state change ready is in
-    let state : after settings value.state change ≡ changed_state settings value.state change = rw accepted refl in
+    let next : absorbed value.state ready ≡ after settings value.state change =
+    absorbing_is_changing settings value.state change ready is in
+    let state : after settings value.state change ≡ changed_state settings value.state change =
+    rw accepted refl in
     rw (accepted, next, state) refl
 
-pub kept_taken : (settings : SettingsValue) (value : Value) (caller serial : ℕ) (k : Kept) → Fits settings value (kept caller serial k)
+pub kept_taken : (settings : SettingsValue) (value : Value) (caller serial : ℕ) (k : Kept)
+    → Fits settings value (kept caller serial k)
     → with_kept value k ≡ applied settings value (kept caller serial k)
 kept_taken settings value caller serial k fits =
-    let stands : may_stand value.cache k ≡ true = stand_case (nat_le k.cost most_cost) (is_none (found_in value.cache k.path k.local)) (let le = fits.1 in grind (arith, nat_tests)) (rw fits.2 refl) in
+    let stands : may_stand value.cache k ≡ true =
+    stand_case (nat_le k.cost most_cost) (is_none (found_in value.cache k.path k.local))
+    (let le = fits.1 in grind (arith, nat_tests)) (rw fits.2 refl) in
     rw stands refl
   where
     stand_case : (s t : Bool) → s ≡ true → t ≡ true → (s && t) ≡ true

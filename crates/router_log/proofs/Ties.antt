@@ -19,8 +19,10 @@ equal_case a b Greater is equal = absurd cc
 eq_decides : (a b : List ℕ) → Decides (eq_by_cmp (slice_cmp nat_cmp) a b) (b ≡ a)
 eq_decides a b = (
   equal_case a b (slice_cmp nat_cmp a b) refl,
-  λ is. subst (λ (x : List ℕ). eq_by_cmp (slice_cmp nat_cmp) a x ≡ true) (sym is) ((eq_by_cmp_equiv nat_list_cmp_total).refl a),
+  λ is. subst (λ (x : List ℕ). eq_by_cmp (slice_cmp nat_cmp) a x ≡ true) (sym is)
+      ((eq_by_cmp_equiv nat_list_cmp_total).refl a),
 )
 
 pub tied : (a b : List ℕ) → eq_by_cmp (slice_cmp nat_cmp) a b ≡ bytes_eq b a
-tied a b = same_from_decides (eq_by_cmp (slice_cmp nat_cmp) a b) (bytes_eq b a) (eq_decides a b) (bytes_eq-Decides b a)
+tied a b = same_from_decides (eq_by_cmp (slice_cmp nat_cmp) a b) (bytes_eq b a) (eq_decides a b)
+    (bytes_eq-Decides b a)

@@ -10,6 +10,8 @@ pub nothing : table_of [] ≡ Some []
 unfolding table_of
 nothing = refl
 
-pub empty_table : (text : List ℕ) (rules : List Rule) → true ≡ (length text == 0) → rules ≡ [] → table_of text ≡ Some rules
+pub empty_table : (text : List ℕ) (rules : List Rule) → true ≡ (length text == 0) → rules ≡ []
+    → table_of text ≡ Some rules
 empty_table text rules empty rules_are =
-    let none : length text ≡ 0 = grind (arith, nat_tests, empty) in ap table_of (nil_from_length text none) ∙ (nothing ∙ ap Some (sym rules_are))
+    let none : length text ≡ 0 = grind (arith, nat_tests, empty) in
+    ap table_of (nil_from_length text none) ∙ (nothing ∙ ap Some (sym rules_are))

@@ -1,5 +1,7 @@
 -- The words of a text, one after another, and the addresses that they are.
-use Rattle.std.proofs.Common.{◌≡◌, ℕ, suc, ◌+◌, ◌<◌, ◌≤◌, ◌++◌, ◌⊎◌, inl, inr, List, [], ◌∷◌, length, Bool, true, false, Option, Some, None, refl, sym, ap, subst, ◌∙◌, arith, append_assoc}
+use Rattle.std.proofs.Common.{◌≡◌, ℕ, suc, ◌+◌, ◌<◌, ◌≤◌, ◌++◌, ◌⊎◌, inl, inr, List, [], ◌∷◌}
+use Rattle.std.proofs.Common.{length, Bool, true, false, Option, Some, None, refl, sym, ap, subst}
+use Rattle.std.proofs.Common.{◌∙◌, arith, append_assoc}
 use Rattle.std.specs.Prelude.{option_map, if◌then◌else◌, nat_le}
 use Rattle.std.proofs.lemmas.Bool.Decides.{nat_tests}
 use Rattle.std.proofs.lemmas.List.{append-nil, length_push}
@@ -15,7 +17,8 @@ pub words_gap : (xs : List ℕ) → words_of (drop_gaps xs) ≡ words_of xs
 words_gap [] = refl
 words_gap (x ∷ xs) = more (words_gap xs) (is_gap x) refl
   where
-    more : words_of (drop_gaps xs) ≡ words_of xs → (b : Bool) → is_gap x ≡ b → words_of (drop_gaps (x ∷ xs)) ≡ words_of (x ∷ xs)
+    more : words_of (drop_gaps xs) ≡ words_of xs → (b : Bool) → is_gap x ≡ b
+        → words_of (drop_gaps (x ∷ xs)) ≡ words_of (x ∷ xs)
     more rest true e = rw e rest
     more rest false e = rw e (rw e refl)
 
@@ -24,7 +27,8 @@ drop_again : (xs : List ℕ) → drop_gaps (drop_gaps xs) ≡ drop_gaps xs
 drop_again [] = refl
 drop_again (x ∷ xs) = more (drop_again xs) (is_gap x) refl
   where
-    more : drop_gaps (drop_gaps xs) ≡ drop_gaps xs → (b : Bool) → is_gap x ≡ b → drop_gaps (drop_gaps (x ∷ xs)) ≡ drop_gaps (x ∷ xs)
+    more : drop_gaps (drop_gaps xs) ≡ drop_gaps xs → (b : Bool) → is_gap x ≡ b
+        → drop_gaps (drop_gaps (x ∷ xs)) ≡ drop_gaps (x ∷ xs)
     more rest true e = rw e rest
     more rest false e = rw e (rw e refl)
 
@@ -32,13 +36,15 @@ pub length-gaps : (xs : List ℕ) → length (drop_gaps xs) ≤ length xs
 length-gaps [] = omega arith
 length-gaps (x ∷ xs) =
     let rest = length-gaps xs in
-    elim (is_gap x) as (λ b. length (if b then drop_gaps xs else x ∷ xs) ≤ suc (length xs)) [ true ↦ omega arith | false ↦ omega arith ]
+    elim (is_gap x) as (λ b. length (if b then drop_gaps xs else x ∷ xs) ≤ suc (length xs))
+    [ true ↦ omega arith | false ↦ omega arith ]
 
 pub length-behind : (xs : List ℕ) → length (behind_word xs) ≤ length xs
 length-behind [] = omega arith
 length-behind (x ∷ xs) =
     let rest = length-behind xs in
-    elim (is_gap x) as (λ b. length (if b then x ∷ xs else behind_word xs) ≤ suc (length xs)) [ true ↦ omega arith | false ↦ omega arith ]
+    elim (is_gap x) as (λ b. length (if b then x ∷ xs else behind_word xs) ≤ suc (length xs))
+    [ true ↦ omega arith | false ↦ omega arith ]
 
 -- what is left once its gaps are dropped begins with no gap
 starts : (x : ℕ) (xs : List ℕ) → drop_gaps (x ∷ xs) ≡ x ∷ xs → is_gap x ≡ false
@@ -46,7 +52,8 @@ starts x xs h = more (is_gap x) refl
   where
     more : (b : Bool) → is_gap x ≡ b → is_gap x ≡ false
     more true e =
-        let dropped : drop_gaps xs ≡ x ∷ xs = ap (λ b. if b then drop_gaps xs else x ∷ xs) (sym e) ∙ h in
+        let dropped : drop_gaps xs ≡ x ∷ xs = ap (λ b. if b then drop_gaps xs else x ∷ xs) (sym e)
+        ∙ h in
         absurd (omega (arith, ap length dropped, length-gaps xs))
     more false e = e
 
@@ -54,14 +61,19 @@ cut_shorter : (x : ℕ) (xs : List ℕ) → is_gap x ≡ false → length (behin
 cut_shorter x xs e = rw e (omega (arith, length-gaps (behind_word xs), length-behind xs))
 
 -- a text that begins with a word has that word first, and then the words behind it
-pub words_cut : (x : ℕ) (xs : List ℕ) → is_gap x ≡ false → words_of (x ∷ xs) ≡ word_of (x ∷ xs) ∷ words_of (behind (x ∷ xs))
+pub words_cut : (x : ℕ) (xs : List ℕ) → is_gap x ≡ false
+    → words_of (x ∷ xs) ≡ word_of (x ∷ xs) ∷ words_of (behind (x ∷ xs))
 words_cut x [] e = rw e refl
 words_cut x (y ∷ ys) e = more (λ g. words_cut y ys g) (is_gap y) refl
   where
-    more : (is_gap y ≡ false → words_of (y ∷ ys) ≡ word_of (y ∷ ys) ∷ words_of (behind (y ∷ ys))) → (b : Bool) → is_gap y ≡ b
+    more : (is_gap y ≡ false → words_of (y ∷ ys) ≡ word_of (y ∷ ys) ∷ words_of (behind (y ∷ ys)))
+        → (b : Bool) → is_gap y ≡ b
         → words_of (x ∷ y ∷ ys) ≡ word_of (x ∷ y ∷ ys) ∷ words_of (behind (x ∷ y ∷ ys))
-    more rest true g = rw (e, g, g) (ap (λ (ws : List (List ℕ)). (x ∷ []) ∷ ws) (sym (words_gap ys)))
-    more rest false g = rw e (ap (λ b. if b then joined x (words_of (y ∷ ys)) else (x ∷ []) ∷ words_of (y ∷ ys)) (goes g) ∙ ap (joined x) (rest g))
+    more rest true g = rw (e, g, g)
+        (ap (λ (ws : List (List ℕ)). (x ∷ []) ∷ ws) (sym (words_gap ys)))
+    more rest false g = rw e
+        (ap (λ b. if b then joined x (words_of (y ∷ ys)) else (x ∷ []) ∷ words_of (y ∷ ys))
+        (goes g) ∙ ap (joined x) (rest g))
       where
         goes : is_gap y ≡ false → goes_on (y ∷ ys) ≡ true
         goes g = rw g refl
@@ -70,13 +82,16 @@ words_cut x (y ∷ ys) e = more (λ g. words_cut y ys g) (is_gap y) refl
 abbrev pub onto : List Weighted → Option (List Weighted) → Option (List Weighted)
 onto items more = option_map (λ others. items ++ others) more
 
-onto_none : (items : List Weighted) (word : List ℕ) (words : List (List ℕ)) → weighted_in word ≡ None → onto items (addrs_in (word ∷ words)) ≡ None
+onto_none : (items : List Weighted) (word : List ℕ) (words : List (List ℕ))
+    → weighted_in word ≡ None → onto items (addrs_in (word ∷ words)) ≡ None
 onto_none items word words e = ap (λ o. onto items (put_first o (addrs_in words))) e
 
-onto_next : (items : List Weighted) (word : List ℕ) (words : List (List ℕ)) (item : Weighted) → weighted_in word ≡ Some item
+onto_next : (items : List Weighted) (word : List ℕ) (words : List (List ℕ)) (item : Weighted)
+    → weighted_in word ≡ Some item
     → onto (items ++ item ∷ []) (addrs_in words) ≡ onto items (addrs_in (word ∷ words))
 onto_next items word words item e =
-    elim (addrs_in words) as (λ o. onto (items ++ item ∷ []) o ≡ onto items (put_first (Some item) o)) [
+    elim (addrs_in words) as (λ o. onto (items ++ item ∷ []) o
+    ≡ onto items (put_first (Some item) o)) [
       | None ↦ refl
       | Some others ↦ ap Some (append_assoc items (item ∷ []) others)
     ]
@@ -94,19 +109,23 @@ pub record Walks (text rest : List ℕ) (items : List Weighted) : Type 0 where
   pub few : length items ≤ 1024
   pub weights : HaveWeights items
 
-pub walks_start : (text rest : List ℕ) (items : List Weighted) → rest ≡ drop_gaps text → items ≡ [] → Walks text rest items
+pub walks_start : (text rest : List ℕ) (items : List Weighted) → rest ≡ drop_gaps text → items ≡ []
+    → Walks text rest items
 walks_start text rest items is none =
     let words : words_of rest ≡ words_of text = ap words_of is ∙ words_gap text in
     record {
       starts = ap drop_gaps is ∙ drop_again text ∙ sym is;
-      same = ap (λ xs. onto xs (addrs_in (words_of rest))) none ∙ onto_nothing (addrs_in (words_of rest)) ∙ ap addrs_in words;
+      same = ap (λ xs. onto xs (addrs_in (words_of rest))) none
+          ∙ onto_nothing (addrs_in (words_of rest)) ∙ ap addrs_in words;
       counted = omega (arith, ap length none, ap length words);
       few = omega (arith, ap length none);
       weights = subst HaveWeights (sym none) (All-nil (λ item. IsWeight item.weight));
     }
 
-module _ (text rest : List ℕ) (items : List Weighted) (w : Walks text rest items) (some : 0 < length rest) where
-  next : (xs : List ℕ) → drop_gaps xs ≡ xs → 0 < length xs → words_of xs ≡ word_of xs ∷ words_of (behind xs)
+module _ (text rest : List ℕ) (items : List Weighted) (w : Walks text rest items)
+    (some : 0 < length rest) where
+  next : (xs : List ℕ) → drop_gaps xs ≡ xs → 0 < length xs
+      → words_of xs ≡ word_of xs ∷ words_of (behind xs)
   next [] h more = absurd (omega arith)
   next (x ∷ xs) h more = words_cut x xs (starts x xs h)
 
@@ -123,10 +142,15 @@ module _ (text rest : List ℕ) (items : List Weighted) (w : Walks text rest ite
   pub walks_full : length items ≡ 1024 → 1024 < length (words_of text)
   walks_full full = omega (arith, w.counted, ap length first)
 
-  pub walks_bad : (word : List ℕ) → word ≡ word_of rest → weighted_in word ≡ None → addrs_in (words_of text) ≡ None
-  walks_bad word is bad = sym w.same ∙ (ap (λ ws. onto items (addrs_in ws)) first ∙ onto_none items (word_of rest) (words_of (behind rest)) (ap weighted_in (sym is) ∙ bad))
+  pub walks_bad : (word : List ℕ) → word ≡ word_of rest → weighted_in word ≡ None
+      → addrs_in (words_of text) ≡ None
+  walks_bad word is bad =
+      sym w.same ∙ (ap (λ ws. onto items (addrs_in ws)) first
+      ∙ onto_none items (word_of rest) (words_of (behind rest)) (ap weighted_in (sym is) ∙ bad))
 
-  pub walks_next : (word more : List ℕ) (item : Weighted) (new : List Weighted) → word ≡ word_of rest → more ≡ behind rest → weighted_in word ≡ Some item → IsWeight item.weight
+  pub walks_next : (word more : List ℕ) (item : Weighted) (new : List Weighted)
+      → word ≡ word_of rest → more ≡ behind rest → weighted_in word ≡ Some item
+      → IsWeight item.weight
       → (length items ≡ 1024 → ⊥) → new ≡ items ++ item ∷ [] → Walks text more new
   walks_next word more item new is behind_is read weight room pushed =
       let words : words_of more ≡ words_of (behind rest) = ap words_of behind_is in
@@ -135,29 +159,44 @@ module _ (text rest : List ℕ) (items : List Weighted) (w : Walks text rest ite
         same =
             ap (λ xs. onto xs (addrs_in (words_of more))) pushed
             ∙ ap (λ ws. onto (items ++ item ∷ []) (addrs_in ws)) words
-            ∙ onto_next items (word_of rest) (words_of (behind rest)) item (ap weighted_in (sym is) ∙ read)
+            ∙ onto_next items (word_of rest) (words_of (behind rest)) item
+            (ap weighted_in (sym is) ∙ read)
             ∙ ap (λ ws. onto items (addrs_in ws)) (sym first)
             ∙ w.same;
-        counted = omega (arith, w.counted, ap length first, ap length words, ap length pushed, length_push items item);
+        counted = omega (
+          arith,
+          w.counted,
+          ap length first,
+          ap length words,
+          ap length pushed,
+          length_push items item,
+        );
         few = omega (arith, w.few, room, ap length pushed, length_push items item);
-        weights = subst HaveWeights (sym pushed) (All-push (λ i. IsWeight i.weight) items item w.weights weight);
+        weights = subst HaveWeights (sym pushed)
+            (All-push (λ i. IsWeight i.weight) items item w.weights weight);
       }
 
 -- all of a text was read
-pub walks_end : (text rest : List ℕ) (items : List Weighted) → Walks text rest items → length rest ≡ 0 → (addrs_in (words_of text) ≡ Some items) × (length (words_of text) ≤ 1024)
-walks_end text [] items w none = (sym w.same ∙ ap Some (append-nil items), omega (arith, w.counted, w.few))
+pub walks_end : (text rest : List ℕ) (items : List Weighted) → Walks text rest items
+    → length rest ≡ 0 → (addrs_in (words_of text) ≡ Some items) × (length (words_of text) ≤ 1024)
+walks_end text [] items w none =
+    (sym w.same ∙ ap Some (append-nil items), omega (arith, w.counted, w.few))
 walks_end text (x ∷ rest) items w none = absurd (omega arith)
 
 -- ---- the list of a line
-pub list_some : (words : List (List ℕ)) (items : List Weighted) → length words ≤ 1024 → addrs_in words ≡ Some items → list_in words ≡ Some (first_places items)
+pub list_some : (words : List (List ℕ)) (items : List Weighted) → length words ≤ 1024
+    → addrs_in words ≡ Some items → list_in words ≡ Some (first_places items)
 list_some words items few e =
     let small : nat_le (length words) 1024 ≡ true = grind (arith, nat_tests) in
-    ap (λ b. if b then option_map first_places (addrs_in words) else None) small ∙ ap (option_map first_places) e
+    ap (λ b. if b then option_map first_places (addrs_in words) else None) small
+    ∙ ap (option_map first_places) e
 
-pub list_none : (words : List (List ℕ)) → (1024 < length words) ⊎ (addrs_in words ≡ None) → list_in words ≡ None
+pub list_none : (words : List (List ℕ)) → (1024 < length words) ⊎ (addrs_in words ≡ None)
+    → list_in words ≡ None
 list_none words (inl many) =
     let large : nat_le (length words) 1024 ≡ false = grind (arith, nat_tests) in
     ap (λ b. if b then option_map first_places (addrs_in words) else None) large
 list_none words (inr none) =
     ap (λ o. if nat_le (length words) 1024 then option_map first_places o else None) none
-    ∙ elim (nat_le (length words) 1024) as (λ b. (if b then option_map first_places None else None) ≡ None) [ true ↦ refl | false ↦ refl ]
+    ∙ elim (nat_le (length words) 1024) as (λ b. (if b then option_map first_places None else None)
+    ≡ None) [ true ↦ refl | false ↦ refl ]

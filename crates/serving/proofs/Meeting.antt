@@ -54,5 +54,6 @@ module _ {J : Type 0} {g : Ghosts J} where
   pub seen_by_none : (seen : List Operation) (met : List (Pass J g)) → met ≡ []
       → AllByRecursion (λ (p : Pass J g). IsPrefix seen (seen_in p)) met
   seen_by_none seen met none =
-      subst (λ (ps : List (Pass J g)). AllByRecursion (λ (p : Pass J g). IsPrefix seen (seen_in p)) ps)
+      subst (λ (ps : List (Pass J g)). AllByRecursion (λ (p : Pass J g). IsPrefix seen (seen_in p))
+      ps)
       (sym none) tt

@@ -1,16 +1,20 @@
 -- Lists that go together.
-use Rattle.std.proofs.Common.{◌≡◌, ℕ, zero, suc, ◌+◌, ◌||◌, Bool, true, false, List, [], ◌∷◌, ◌++◌, append_assoc, append-nil, length, length-append, map, refl, sym, ap, subst, ◌∙◌, arith}
+use Rattle.std.proofs.Common.{◌≡◌, ℕ, zero, suc, ◌+◌, ◌||◌, Bool, true, false, List, [], ◌∷◌, ◌++◌}
+use Rattle.std.proofs.Common.{append_assoc, append-nil, length, length-append, map, refl, sym, ap}
+use Rattle.std.proofs.Common.{subst, ◌∙◌, arith}
 use Rattle.std.specs.List.{AllZip, list_any}
 use Rattle.serving.specs.Posts.{Post, posts_at}
 
 -- one more at the end of both
-pub zip_push : {A B : Type 0} (R : A → B → Type 0) (xs : List A) (ys : List B) (x : A) (y : B) → AllZip R xs ys → R x y → AllZip R (xs ++ x ∷ []) (ys ++ y ∷ [])
+pub zip_push : {A B : Type 0} (R : A → B → Type 0) (xs : List A) (ys : List B) (x : A) (y : B)
+    → AllZip R xs ys → R x y → AllZip R (xs ++ x ∷ []) (ys ++ y ∷ [])
 zip_push R [] [] x y all one = (one, tt)
 zip_push R [] (b ∷ ys) x y all one = absurd all
 zip_push R (a ∷ xs) [] x y all one = absurd all
 zip_push R (a ∷ xs) (b ∷ ys) x y all one = (all.0, zip_push R xs ys x y all.1 one)
 
-pub zip_count : {A B : Type 0} (R : A → B → Type 0) (xs : List A) (ys : List B) → AllZip R xs ys → length ys ≡ length xs
+pub zip_count : {A B : Type 0} (R : A → B → Type 0) (xs : List A) (ys : List B) → AllZip R xs ys
+    → length ys ≡ length xs
 zip_count R [] [] all = refl
 zip_count R [] (b ∷ ys) all = absurd all
 zip_count R (a ∷ xs) [] all = absurd all
@@ -18,7 +22,8 @@ zip_count R (a ∷ xs) (b ∷ ys) all = ap suc (zip_count R xs ys all.1)
 
 module _ {A : Type 0} (R : Post → A → Type 0) (post : ℕ → Post) where
   -- before the first post at an address
-  pub none_posted : (ps : List Post) (js : List A) → AllZip R ps js → AllZip R (ps ++ posts_at post 0) js
+  pub none_posted : (ps : List Post) (js : List A) → AllZip R ps js
+      → AllZip R (ps ++ posts_at post 0) js
   none_posted ps js all = subst (λ (qs : List Post). AllZip R qs js) (nil_behind ps) all
     where
       nil_behind : (qs : List Post) → qs ≡ qs ++ []
@@ -26,25 +31,33 @@ module _ {A : Type 0} (R : Post → A → Type 0) (post : ℕ → Post) where
       nil_behind (q ∷ qs) = ap (λ (rs : List Post). q ∷ rs) (nil_behind qs)
 
   -- and the next one
-  pub one_posted : (n m : ℕ) (ps : List Post) (old new : List A) (j : A) → m ≡ n + 1 → new ≡ old ++ j ∷ [] → AllZip R (ps ++ posts_at post n) old → R (post n) j
+  pub one_posted : (n m : ℕ) (ps : List Post) (old new : List A) (j : A) → m ≡ n + 1
+      → new ≡ old ++ j ∷ [] → AllZip R (ps ++ posts_at post n) old → R (post n) j
       → AllZip R (ps ++ posts_at post m) new
   one_posted n m ps old new j next grown all one =
       let e : m ≡ suc n = omega (arith, next) in
       let pushed = zip_push R (ps ++ posts_at post n) old (post n) j all one in
-      let same : (ps ++ posts_at post n) ++ post n ∷ [] ≡ ps ++ posts_at post m = append_assoc ps (posts_at post n) (post n ∷ []) ∙ ap (λ (k : ℕ). ps ++ posts_at post k) (sym e) in
-      subst (λ (js : List A). AllZip R (ps ++ posts_at post m) js) (sym grown) (subst (λ (qs : List Post). AllZip R qs (old ++ j ∷ [])) same pushed)
+      let same : (ps ++ posts_at post n) ++ post n ∷ [] ≡ ps ++ posts_at post m =
+      append_assoc ps (posts_at post n) (post n ∷ [])
+      ∙ ap (λ (k : ℕ). ps ++ posts_at post k) (sym e) in
+      subst (λ (js : List A). AllZip R (ps ++ posts_at post m) js) (sym grown)
+      (subst (λ (qs : List Post). AllZip R qs (old ++ j ∷ [])) same pushed)
 
 pub posts_count : (post : ℕ → Post) (n : ℕ) → length (posts_at post n) ≡ n
 posts_count post zero = refl
-posts_count post (suc n) = let e = length-append (posts_at post n) (post n ∷ []) in let h = posts_count post n in omega (arith, e, h)
+posts_count post (suc n) = let e = length-append (posts_at post n) (post n ∷ []) in
+    let h = posts_count post n in omega (arith, e, h)
 
 -- what a loop moves over, one at a time
-pub moved : {A B : Type 0} (f : A → B) (new old all : List B) (x : A) (rest whole : List A) → new ≡ old ++ f x ∷ [] → whole ≡ x ∷ rest → old ++ map f whole ≡ all → new ++ map f rest ≡ all
+pub moved : {A B : Type 0} (f : A → B) (new old all : List B) (x : A) (rest whole : List A)
+    → new ≡ old ++ f x ∷ [] → whole ≡ x ∷ rest → old ++ map f whole ≡ all → new ++ map f rest ≡ all
 moved f new old all x rest whole grown cut same =
-    ap (λ (ys : List _). ys ++ map f rest) grown ∙ (append_assoc old (f x ∷ []) (map f rest) ∙ (ap (λ xs. old ++ map f xs) (sym cut) ∙ same))
+    ap (λ (ys : List _). ys ++ map f rest) grown
+    ∙ (append_assoc old (f x ∷ []) (map f rest) ∙ (ap (λ xs. old ++ map f xs) (sym cut) ∙ same))
 
 -- nothing is left to move
-pub all_moved : {A B : Type 0} (f : A → B) (new all : List B) (left : List A) → length left ≡ 0 → new ++ map f left ≡ all → new ≡ all
+pub all_moved : {A B : Type 0} (f : A → B) (new all : List B) (left : List A) → length left ≡ 0
+    → new ++ map f left ≡ all → new ≡ all
 all_moved f new all [] none same = nil_behind new ∙ same
   where
     nil_behind : {C : Type 0} (ys : List C) → ys ≡ ys ++ []
@@ -57,14 +70,19 @@ or_assoc true b c = refl
 or_assoc false b c = refl
 
 -- whether one of them is such
-pub any_moved : {A : Type 0} (f : A → Bool) (new old all : Bool) (x : A) (rest whole : List A) → new ≡ (old || f x) → whole ≡ x ∷ rest → (old || list_any f whole) ≡ all → (new || list_any f rest) ≡ all
+pub any_moved : {A : Type 0} (f : A → Bool) (new old all : Bool) (x : A) (rest whole : List A)
+    → new ≡ (old || f x) → whole ≡ x ∷ rest → (old || list_any f whole) ≡ all
+    → (new || list_any f rest) ≡ all
 any_moved f new old all x rest whole is cut same =
-    ap (λ (b : Bool). b || list_any f rest) is ∙ (or_assoc old (f x) (list_any f rest) ∙ (ap (λ xs. old || list_any f xs) (sym cut) ∙ same))
+    ap (λ (b : Bool). b || list_any f rest) is
+    ∙ (or_assoc old (f x) (list_any f rest) ∙ (ap (λ xs. old || list_any f xs) (sym cut) ∙ same))
 
-pub any_begun : {A : Type 0} (f : A → Bool) (old : Bool) (xs ys : List A) → old ≡ false → xs ≡ ys → (old || list_any f xs) ≡ list_any f ys
+pub any_begun : {A : Type 0} (f : A → Bool) (old : Bool) (xs ys : List A) → old ≡ false → xs ≡ ys
+    → (old || list_any f xs) ≡ list_any f ys
 any_begun f old xs ys is same = ap (λ (b : Bool). b || list_any f xs) is ∙ ap (list_any f) same
 
-pub map_begun : {A B : Type 0} (f : A → B) (old : List B) (xs ys : List A) → xs ≡ ys → old ++ map f xs ≡ old ++ map f ys
+pub map_begun : {A B : Type 0} (f : A → B) (old : List B) (xs ys : List A) → xs ≡ ys
+    → old ++ map f xs ≡ old ++ map f ys
 map_begun f old xs ys same = ap (λ (zs : List _). old ++ map f zs) same
 
 pub any_done : (old all rest : Bool) → rest ≡ false → (old || rest) ≡ all → old ≡ all
@@ -83,16 +101,21 @@ or_right true b none = cc none
 or_right false b none = none
 
 -- a list begins with the same one, whatever it is called
-pub begins_with : {A : Type 0} (whole rest : List A) (x y : A) → y ≡ x → whole ≡ x ∷ rest → whole ≡ y ∷ rest
+pub begins_with : {A : Type 0} (whole rest : List A) (x y : A) → y ≡ x → whole ≡ x ∷ rest
+    → whole ≡ y ∷ rest
 begins_with whole rest x y same cut = subst (λ (z : _). whole ≡ z ∷ rest) (sym same) cut
 
 -- a pass is handed to a job
-pub handed : {A B : Type 0} (f : A → B) (new old : List A) (x : A) (whole rest all : List B) → new ≡ old ++ x ∷ [] → whole ≡ f x ∷ rest → map f old ++ whole ≡ all → map f new ++ rest ≡ all
+pub handed : {A B : Type 0} (f : A → B) (new old : List A) (x : A) (whole rest all : List B)
+    → new ≡ old ++ x ∷ [] → whole ≡ f x ∷ rest → map f old ++ whole ≡ all → map f new ++ rest ≡ all
 handed f new old x whole rest all grown cut same =
-    ap (λ (ys : List _). map f ys ++ rest) grown ∙ (ap (λ (zs : List _). zs ++ rest) (map_push f old x) ∙ (append_assoc (map f old) (f x ∷ []) rest
+    ap (λ (ys : List _). map f ys ++ rest) grown
+    ∙ (ap (λ (zs : List _). zs ++ rest) (map_push f old x)
+    ∙ (append_assoc (map f old) (f x ∷ []) rest
     ∙ (ap (λ (zs : List _). map f old ++ zs) (sym cut) ∙ same)))
   where
-    map_push : {A B : Type 0} (h : A → B) (xs : List A) (y : A) → map h (xs ++ y ∷ []) ≡ map h xs ++ h y ∷ []
+    map_push : {A B : Type 0} (h : A → B) (xs : List A) (y : A)
+        → map h (xs ++ y ∷ []) ≡ map h xs ++ h y ∷ []
     map_push h [] y = refl
     map_push h (z ∷ xs) y = ap (λ (zs : List _). h z ∷ zs) (map_push h xs y)
 

@@ -1,5 +1,7 @@
--- Which handles of a cell may go to other threads: writers, readers and notes, for any value that may be sent and shared, and any operation that may be sent.
--- One search for a writer doesn't end, so it goes by parts. A crate above cites the ruleset at the end, and shows what lies under a lock of its own by a lemma of its own.
+-- Which handles of a cell may go to other threads: writers, readers and notes, for any value that
+-- may be sent and shared, and any operation that may be sent.
+-- One search for a writer doesn't end, so it goes by parts. A crate above cites the ruleset at the
+-- end, and shows what lies under a lock of its own by a lemma of its own.
 use denote.RattleType.{RattleType}
 use denote.Param.Send.{IsSend, IsSync, sendable}
 use Rattle.std.proofs.Crossing.{crosses}
@@ -34,24 +36,54 @@ kept_sync V O y = search (sendable, crosses, prefix.the_field_sync, seen.the_syn
 pub kept_send : (V O : RattleType) → IsSend V → IsSend (Kept.the_field V O).row
 kept_send V O y = search (sendable, crosses, prefix.the_field_send, seen.the_send) depth 20
 
-pub ruleset board = (sendable, crosses, part.the_send, part.the_sync, deed.the_send, seat.the_send, lease.the_send, lease.the_sync, shared.the_send, shared.the_sync)
+pub ruleset board = (
+  sendable,
+  crosses,
+  part.the_send,
+  part.the_sync,
+  deed.the_send,
+  seat.the_send,
+  lease.the_send,
+  lease.the_sync,
+  shared.the_send,
+  shared.the_sync,
+)
 
-pub reading_send : (T V P : RattleType) (p : protocol.Ghosts P.Denot T.Denot V.Denot) → IsSend T → IsSync T → IsSend (LrReading.the_field T V P Heap.the_row p ghosts).row
+pub reading_send : (T V P : RattleType) (p : protocol.Ghosts P.Denot T.Denot V.Denot) → IsSend T
+    → IsSync T → IsSend (LrReading.the_field T V P Heap.the_row p ghosts).row
 reading_send T V P p s y = search board depth 40
 
-pub desk_send : (T V P : RattleType) (p : protocol.Ghosts P.Denot T.Denot V.Denot) → IsSend T → IsSync T → IsSend (LrDesk.the_field T V P Heap.the_row p ghosts).row
+pub desk_send : (T V P : RattleType) (p : protocol.Ghosts P.Denot T.Denot V.Denot) → IsSend T
+    → IsSync T → IsSend (LrDesk.the_field T V P Heap.the_row p ghosts).row
 desk_send T V P p s y = search board depth 40
 
-pub reader_send : (T V P : RattleType) (p : protocol.Ghosts P.Denot T.Denot V.Denot) → IsSend T → IsSync T → IsSend (LrReader.the_field T V P Heap.the_row p ghosts).row
+pub reader_send : (T V P : RattleType) (p : protocol.Ghosts P.Denot T.Denot V.Denot) → IsSend T
+    → IsSync T → IsSend (LrReader.the_field T V P Heap.the_row p ghosts).row
 reader_send T V P p s y = search board depth 40
 
-pub ruleset handles = (sendable, crosses, kept_sync, kept_send, reading_send, reader_send, desk_send, seen.the_send, prefix.the_field_send, entry.the_field_send, word.the_send)
+pub ruleset handles = (
+  sendable,
+  crosses,
+  kept_sync,
+  kept_send,
+  reading_send,
+  reader_send,
+  desk_send,
+  seen.the_send,
+  prefix.the_field_send,
+  entry.the_field_send,
+  word.the_send,
+)
 
-pub cell_writer_send : (V O S T : RattleType) (k : absorb.Ghosts (kept.Kept V.Denot O.Denot) (entries.Entry O.Denot) T.Denot) (p : published.Ghosts V.Denot O.Denot S.Denot) (a : absorb.Ghosts V.Denot O.Denot S.Denot) (o : operation.Ghosts O.Denot)
+pub cell_writer_send : (V O S T : RattleType)
+    (k : absorb.Ghosts (kept.Kept V.Denot O.Denot) (entries.Entry O.Denot) T.Denot)
+    (p : published.Ghosts V.Denot O.Denot S.Denot) (a : absorb.Ghosts V.Denot O.Denot S.Denot)
+    (o : operation.Ghosts O.Denot)
     → IsSend V → IsSync V → IsSend O → IsSend (Writer.the_field V O S T k p a o).row
 cell_writer_send V O S T k p a o s y t = search handles depth 40
 
-pub cell_reader_send : (V O Q S : RattleType) (p : published.Ghosts V.Denot O.Denot S.Denot) (a : absorb.Ghosts V.Denot O.Denot S.Denot) (o : operation.Ghosts O.Denot)
+pub cell_reader_send : (V O Q S : RattleType) (p : published.Ghosts V.Denot O.Denot S.Denot)
+    (a : absorb.Ghosts V.Denot O.Denot S.Denot) (o : operation.Ghosts O.Denot)
     → IsSend V → IsSync V → IsSend (Reader.the_field V O Q S p a o).row
 cell_reader_send V O Q S p a o s y = search handles depth 40
 

@@ -1,5 +1,6 @@
 -- Words of a line, with gaps between them.
-use Rattle.std.proofs.Common.{◌≡◌, ℕ, ◌≤◌, List, [], ◌∷◌, ◌++◌, length, Bool, true, false, Some, None, refl, ap, ◌∙◌, arith}
+use Rattle.std.proofs.Common.{◌≡◌, ℕ, ◌≤◌, List, [], ◌∷◌, ◌++◌, length, Bool, true, false, Some}
+use Rattle.std.proofs.Common.{None, refl, ap, ◌∙◌, arith}
 use Rattle.std.specs.Prelude.{if◌then◌else◌}
 use Rattle.std.proofs.lemmas.Option.{same_Some}
 use Rattle.text_parts.specs.Words.{is_gap, is_empty, drop_gaps, word_of, behind_word, single_word}
@@ -36,7 +37,12 @@ gaps_cut (b ∷ bs) = go (is_gap b) refl (gaps_cut bs)
   where
     go : (t : Bool) → is_gap b ≡ t → GapsCut bs (drop_gaps bs)
         → GapsCut (b ∷ bs) (if t then drop_gaps bs else b ∷ bs)
-    go true h rest = record { before = b ∷ rest.before; gaps = gap h rest.gaps; is = ap (λ (xs : List ℕ). b ∷ xs) rest.is }
+    go true h rest = record {
+      before = b ∷ rest.before;
+      gaps = gap h rest.gaps;
+      is =
+          ap (λ (xs : List ℕ). b ∷ xs) rest.is;
+    }
     go false h rest = record { before = []; gaps = no_gap; is = refl }
 
 -- a text that doesn't begin with a gap
@@ -81,7 +87,8 @@ pub behind_first : (text : List ℕ) → GapFirst (behind_word text)
 behind_first [] = end_first
 behind_first (b ∷ bs) = go (is_gap b) refl (behind_first bs)
   where
-    go : (t : Bool) → is_gap b ≡ t → GapFirst (behind_word bs) → GapFirst (if t then b ∷ bs else behind_word bs)
+    go : (t : Bool) → is_gap b ≡ t → GapFirst (behind_word bs)
+        → GapFirst (if t then b ∷ bs else behind_word bs)
     go true h rest = gap_first h
     go false h rest = rest
 
@@ -124,7 +131,9 @@ single_cut text word e = go (is_empty (drop_gaps (behind_word (drop_gaps text)))
         let rest : behind_word (drop_gaps text) ≡ tail.before
         = tail.is ∙ (ap (λ (xs : List ℕ). tail.before ++ xs) none ∙ append_none tail.before) in
         let words : drop_gaps text ≡ word ++ tail.before
-        = word_cut (drop_gaps text) ∙ (ap (λ (xs : List ℕ). xs ++ behind_word (drop_gaps text)) (same_Some (word_of (drop_gaps text)) word k)
+        = word_cut (drop_gaps text)
+        ∙ (ap (λ (xs : List ℕ). xs ++ behind_word (drop_gaps text))
+        (same_Some (word_of (drop_gaps text)) word k)
         ∙ ap (λ (xs : List ℕ). word ++ xs) rest) in
         record {
           before = front.before;
@@ -135,16 +144,21 @@ single_cut text word e = go (is_empty (drop_gaps (behind_word (drop_gaps text)))
         }
     go false h k = cc
 
-single_of : (text w rest : List ℕ) → word_of text ≡ w → behind_word text ≡ rest → drop_gaps rest ≡ []
+single_of : (text w rest : List ℕ) → word_of text ≡ w → behind_word text ≡ rest
+    → drop_gaps rest ≡ []
     → (if is_empty (drop_gaps (behind_word text)) then Some (word_of text) else None) ≡ Some w
 single_of text w rest e f g = rw (f, g) (ap (λ (xs : List ℕ). Some xs) e)
 
-pub single_is : {a w c : List ℕ} → AreGaps a → Lacks is_gap w → 1 ≤ length w → AreGaps c → single_word (a ++ (w ++ c)) ≡ Some w
+pub single_is : {a w c : List ℕ} → AreGaps a → Lacks is_gap w → 1 ≤ length w → AreGaps c
+    → single_word (a ++ (w ++ c)) ≡ Some w
 single_is {a} {w} {c} before word some behind =
-    ap (λ (xs : List ℕ). if is_empty (drop_gaps (behind_word xs)) then Some (word_of xs) else None) (gaps_gone before (word_first word some c))
-    ∙ single_of (w ++ c) w c (word_is word (gaps_first behind)) (behind_is word (gaps_first behind)) (all_gaps behind)
+    ap (λ (xs : List ℕ). if is_empty (drop_gaps (behind_word xs)) then Some (word_of xs) else None)
+    (gaps_gone before (word_first word some c))
+    ∙ single_of (w ++ c) w c (word_is word (gaps_first behind))
+    (behind_is word (gaps_first behind)) (all_gaps behind)
 
 pub single_gap : (b : ℕ) (bs : List ℕ) → is_gap b ≡ true → single_word (b ∷ bs) ≡ single_word bs
 single_gap b bs h =
     let same : drop_gaps (b ∷ bs) ≡ drop_gaps bs = rw h refl in
-    ap (λ (xs : List ℕ). if is_empty (drop_gaps (behind_word xs)) then Some (word_of xs) else None) same
+    ap (λ (xs : List ℕ). if is_empty (drop_gaps (behind_word xs)) then Some (word_of xs) else None)
+    same

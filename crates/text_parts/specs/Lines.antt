@@ -1,5 +1,6 @@
 -- The lines of a text.
-use Rattle.std.specs.Prelude.{◌≡◌, ◌≢◌, ℕ, ◌≤◌, ◌<◌, ◌-◌, ◌==◌, ◌&&◌, ◌⊎◌, Bool, false, if◌then◌else◌}
+use Rattle.std.specs.Prelude.{◌≡◌, ◌≢◌, ℕ, ◌≤◌, ◌<◌, ◌-◌, ◌==◌, ◌&&◌, ◌⊎◌, Bool, false}
+use Rattle.std.specs.Prelude.{if◌then◌else◌}
 use Rattle.std.specs.Prelude.{List, [], ◌∷◌, ◌++◌, length, slice_index}
 
 -- a byte at the front of the first line
@@ -23,7 +24,8 @@ lines_of (b ∷ bs) =
 abbrev pub HasNoFeedIn : List ℕ → ℕ → ℕ → Type 0
 HasNoFeedIn text from to = (k : ℕ) → from ≤ k → k < to → slice_index text k ≡ 10 → ⊥
 
--- where the line that follows the one at a place begins: right behind the first line feed from there
+-- where the line that follows the one at a place begins: right behind the first line feed from
+-- there
 -- on, or at the text's end where there is none
 abbrev pub IsNextLine : List ℕ → ℕ → ℕ → Type 0
 IsNextLine text at next =

@@ -20,17 +20,21 @@ waiter_send C s = search (sendable, crosses) depth 20
 pub waiters_send : (C : RattleType) → IsSend C → IsSend (Waiters.the_field C).row
 waiters_send C s = search (sendable, crosses, maps.crosses, waiter_send) depth 40
 
-module _ (C A B : RattleType) (a : ledger.Ghosts A.Denot) (b : ledger.Ghosts B.Denot) (s : IsSend C) where
+module _ (C A B : RattleType) (a : ledger.Ghosts A.Denot) (b : ledger.Ghosts B.Denot)
+    (s : IsSend C) where
   desk_field : IsSend (Desk.the_field C A B a b).row
-  desk_field = search (sendable, crosses, waiters_send, ledger_book.the_send, share.the_send) depth 40
+  desk_field = search (sendable, crosses, waiters_send, ledger_book.the_send, share.the_send) depth
+      40
 
   desk_send : IsSend (Desk.the_row C A B a b)
   desk_send = as_row_send (Desk.the_field C A B a b) desk_field
 
   pub lot_sync : IsSync (Lot.the_row C A B a b)
-  lot_sync = declared_sync (Lot.the_type C A B a b) (search (as_row_sync, desk_send, crosses) depth 40, tt)
+  lot_sync = declared_sync (Lot.the_type C A B a b)
+      (search (as_row_sync, desk_send, crosses) depth 40, tt)
 
-pub hand_send : (A B : RattleType) (a : ledger.Ghosts A.Denot) (b : ledger.Ghosts B.Denot) → IsSend (Hand.the_field A B a b).row
+pub hand_send : (A B : RattleType) (a : ledger.Ghosts A.Denot) (b : ledger.Ghosts B.Denot)
+    → IsSend (Hand.the_field A B a b).row
 hand_send A B a b = search (sendable, crosses, share.the_send) depth 40
 
 pub ruleset lot_handles = (lot_sync, hand_send)

@@ -14,6 +14,7 @@ pub if_err : {T E : Type 0} {P : Type 0} (r : Result T E) → P → OnErr r P
 if_err (Ok v) p = tt
 if_err (Err e) p = p
 
-pub if_ok : {T E : Type 0} (P Q : T → Type 0) (r : Result T E) → IfOk r P → ((v : T) → P v → Q v) → IfOk r Q
+pub if_ok : {T E : Type 0} (P Q : T → Type 0) (r : Result T E) → IfOk r P → ((v : T) → P v → Q v)
+    → IfOk r Q
 if_ok P Q (Ok v) p f = f v p
 if_ok P Q (Err e) p f = tt

@@ -9,7 +9,8 @@ abbrev pub invariant-loop-at : goal.invariant-loop-at
 invariant-loop-at l = record {
   lines : l.line ≤ l.at;
   weights : HaveWeights l.items.items;
-  same : file_value l.text ≡ behind l.items.items (file_from (l.line + 1) (lines_of (drop l.at l.text)));
+  same : file_value l.text ≡ behind l.items.items
+      (file_from (l.line + 1) (lines_of (drop l.at l.text)));
 }
 
 abbrev pub decreases-loop-at : goal.decreases-loop-at

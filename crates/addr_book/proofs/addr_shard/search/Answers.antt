@@ -10,6 +10,8 @@ use Rattle.addr_book.proofs.addr_shard.search.Goals as goal
 pub returns : goal.returns
 returns c =
     let facts = c.binary_search_by.ensures in
-    let by_addr = facts.position (λ m. addr_cmp m.addr c.args.addr) (always_returns_same _ _ _ (λ a r g called. (search rules, search rules))) in
-    let found = searched addr_total addr_only numbered c.args.items.now c.requires c.args.addr c.binary_search_by.result facts.bound by_addr in
+    let by_addr = facts.position (λ m. addr_cmp m.addr c.args.addr)
+    (always_returns_same _ _ _ (λ a r g called. (search rules, search rules))) in
+    let found = searched addr_total addr_only numbered c.args.items.now c.requires c.args.addr
+    c.binary_search_by.result facts.bound by_addr in
     record { found = found.0; absent = found.1 }

@@ -7,4 +7,5 @@ returns-clause-known c = λ is. name_known c.args.text.now (c.has_name_bytes.ens
 
 pub returns-clause-unknown : goal.returns-clause-unknown
 returns-clause-unknown c =
-    λ not. name_unknown c.args.text.now (λ name. true≢false (sym (c.has_name_bytes.ensures.1 name) ∙ not))
+    λ not. name_unknown c.args.text.now
+    (λ name. true≢false (sym (c.has_name_bytes.ensures.1 name) ∙ not))

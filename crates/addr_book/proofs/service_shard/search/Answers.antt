@@ -9,6 +9,8 @@ use Rattle.addr_book.proofs.service_shard.search.Goals as goal
 pub returns : goal.returns
 returns c =
     let facts = c.binary_search_by.ensures in
-    let by_name = facts.position (λ item. slice_cmp nat_cmp item.name c.args.text.now) (always_returns_same _ _ _ (λ a r g called. (search rules, search rules))) in
-    let found = searched nat_list_cmp_total name_only served c.args.items.now c.requires c.args.text.now c.binary_search_by.result facts.bound by_name in
+    let by_name = facts.position (λ item. slice_cmp nat_cmp item.name c.args.text.now)
+    (always_returns_same _ _ _ (λ a r g called. (search rules, search rules))) in
+    let found = searched nat_list_cmp_total name_only served c.args.items.now c.requires
+    c.args.text.now c.binary_search_by.result facts.bound by_name in
     record { found = found.0; absent = found.1 }

@@ -9,4 +9,6 @@ use Rattle.addr_book.proofs.services.put_names.Goals as goal
 pub returns-in-None : goal.returns-in-None
 returns-in-None c =
     sym (append-nil c.args.names.now.items)
-    ∙ ap (λ names. c.args.names.now.items ++ names) (sym (keys-empty (slice_cmp nat_cmp) (List Weighted)) ∙ ap (λ shard. keys (service_shard shard)) (sym c.in-None.is))
+    ∙ ap (λ names. c.args.names.now.items ++ names)
+    (sym (keys-empty (slice_cmp nat_cmp) (List Weighted))
+    ∙ ap (λ shard. keys (service_shard shard)) (sym c.in-None.is))

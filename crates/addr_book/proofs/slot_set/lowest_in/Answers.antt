@@ -15,8 +15,10 @@ loop-at-preserved c =
     elim c.if-word.branch [
       | then-word+in_ok-push_open w ↦
           word_more words at c.loop-at.slots.items _ c.loop-at.invariant
-          (ap (λ v. v.items) w.slots-is ∙ w.in_ok-push_open.ensures (has_slot words) (λ bit lt. has_word words at _ refl bit lt))
-      | else-word w ↦ ap (λ v. v.items) w.slots-is ∙ word_full words at _ refl w.if-word.false c.loop-at.slots.items c.loop-at.invariant
+          (ap (λ v. v.items) w.slots-is ∙ w.in_ok-push_open.ensures (has_slot words)
+          (λ bit lt. has_word words at _ refl bit lt))
+      | else-word w ↦ ap (λ v. v.items) w.slots-is
+          ∙ word_full words at _ refl w.if-word.false c.loop-at.slots.items c.loop-at.invariant
     ]
 
 pub returns-then-count-eq0 : goal.returns-then-count-eq0

@@ -5,5 +5,7 @@ use Rattle.addr_book.proofs.slot_set.push_open.Given as goal
 
 abbrev pub invariant-loop-bit : goal.invariant-loop-bit
 invariant-loop-bit l =
-    (taken : ℕ → Bool) → ((bit : ℕ) → bit < 64 → taken (l.fn.first + bit) ≡ (bit_at l.fn.word bit == 1))
-    → l.slots.items ++ open_slots taken (64 - l.bit) (l.fn.first + l.bit) ≡ l.fn.slots.items ++ open_slots taken 64 l.fn.first
+    (taken : ℕ → Bool) → ((bit : ℕ) → bit < 64 → taken (l.fn.first + bit)
+    ≡ (bit_at l.fn.word bit == 1))
+    → l.slots.items ++ open_slots taken (64 - l.bit) (l.fn.first + l.bit)
+    ≡ l.fn.slots.items ++ open_slots taken 64 l.fn.first

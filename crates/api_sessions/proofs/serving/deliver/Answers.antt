@@ -12,7 +12,8 @@ returns-in-Ok-clause-bytes g c =
       b.1,
       c.stop_where.ensures,
       delivered c.args.head.now c.args.last c.args.reply.now b.0 c.end_behind.result
-          (b.2 ∙ c.as_slice.ensures.value) c.asks_to_close.result c.asks_to_close.ensures c.end_behind.ensures,
+          (b.2 ∙ c.as_slice.ensures.value) c.asks_to_close.result c.asks_to_close.ensures
+          c.end_behind.ensures,
     )
 
 pub returns-in-Ok-clause-writes : goal.returns-in-Ok-clause-writes

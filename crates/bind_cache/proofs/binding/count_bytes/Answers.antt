@@ -12,6 +12,7 @@ loop-looked_up-preserved c =
       c.loop-looked_up.invariant,
       ap length c.in_ok-append_path-2.ensures.ok,
       length-append c.loop-looked_up.text.items (canon_path path),
-      sum_by_more size c.args.asked.now c.loop-looked_up.looked_up-index path c.loop-looked_up-test.true,
+      sum_by_more size c.args.asked.now c.loop-looked_up.looked_up-index path
+          c.loop-looked_up-test.true,
       ap size c.looked_up-item.is,
     )

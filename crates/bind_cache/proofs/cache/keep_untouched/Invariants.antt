@@ -8,4 +8,6 @@ use Rattle.bind_cache.proofs.Turning.{Turned}
 use Rattle.bind_cache.proofs.cache.keep_untouched.Given as goal
 
 abbrev pub invariant-loop-turn : goal.invariant-loop-turn
-invariant-loop-turn l = Turned (λ (b : Arc Binding Global). not (list_any (touched_by l.touch) (asked_in b))) l.fn.bindings.items l.fn.bindings.capacity l._turn l.bindings
+invariant-loop-turn l =
+    Turned (λ (b : Arc Binding Global). not (list_any (touched_by l.touch) (asked_in b)))
+    l.fn.bindings.items l.fn.bindings.capacity l._turn l.bindings

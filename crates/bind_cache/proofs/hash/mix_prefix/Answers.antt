@@ -7,7 +7,10 @@ use Rattle.bind_cache.proofs.hash.mix_prefix.Goals as goal
 
 pub loop-label-preserved : goal.loop-label-preserved
 loop-label-preserved c =
-    fold_more with_pattern pattern_of c.args.labels.now c.loop-label.label-index c.loop-label.all _ c.label-item.result c.loop-label-test.true c.label-item.is c.mix_pattern-all.ensures ∙ c.loop-label.invariant
+    fold_more with_pattern pattern_of c.args.labels.now c.loop-label.label-index c.loop-label.all _
+    c.label-item.result c.loop-label-test.true c.label-item.is c.mix_pattern-all.ensures
+    ∙ c.loop-label.invariant
 
 pub returns : goal.returns
-returns c = sym (at_drop_all (λ xs. with_patterns c.loop-label.all (map pattern_of xs)) c.args.labels.now c.loop-label.label-index c.loop-label-test.false) ∙ c.loop-label.invariant
+returns c = sym (at_drop_all (λ xs. with_patterns c.loop-label.all (map pattern_of xs))
+    c.args.labels.now c.loop-label.label-index c.loop-label-test.false) ∙ c.loop-label.invariant

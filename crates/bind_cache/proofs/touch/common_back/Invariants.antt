@@ -4,4 +4,5 @@ use Rattle.bind_cache.proofs.Fronts.{CommonFrom}
 use Rattle.bind_cache.proofs.touch.common_back.Given as goal
 
 abbrev pub invariant-loop-count : goal.invariant-loop-count
-invariant-loop-count l = CommonFrom (reverse (map rule_of l.old)) (reverse (map rule_of l.new)) l.count
+invariant-loop-count l = CommonFrom (reverse (map rule_of l.old))
+    (reverse (map rule_of l.new)) l.count

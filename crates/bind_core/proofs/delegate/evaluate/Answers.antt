@@ -3,7 +3,8 @@ use Rattle.bind_core.specs.Delegation.{lookup, most_wide}
 use Rattle.bind_core.specs.Stack.{rules_at, names_at, behind, path_work}
 use Rattle.bind_core.specs.Depth.{greatest_depth}
 use Rattle.bind_core.proofs.Paying.{can_begin, due_of, turned_later, told_later}
-use Rattle.bind_core.proofs.Turns.{begins, tried, tried_fewer, turned, turned_fewer, few_tried, finished}
+use Rattle.bind_core.proofs.Turns.{begins, tried, tried_fewer, turned, turned_fewer, few_tried}
+use Rattle.bind_core.proofs.Turns.{finished}
 use Rattle.bind_core.proofs.delegate.evaluate.Goals as goal
 
 pub loop-task-init : goal.loop-task-init

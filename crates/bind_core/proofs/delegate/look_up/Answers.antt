@@ -1,11 +1,13 @@
 use Rattle.std.proofs.Common.{◌+◌, arith, refl}
 use Rattle.bind_core.specs.Rewritten.{labels_of}
 use Rattle.bind_core.specs.Stack.{rules_at, names_at}
-use Rattle.bind_core.proofs.Stepping.{long_path, short_path, lookup-zero, lookup-long, deep_step, wide_step, looked_up}
+use Rattle.bind_core.proofs.Stepping.{long_path, short_path, lookup-zero, lookup-long, deep_step}
+use Rattle.bind_core.proofs.Stepping.{wide_step, looked_up}
 use Rattle.bind_core.proofs.Paying.{deep_look, wide_look, made_look}
 use Rattle.bind_core.proofs.Turns.{on_ok}
 use Rattle.bind_core.proofs.delegate.look_up.Goals as goal
-use Rattle.bind_core.proofs.delegate.look_up.Goals.{then-left-eq0-via-then-left-eq0, then-left-eq0-via-else-left-eq0+then-not-text_fits}
+use Rattle.bind_core.proofs.delegate.look_up.Goals.{then-left-eq0-via-then-left-eq0}
+use Rattle.bind_core.proofs.delegate.look_up.Goals.{then-left-eq0-via-else-left-eq0+then-not-text_fits}
 
 pub returns-then-left-eq0-clause-step : goal.returns-then-left-eq0-clause-step
 returns-then-left-eq0-clause-step g c =

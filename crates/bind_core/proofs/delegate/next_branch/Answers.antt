@@ -16,7 +16,8 @@ returns-in_default-clause-step c =
     c.requires.few c.requires.goes_on c.in_ok-add.ensures _
     (no_branch_left (listed (iter_rest c.args.union.branches))
     (drop c.args.union.from (labels_of c.args.union.path)) c.in_default.ensures)
-    (c.into_outcome.ensures ∙ ap (λ (g : Gathered). kept_ending (kept_of g)) c.into_gathered.ensures)
+    (c.into_outcome.ensures ∙ ap (λ (g : Gathered). kept_ending (kept_of g))
+    c.into_gathered.ensures)
 
 pub returns-in_default-clause-moves : goal.returns-in_default-clause-moves
 returns-in_default-clause-moves c =
@@ -25,7 +26,8 @@ returns-in_default-clause-moves c =
     c.into_outcome.result
     (no_branch_left (listed (iter_rest c.args.union.branches))
     (drop c.args.union.from (labels_of c.args.union.path)) c.in_default.ensures)
-    (c.into_outcome.ensures ∙ ap (λ (g : Gathered). kept_ending (kept_of g)) c.into_gathered.ensures)
+    (c.into_outcome.ensures ∙ ap (λ (g : Gathered). kept_ending (kept_of g))
+    c.into_gathered.ensures)
 
 pub returns-clause-moves : goal.returns-clause-moves
 returns-clause-moves c = inr (record {

@@ -22,7 +22,8 @@ returns-in_default c = record {
 pub returns-in_default-next-clause-step : goal.returns-in_default-next-clause-step
 returns-in_default-next-clause-step c =
     λ rules names. emptied rules names _ c.args.choice _ _ c.requires.few c.args.told _ c.in-Neg.is
-    (c.in_default-next.ensures (labels_of c.args.choice.path)) (c.named_outcome-named.ensures ∙ ap named_ending c.into_named.ensures)
+    (c.in_default-next.ensures (labels_of c.args.choice.path))
+    (c.named_outcome-named.ensures ∙ ap named_ending c.into_named.ensures)
     refl refl
     c.end-in_default-next.ensures.most c.end-in_default-next.ensures.items
 

@@ -1,6 +1,7 @@
 use Rattle.std.proofs.Common.{None, ◌++◌, refl, sym, ap, map, drop, ◌∙◌, arith}
 use Rattle.name_tree.specs.declared.tree.Tree.{Tree}
-use Rattle.name_tree.specs.Value.{TreeValue, Branches, neg, fail, empty, alt, append_rest, append_rest_branches}
+use Rattle.name_tree.specs.Value.{TreeValue, Branches, neg, fail, empty, alt, append_rest}
+use Rattle.name_tree.specs.Value.{append_rest_branches}
 use Rattle.name_tree.specs.Tree.{value_of, branches_of, listed}
 use Rattle.name_tree.proofs.Bridge.{value_of-Alt}
 use Rattle.bind_core.specs.declared.frame.TreesLeft.TheVariants.{Alternatives}
@@ -8,7 +9,8 @@ use Rattle.bind_core.specs.Rewritten.{labels_of, tree_of}
 use Rattle.bind_core.specs.Stack.{rules_at, names_at}
 use Rattle.bind_core.proofs.Trees.{append_rest-tree_values}
 use Rattle.bind_core.proofs.Stepping.{alt_step, union_step, mark_step, leaf_step, long_leaf_step}
-use Rattle.bind_core.proofs.Paying.{neg_due, fail_due, empty_due, leaf_due, long_due, alt_due, union_due}
+use Rattle.bind_core.proofs.Paying.{neg_due, fail_due, empty_due, leaf_due, long_due, alt_due}
+use Rattle.bind_core.proofs.Paying.{union_due}
 use Rattle.bind_core.proofs.Turns.{on_ok}
 use Rattle.bind_core.proofs.delegate.step.Goals as goal
 

@@ -51,7 +51,8 @@ returns-in-Some-clause-body g c =
           (g.P.Peer.line c.write_turn-turn.new.peer).given w.1 t.0 w.4 t.1,
       (λ at. absurd (let no : ⊥ = cc in no)),
       answered c.args.framing (form_of c.args.chunked) most_passed c.pieces.decoder
-          c.write_turn-turn.new.decoder c.args.out.now.items c.args.rest.now w.0 w.1 c.pieces.out.items
+          c.write_turn-turn.new.decoder c.args.out.now.items c.args.rest.now w.0 w.1
+          c.pieces.out.items
           c.pieces.rest c.write_turn-turn.new.rest t.0 w.5 BodyEnd.WriteFault
           c.write_turn-turn.result c.in-Some.end (λ all went front. front)
           (λ taken passed rest front. front) t.2
@@ -66,16 +67,19 @@ returns-in-Ok-eq0-clause-body g c =
       w.0 ++ b.0 ∷ [],
       w.1 ++ t.0,
       came_piece (g.D.Dialer.upstream c.args.dialer.now).left
-          (g.D.Dialer.upstream c.pieces.dialer).left (g.D.Dialer.upstream c.pull_from.new.dialer).left
+          (g.D.Dialer.upstream c.pieces.dialer).left
+          (g.D.Dialer.upstream c.pull_from.new.dialer).left
           w.0 b.0 w.2 b.1,
       received_more (g.D.Dialer.upstream c.args.dialer.now).log
-          (g.D.Dialer.upstream c.pieces.dialer).log (g.D.Dialer.upstream c.pull_from.new.dialer).log w.0
+          (g.D.Dialer.upstream c.pieces.dialer).log
+          (g.D.Dialer.upstream c.pull_from.new.dialer).log w.0
           b.0 w.3 b.2,
       Appends-trans (g.P.Peer.line c.args.peer.now).given (g.P.Peer.line c.pieces.peer).given
           (g.P.Peer.line c.write_turn-turn.new.peer).given w.1 t.0 w.4 t.1,
       (λ at. (w.0, ap (λ p. w.0 ++ p ∷ []) (no_bytes b.0 (b.3 ∙ c.in-Ok-eq0.field-0-test)))),
       on_end c.args.framing (form_of c.args.chunked) most_passed c.pieces.decoder
-          c.write_turn-turn.new.decoder c.args.out.now.items c.args.rest.now w.0 w.1 c.pieces.out.items
+          c.write_turn-turn.new.decoder c.args.out.now.items c.args.rest.now w.0 w.1
+          c.pieces.out.items
           c.pieces.rest c.write_turn-turn.new.rest t.0 c.write_turn-turn.result w.5 t.2
           (no_answer c.write_turn-turn.new.decoder.count BodyEnd.WriteFault c.write_turn-turn.result
           (sym c.answer.ensures ∙ c.in-None.is)) b.0 c.pull_from.new.self
@@ -95,10 +99,12 @@ pieces-preserved g c =
         w.0 ++ b.0 ∷ [],
         w.1 ++ t.0,
         came_piece (g.D.Dialer.upstream c.args.dialer.now).left
-            (g.D.Dialer.upstream c.pieces.dialer).left (g.D.Dialer.upstream c.pull_from.new.dialer).left
+            (g.D.Dialer.upstream c.pieces.dialer).left
+            (g.D.Dialer.upstream c.pull_from.new.dialer).left
             w.0 b.0 w.2 b.1,
         received_more (g.D.Dialer.upstream c.args.dialer.now).log
-            (g.D.Dialer.upstream c.pieces.dialer).log (g.D.Dialer.upstream c.pull_from.new.dialer).log
+            (g.D.Dialer.upstream c.pieces.dialer).log
+            (g.D.Dialer.upstream c.pull_from.new.dialer).log
             w.0 b.0 w.3 b.2,
         Appends-trans (g.P.Peer.line c.args.peer.now).given (g.P.Peer.line c.pieces.peer).given
             (g.P.Peer.line c.write_turn-turn.new.peer).given w.1 t.0 w.4 t.1,
@@ -116,7 +122,8 @@ pieces-preserved g c =
       closings = c.write_turn-turn.ensures.others.closings ∙ i.closings;
       quiets = c.write_turn-turn.ensures.others.quiets ∙ i.quiets;
       left = Keeps-trans (g.P.Peer.line c.args.peer.now).left (g.P.Peer.line c.pieces.peer).left
-          (g.P.Peer.line c.write_turn-turn.new.peer).left i.left c.write_turn-turn.ensures.others.left;
+          (g.P.Peer.line c.write_turn-turn.new.peer).left i.left
+          c.write_turn-turn.ensures.others.left;
     }
 
 pub returns-in-Err-clause-body : goal.returns-in-Err-clause-body
@@ -134,10 +141,12 @@ returns-in-Err-clause-body g c =
       w.0,
       w.1 ++ t.0,
       Consumes-kept (g.D.Dialer.upstream c.args.dialer.now).left
-          (g.D.Dialer.upstream c.pieces.dialer).left (g.D.Dialer.upstream c.pull_from.new.dialer).left _
+          (g.D.Dialer.upstream c.pieces.dialer).left
+          (g.D.Dialer.upstream c.pull_from.new.dialer).left _
           w.2 b.0,
       received_same (g.D.Dialer.upstream c.args.dialer.now).log
-          (g.D.Dialer.upstream c.pieces.dialer).log (g.D.Dialer.upstream c.pull_from.new.dialer).log w.0
+          (g.D.Dialer.upstream c.pieces.dialer).log
+          (g.D.Dialer.upstream c.pull_from.new.dialer).log w.0
           w.3 b.1,
       Appends-trans (g.P.Peer.line c.args.peer.now).given (g.P.Peer.line c.pieces.peer).given
           (g.P.Peer.line c.write_turn-turn.new.peer).given w.1 t.0 w.4 t.1,
@@ -147,47 +156,65 @@ returns-in-Err-clause-body g c =
 
 pub returns-in-Some-clause-receives : goal.returns-in-Some-clause-receives
 returns-in-Some-clause-receives g c = record {
-  here = λ at. absurd (answers_none c.write_turn-turn.new.decoder.count BodyEnd.WriteFault BodyEnd.RecvFault c.write_turn-turn.result c.in-Some.end (sym c.answer.ensures ∙ c.in-Some.is) refl (λ e. cc) at);
+  here = λ at. absurd (answers_none c.write_turn-turn.new.decoder.count BodyEnd.WriteFault
+      BodyEnd.RecvFault c.write_turn-turn.result c.in-Some.end
+      (sym c.answer.ensures ∙ c.in-Some.is) refl (λ e. cc) at);
   others = λ other. c.pieces.invariant.faults;
 }
 
 pub returns-in-Some-clause-writes : goal.returns-in-Some-clause-writes
 returns-in-Some-clause-writes g c =
-    answers_own c.write_turn-turn.new.decoder.count BodyEnd.WriteFault c.write_turn-turn.result c.in-Some.end (g.P.Peer.line c.args.peer.now).write_faults (g.P.Peer.line c.pieces.peer).write_faults
-    (g.P.Peer.line c.write_turn-turn.new.peer).write_faults (sym c.answer.ensures ∙ c.in-Some.is) refl c.pieces.invariant.writes c.write_turn-turn.ensures.cause
+    answers_own c.write_turn-turn.new.decoder.count BodyEnd.WriteFault c.write_turn-turn.result
+    c.in-Some.end (g.P.Peer.line c.args.peer.now).write_faults
+    (g.P.Peer.line c.pieces.peer).write_faults
+    (g.P.Peer.line c.write_turn-turn.new.peer).write_faults
+    (sym c.answer.ensures ∙ c.in-Some.is) refl c.pieces.invariant.writes
+    c.write_turn-turn.ensures.cause
 
 pub returns-in-Some-clause-never : goal.returns-in-Some-clause-never
 returns-in-Some-clause-never g c =
     let answer = sym c.answer.ensures ∙ c.in-Some.is in (
-      answers_none c.write_turn-turn.new.decoder.count BodyEnd.WriteFault BodyEnd.ReadFault c.write_turn-turn.result c.in-Some.end answer refl (λ e. cc),
-      answers_none c.write_turn-turn.new.decoder.count BodyEnd.WriteFault BodyEnd.SendFault c.write_turn-turn.result c.in-Some.end answer refl (λ e. cc),
+      answers_none c.write_turn-turn.new.decoder.count BodyEnd.WriteFault BodyEnd.ReadFault
+          c.write_turn-turn.result c.in-Some.end answer refl (λ e. cc),
+      answers_none c.write_turn-turn.new.decoder.count BodyEnd.WriteFault BodyEnd.SendFault
+          c.write_turn-turn.result c.in-Some.end answer refl (λ e. cc),
     )
 
 pub returns-in-Ok-eq0-clause-receives : goal.returns-in-Ok-eq0-clause-receives
 returns-in-Ok-eq0-clause-receives g c = record {
-  here = λ at. absurd (ends_with_none c.args.framing c.write_turn-turn.new.decoder.count BodyEnd.RecvFault c.at_end.result c.at_end.ensures refl at);
+  here = λ at. absurd (ends_with_none c.args.framing c.write_turn-turn.new.decoder.count
+      BodyEnd.RecvFault c.at_end.result c.at_end.ensures refl at);
   others = λ other. c.in-Ok-eq0.ensures.cause.kept ∙ c.pieces.invariant.faults;
 }
 
 pub returns-in-Ok-eq0-clause-writes : goal.returns-in-Ok-eq0-clause-writes
 returns-in-Ok-eq0-clause-writes g c =
-    let more = no_answer c.write_turn-turn.new.decoder.count BodyEnd.WriteFault c.write_turn-turn.result (sym c.answer.ensures ∙ c.in-None.is) in
+    let more = no_answer c.write_turn-turn.new.decoder.count BodyEnd.WriteFault
+    c.write_turn-turn.result (sym c.answer.ensures ∙ c.in-None.is) in
     record {
-      here = λ at. absurd (ends_with_none c.args.framing c.write_turn-turn.new.decoder.count BodyEnd.WriteFault c.at_end.result c.at_end.ensures refl at);
-      others = λ other. c.write_turn-turn.ensures.cause.others (λ failed. cc) ∙ c.pieces.invariant.writes;
+      here = λ at. absurd (ends_with_none c.args.framing c.write_turn-turn.new.decoder.count
+          BodyEnd.WriteFault c.at_end.result c.at_end.ensures refl at);
+      others = λ other. c.write_turn-turn.ensures.cause.others (λ failed. cc)
+          ∙ c.pieces.invariant.writes;
     }
 
 pub returns-in-Ok-eq0-clause-never : goal.returns-in-Ok-eq0-clause-never
 returns-in-Ok-eq0-clause-never g c = (
-  ends_with_none c.args.framing c.write_turn-turn.new.decoder.count BodyEnd.ReadFault c.at_end.result c.at_end.ensures refl,
-  ends_with_none c.args.framing c.write_turn-turn.new.decoder.count BodyEnd.SendFault c.at_end.result c.at_end.ensures refl,
+  ends_with_none c.args.framing c.write_turn-turn.new.decoder.count BodyEnd.ReadFault
+      c.at_end.result c.at_end.ensures refl,
+  ends_with_none c.args.framing c.write_turn-turn.new.decoder.count BodyEnd.SendFault
+      c.at_end.result c.at_end.ensures refl,
 )
 
 pub pieces-smaller : goal.pieces-smaller
 pieces-smaller g c =
     let t = c.write_turn-turn.ensures.bytes in
     let b = c.in-Ok.ensures.bytes in
-    let more = no_answer c.write_turn-turn.new.decoder.count BodyEnd.WriteFault c.write_turn-turn.result (sym c.answer.ensures ∙ c.in-None.is) in
+    let more = no_answer c.write_turn-turn.new.decoder.count BodyEnd.WriteFault
+    c.write_turn-turn.result (sym c.answer.ensures ∙ c.in-None.is) in
     let some : 0 < length b.0 = omega (arith, b.3, c.in-Ok.field-0-test) in
-    turn_smaller c.pieces.decoder c.write_turn-turn.new.decoder c.pieces.rest c.write_turn-turn.new.rest c.pieces.out.items t.0 c.write_turn-turn.result b.0 c.pull_from.new.self t.2
-    (turn_waits c.pieces.decoder c.write_turn-turn.new.decoder c.pieces.rest c.write_turn-turn.new.rest c.pieces.out.items t.0 c.write_turn-turn.result t.2 more) some b.5
+    turn_smaller c.pieces.decoder c.write_turn-turn.new.decoder c.pieces.rest
+    c.write_turn-turn.new.rest c.pieces.out.items t.0 c.write_turn-turn.result b.0
+    c.pull_from.new.self t.2
+    (turn_waits c.pieces.decoder c.write_turn-turn.new.decoder c.pieces.rest
+    c.write_turn-turn.new.rest c.pieces.out.items t.0 c.write_turn-turn.result t.2 more) some b.5

@@ -113,7 +113,8 @@ pieces-preserved g c =
             (g.D.Dialer.upstream c.pieces.dialer).log
             (g.D.Dialer.upstream c.send_turn-turn.new.dialer).log w.1 t.0 w.3 t.1,
         on_piece c.args.framing Form.Chunks most_passed c.pieces.decoder
-            c.send_turn-turn.new.decoder c.args.out.now.items c.args.rest.now w.0 w.1 c.pieces.out.items
+            c.send_turn-turn.new.decoder c.args.out.now.items c.args.rest.now w.0 w.1
+            c.pieces.out.items
             c.pieces.rest c.send_turn-turn.new.rest t.0 c.send_turn-turn.result w.4 t.2 more
             c.send_turn-turn.new.out.items b.0 c.pull.new.self c.send_turn-turn.ensures.out b.4
             c.in-Ok.ensures.most,
@@ -156,47 +157,64 @@ returns-in-Err-clause-body g c =
 
 pub returns-in-Some-clause-reads : goal.returns-in-Some-clause-reads
 returns-in-Some-clause-reads g c = record {
-  here = λ at. absurd (answers_none c.send_turn-turn.new.decoder.count BodyEnd.SendFault BodyEnd.ReadFault c.send_turn-turn.result c.in-Some.end (sym c.answer.ensures ∙ c.in-Some.is) refl (λ e. cc) at);
+  here = λ at. absurd (answers_none c.send_turn-turn.new.decoder.count BodyEnd.SendFault
+      BodyEnd.ReadFault c.send_turn-turn.result c.in-Some.end
+      (sym c.answer.ensures ∙ c.in-Some.is) refl (λ e. cc) at);
   others = λ other. c.pieces.invariant.reads;
 }
 
 pub returns-in-Some-clause-sends : goal.returns-in-Some-clause-sends
 returns-in-Some-clause-sends g c =
-    answers_own c.send_turn-turn.new.decoder.count BodyEnd.SendFault c.send_turn-turn.result c.in-Some.end (g.D.Dialer.upstream c.args.dialer.now).faults (g.D.Dialer.upstream c.pieces.dialer).faults
-    (g.D.Dialer.upstream c.send_turn-turn.new.dialer).faults (sym c.answer.ensures ∙ c.in-Some.is) refl c.pieces.invariant.faults c.send_turn-turn.ensures.cause
+    answers_own c.send_turn-turn.new.decoder.count BodyEnd.SendFault c.send_turn-turn.result
+    c.in-Some.end (g.D.Dialer.upstream c.args.dialer.now).faults
+    (g.D.Dialer.upstream c.pieces.dialer).faults
+    (g.D.Dialer.upstream c.send_turn-turn.new.dialer).faults
+    (sym c.answer.ensures ∙ c.in-Some.is) refl c.pieces.invariant.faults
+    c.send_turn-turn.ensures.cause
 
 pub returns-in-Some-clause-never : goal.returns-in-Some-clause-never
 returns-in-Some-clause-never g c =
     let answer = sym c.answer.ensures ∙ c.in-Some.is in (
-      answers_none c.send_turn-turn.new.decoder.count BodyEnd.SendFault BodyEnd.WriteFault c.send_turn-turn.result c.in-Some.end answer refl (λ e. cc),
-      answers_none c.send_turn-turn.new.decoder.count BodyEnd.SendFault BodyEnd.RecvFault c.send_turn-turn.result c.in-Some.end answer refl (λ e. cc),
+      answers_none c.send_turn-turn.new.decoder.count BodyEnd.SendFault BodyEnd.WriteFault
+          c.send_turn-turn.result c.in-Some.end answer refl (λ e. cc),
+      answers_none c.send_turn-turn.new.decoder.count BodyEnd.SendFault BodyEnd.RecvFault
+          c.send_turn-turn.result c.in-Some.end answer refl (λ e. cc),
     )
 
 pub returns-in-Ok-eq0-clause-reads : goal.returns-in-Ok-eq0-clause-reads
 returns-in-Ok-eq0-clause-reads g c = record {
-  here = λ at. absurd (ends_with_none c.args.framing c.send_turn-turn.new.decoder.count BodyEnd.ReadFault c.at_end.result c.at_end.ensures refl at);
+  here = λ at. absurd (ends_with_none c.args.framing c.send_turn-turn.new.decoder.count
+      BodyEnd.ReadFault c.at_end.result c.at_end.ensures refl at);
   others = λ other. c.in-Ok-eq0.ensures.cause.kept ∙ c.pieces.invariant.reads;
 }
 
 pub returns-in-Ok-eq0-clause-sends : goal.returns-in-Ok-eq0-clause-sends
 returns-in-Ok-eq0-clause-sends g c =
-    let more = no_answer c.send_turn-turn.new.decoder.count BodyEnd.SendFault c.send_turn-turn.result (sym c.answer.ensures ∙ c.in-None.is) in
+    let more = no_answer c.send_turn-turn.new.decoder.count BodyEnd.SendFault
+    c.send_turn-turn.result (sym c.answer.ensures ∙ c.in-None.is) in
     record {
-      here = λ at. absurd (ends_with_none c.args.framing c.send_turn-turn.new.decoder.count BodyEnd.SendFault c.at_end.result c.at_end.ensures refl at);
-      others = λ other. c.send_turn-turn.ensures.cause.others (λ failed. cc) ∙ c.pieces.invariant.faults;
+      here = λ at. absurd (ends_with_none c.args.framing c.send_turn-turn.new.decoder.count
+          BodyEnd.SendFault c.at_end.result c.at_end.ensures refl at);
+      others = λ other. c.send_turn-turn.ensures.cause.others (λ failed. cc)
+          ∙ c.pieces.invariant.faults;
     }
 
 pub returns-in-Ok-eq0-clause-never : goal.returns-in-Ok-eq0-clause-never
 returns-in-Ok-eq0-clause-never g c = (
-  ends_with_none c.args.framing c.send_turn-turn.new.decoder.count BodyEnd.WriteFault c.at_end.result c.at_end.ensures refl,
-  ends_with_none c.args.framing c.send_turn-turn.new.decoder.count BodyEnd.RecvFault c.at_end.result c.at_end.ensures refl,
+  ends_with_none c.args.framing c.send_turn-turn.new.decoder.count BodyEnd.WriteFault
+      c.at_end.result c.at_end.ensures refl,
+  ends_with_none c.args.framing c.send_turn-turn.new.decoder.count BodyEnd.RecvFault
+      c.at_end.result c.at_end.ensures refl,
 )
 
 pub pieces-smaller : goal.pieces-smaller
 pieces-smaller g c =
     let t = c.send_turn-turn.ensures.bytes in
     let b = c.in-Ok.ensures.bytes in
-    let more = no_answer c.send_turn-turn.new.decoder.count BodyEnd.SendFault c.send_turn-turn.result (sym c.answer.ensures ∙ c.in-None.is) in
+    let more = no_answer c.send_turn-turn.new.decoder.count BodyEnd.SendFault
+    c.send_turn-turn.result (sym c.answer.ensures ∙ c.in-None.is) in
     let some : 0 < length b.0 = omega (arith, b.2, c.in-Ok.field-0-test) in
-    turn_smaller c.pieces.decoder c.send_turn-turn.new.decoder c.pieces.rest c.send_turn-turn.new.rest c.pieces.out.items t.0 c.send_turn-turn.result b.0 c.pull.new.self t.2
-    (turn_waits c.pieces.decoder c.send_turn-turn.new.decoder c.pieces.rest c.send_turn-turn.new.rest c.pieces.out.items t.0 c.send_turn-turn.result t.2 more) some b.4
+    turn_smaller c.pieces.decoder c.send_turn-turn.new.decoder c.pieces.rest
+    c.send_turn-turn.new.rest c.pieces.out.items t.0 c.send_turn-turn.result b.0 c.pull.new.self t.2
+    (turn_waits c.pieces.decoder c.send_turn-turn.new.decoder c.pieces.rest
+    c.send_turn-turn.new.rest c.pieces.out.items t.0 c.send_turn-turn.result t.2 more) some b.4

@@ -129,7 +129,8 @@ pieces-preserved g c =
         Consumes-trans (g.P.Peer.line c.args.peer.now).left (g.P.Peer.line c.pieces.peer).left
             (g.P.Peer.line c.pull.new.peer).left r.0 b.0 r.1 b.1,
         piece_came c.args.framing c.take_all.new.decoder c.args.rest.now r.0
-            c.take_all.new.out.items c.take_all.new.rest on b.0 c.pull.new.self b.4 c.in-Ok.ensures.most
+            c.take_all.new.out.items c.take_all.new.rest on b.0 c.pull.new.self b.4
+            c.in-Ok.ensures.most
             stops,
       );
       ends = c.in-Ok.ensures.end.given some ∙ i.ends;

@@ -7,5 +7,6 @@ use Rattle.choose_core.proofs.draw.total_weight.Given as goal
 abbrev pub invariant-loop-index : goal.invariant-loop-index
 invariant-loop-index l = record {
   fits : l.total ≤ 999999999999 * l.index;
-  total : l.total + sum (weights_of (passing l.sieve (drop l.index l.list))) ≡ sum (weights_of (passing l.sieve l.list));
+  total : l.total + sum (weights_of (passing l.sieve (drop l.index l.list)))
+      ≡ sum (weights_of (passing l.sieve l.list));
 }

@@ -8,4 +8,5 @@ abbrev pub decreases-is_left : goal.decreases-is_left
 decreases-is_left l = found_size (found_of l.bound.now)
 
 abbrev pub invariant-loop-item : goal.invariant-loop-item
-invariant-loop-item l = left_of l.book.services l.item-items ≡ left_of l.book.services (drop l.item-index l.item-items)
+invariant-loop-item l = left_of l.book.services l.item-items
+    ≡ left_of l.book.services (drop l.item-index l.item-items)

@@ -4,4 +4,6 @@ use Rattle.choose_core.proofs.marked.settled.Goals as goal
 
 pub returns-in-Greater-clause-absent : goal.returns-in-Greater-clause-absent
 returns-in-Greater-clause-absent c =
-    gap_here c.args.items.now c.requires c.args.addr c.args.at _ (c.is_behind.ensures c.if-not-is_behind.false) (omega arith) (sym c.cmp.ensures ∙ c.in-Greater.is)
+    gap_here c.args.items.now c.requires c.args.addr c.args.at _
+    (c.is_behind.ensures c.if-not-is_behind.false) (omega arith)
+    (sym c.cmp.ensures ∙ c.in-Greater.is)

@@ -8,7 +8,8 @@ use Rattle.choose_core.proofs.pruning.branch.Given as goal
 abbrev pub invariant-loop-choice : goal.invariant-loop-choice
 invariant-loop-choice l = record {
   good : IfSome l.choice (IsGoodChoice l.book.services);
-  leaf : option_and_then (leaf_in l.book.services) l.choice ≡ chosen l.fn.book.services (found_of l.fn.bound) l.fn.word;
+  leaf : option_and_then (leaf_in l.book.services) l.choice
+      ≡ chosen l.fn.book.services (found_of l.fn.bound) l.fn.word;
   left : is_some l.choice ≡ is_some (pruned l.fn.book.services (found_of l.fn.bound));
 }
 

@@ -4,11 +4,14 @@ use Rattle.choose_core.specs.Live.{is_alive}
 use Rattle.choose_core.proofs.Passing.{read_passes, read_stays}
 use Rattle.choose_core.proofs.Telling.{alive_at, far_none, far_put, far_leave}
 use Rattle.choose_core.proofs.sieve.alive_in.Goals as goal
-use Rattle.choose_core.proofs.sieve.alive_in.Goals.{then-not-is_dead+then-at-lt-MOST_ADDRS, then-not-is_dead+else-at-lt-MOST_ADDRS, else-not-is_dead}
+use Rattle.choose_core.proofs.sieve.alive_in.Goals.{then-not-is_dead+then-at-lt-MOST_ADDRS}
+use Rattle.choose_core.proofs.sieve.alive_in.Goals.{then-not-is_dead+else-at-lt-MOST_ADDRS}
+use Rattle.choose_core.proofs.sieve.alive_in.Goals.{else-not-is_dead}
 
 pub loop-at-init : goal.loop-at-init
 loop-at-init c = record {
-  told = far_none c.args.marks.now c.args.moment c.args.limits c.args.list.now c.none-alive.result c.none-alive.ensures;
+  told = far_none c.args.marks.now c.args.moment c.args.limits c.args.list.now c.none-alive.result
+      c.none-alive.ensures;
   fits = omega arith;
   count = omega arith;
 }
@@ -23,27 +26,39 @@ loop-at-preserved c =
     let fits = c.loop-at.invariant.fits in
     elim c.if-not-is_dead.branch [
       | then-not-is_dead+then-at-lt-MOST_ADDRS w ↦
-          let lives : p (get_or list at d) ≡ true = alive_at c.args.marks.now c.args.moment c.args.limits list at d _ c.loop-at-test.true c.is_dead_near-is_dead.result.0 c.is_dead_near-is_dead.ensures ∙ ap not w.if-not-is_dead.true in
+          let lives : p (get_or list at d) ≡ true =
+          alive_at c.args.marks.now c.args.moment c.args.limits list at d _ c.loop-at-test.true
+          c.is_dead_near-is_dead.result.0 c.is_dead_near-is_dead.ensures
+          ∙ ap not w.if-not-is_dead.true in
           let next = ap length (read_passes p list at d c.loop-at-test.true lives) in
           rw (w.alive-is, w.count-is) (record {
-            told = far_put c.args.marks.now c.args.moment c.args.limits list at d c.loop-at.alive w.put.new.self lives c.loop-at.invariant.told w.put.ensures;
+            told = far_put c.args.marks.now c.args.moment c.args.limits list at d c.loop-at.alive
+                w.put.new.self lives c.loop-at.invariant.told w.put.ensures;
             fits = omega (arith, fits);
             count = omega (arith, count, next);
           })
       | then-not-is_dead+else-at-lt-MOST_ADDRS w ↦
-          let lives : p (get_or list at d) ≡ true = alive_at c.args.marks.now c.args.moment c.args.limits list at d _ c.loop-at-test.true c.is_dead_near-is_dead.result.0 c.is_dead_near-is_dead.ensures ∙ ap not w.if-not-is_dead.true in
+          let lives : p (get_or list at d) ≡ true =
+          alive_at c.args.marks.now c.args.moment c.args.limits list at d _ c.loop-at-test.true
+          c.is_dead_near-is_dead.result.0 c.is_dead_near-is_dead.ensures
+          ∙ ap not w.if-not-is_dead.true in
           let next = ap length (read_passes p list at d c.loop-at-test.true lives) in
           let far = w.if-at-lt-MOST_ADDRS.false in
           rw (w.alive-is, w.count-is) (record {
-            told = far_leave c.args.marks.now c.args.moment c.args.limits list at d c.loop-at.alive (λ few. absurd (omega (arith, far))) c.loop-at.invariant.told;
+            told = far_leave c.args.marks.now c.args.moment c.args.limits list at d c.loop-at.alive
+                (λ few. absurd (omega (arith, far))) c.loop-at.invariant.told;
             fits = omega (arith, fits);
             count = omega (arith, count, next);
           })
       | else-not-is_dead w ↦
-          let dead : p (get_or list at d) ≡ false = alive_at c.args.marks.now c.args.moment c.args.limits list at d _ c.loop-at-test.true c.is_dead_near-is_dead.result.0 c.is_dead_near-is_dead.ensures ∙ ap not w.if-not-is_dead.false in
+          let dead : p (get_or list at d) ≡ false =
+          alive_at c.args.marks.now c.args.moment c.args.limits list at d _ c.loop-at-test.true
+          c.is_dead_near-is_dead.result.0 c.is_dead_near-is_dead.ensures
+          ∙ ap not w.if-not-is_dead.false in
           let next = ap length (read_stays p list at d c.loop-at-test.true dead) in
           rw (w.alive-is, w.count-is) (record {
-            told = far_leave c.args.marks.now c.args.moment c.args.limits list at d c.loop-at.alive (λ _. dead) c.loop-at.invariant.told;
+            told = far_leave c.args.marks.now c.args.moment c.args.limits list at d c.loop-at.alive
+                (λ _. dead) c.loop-at.invariant.told;
             fits = omega (arith, fits);
             count = omega (arith, count, next);
           })

@@ -8,5 +8,6 @@ abbrev pub invariant-loop-at : goal.invariant-loop-at
 invariant-loop-at l = record {
   told : IsFar l.marks l.moment l.limits l.list l.at l.alive;
   fits : l.count ≤ l.at;
-  count : l.count + length (filter (is_alive l.marks l.moment l.limits) (drop l.at l.list)) ≡ length (filter (is_alive l.marks l.moment l.limits) l.list);
+  count : l.count + length (filter (is_alive l.marks l.moment l.limits) (drop l.at l.list))
+      ≡ length (filter (is_alive l.marks l.moment l.limits) l.list);
 }

@@ -5,4 +5,5 @@ use Rattle.delegate_view.specs.Query.{first_value}
 use Rattle.delegate_view.proofs.query.first_value.Given as goal
 
 abbrev pub invariant-loop-encoded : goal.invariant-loop-encoded
-invariant-loop-encoded l = first_value l.name (raw_pairs_left l.encoded-iterator) ≡ first_value l.name (raw_pairs l.query)
+invariant-loop-encoded l = first_value l.name (raw_pairs_left l.encoded-iterator)
+    ≡ first_value l.name (raw_pairs l.query)

@@ -21,5 +21,7 @@ returns-then-are_same c = λ place is.
     (c.deref-cover-items.ensures.value ∙ c.in-Ok.ensures) c.loop-cover-test.true refl in
     let same = prefix_at-read c.args.entries.now found c.index-entries-place.result there.0
     ∙ c.are_same.ensures.0 c.if-are_same.true in
-    let here = subst (λ (prefix : List Pattern). Contains c.args.index.now (prefix, found)) same there.1 in
-    subst (λ (n : ℕ). Contains c.args.index.now (c.args.prefix.now, n)) (same_Some found place is) here
+    let here = subst (λ (prefix : List Pattern). Contains c.args.index.now (prefix, found)) same
+    there.1 in
+    subst (λ (n : ℕ). Contains c.args.index.now (c.args.prefix.now, n))
+    (same_Some found place is) here

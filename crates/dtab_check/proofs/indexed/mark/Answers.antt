@@ -1,4 +1,5 @@
-use Rattle.std.proofs.Common.{◌<◌, ◌∙◌, List, [], ℕ, true, get_or, length, length-set, refl, set, subst, arith}
+use Rattle.std.proofs.Common.{◌<◌, ◌∙◌, List, [], ℕ, true, get_or, length, length-set, refl, set}
+use Rattle.std.proofs.Common.{subst, arith}
 use Rattle.std.proofs.lemmas.List.{get_or_default, take_all}
 use Rattle.std.proofs.lemmas.List.Elements.{All-get_or}
 use Rattle.dtab_check.specs.Indexed.{Marks}
@@ -17,15 +18,19 @@ loop-place-preserved c =
     let own = c.loop-place.invariant in
     let inside : place < length met = omega (
       arith,
-      All-get_or (λ (n : ℕ). n < length c.args.met.now.items) places at 0 c.loop-place-test.true c.requires,
+      All-get_or (λ (n : ℕ). n < length c.args.met.now.items) places at 0 c.loop-place-test.true
+          c.requires,
       own.size,
     ) in
     record {
-      marks = marks-more c.args.met.now.items met (set met place true) places at place own.marks c.loop-place-test.true (get_or_default places at 0 place c.loop-place-test.true) inside refl;
+      marks = marks-more c.args.met.now.items met (set met place true) places at place own.marks
+          c.loop-place-test.true (get_or_default places at 0 place c.loop-place-test.true) inside
+          refl;
       size = length-set met place true ∙ own.size;
     }
 
 pub returns-clause-marks : goal.returns-clause-marks
 returns-clause-marks c =
-    subst (λ (places : List ℕ). Marks c.args.met.now.items c.loop-place.met.items places) (take_all c.loop-place.place-index c.args.places.now c.loop-place-test.false)
+    subst (λ (places : List ℕ). Marks c.args.met.now.items c.loop-place.met.items places)
+    (take_all c.loop-place.place-index c.args.places.now c.loop-place-test.false)
     c.loop-place.invariant.marks

@@ -18,7 +18,8 @@ loop-at-preserved c =
     let others : texts_in later ≡ map canon_rule (drop (at + 1) rules) =
     later_texts texts later entries (at + 1) c.in_ok-texts.ensures.texts behind in
     let own : c.index.result.now.bytes.items ≡ canon_rule (rule_of c.index-entries-at.result) =
-    text-at texts entries at c.index.result.now c.index-entries-at.result c.in_ok-texts.ensures.texts
+    text-at texts entries at c.index.result.now c.index-entries-at.result
+    c.in_ok-texts.ensures.texts
     c.loop-at-test.true c.index.ensures c.index-entries-at.is in
     notes_next entries at c.index-entries-at.result c.loop-at.items.items
     c.put_notes.new.items.items c.find_last_same-same.result (notes_in rules)

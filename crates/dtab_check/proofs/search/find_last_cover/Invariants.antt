@@ -7,7 +7,8 @@ use Rattle.dtab_check.proofs.search.find_last_cover.Given as goal
 
 abbrev pub invariant-loop-at : goal.invariant-loop-at
 invariant-loop-at l = record {
-  none : (is_sure : TreeValue → Bool) → l.sure ≡ map (λ e. is_sure (value_of e.tree)) l.entries → last_cover is_sure l.at (drop l.at (map rule_of l.entries)) l.prefix ≡ None;
+  none : (is_sure : TreeValue → Bool) → l.sure ≡ map (λ e. is_sure (value_of e.tree)) l.entries
+      → last_cover is_sure l.at (drop l.at (map rule_of l.entries)) l.prefix ≡ None;
   above : l.from ≤ l.at;
   within : l.at ≤ length l.entries;
 }

@@ -5,4 +5,5 @@ use Rattle.dtab_check.specs.Hidden.{hidden_from, hidden_in}
 use Rattle.dtab_check.proofs.search.hidden.Given as goal
 
 abbrev pub invariant-loop-at : goal.invariant-loop-at
-invariant-loop-at l = l.items.items ++ hidden_from (is_sure (map rule_of l.entries)) l.at (drop l.at (map rule_of l.entries)) ≡ hidden_in (map rule_of l.entries)
+invariant-loop-at l = l.items.items ++ hidden_from (is_sure (map rule_of l.entries)) l.at
+    (drop l.at (map rule_of l.entries)) ≡ hidden_in (map rule_of l.entries)

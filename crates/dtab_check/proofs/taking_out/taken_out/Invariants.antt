@@ -5,6 +5,7 @@ use Rattle.dtab_check.proofs.taking_out.taken_out.Given as goal
 
 abbrev pub invariant-loop-at : goal.invariant-loop-at
 invariant-loop-at l = record {
-  kept : map rule_of l.kept.items ++ without_from l.at l.list (drop l.at (map rule_of l.entries)) ≡ without l.list (map rule_of l.entries);
+  kept : map rule_of l.kept.items ++ without_from l.at l.list (drop l.at (map rule_of l.entries))
+      ≡ without l.list (map rule_of l.entries);
   few : length l.kept.items ≤ l.at;
 }

@@ -5,4 +5,5 @@ use Rattle.dtab_check.specs.Texts.{texts_in}
 use Rattle.dtab_check.proofs.texts.texts_of.Given as goal
 
 abbrev pub invariant-loop-entry : goal.invariant-loop-entry
-invariant-loop-entry l = texts_in l.texts.items ≡ map canon_rule (map rule_of (take l.entry-index l.entries))
+invariant-loop-entry l = texts_in l.texts.items
+    ≡ map canon_rule (map rule_of (take l.entry-index l.entries))

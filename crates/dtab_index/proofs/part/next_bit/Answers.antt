@@ -15,12 +15,14 @@ returns-then-from-ge-WORD_PLACES c =
 pub returns-then-rest-eq0 : goal.returns-then-rest-eq0
 returns-then-rest-eq0 c =
     let small : c.args.word < 2 ^ 64 = omega arith in
-    no_bit c.args.word c.args.from (rest_of c.args.word c.args.from) small c.if-from-ge-WORD_PLACES.false refl c.if-rest-eq0.true
+    no_bit c.args.word c.args.from (rest_of c.args.word c.args.from) small
+    c.if-from-ge-WORD_PLACES.false refl c.if-rest-eq0.true
 
 pub returns : goal.returns
 returns c =
     let small : c.args.word < 2 ^ 64 = omega arith in
     let rest : ℕ = rest_of c.args.word c.args.from in
     let some : 0 < rest = omega (arith, c.if-rest-eq0.false) in
-    let fits : rest < 2 ^ 64 = omega (arith, small, and_le_l c.args.word ((2 ^ 64 - 1) * 2 ^ c.args.from % 2 ^ 64)) in
+    let fits : rest < 2 ^ 64 =
+    omega (arith, small, and_le_l c.args.word ((2 ^ 64 - 1) * 2 ^ c.args.from % 2 ^ 64)) in
     next_is c.args.word c.args.from rest small c.if-from-ge-WORD_PLACES.false refl some fits

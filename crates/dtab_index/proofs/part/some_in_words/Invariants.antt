@@ -6,4 +6,6 @@ use Rattle.dtab_index.specs.Part.{positions_at, is_between}
 use Rattle.dtab_index.proofs.part.some_in_words.Given as goal
 
 abbrev pub invariant-loop-at : goal.invariant-loop-at
-invariant-loop-at l = (l.at ≤ 16) × (list_any (is_between l.from l.to) (listed (has l.words) (positions_at l.entries) (l.at * 64) 0) ≡ false)
+invariant-loop-at l =
+    (l.at ≤ 16) × (list_any (is_between l.from l.to)
+    (listed (has l.words) (positions_at l.entries) (l.at * 64) 0) ≡ false)

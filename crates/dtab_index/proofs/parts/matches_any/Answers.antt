@@ -9,16 +9,23 @@ use Rattle.dtab_index.proofs.parts.matches_any.Goals as goal
 
 pub returns-then-matches_any : goal.returns-then-matches_any
 returns-then-matches_any c =
-    let rest : Bool = some_matches_there c.args.from c.args.to (placed_by (drop (c.loop-part.part-index + 1) c.args.parts.now)) c.args.path.now in
-    let here : Bool = some_matches_there c.args.from c.args.to (placed_in c.part-item.result.entries.items) c.args.path.now in
-    let told : some_matches_there c.args.from c.args.to (placed_in c.part-item.result.entries.items) c.args.path.now ≡ true = sym c.matches_any.ensures ∙ c.if-matches_any.true in
+    let rest : Bool = some_matches_there c.args.from c.args.to
+    (placed_by (drop (c.loop-part.part-index + 1) c.args.parts.now)) c.args.path.now in
+    let here : Bool = some_matches_there c.args.from c.args.to
+    (placed_in c.part-item.result.entries.items) c.args.path.now in
+    let told : some_matches_there c.args.from c.args.to
+    (placed_in c.part-item.result.entries.items) c.args.path.now ≡ true =
+    sym c.matches_any.ensures ∙ c.if-matches_any.true in
     sym
     (c.loop-part.invariant
-    ∙ (some_more c.args.parts.now c.loop-part.part-index c.part-item.result c.args.path.now c.loop-part-test.true c.part-item.is c.args.from c.args.to ∙ or_left here rest told))
+    ∙ (some_more c.args.parts.now c.loop-part.part-index c.part-item.result c.args.path.now
+    c.loop-part-test.true c.part-item.is c.args.from c.args.to ∙ or_left here rest told))
 
 pub loop-part-preserved : goal.loop-part-preserved
 loop-part-preserved c =
-    let rest : Bool = some_matches_there c.args.from c.args.to (placed_by (drop (c.loop-part.part-index + 1) c.args.parts.now)) c.args.path.now in
+    let rest : Bool = some_matches_there c.args.from c.args.to
+    (placed_by (drop (c.loop-part.part-index + 1) c.args.parts.now)) c.args.path.now in
     c.loop-part.invariant
-    ∙ (some_more c.args.parts.now c.loop-part.part-index c.part-item.result c.args.path.now c.loop-part-test.true c.part-item.is c.args.from c.args.to
+    ∙ (some_more c.args.parts.now c.loop-part.part-index c.part-item.result c.args.path.now
+    c.loop-part-test.true c.part-item.is c.args.from c.args.to
     ∙ ap (λ b. b || rest) (sym c.matches_any.ensures ∙ c.if-matches_any.false))

@@ -7,6 +7,7 @@ use Rattle.dtab_table.proofs.laws.texts_have_one_value.Goals as goal
 
 pub returns : goal.returns
 returns c = record {
-  prefixes = λ text v w p q. one_value next_prefix end_prefix before PrefixText prefix_laws text v w p q;
+  prefixes = λ text v w p q. one_value next_prefix end_prefix before PrefixText prefix_laws text v
+      w p q;
   tables = λ text v w p q. one_table text v w p q;
 }

@@ -8,4 +8,5 @@ pub of-requires : goal.of-requires
 of-requires c = omega (arith, c.in-Ok.ensures.few, length-map c.in-Ok.entries rule_of)
 
 pub returns-in-Ok-of : goal.returns-in-Ok-of
-returns-in-Ok-of c = subst (λ (rules : List Rule). IsTable c.args.text.now rules) (sym c.in-Ok-of.ensures) c.in-Ok.ensures
+returns-in-Ok-of c = subst (λ (rules : List Rule). IsTable c.args.text.now rules)
+    (sym c.in-Ok-of.ensures) c.in-Ok.ensures

@@ -5,4 +5,8 @@ use Rattle.name_tree.proofs.Places.{SoFar}
 use Rattle.dtab_table.proofs.read.entries_in.Given as goal
 
 abbrev pub invariant-loop-at : goal.invariant-loop-at
-invariant-loop-at l = record { stands : SoFar next_state table_start l.text l.at (state_of l.reader); few : depth_of l.reader ≤ 64 }
+invariant-loop-at l =
+    record {
+      stands : SoFar next_state table_start l.text l.at (state_of l.reader);
+      few : depth_of l.reader ≤ 64;
+    }

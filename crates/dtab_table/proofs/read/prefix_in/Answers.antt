@@ -10,20 +10,29 @@ use Rattle.dtab_table.proofs.read.prefix_in.Goals as goal
 
 pub returns-in-Err-Byte : goal.returns-in-Err-Byte
 returns-in-Err-Byte c =
-    (fault_at next_prefix end_prefix before PrefixText prefix_laws c.args.text.now c.loop-byte.byte-index (prefix_at_of c.loop-byte.reader) c.loop-byte-test.true c.loop-byte.invariant
+    (fault_at next_prefix end_prefix before PrefixText prefix_laws c.args.text.now
+    c.loop-byte.byte-index (prefix_at_of c.loop-byte.reader) c.loop-byte-test.true
+    c.loop-byte.invariant
     (rw c.in-Err-Byte.field-0-is at c.in-Err-Byte.ensures)).1
 
 pub loop-byte-preserved : goal.loop-byte-preserved
 loop-byte-preserved c =
-    run_more next_prefix before (prefix_at_of c.loop-byte.reader) c.args.text.now c.loop-byte.byte-index c.loop-byte-test.true c.loop-byte.invariant ∙ c.in-Ok.ensures
+    run_more next_prefix before (prefix_at_of c.loop-byte.reader) c.args.text.now
+    c.loop-byte.byte-index c.loop-byte-test.true c.loop-byte.invariant ∙ c.in-Ok.ensures
 
 pub returns-in-Ok-end : goal.returns-in-Ok-end
 returns-in-Ok-end c =
-    value_at_end next_prefix end_prefix before PrefixText prefix_laws c.args.text.now (prefix_at_of c.loop-byte.reader) _
-    (ap (run next_prefix before) (sym (take_all c.loop-byte.byte-index c.args.text.now c.loop-byte-test.false)) ∙ c.loop-byte.invariant) c.in-Ok-end.ensures
+    value_at_end next_prefix end_prefix before PrefixText prefix_laws c.args.text.now
+    (prefix_at_of c.loop-byte.reader) _
+    (ap (run next_prefix before)
+    (sym (take_all c.loop-byte.byte-index c.args.text.now c.loop-byte-test.false))
+    ∙ c.loop-byte.invariant) c.in-Ok-end.ensures
 
 pub returns-in-Err-Byte-end : goal.returns-in-Err-Byte-end
 returns-in-Err-Byte-end c =
-    (fault_at_end next_prefix end_prefix before PrefixText prefix_laws c.args.text.now (prefix_at_of c.loop-byte.reader)
-    (ap (run next_prefix before) (sym (take_all c.loop-byte.byte-index c.args.text.now c.loop-byte-test.false)) ∙ c.loop-byte.invariant)
+    (fault_at_end next_prefix end_prefix before PrefixText prefix_laws c.args.text.now
+    (prefix_at_of c.loop-byte.reader)
+    (ap (run next_prefix before)
+    (sym (take_all c.loop-byte.byte-index c.args.text.now c.loop-byte-test.false))
+    ∙ c.loop-byte.invariant)
     (rw c.in-Err-Byte-end.field-0-is at c.in-Err-Byte-end.ensures)).1

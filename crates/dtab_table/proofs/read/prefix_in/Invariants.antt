@@ -5,4 +5,5 @@ use Rattle.dtab_table.specs.Readers.{prefix_at_of}
 use Rattle.dtab_table.proofs.read.prefix_in.Given as goal
 
 abbrev pub invariant-loop-byte : goal.invariant-loop-byte
-invariant-loop-byte l = run next_prefix before (take l.byte-index l.text) ≡ Some (prefix_at_of l.reader)
+invariant-loop-byte l = run next_prefix before (take l.byte-index l.text)
+    ≡ Some (prefix_at_of l.reader)

@@ -7,6 +7,8 @@ use Rattle.forward.proofs.dropped.is_any_of.Goals as goal
 
 pub returns : goal.returns
 returns c =
-    any_from_yields_List (λ (n : Bor (List ℕ)). is_named n.now c.args.field.now) _ _ _ c.any.ensures.ran
+    any_from_yields_List (λ (n : Bor (List ℕ)). is_named n.now c.args.field.now) _ _ _
+    c.any.ensures.ran
     (YieldsList-from_slice c.args.names.now c.iter.ensures.rest) (λ x b q k. search rules)
-    ∙ list_any-map (λ (n : List ℕ). is_named n c.args.field.now) (λ (n : Bor (List ℕ)). n.now) c.args.names.now
+    ∙ list_any-map (λ (n : List ℕ). is_named n c.args.field.now)
+    (λ (n : Bor (List ℕ)). n.now) c.args.names.now

@@ -6,5 +6,6 @@ loop-field-init c = nothing_left _ c.args.listed.now c.args.head.now.items
 
 pub loop-field-preserved : goal.loop-field-preserved
 loop-field-preserved c =
-    left_more _ c.args.listed.now c.args.fields.now c.loop-field.field-index c.field-item.result _ _ _ c.loop-field-test.true c.field-item.is c.loop-field.invariant
+    left_more _ c.args.listed.now c.args.fields.now c.loop-field.field-index c.field-item.result _
+    _ _ c.loop-field-test.true c.field-item.is c.loop-field.invariant
     c.in_ok-push_where_left.ensures

@@ -5,4 +5,5 @@ use Rattle.forward.proofs.dropped.push_left.Given as goal
 
 abbrev pub invariant-loop-field : goal.invariant-loop-field
 invariant-loop-field l =
-    l.head.items ≡ l.fn.head.items ++ ended (map field_line (left_by (map (λ n. n.now) l.never) l.listed (take l.field-index l.fields)))
+    l.head.items ≡ l.fn.head.items ++ ended
+    (map field_line (left_by (map (λ n. n.now) l.never) l.listed (take l.field-index l.fields)))

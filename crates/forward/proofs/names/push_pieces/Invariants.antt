@@ -5,4 +5,5 @@ use Rattle.forward.proofs.names.push_pieces.Given as goal
 
 abbrev pub invariant-loop-piece : goal.invariant-loop-piece
 invariant-loop-piece l =
-    map (λ n. n.items) l.names.items ≡ map (λ n. n.items) l.fn.names.items ++ lowered (map (λ n. trim_ows n.now) l.yielded)
+    map (λ n. n.items) l.names.items ≡ map (λ n. n.items) l.fn.names.items
+    ++ lowered (map (λ n. trim_ows n.now) l.yielded)

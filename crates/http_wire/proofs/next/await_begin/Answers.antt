@@ -10,6 +10,7 @@ returns g c =
     let none : length c.kept.result.now ≡ 0 = grind (arith, nat_tests, c.is_empty.ensures) in
     let old = g.P.Peer.line c.args.peer.now in
     let new = g.P.Peer.line c.fill_next.new.peer in
-    subst (λ (a : Awaited). Awaits old new c.args.rest.now c.fill_next.new.self a) (sym c.begin_by.ensures)
+    subst (λ (a : Awaited). Awaits old new c.args.rest.now c.fill_next.new.self a)
+    (sym c.begin_by.ensures)
     (begins old new c.args.rest.now c.fill_next.new.self c.fill_next.result
     (nothing_of c.args.rest.now (sym (ap length c.kept.ensures) ∙ none)) c.fill_next.ensures)

@@ -4,4 +4,5 @@ use Rattle.http_wire.specs.Parsed.{pair_of}
 use Rattle.http_wire.proofs.parse.fields_of.Given as goal
 
 abbrev pub invariant-loop-span : goal.invariant-loop-span
-invariant-loop-span l = map pair_of l.fields.items ≡ map (header_bytes l.bytes) (take l.span-index l.spans)
+invariant-loop-span l = map pair_of l.fields.items
+    ≡ map (header_bytes l.bytes) (take l.span-index l.spans)

@@ -9,14 +9,16 @@ pub skip-requires : goal.skip-requires
 skip-requires c =
     let found = subst (Shows c.kept.result.now) c.in-Ok-Whole.field-0-is c.in-Ok-Whole.ensures in
     begins_within c.args.rest.now c.in-Ok-Whole.head c.in-Ok-Whole.len
-    (subst (λ (bytes : List ℕ). BeginsWith bytes c.in-Ok-Whole.head c.in-Ok-Whole.len) c.kept.ensures found)
+    (subst (λ (bytes : List ℕ). BeginsWith bytes c.in-Ok-Whole.head c.in-Ok-Whole.len)
+    c.kept.ensures found)
 
 pub returns-in-Ok-Whole : goal.returns-in-Ok-Whole
 returns-in-Ok-Whole c =
     let found = subst (Shows c.kept.result.now) c.in-Ok-Whole.field-0-is c.in-Ok-Whole.ensures in (
       c.in-Ok-Whole.len,
       begins_whatever c.args.rest.now c.in-Ok-Whole.head c.in-Ok-Whole.len
-          (subst (λ (bytes : List ℕ). BeginsWith bytes c.in-Ok-Whole.head c.in-Ok-Whole.len) c.kept.ensures found),
+          (subst (λ (bytes : List ℕ). BeginsWith bytes c.in-Ok-Whole.head c.in-Ok-Whole.len)
+          c.kept.ensures found),
       c.skip.ensures,
     )
 
@@ -27,10 +29,12 @@ returns-in-Ok-Bad c =
 
 pub returns-in-Ok-Version : goal.returns-in-Ok-Version
 returns-in-Ok-Version c =
-    let found = subst (Shows c.kept.result.now) c.in-Ok-Version.field-0-is c.in-Ok-Version.ensures in
+    let found = subst (Shows c.kept.result.now) c.in-Ok-Version.field-0-is
+    c.in-Ok-Version.ensures in
     (other_whatever c.args.rest.now (subst NamesOtherVersion c.kept.ensures found), refl)
 
 pub returns-in-Ok-TooLarge : goal.returns-in-Ok-TooLarge
 returns-in-Ok-TooLarge c =
-    let found = subst (Shows c.kept.result.now) c.in-Ok-TooLarge.field-0-is c.in-Ok-TooLarge.ensures in
+    let found = subst (Shows c.kept.result.now) c.in-Ok-TooLarge.field-0-is
+    c.in-Ok-TooLarge.ensures in
     (large_whatever c.args.rest.now (subst IsTooLarge c.kept.ensures found), refl)

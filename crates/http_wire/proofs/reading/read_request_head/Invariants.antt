@@ -6,7 +6,8 @@ use Rattle.http_wire.proofs.reading.read_request_head.Given as goal
 
 abbrev pub invariant-loop-answer : goal.invariant-loop-answer
 invariant-loop-answer g l = record {
-  read : (taken : List ℕ) × Consumes (g.P.Peer.line l.fn.peer).left (g.P.Peer.line l.peer).left taken × IsPrompt l.fn.rest taken × (l.rest ≡ l.fn.rest ++ taken);
+  read : (taken : List ℕ) × Consumes (g.P.Peer.line l.fn.peer).left
+      (g.P.Peer.line l.peer).left taken × IsPrompt l.fn.rest taken × (l.rest ≡ l.fn.rest ++ taken);
   trusts : Trusts l.watch l.rest;
   ends : (g.P.Peer.line l.peer).ends ≡ (g.P.Peer.line l.fn.peer).ends;
   faults : (g.P.Peer.line l.peer).read_faults ≡ (g.P.Peer.line l.fn.peer).read_faults;

@@ -7,4 +7,5 @@ use Rattle.http_wire.proofs.watch.line.Goals as goal
 
 pub returns-then-byte-eq10 : goal.returns-then-byte-eq10
 returns-then-byte-eq10 c still bytes stands =
-    subst (λ (b : ℕ). StandsAt (Fields Start) (bytes ++ b ∷ [])) (sym c.if-byte-eq10.true) (line_feed_ends bytes stands)
+    subst (λ (b : ℕ). StandsAt (Fields Start) (bytes ++ b ∷ [])) (sym c.if-byte-eq10.true)
+    (line_feed_ends bytes stands)

@@ -5,4 +5,5 @@ use Rattle.identifier.proofs.local.add_tables.Given as goal
 
 abbrev pub invariant-loop-field : goal.invariant-loop-field
 invariant-loop-field l =
-    behind l.entries.items (values_of l.name (drop l.field-index l.fields)) ≡ behind l.fn.entries.items (values_of l.name l.fields)
+    behind l.entries.items (values_of l.name (drop l.field-index l.fields))
+    ≡ behind l.fn.entries.items (values_of l.name l.fields)

@@ -9,7 +9,8 @@ use Rattle.linker_commands.specs.Linked.{Linked, linked}
 use Rattle.linker_commands.specs.Run.{Ran}
 use Rattle.linker_commands.proofs.Causes.{back_cause, long_cause, known_status, net_cause}
 use Rattle.linker_commands.proofs.Causes.{refused_cause, shown_cause, read_cause, folder_cause}
-use Rattle.linker_commands.proofs.Causes.{write_cause, net_fault_cause, words_due, read_due, long_due}
+use Rattle.linker_commands.proofs.Causes.{write_cause, net_fault_cause, words_due, read_due}
+use Rattle.linker_commands.proofs.Causes.{long_due}
 use Rattle.linker_commands.proofs.program.linker.Goals as goal
 
 pub returns-clause-longer : goal.returns-clause-longer

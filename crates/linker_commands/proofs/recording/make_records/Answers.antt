@@ -27,12 +27,14 @@ loop-writer-preserved g c =
     let count = inv.count in
     record {
       count = omega (arith, longer, grown, shorter, count);
-      writers = All-rest (IsWriterOf c.args.recording.now.counts.now) c.in-Some.writer rest before cut
+      writers = All-rest (IsWriterOf c.args.recording.now.counts.now) c.in-Some.writer rest before
+          cut
           inv.writers;
       none = All-rest HasCountedNone c.in-Some.writer rest before cut inv.none;
       new = subst (All (IsNewRecord moments path words)) (sym pushed)
           (All-push (IsNewRecord moments path words) records made inv.new new);
-      firsts = one_seated c.args.writers.items records c.push.new.self.items made c.in-Some.writer rest
+      firsts = one_seated c.args.writers.items records c.push.new.self.items made c.in-Some.writer
+          rest
           before pushed c.in_ok-made.ensures.first cut inv.firsts;
       closed = c.in_ok-made.ensures.closed ∙ inv.closed;
     }

@@ -12,7 +12,8 @@ returns-in-Ok-Serve g c =
     let made = c.serve.ensures.served in
     let input = ap input_of c.serve.ensures.input in (
       made.0,
-      (rw c.in-Ok-Serve.ensures (rw c.in-Ok-Serve.field-0-is (made.1, input, c.serve.ensures.files))),
+      (rw c.in-Ok-Serve.ensures
+          (rw c.in-Ok-Serve.field-0-is (made.1, input, c.serve.ensures.files))),
       made.2,
     )
 

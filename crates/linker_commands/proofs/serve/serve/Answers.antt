@@ -41,7 +41,8 @@ returns-in-Err-Wrong-clause-served g c =
     let new : Output = g.K.Sink.output c.tell.new.out in
     let a = c.in-Err-Wrong in
     let is : List ℕ → Type 0 =
-    λ line. TellsPath (g.F.Folder.filed c.args.outside.now.folder).files c.args.path.now false line in
+    λ line. TellsPath (g.F.Folder.filed c.args.outside.now.folder).files c.args.path.now false
+    line in
     let course = line_told false a.line.items in (
       course,
       (

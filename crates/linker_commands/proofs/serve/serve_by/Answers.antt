@@ -64,7 +64,8 @@ returns-clause-served g c = λ path right.
     old_files
     new_files old_net new_net old new (code_of c.serve_opened-status.result) right
     (ap faults_of c.serve_opened-status.ensures.kept.0 ∙ c.in-Ok.ensures.cause.count)
-    (c.serve_opened-status.ensures.served (g.F.Folder.filed c.args.outside.now.folder).files c.args.config
+    (c.serve_opened-status.ensures.served (g.F.Folder.filed c.args.outside.now.folder).files
+    c.args.config
     (record {
       site_is = made.site;
       settings_are = c.in-Ok-open.ensures.settings ∙ ap settings_of made.settings;

@@ -22,9 +22,11 @@ returns-in-Ok-clause-served g c = λ files config before loaded made seen listen
     let end = c.in-Ok.served in
     let e = c.in-Ok.ensures in
     let t = c.tell_served.ensures in
-    let by = served_by line_of address_of moments files config c.args.logged.now.site loaded c.args.logged.now.log
+    let by = served_by line_of address_of moments files config c.args.logged.now.site loaded
+    c.args.logged.now.log
     (passes_of c.args.serving) before (g.N.Net.state c.args.outside.now.net)
-    (g.O.Journals.closed c.args.outside.now.journals) after end made listening logs (e.served loaded seen)
+    (g.O.Journals.closed c.args.outside.now.journals) after end made listening logs
+    (e.served loaded seen)
     in (
       t.0,
       t.1,
@@ -55,7 +57,8 @@ returns-in-Err-Net-clause-served g c = λ files config before loaded made seen l
     )
 
 pub returns-in-Err-OutOfMemory-clause-served : goal.returns-in-Err-OutOfMemory-clause-served
-returns-in-Err-OutOfMemory-clause-served g c = λ files config before loaded made seen listening logs.
+returns-in-Err-OutOfMemory-clause-served g c =
+    λ files config before loaded made seen listening logs.
     let e = c.in-Err-OutOfMemory.ensures in (
       memory_line,
       short,

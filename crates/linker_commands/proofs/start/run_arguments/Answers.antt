@@ -21,11 +21,13 @@ returns-clause-ran g c =
     let address_of =
     λ (p : g.row.N-L-P.Denot). let a : Option SocketAddress = g.N.L.P.Peer.address p in a in
     let new_net : Linked g.row.N-L-P.Denot =
-    linked (g.N.Net.state c.status_for-status.new.outside.net) (g.N.Net.faults c.status_for-status.new.outside.net)
+    linked (g.N.Net.state c.status_for-status.new.outside.net)
+    (g.N.Net.faults c.status_for-status.new.outside.net)
     (g.O.Journals.closed c.status_for-status.new.outside.journals) in
     let old_out : Output = g.K.Sink.output c.args.outside.now.out in
     let new_out : Output = g.K.Sink.output c.status_for-status.new.outside.out in
-    subst (Ran line_of address_of (g.C.Clock.of_fork c.args.outside.now.clock) (words_of c.args.arguments)
+    subst (Ran line_of address_of (g.C.Clock.of_fork c.args.outside.now.clock)
+    (words_of c.args.arguments)
     old_in
     new_in old_files new_files old_net new_net old_out new_out) (sym c.from.ensures)
     c.status_for-status.ensures

@@ -27,7 +27,8 @@ returns-in-Ok-words_behind_name g c =
     (g.O.Journals.closed c.linker.new.outside.journals) in
     let old_out : Output = g.K.Sink.output c.args.outside.now.out in
     let new_out : Output = g.K.Sink.output c.linker.new.outside.out in
-    subst (λ (words : List (List ℕ)). Ran line_of address_of (g.C.Clock.of_fork c.args.outside.now.clock)
+    subst (λ (words : List (List ℕ)). Ran line_of address_of
+    (g.C.Clock.of_fork c.args.outside.now.clock)
     words old_in
     new_in old_files new_files old_net new_net old_out new_out c.linker.result)
     (ap (map string_bytes) (c.as_slice.ensures.value ∙ c.in-Ok-words_behind_name.ensures)
@@ -49,7 +50,8 @@ returns-in-Err-words_behind_name g c =
     subst (Ran line_of address_of (g.C.Clock.of_fork c.args.outside.now.clock) words old_in old_in
     old_files old_files
     old_net old_net old_out new_out) (sym c.code.ensures)
-    (no_words line_of address_of (g.C.Clock.of_fork c.args.outside.now.clock) words old_in old_files old_net
+    (no_words line_of address_of (g.C.Clock.of_fork c.args.outside.now.clock) words old_in
+    old_files old_net
     old_out new_out c.tell.result c.tell.ensures)
 
 pub returns-in-Err : goal.returns-in-Err
@@ -68,5 +70,6 @@ returns-in-Err g c =
     subst (Ran line_of address_of (g.C.Clock.of_fork c.args.outside.now.clock) words old_in old_in
     old_files old_files
     old_net old_net old_out new_out) (sym c.code-in-Err.ensures)
-    (no_words line_of address_of (g.C.Clock.of_fork c.args.outside.now.clock) words old_in old_files old_net
+    (no_words line_of address_of (g.C.Clock.of_fork c.args.outside.now.clock) words old_in
+    old_files old_net
     old_out new_out c.tell-in-Err.result c.tell-in-Err.ensures)

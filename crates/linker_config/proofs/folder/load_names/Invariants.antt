@@ -9,5 +9,7 @@ invariant-loop-name g l = record {
   files : (g.F.Folder.filed l.folder).files ≡ (g.F.Folder.filed l.fn.folder).files;
   faults : (g.F.Folder.filed l.folder).faults ≡ (g.F.Folder.filed l.fn.folder).faults;
   told : (fs : List File) → (g.F.Folder.filed l.fn.folder).files ≡ Some fs
-      → behind l.items.items (services_told fs l.root (map (λ n. string_bytes n) (drop l.name-index l.names))) ≡ services_told fs l.root (map (λ n. string_bytes n) l.names);
+      → behind l.items.items
+      (services_told fs l.root (map (λ n. string_bytes n) (drop l.name-index l.names)))
+      ≡ services_told fs l.root (map (λ n. string_bytes n) l.names);
 }

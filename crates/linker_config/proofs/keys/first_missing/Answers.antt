@@ -6,8 +6,12 @@ use Rattle.linker_config.proofs.keys.first_missing.Goals as goal
 
 pub returns-in-Some : goal.returns-in-Some
 returns-in-Some c =
-    ap (option_map (λ k. k.now)) c.in-Some.ensures ∙ sym (find_map (λ key. is_none (get key (view c.args.object.now))) (λ k. k.now) c.args.required.now)
+    ap (option_map (λ k. k.now)) c.in-Some.ensures
+    ∙ sym (find_map (λ key. is_none (get key (view c.args.object.now)))
+    (λ k. k.now) c.args.required.now)
 
 pub returns-in-None : goal.returns-in-None
 returns-in-None c =
-    ap (option_map (λ k. k.now)) c.in-None.ensures ∙ sym (find_map (λ key. is_none (get key (view c.args.object.now))) (λ k. k.now) c.args.required.now)
+    ap (option_map (λ k. k.now)) c.in-None.ensures
+    ∙ sym (find_map (λ key. is_none (get key (view c.args.object.now)))
+    (λ k. k.now) c.args.required.now)

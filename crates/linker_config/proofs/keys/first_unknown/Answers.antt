@@ -6,8 +6,11 @@ use Rattle.linker_config.proofs.keys.first_unknown.Goals as goal
 pub returns-in-Some : goal.returns-in-Some
 returns-in-Some c =
     ap Some c.as_str.ensures.value ∙ ap (option_map string_bytes) c.in-Some.ensures
-    ∙ sym (find_key (λ key. not (is_among (map (λ k. k.now) c.args.known.now) key)) c.args.members.now.entries)
+    ∙ sym (find_key (λ key. not (is_among (map (λ k. k.now) c.args.known.now) key))
+    c.args.members.now.entries)
 
 pub returns-in-None : goal.returns-in-None
 returns-in-None c =
-    ap (option_map string_bytes) c.in-None.ensures ∙ sym (find_key (λ key. not (is_among (map (λ k. k.now) c.args.known.now) key)) c.args.members.now.entries)
+    ap (option_map string_bytes) c.in-None.ensures
+    ∙ sym (find_key (λ key. not (is_among (map (λ k. k.now) c.args.known.now) key))
+    c.args.members.now.entries)

@@ -9,5 +9,6 @@ use Rattle.name_tree.proofs.laws.texts_have_one_value.Goals as goal
 pub returns : goal.returns
 returns c = record {
   paths = λ text v w p q. one_value next_path end_path before PathText path_laws text v w p q;
-  trees = λ text v w p q. one_value next_state ended_state tree_start TreeText tree_laws text v w p q;
+  trees = λ text v w p q. one_value next_state ended_state tree_start TreeText tree_laws text v w p
+      q;
 }

@@ -10,10 +10,13 @@ use Rattle.name_tree.proofs.read.read_tree.Goals as goal
 
 pub returns-clause-only : goal.returns-clause-only
 returns-clause-only c name is =
-    only TreeText value_of (λ text v w p q. one_value next_state ended_state tree_start TreeText tree_laws text v w p q) c.args.text.now _ c.tree_in.ensures name is
+    only TreeText value_of
+    (λ text v w p q. one_value next_state ended_state tree_start TreeText tree_laws text v w p q)
+    c.args.text.now _ c.tree_in.ensures name is
 
 pub returns-clause-sound : goal.returns-clause-sound
 returns-clause-sound c = sound_tree value_of c.args.text.now _ c.tree_in.ensures
 
 pub returns-clause-computed : goal.returns-clause-computed
-returns-clause-computed c = computed tree_of TreeText computes_trees value_of c.args.text.now _ c.tree_in.ensures
+returns-clause-computed c = computed tree_of TreeText computes_trees value_of c.args.text.now _
+    c.tree_in.ensures

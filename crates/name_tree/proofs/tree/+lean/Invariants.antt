@@ -6,7 +6,12 @@ use Rattle.name_tree.specs.Tree.{value_of, listed}
 use Rattle.name_tree.proofs.tree.+lean.Given as goal
 
 abbrev pub invariant-Branches::lean-loop-branch : goal.invariant-Branches::lean-loop-branch
-invariant-Branches::lean-loop-branch l = joined_parts (parts_in l.left) (lean_each (listed (drop l.branch-index l.branch-items))) ≡ lean_each (listed l.branch-items)
+invariant-Branches::lean-loop-branch l =
+    joined_parts (parts_in l.left) (lean_each (listed (drop l.branch-index l.branch-items)))
+    ≡ lean_each (listed l.branch-items)
 
 abbrev pub invariant-Trees::lean-loop-tree : goal.invariant-Trees::lean-loop-tree
-invariant-Trees::lean-loop-tree l = values_then (map value_of l.left.items) (lean_all (tree_values (map value_of (drop l.tree-index l.tree-items)))) ≡ lean_all (tree_values (map value_of l.tree-items))
+invariant-Trees::lean-loop-tree l =
+    values_then (map value_of l.left.items)
+    (lean_all (tree_values (map value_of (drop l.tree-index l.tree-items))))
+    ≡ lean_all (tree_values (map value_of l.tree-items))

@@ -5,7 +5,8 @@ use Rattle.std.specs.Vec.Iter.{into_iter_items, into_iter_len}
 use Rattle.router.proofs.ending.gather.Given as goal
 
 abbrev pub invariant-loop-pass : goal.invariant-loop-pass
-invariant-loop-pass g l = (l.yielded ++ into_iter_items l.pass-iterator ≡ into_iter_items l.initial.pass-iterator)
+invariant-loop-pass g l =
+    (l.yielded ++ into_iter_items l.pass-iterator ≡ into_iter_items l.initial.pass-iterator)
     × (l.readers.items ≡ map (λ p. p.reader) l.yielded)
     × (vec_len l.readers ≡ length l.yielded)
     × (g.J.Ledger.parts ≤ vec_capacity l.readers)

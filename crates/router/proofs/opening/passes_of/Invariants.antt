@@ -6,7 +6,8 @@ use Rattle.router.specs.Opening.{IsReady}
 use Rattle.router.proofs.opening.passes_of.Given as goal
 
 abbrev pub invariant-loop-reader : goal.invariant-loop-reader
-invariant-loop-reader g l = (l.yielded ++ into_iter_items l.reader-iterator ≡ into_iter_items l.initial.reader-iterator)
+invariant-loop-reader g l =
+    (l.yielded ++ into_iter_items l.reader-iterator ≡ into_iter_items l.initial.reader-iterator)
     × All (IsReady g.J.Naming.cell g.J.Naming.settings) (into_iter_items l.reader-iterator)
     × (map (λ p. p.reader) l.passes.items ≡ l.yielded)
     × All (λ p. IsUnused p.seat) l.passes.items

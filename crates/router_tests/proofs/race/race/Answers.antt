@@ -19,12 +19,20 @@ word_sync : IsSync Word.the_row
 word_sync = search (sendable, crosses) depth 20
 
 -- a closure may be shared that captures four things which may
-four_sync : (ν : Sym) (A B C D : RattleType) → IsSync A → IsSync B → IsSync C → IsSync D → IsSync (TupleAt ν (A ∷ B ∷ C ∷ D ∷ []))
+four_sync : (ν : Sym) (A B C D : RattleType) → IsSync A → IsSync B → IsSync C → IsSync D
+    → IsSync (TupleAt ν (A ∷ B ∷ C ∷ D ∷ []))
 four_sync ν A B C D a b c d =
-    declared_sync (type_at ν (A ∷ B ∷ C ∷ D ∷ [])) (as_row_sync (row_field A) a, (as_row_sync (row_field B) b, (as_row_sync (row_field C) c, (as_row_sync (row_field D) d, tt))))
+    declared_sync (type_at ν (A ∷ B ∷ C ∷ D ∷ [])) (
+      as_row_sync (row_field A) a,
+      (
+        as_row_sync (row_field B) b,
+        (as_row_sync (row_field C) c, (as_row_sync (row_field D) d, tt)),
+      ),
+    )
 
 pub for_each_mut-requires-send-T : goal.for_each_mut-requires-send-T
-for_each_mut-requires-send-T g c κs within = param_send 1 _ (arg_send _ no _ (pass_send _ g.J.Naming g.J.Ledger c.type_bounds.send-J))
+for_each_mut-requires-send-T g c κs within =
+    param_send 1 _ (arg_send _ no _ (pass_send _ g.J.Naming g.J.Ledger c.type_bounds.send-J))
 
 pub for_each_mut-requires-sync-F : goal.for_each_mut-requires-sync-F
 for_each_mut-requires-sync-F g c κs within =

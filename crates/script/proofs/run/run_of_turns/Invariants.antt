@@ -10,6 +10,7 @@ abbrev pub invariant-loop-number : goal.invariant-loop-number
 invariant-loop-number g l =
     let settings = settings_of l.settings in
     record {
-      same : to_come settings l.turns l.number (run_of l.run) l.words ≡ after_turns settings (first_run settings) (turns_from l.turns 0 (words_of_seed l.seed));
+      same : to_come settings l.turns l.number (run_of l.run) l.words
+          ≡ after_turns settings (first_run settings) (turns_from l.turns 0 (words_of_seed l.seed));
       within : IsWithin l.number (run_of l.run);
     }

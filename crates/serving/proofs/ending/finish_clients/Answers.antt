@@ -12,12 +12,14 @@ clients-init g c =
 pub clients-preserved : goal.clients-preserved
 clients-preserved g c =
     let line_of = λ (p : g.row.L-P.Denot). let t : Line = g.L.P.Peer.line p in t in
-    one_finished (WasClient line_of g.J.Naming.settings g.J.Handling.rule g.J.Handling.tries) _ _ _ _ _ _ _
+    one_finished (WasClient line_of g.J.Naming.settings g.J.Handling.rule g.J.Handling.tries) _ _ _
+    _ _ _ _
     c.clients.invariant c.in-Some.ensures.count
     (c.in-Some.client, c.end.ensures.chain, c.end.ensures.line) c.finish.ensures.state
 
 pub returns : goal.returns
 returns g c =
     let line_of = λ (p : g.row.L-P.Denot). let t : Line = g.L.P.Peer.line p in t in
-    all_are_finished (WasClient line_of g.J.Naming.settings g.J.Handling.rule g.J.Handling.tries) _ _ _ _
+    all_are_finished (WasClient line_of g.J.Naming.settings g.J.Handling.rule g.J.Handling.tries) _
+    _ _ _
     c.clients.invariant (ap length c.in_default.ensures.none.0)

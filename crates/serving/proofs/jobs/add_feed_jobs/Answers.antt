@@ -13,7 +13,9 @@ pub returns-in-Some-clause-posted : goal.returns-in-Some-clause-posted
 returns-in-Some-clause-posted g c = λ policy moments ps all.
     let upstream = λ (d : g.row.N-D.Denot). let u : Upstream = g.N.D.Dialer.upstream d in u in
     let told = (g.N.Net.state c.args.net.now).told in
-    let R = IsPosted {J = g.row.J.Denot} {D = g.row.N-D.Denot} {K = g.row.K.Denot} {X = g.row.X.Denot} {A = g.row.A.Denot} {B = g.row.B.Denot} {E = g.row.E.Denot} {F = g.row.F.Denot} {h = g.J.Handling} {g = g.J.Naming} g.N.L.Listener.state
+    let R = IsPosted {J = g.row.J.Denot} {D = g.row.N-D.Denot} {K = g.row.K.Denot}
+    {X = g.row.X.Denot} {A = g.row.A.Denot} {B = g.row.B.Denot} {E = g.row.E.Denot}
+    {F = g.row.F.Denot} {h = g.J.Handling} {g = g.J.Naming} g.N.L.Listener.state
     upstream g.C.Clock.to_come g.N.S.Stop.calls policy moments told in
     let feeding = c.in-Some.feeding in
     let listeners = c.args.listeners.items in

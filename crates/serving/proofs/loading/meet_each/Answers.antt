@@ -1,4 +1,5 @@
-use Rattle.std.proofs.Common.{◌≡◌, ◌++◌, [], List, suc, append-nil, ap, length, refl, rules, sym, subst, ◌∙◌}
+use Rattle.std.proofs.Common.{◌≡◌, ◌++◌, [], List, suc, append-nil, ap, length, refl, rules, sym}
+use Rattle.std.proofs.Common.{subst, ◌∙◌}
 use Rattle.std.specs.Prelude.{sum_by}
 use Rattle.std.specs.Vec.Iter.{into_iter_items}
 use Rattle.router.specs.declared.pass.Pass.{Pass}
@@ -27,16 +28,20 @@ loop-other-preserved g c =
     let met = c.loop-other.met.items in
     record {
       numbers = numbers_moved met _ _ _ other c.meet.new.b _ cut grown numbers.1 inv.numbers;
-      met = subst AreFree (sym grown) (free_push met c.meet.new.b inv.met (second.seat.slot ∙ free_first _ _ other cut inv.rest));
+      met = subst AreFree (sym grown)
+          (free_push met c.meet.new.b inv.met
+          (second.seat.slot ∙ free_first _ _ other cut inv.rest));
       rest = free_rest _ _ other cut inv.rest;
       room = search rules;
       capacity = search rules;
       made = same_made _ _ numbers.0 first ∙ inv.made;
-      sums = made_moved met _ _ _ other c.meet.new.b _ cut grown (same_made _ _ numbers.1 second) inv.sums;
+      sums = made_moved met _ _ _ other c.meet.new.b _ cut grown
+          (same_made _ _ numbers.1 second) inv.sums;
       number = numbers.0 ∙ inv.number;
       slot = first.seat.slot ∙ inv.slot;
       seen = prefix_trans _ _ _ inv.seen first.seen;
-      all = met_push _ _ _ met _ c.meet.new.b grown inv.seen first.seen (sym c.meet.ensures.met.one) inv.all;
+      all = met_push _ _ _ met _ c.meet.new.b grown inv.seen first.seen
+          (sym c.meet.ensures.met.one) inv.all;
     }
 
 pub loop-other-init : goal.loop-other-init
@@ -48,10 +53,12 @@ loop-other-init g c =
     let none = none_here met.items (sym met.ok.0 ∙ c.requires.room.0) in
     let sum = λ (ps : List (Pass g.row.J.Denot g.J.Naming)). sum_by made_in ps in
     record {
-      numbers = ap (λ (ps : List (Pass g.row.J.Denot g.J.Naming)). numbers_of ps ++ numbers_of left) none ∙ ap numbers_of gives.0;
+      numbers = ap (λ (ps : List (Pass g.row.J.Denot g.J.Naming)). numbers_of ps
+          ++ numbers_of left) none ∙ ap numbers_of gives.0;
       met = subst AreFree (sym none) tt;
       rest = subst AreFree (sym gives.0) c.requires.free;
-      room = room_for_all met.items left c.args.others.items _ _ none gives.0 c.args.others.ok.0 c.requires.room.1;
+      room = room_for_all met.items left c.args.others.items _ _ none gives.0 c.args.others.ok.0
+          c.requires.room.1;
       capacity = refl;
       made = refl;
       sums = none_moved _ _ _ (ap sum none) (ap sum gives.0);
@@ -63,20 +70,25 @@ loop-other-init g c =
 
 pub push_reserved-requires : goal.push_reserved-requires
 push_reserved-requires g c =
-    let shorter : length (into_iter_items c.loop-other.other-iterator) ≡ suc (length (into_iter_items c.next.new.self)) = ap length c.in-Some.ensures.steps.0 in
-    room_there _ _ _ _ shorter (room_by c.loop-other.met.items _ _ _ c.loop-other.met.ok.0 c.loop-other.invariant.room)
+    let shorter : length (into_iter_items c.loop-other.other-iterator)
+    ≡ suc (length (into_iter_items c.next.new.self)) = ap length c.in-Some.ensures.steps.0 in
+    room_there _ _ _ _ shorter
+    (room_by c.loop-other.met.items _ _ _ c.loop-other.met.ok.0 c.loop-other.invariant.room)
 
 pub returns-clause-numbers : goal.returns-clause-numbers
 returns-clause-numbers g c =
     let left = into_iter_items c.loop-other.other-iterator in
-    let none : length left ≡ 0 = sym c.loop-other.other-iterator.rest.ok.0 ∙ c.in-None.ensures.steps.0 in
+    let none : length left ≡ 0 = sym c.loop-other.other-iterator.rest.ok.0
+    ∙ c.in-None.ensures.steps.0 in
     nothing_left (numbers_of c.loop-other.met.items) (numbers_of left) _
-    (map_length (λ (p : Pass g.row.J.Denot g.J.Naming). number_in p) left ∙ none) c.loop-other.invariant.numbers
+    (map_length (λ (p : Pass g.row.J.Denot g.J.Naming). number_in p) left ∙ none)
+    c.loop-other.invariant.numbers
 
 pub returns-clause-made : goal.returns-clause-made
 returns-clause-made g c =
     let inv = c.loop-other.invariant in
     let left = into_iter_items c.loop-other.other-iterator in
-    let none : length left ≡ 0 = sym c.loop-other.other-iterator.rest.ok.0 ∙ c.in-None.ensures.steps.0 in
+    let none : length left ≡ 0 = sym c.loop-other.other-iterator.rest.ok.0
+    ∙ c.in-None.ensures.steps.0 in
     let sum = λ (ps : List (Pass g.row.J.Denot g.J.Naming)). sum_by made_in ps in
     (inv.made, moved_all _ _ _ (ap sum (none_here left none)) inv.sums)

@@ -10,6 +10,7 @@ invariant-loop-item g l = record {
   number : number_in l.pass ≡ number_in l.fn.pass;
   slot : slot_in l.pass ≡ slot_in l.fn.pass;
   seen : IsPrefix (seen_in l.fn.pass) (seen_in l.pass);
-  set : AreSet l.fn.items.items (into_iter_items l.item-iterator) (seen_in l.pass) (made_in l.fn.pass) (made_in l.pass);
+  set : AreSet l.fn.items.items (into_iter_items l.item-iterator) (seen_in l.pass)
+      (made_in l.fn.pass) (made_in l.pass);
   few : length l.fn.items.items < 2 ^ 64;
 }

@@ -22,7 +22,8 @@ run_apart-ran-requires-clause-room g c κs within =
 pub returns : goal.returns
 returns g c =
     let line_of = λ (p : g.row.N-L-P.Denot). let l : Line = g.N.L.P.Peer.line p in l in
-    let address_of = λ (p : g.row.N-L-P.Denot). let a : Option SocketAddress = g.N.L.P.Peer.address p in a in
+    let address_of = λ (p : g.row.N-L-P.Denot). let a : Option SocketAddress =
+    g.N.L.P.Peer.address p in a in
     let told_of = λ (x : g.row.X.Denot). let s : Scraping = g.X.Scrape.told x in s in
     let upstream = λ (d : g.row.N-D.Denot). let u : Upstream = g.N.D.Dialer.upstream d in u in
     let site = c.args.setup.now.site.now in

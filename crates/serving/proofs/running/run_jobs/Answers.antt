@@ -49,7 +49,8 @@ close_all-passes-requires-clause-room g c κs within =
 pub returns : goal.returns
 returns g c =
     let line_of = λ (p : g.row.N-L-P.Denot). let l : Line = g.N.L.P.Peer.line p in l in
-    let address_of = λ (p : g.row.N-L-P.Denot). let a : Option SocketAddress = g.N.L.P.Peer.address p in a in
+    let address_of = λ (p : g.row.N-L-P.Denot). let a : Option SocketAddress =
+    g.N.L.P.Peer.address p in a in
     let told_of = λ (x : g.row.X.Denot). let s : Scraping = g.X.Scrape.told x in s in
     let upstream = λ (d : g.row.N-D.Denot). let u : Upstream = g.N.D.Dialer.upstream d in u in
     let kept = c.make_stock.ensures.kept in
@@ -72,7 +73,8 @@ returns g c =
           c.args.resources.passes.items passes given back scrapers n
           (g.N.Net.state c.close_all-passes.new.net) c.post_and_run-ran.new.apart.lacked_memory)
           kept.0
-          (subst (λ (i : Instruments g.row.K.Denot g.row.X.Denot). HasRun line_of address_of g.K.Recorder
+          (subst (λ (i : Instruments g.row.K.Denot g.row.X.Denot).
+          HasRun line_of address_of g.K.Recorder
           c.args.plan.now.site.now (g.C.Clock.of_fork c.args.clock.now)
           c.args.resources.passes.items passes i.recorders.items back (map told_of i.scrapers.items)
           (g.N.Net.state c.make_stock.new.net)
@@ -80,7 +82,8 @@ returns g c =
           c.in-Ok.ensures.instruments
           (has_run line_of address_of g.K.Recorder g.N.L.Listener.state upstream
           g.N.S.Stop.calls c.args.plan.now.site.now (g.C.Clock.of_fork c.args.clock.now)
-          c.args.resources.passes.items (into_iter_items c.post_and_run-ran.result.1) passes _ back _
+          c.args.resources.passes.items (into_iter_items c.post_and_run-ran.result.1) passes _ back
+          _
           c.post_and_run-ran.new.apart (g.N.Net.state c.make_stock.new.net)
           (g.N.Net.state c.post_and_run-ran.new.net)
           (g.N.Net.state c.close_all-passes.new.net) g.J.Handling.rule g.J.Handling.tries

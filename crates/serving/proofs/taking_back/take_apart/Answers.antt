@@ -12,7 +12,8 @@ returns-in-Proxy g c =
     let hands = c.push_reserved-in-Proxy-3.ensures in
     record {
       apart = takes_proxy g.N.L.Listener.state upstream g.N.S.Stop.calls c.args.job c.in-Proxy.job
-          c.args.apart.now _ c.into_parts-pass.result.dialer c.into_parts-pass.result.pass c.in-Proxy.is
+          c.args.apart.now _ c.into_parts-pass.result.dialer c.into_parts-pass.result.pass
+          c.in-Proxy.is
           c.into_parts-pass.ensures.dialer c.into_parts-pass.ensures.pass parts.items passes.items
           recorders.items hands.items refl refl;
       room = λ n room. record {

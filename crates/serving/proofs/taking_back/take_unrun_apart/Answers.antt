@@ -13,8 +13,12 @@ loop-job-init g c =
     let same = c.into_iter-job-iterator.ensures.into_iter_gives.0 in
     let count = ap length same in
     record {
-      apart = λ end takes. subst (λ (xs : List (RouterJob g.row.N-L-P.Denot g.row.J.Denot g.row.N-L.Denot g.row.N-D.Denot g.row.C.Denot g.row.K.Denot g.row.N-S.Denot g.row.X.Denot g.row.A.Denot g.row.B.Denot g.row.E.Denot g.row.F.Denot g.J.Handling g.J.Naming)).
-          TakesApart g.N.L.Listener.state upstream g.N.S.Stop.calls ((xs)) c.args.apart.now end) same takes;
+      apart = λ end takes. subst
+          (λ (xs : List (RouterJob g.row.N-L-P.Denot g.row.J.Denot g.row.N-L.Denot g.row.N-D.Denot
+          g.row.C.Denot g.row.K.Denot g.row.N-S.Denot g.row.X.Denot g.row.A.Denot g.row.B.Denot
+          g.row.E.Denot g.row.F.Denot g.J.Handling g.J.Naming)).
+          TakesApart g.N.L.Listener.state upstream g.N.S.Stop.calls ((xs)) c.args.apart.now end)
+          same takes;
       room = λ n room. same_room c.args.apart.now _ _ (omega (arith, count)) room;
     }
 
@@ -23,7 +27,8 @@ take_apart-requires-clause-room g c κs within =
     let shorter = ap length c.in-Some.ensures.steps.0 in
     let room = c.loop-job.invariant.room 0
     (same_room c.args.apart.now _ _ (omega arith) c.requires.room) in
-    room_for_one c.loop-job.apart (length (into_iter_items c.loop-job.job-iterator) + 0) (length (into_iter_items c.next.new.self)) (omega (arith, shorter)) room
+    room_for_one c.loop-job.apart (length (into_iter_items c.loop-job.job-iterator) + 0)
+    (length (into_iter_items c.next.new.self)) (omega (arith, shorter)) room
 
 pub loop-job-preserved : goal.loop-job-preserved
 loop-job-preserved g c =

@@ -12,10 +12,18 @@ loop-reader-preserved g c =
     let at = c.loop-reader.reader-index in
     let within : at < length readers = omega arith in
     let one = get_or readers at c.reader-item.result in (
-      new_kept readers at _ within c.args.desk.now.desk.shown.value.origin one (get_or_default readers at c.reader-item.result one within)
-          (λ h. record { cell = h.cell; number = h.number; refusals = h.refusals; seen = h.seen; items = h.items }) stands.0,
+      new_kept readers at _ within c.args.desk.now.desk.shown.value.origin one
+          (get_or_default readers at c.reader-item.result one within)
+          (λ h. record {
+            cell = h.cell;
+            number = h.number;
+            refusals = h.refusals;
+            seen = h.seen;
+            items = h.items;
+          }) stands.0,
       told.shown ∙ stands.1,
-      there_more readers at _ within (there (Some c.new_door.result) c.new_door.result refl) stands.2,
+      there_more readers at _ within (there (Some c.new_door.result) c.new_door.result refl)
+          stands.2,
       (told.pending.0 ∙ stands.3.0, told.pending.1 ∙ stands.3.1),
       told.told ∙ stands.4,
     )

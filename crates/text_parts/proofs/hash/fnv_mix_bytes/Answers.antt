@@ -5,5 +5,6 @@ use Rattle.text_parts.proofs.hash.fnv_mix_bytes.Goals as goal
 
 pub returns : goal.returns
 returns c =
-    sym (at_drop_all (with_bytes c.loop-byte.all) c.args.bytes.now c.loop-byte.byte-index c.loop-byte-test.false)
+    sym (at_drop_all (with_bytes c.loop-byte.all) c.args.bytes.now c.loop-byte.byte-index
+    c.loop-byte-test.false)
     ∙ c.loop-byte.invariant

@@ -8,5 +8,7 @@ use Rattle.turn_parts.proofs.tables.table_by.Goals as goal
 
 pub returns-clause-sound : goal.returns-clause-sound
 returns-clause-sound c =
-    IfOk-weaker c.of-2.result (λ dtab. rules_of dtab ≡ table_by c.args.service) (λ dtab. AreSoundRules (rules_of dtab))
-    (λ dtab is. subst AreSoundRules (sym is) (AreSoundRules-table_by c.args.service c.requires)) (search rules)
+    IfOk-weaker c.of-2.result (λ dtab. rules_of dtab ≡ table_by c.args.service)
+    (λ dtab. AreSoundRules (rules_of dtab))
+    (λ dtab is. subst AreSoundRules (sym is) (AreSoundRules-table_by c.args.service c.requires))
+    (search rules)

@@ -11,5 +11,7 @@ returns-clause-step c =
     let word = c.next_word-word.result in
     let left = c.next_word-word.new.self in
     let rest = c.step.new.words in
-    if_ok (λ (s : Step). (step_of s, rest) ≡ turn_step (word / 4 % 8) (word % 4) (word / 32 % 16) (word / 512 % 4096) left) (λ (s : Step). (step_of s, rest) ≡ turn_by c.args.words.now) c.step.result c.step.ensures.step
+    if_ok (λ (s : Step). (step_of s, rest)
+    ≡ turn_step (word / 4 % 8) (word % 4) (word / 32 % 16) (word / 512 % 4096) left)
+    (λ (s : Step). (step_of s, rest) ≡ turn_by c.args.words.now) c.step.result c.step.ensures.step
     (λ s is. drawn_turn word c.args.words.now left rest (step_of s) c.next_word-word.ensures is)

@@ -7,4 +7,6 @@ use Rattle.weave.proofs.stepping.run.Given as goal
 
 abbrev pub invariant-loop-step : goal.invariant-loop-step
 invariant-loop-step g l =
-    IsRunning (settings_of l.fn.settings) (map step_of l.steps) l.world (map told_value l.told.items) (map step_of (drop l.step-index l.steps)) (opening_world l.fn.passes)
+    IsRunning (settings_of l.fn.settings) (map step_of l.steps) l.world
+    (map told_value l.told.items) (map step_of (drop l.step-index l.steps))
+    (opening_world l.fn.passes)

@@ -39,13 +39,20 @@ serving-preserved-in-Some-take g c =
     record {
       working = went_on g.W.Serve.serves c.args.server.now c.serving.server
           c.go_on-turned.new.self c.settle-in-Some-take.new.server (state c.args.listener.now)
-          (state c.serving.listener) (state c.next_event.new.self) (state c.settle-in-Some-take.new.listener)
-          c.args.hand.now c.serving.hand c.take.new.hand c.settle-in-Some-take.new.hand c.in-Some-take.stay
+          (state c.serving.listener) (state c.next_event.new.self)
+          (state c.settle-in-Some-take.new.listener)
+          c.args.hand.now c.serving.hand c.take.new.hand c.settle-in-Some-take.new.hand
+          c.in-Some-take.stay
           (end_of c.go_on-turned.result) i.working told c.in-Some-take.ensures.counts
           c.go_on-turned.ensures c.settle-in-Some-take.ensures.settles;
       failed = omega arith;
       few = omega arith;
-      later = omega (arith, i.later, c.in-Ok-Ready.ensures.cause.later, c.settle-in-Some-take.ensures.kept);
+      later = omega (
+        arith,
+        i.later,
+        c.in-Ok-Ready.ensures.cause.later,
+        c.settle-in-Some-take.ensures.kept,
+      );
     }
 
 pub serving-preserved-in-Ok-Tick : goal.serving-preserved-in-Ok-Tick

@@ -13,9 +13,12 @@ loop-place-preserved c = record {
 
 pub invariant_of-result : goal.invariant_of-result
 invariant_of-result c = record {
-  long = length-map c.loop-place.shards.items addr_shard ∙ omega (arith, c.loop-place.invariant.long, c.loop-place.shards.ok.0);
-  placed = none-home addr_place addr_shard refl c.loop-place.shards.items 0 c.loop-place.invariant.none;
+  long = length-map c.loop-place.shards.items addr_shard
+      ∙ omega (arith, c.loop-place.invariant.long, c.loop-place.shards.ok.0);
+  placed = none-home addr_place addr_shard refl c.loop-place.shards.items 0
+      c.loop-place.invariant.none;
 }
 
 pub returns : goal.returns
-returns c = ap from_entries (none-joined addr_place addr_shard refl c.loop-place.shards.items c.loop-place.invariant.none)
+returns c = ap from_entries
+    (none-joined addr_place addr_shard refl c.loop-place.shards.items c.loop-place.invariant.none)

@@ -8,11 +8,13 @@ use Rattle.addr_book.proofs.addr_map.AddrMap.with.Goals as goal
 
 pub invariant_of-result : goal.invariant_of-result
 invariant_of-result c =
-    sharded_insert addr_total addr_only addr_place addr_shard 13 c.self.inside.shards.items c.self.invariant c.args.addr c.place_of.result c.place_of.ensures.place
+    sharded_insert addr_total addr_only addr_place addr_shard 13 c.self.inside.shards.items
+    c.self.invariant c.args.addr c.place_of.result c.place_of.ensures.place
     c.place_of.ensures.below c.args.number c.insert_at.new.shards.items c.in_ok-insert_at.ensures
 
 pub returns : goal.returns
 returns c =
-    shards_insert addr_total addr_only addr_place addr_shard 13 c.self.inside.shards.items c.self.invariant c.args.addr c.place_of.result c.place_of.ensures.place
+    shards_insert addr_total addr_only addr_place addr_shard 13 c.self.inside.shards.items
+    c.self.invariant c.args.addr c.place_of.result c.place_of.ensures.place
     c.place_of.ensures.below c.args.number c.insert_at.new.shards.items c.in_ok-insert_at.ensures
     ∙ ap (λ m. insert m c.args.addr c.args.number) c.self.view_is

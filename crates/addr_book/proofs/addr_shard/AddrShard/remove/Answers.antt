@@ -11,16 +11,19 @@ use Rattle.addr_book.proofs.addr_shard.AddrShard.remove.Goals as goal
 pub invariant_of-self : goal.invariant_of-self
 invariant_of-self c =
     subst (IsInOrder addr_cmp numbered) (sym c.remove.ensures.items)
-    (sorted_gone addr_total addr_only numbered c.self.inside.items.items c.self.invariant c.args.addr c.in-Ok.at (rw (← c.as_slice.ensures.value) c.in-Ok.ensures.found) c.remove.result)
+    (sorted_gone addr_total addr_only numbered c.self.inside.items.items c.self.invariant
+    c.args.addr c.in-Ok.at (rw (← c.as_slice.ensures.value) c.in-Ok.ensures.found) c.remove.result)
 
 pub returns-in-Ok : goal.returns-in-Ok
 returns-in-Ok c =
     ap (map_of numbered) c.remove.ensures.items
-    ∙ (map_gone addr_total addr_only numbered c.self.inside.items.items c.self.invariant c.args.addr c.in-Ok.at (rw (← c.as_slice.ensures.value) c.in-Ok.ensures.found) c.remove.result
+    ∙ (map_gone addr_total addr_only numbered c.self.inside.items.items c.self.invariant
+    c.args.addr c.in-Ok.at (rw (← c.as_slice.ensures.value) c.in-Ok.ensures.found) c.remove.result
     ∙ ap (λ m. remove m c.args.addr) c.self.view_is)
 
 pub returns-in_default : goal.returns-in_default
 returns-in_default c =
     sym c.self.view_is
-    ∙ (map_gone_gap addr_total addr_only numbered c.self.inside.items.items c.self.invariant c.args.addr c.in_default.field-0 (rw (← c.as_slice.ensures.value) c.in_default.ensures.absent)
+    ∙ (map_gone_gap addr_total addr_only numbered c.self.inside.items.items c.self.invariant
+    c.args.addr c.in_default.field-0 (rw (← c.as_slice.ensures.value) c.in_default.ensures.absent)
     ∙ ap (λ m. remove m c.args.addr) c.self.view_is)

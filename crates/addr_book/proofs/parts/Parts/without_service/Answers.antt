@@ -8,7 +8,9 @@ moved-requires-clause-few c = few_counts _ _ _ c.requires
 
 pub moved-requires-clause-used : goal.moved-requires-clause-used
 moved-requires-clause-used c =
-    used_once c.args.self.now.services c.args.self.now.seats.slots c.args.self.now.seats.uses c.requires c.args.service.now c.items.result.now (c.items.ensures.items ∙ ap list_of c.in-Some.ensures)
+    used_once c.args.self.now.services c.args.self.now.seats.slots c.args.self.now.seats.uses
+    c.requires c.args.service.now c.items.result.now
+    (c.items.ensures.items ∙ ap list_of c.in-Some.ensures)
 
 pub returns-clause-sound : goal.returns-clause-sound
 returns-clause-sound c =
@@ -16,13 +18,16 @@ returns-clause-sound c =
     let same = c.items.ensures.items ∙ ap list_of c.in-Some.ensures in
     let seats = c.in_ok-seats.ensures in
     rw c.in_ok-services.ensures
-    (drop_sound c.args.self.now.services c.args.self.now.seats.slots c.args.self.now.seats.uses c.requires c.args.service.now c.items.result.now same c.in_ok-seats.seats.uses
+    (drop_sound c.args.self.now.services c.args.self.now.seats.slots c.args.self.now.seats.uses
+    c.requires c.args.service.now c.items.result.now same c.in_ok-seats.seats.uses
     c.in_ok-seats.seats.slots c.in_ok-seats.ensures.slots c.in_ok-seats.ensures.uses)
 
 pub returns-clause-book : goal.returns-clause-book
 returns-clause-book c =
     let same = c.items.ensures.items ∙ ap list_of c.in-Some.ensures in
     let services = c.in_ok-services.ensures in
-    let slots = drop_slots c.args.self.now.services c.args.self.now.seats.slots c.args.self.now.seats.uses c.requires c.args.service.now c.items.result.now same
-    c.in_ok-seats.seats.uses c.in_ok-seats.seats.slots c.in_ok-seats.ensures.slots c.in_ok-seats.ensures.uses in
+    let slots = drop_slots c.args.self.now.services c.args.self.now.seats.slots
+    c.args.self.now.seats.uses c.requires c.args.service.now c.items.result.now same
+    c.in_ok-seats.seats.uses c.in_ok-seats.seats.slots c.in_ok-seats.ensures.slots
+    c.in_ok-seats.ensures.uses in
     λ i. record { services = services i; slots = slots i }

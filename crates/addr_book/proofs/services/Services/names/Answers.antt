@@ -9,7 +9,11 @@ use Rattle.addr_book.proofs.services.Services.names.Goals as goal
 
 pub returns : goal.returns
 returns c =
-    let gathered = c.in_ok-names.ensures ∙ ap (λ shards. joined_keys (map service_shard shards)) c.as_slice.ensures.value in
-    sorted_keys nat_list_cmp_total name_only name_place (map service_shard c.self.inside.shards.items) c.self.invariant.0.placed c.sort_unstable.new.self.items
-    (subst (λ names. IsPermutation names c.sort_unstable.new.self.items) gathered c.sort_unstable.ensures.permutation) c.sort_unstable.ensures.sorted
+    let gathered = c.in_ok-names.ensures
+    ∙ ap (λ shards. joined_keys (map service_shard shards)) c.as_slice.ensures.value in
+    sorted_keys nat_list_cmp_total name_only name_place
+    (map service_shard c.self.inside.shards.items) c.self.invariant.0.placed
+    c.sort_unstable.new.self.items
+    (subst (λ names. IsPermutation names c.sort_unstable.new.self.items) gathered
+    c.sort_unstable.ensures.permutation) c.sort_unstable.ensures.sorted
     ∙ ap keys c.self.view_is

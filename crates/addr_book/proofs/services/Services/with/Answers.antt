@@ -14,19 +14,26 @@ invariant_of-result c =
     let name = c.args.service.now in
     let place = c.place_of.ensures.place ∙ ap name_place c.text.ensures.text in
     let before = whole (map service_shard shards) in
-    let there = c.in_ok-was_there.ensures.there ∙ ap is_some (shard_gets nat_list_cmp_total name_only name_place service_shard 61 shards c.self.invariant.0 name c.place_of.result place c.place_of.ensures.below) in (
-      sharded_insert nat_list_cmp_total name_only name_place service_shard 61 shards c.self.invariant.0 name c.place_of.result place c.place_of.ensures.below c.args.list.now
+    let there = c.in_ok-was_there.ensures.there
+    ∙ ap is_some (shard_gets nat_list_cmp_total name_only name_place service_shard 61 shards
+    c.self.invariant.0 name c.place_of.result place c.place_of.ensures.below) in (
+      sharded_insert nat_list_cmp_total name_only name_place service_shard 61 shards
+          c.self.invariant.0 name c.place_of.result place c.place_of.ensures.below c.args.list.now
           c.insert_at.new.shards.items c.in_ok-was_there.ensures.changed,
       c.len_with.ensures
           ∙ (ap (λ b. cond b c.self.inside.len (c.self.inside.len + 1)) there
           ∙ (ap (λ n. cond (contains_key before name) n (n + 1)) c.self.invariant.1
           ∙ (sym (len-insert nat_list_cmp_total before name c.args.list.now)
-          ∙ ap len (sym (shards_insert nat_list_cmp_total name_only name_place service_shard 61 shards c.self.invariant.0 name c.place_of.result place c.place_of.ensures.below c.args.list.now
+          ∙ ap len (sym (shards_insert nat_list_cmp_total name_only name_place service_shard 61
+          shards c.self.invariant.0 name c.place_of.result place c.place_of.ensures.below
+          c.args.list.now
           c.insert_at.new.shards.items c.in_ok-was_there.ensures.changed))))),
     )
 
 pub returns : goal.returns
 returns c =
-    shards_insert nat_list_cmp_total name_only name_place service_shard 61 c.self.inside.shards.items c.self.invariant.0 c.args.service.now c.place_of.result
-    (c.place_of.ensures.place ∙ ap name_place c.text.ensures.text) c.place_of.ensures.below c.args.list.now c.insert_at.new.shards.items c.in_ok-was_there.ensures.changed
+    shards_insert nat_list_cmp_total name_only name_place service_shard 61
+    c.self.inside.shards.items c.self.invariant.0 c.args.service.now c.place_of.result
+    (c.place_of.ensures.place ∙ ap name_place c.text.ensures.text) c.place_of.ensures.below
+    c.args.list.now c.insert_at.new.shards.items c.in_ok-was_there.ensures.changed
     ∙ ap (λ m. insert m c.args.service.now c.args.list.now) c.self.view_is

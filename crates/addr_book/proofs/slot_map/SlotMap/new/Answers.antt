@@ -6,4 +6,5 @@ use Rattle.addr_book.proofs.slot_map.SlotMap.new.Goals as goal
 
 pub invariant_of-result : goal.invariant_of-result
 invariant_of-result c =
-    no_marks _ _ (λ a. ap (λ m. get m a) c.in_ok-new.ensures ∙ get-empty addr_cmp a) (ap len c.in_ok-new.ensures ∙ len-empty addr_cmp ℕ) c.in_ok-new-2.ensures
+    no_marks _ _ (λ a. ap (λ m. get m a) c.in_ok-new.ensures ∙ get-empty addr_cmp a)
+    (ap len c.in_ok-new.ensures ∙ len-empty addr_cmp ℕ) c.in_ok-new-2.ensures

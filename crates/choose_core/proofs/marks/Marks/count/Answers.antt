@@ -13,4 +13,6 @@ returns-clause-count c =
 
 pub returns-clause-counted : goal.returns-clause-counted
 returns-clause-counted c addr =
-    subst (λ (m : MarkMap). IfSome (fin.get m addr) (λ mark. 1 ≤ mark.count)) c.self.view_is (each_failed c.self.inside.items.items c.self.invariant.sound.sorted c.self.invariant.sound.failed addr)
+    subst (λ (m : MarkMap). IfSome (fin.get m addr) (λ mark. 1 ≤ mark.count)) c.self.view_is
+    (each_failed c.self.inside.items.items c.self.invariant.sound.sorted
+    c.self.invariant.sound.failed addr)

@@ -8,12 +8,14 @@ pub returns-in-Ok : goal.returns-in-Ok
 returns-in-Ok c =
     c.is_dead.ensures
     ∙ ap (λ m. is_dead_mark m c.args.moment c.args.limits)
-    (mark_place c.self.inside.items.items c.self.invariant.sound.sorted c.args.addr c.in-Ok.at (rw (← c.as_slice.ensures.value) c.in-Ok.ensures.found) c.index.result.now c.index.ensures
+    (mark_place c.self.inside.items.items c.self.invariant.sound.sorted c.args.addr c.in-Ok.at
+    (rw (← c.as_slice.ensures.value) c.in-Ok.ensures.found) c.index.result.now c.index.ensures
     ∙ ap (λ m. mark_at m c.args.addr) c.self.view_is)
 
 pub returns-in-Err : goal.returns-in-Err
 returns-in-Err c =
     c.is_dead-in-Err.ensures
     ∙ ap (λ m. is_dead_mark m c.args.moment c.args.limits)
-    (mark_gap c.self.inside.items.items c.self.invariant.sound.sorted c.args.addr c.in-Err.at (rw (← c.as_slice.ensures.value) c.in-Err.ensures.absent)
+    (mark_gap c.self.inside.items.items c.self.invariant.sound.sorted c.args.addr c.in-Err.at
+    (rw (← c.as_slice.ensures.value) c.in-Err.ensures.absent)
     ∙ ap (λ m. mark_at m c.args.addr) c.self.view_is)

@@ -5,10 +5,12 @@ use Rattle.choose_core.proofs.marks.Marks.mark.Goals as goal
 
 pub returns-in-Ok : goal.returns-in-Ok
 returns-in-Ok c =
-    mark_place c.self.inside.items.items c.self.invariant.sound.sorted c.args.addr c.in-Ok.at (rw (← c.as_slice.ensures.value) c.in-Ok.ensures.found) c.index.result.now c.index.ensures
+    mark_place c.self.inside.items.items c.self.invariant.sound.sorted c.args.addr c.in-Ok.at
+    (rw (← c.as_slice.ensures.value) c.in-Ok.ensures.found) c.index.result.now c.index.ensures
     ∙ ap (λ m. mark_at m c.args.addr) c.self.view_is
 
 pub returns-in-Err : goal.returns-in-Err
 returns-in-Err c =
-    mark_gap c.self.inside.items.items c.self.invariant.sound.sorted c.args.addr c.in-Err.field-0 (rw (← c.as_slice.ensures.value) c.in-Err.ensures.absent)
+    mark_gap c.self.inside.items.items c.self.invariant.sound.sorted c.args.addr c.in-Err.field-0
+    (rw (← c.as_slice.ensures.value) c.in-Err.ensures.absent)
     ∙ ap (λ m. mark_at m c.args.addr) c.self.view_is

@@ -11,7 +11,9 @@ loop-at-preserved c =
     let known = c.loop-at.self.known.items in
     let order = c.loop-at.self.order.items in
     let lead : c.is_set.result ≡ leads rows c.loop-at.at c.args.to =
-    lead_is c.args.rows.now c.loop-at.at c.args.to c.index-rows-at.result c.as_slice.result.now c.is_set.result c.loop-at-test.true c.index-rows-at.is c.as_slice.ensures.value c.is_set.ensures in
+    lead_is c.args.rows.now c.loop-at.at c.args.to c.index-rows-at.result c.as_slice.result.now
+    c.is_set.result c.loop-at-test.true c.index-rows-at.is c.as_slice.ensures.value
+    c.is_set.ensures in
     let inside : c.loop-at.at < length known = omega (arith, was.size, c.loop-at-test.true) in
     let made = c.in_ok-look_at.ensures.known in
     let listed = c.in_ok-look_at.ensures.order in
@@ -22,8 +24,12 @@ loop-at-preserved c =
     record {
       size = ap length made ∙ (next-size known c.loop-at.at c.is_set.result ∙ was.size);
       found = λ own same there start.
-          leader-found rows first_known known new_known first_order order new_order c.loop-at.at c.args.to c.is_set.result inside lead made listed own (length-map c.args.rows.now (λ row. row.items) ∙ same)
+          leader-found rows first_known known new_known first_order order new_order c.loop-at.at
+          c.args.to c.is_set.result inside lead made listed own
+          (length-map c.args.rows.now (λ row. row.items) ∙ same)
           (was.grows.keeps c.args.to there) (was.found own same there start);
-      grows = leader-grows rows first_known known new_known first_order order new_order c.loop-at.at c.args.to c.is_set.result inside lead made listed was.grows;
-      leaders = leader-known rows first_known known new_known first_order order new_order c.loop-at.at c.args.to c.is_set.result inside lead made listed was.leaders;
+      grows = leader-grows rows first_known known new_known first_order order new_order
+          c.loop-at.at c.args.to c.is_set.result inside lead made listed was.grows;
+      leaders = leader-known rows first_known known new_known first_order order new_order
+          c.loop-at.at c.args.to c.is_set.result inside lead made listed was.leaders;
     }

@@ -7,5 +7,7 @@ use Rattle.dtab_index.proofs.bits.Bits.remove_but.Given as goal
 abbrev pub invariant-loop-at : goal.invariant-loop-at
 invariant-loop-at l =
     AreMade
-    (λ k. bit_or (bit_and (get_or l.fn.self.words k 0) (get_or l.kept.words k 0)) (bit_xor (get_or l.fn.self.words k 0) (bit_and (get_or l.fn.self.words k 0) (get_or l.others.words k 0))))
+    (λ k. bit_or (bit_and (get_or l.fn.self.words k 0) (get_or l.kept.words k 0))
+    (bit_xor (get_or l.fn.self.words k 0)
+    (bit_and (get_or l.fn.self.words k 0) (get_or l.others.words k 0))))
     l.fn.self.words l.self.words (l.first / 64) l.at

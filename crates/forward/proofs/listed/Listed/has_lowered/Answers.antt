@@ -8,7 +8,10 @@ use Rattle.forward.proofs.listed.Listed.has_lowered.Goals as goal
 
 pub returns : goal.returns
 returns c =
-    let sorted = subst (IsSorted text_order) (sym c.as_slice.ensures.value) c.args.self.now.sorted in
+    let sorted = subst (IsSorted text_order) (sym c.as_slice.ensures.value)
+    c.args.self.now.sorted in
     c.is_ok.ensures.value
-    ∙ found c.as_slice.result.now c.args.name.now c.binary_search.result sorted c.binary_search.ensures.bound c.binary_search.ensures.position
-    ∙ ap (list_any (λ (n : Vec ℕ Global). bytes_eq n.items c.args.name.now.items)) c.as_slice.ensures.value
+    ∙ found c.as_slice.result.now c.args.name.now c.binary_search.result sorted
+    c.binary_search.ensures.bound c.binary_search.ensures.position
+    ∙ ap (list_any (λ (n : Vec ℕ Global). bytes_eq n.items c.args.name.now.items))
+    c.as_slice.ensures.value

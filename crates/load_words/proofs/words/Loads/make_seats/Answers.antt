@@ -16,12 +16,19 @@ loop-preserved c =
     record {
       table = split.other.0 ∙ kept.table;
       bare = ap (λ (me : Me (Unit {0}) Tally). me.1) split.other.1 ∙ kept.bare;
-      left = omega (arith, kept.left, ap (λ (me : Me (Unit {0}) Tally). me.0.parts) split.other.1, c.loop-test.true);
+      left = omega (
+        arith,
+        kept.left,
+        ap (λ (me : Me (Unit {0}) Tally). me.0.parts) split.other.1,
+        c.loop-test.true,
+      );
       bound = ap (λ (me : Me (Unit {0}) Tally). me.0.seats) split.other.1 ∙ kept.bound;
       free = ap (λ (me : Me (Unit {0}) Tally). me.0.slot) split.other.1 ∙ kept.free;
       count = omega (arith, kept.count, ap length pushed, length-append made (seat ∷ []));
-      own = All-same (IsOf c.args.self.now) c.push.new.self.items (made ++ seat ∷ []) pushed (All-push (IsOf c.args.self.now) made seat kept.own split.seat.0);
-      unused = All-same IsUnused c.push.new.self.items (made ++ seat ∷ []) pushed (All-push IsUnused made seat kept.unused split.unused);
+      own = All-same (IsOf c.args.self.now) c.push.new.self.items (made ++ seat ∷ []) pushed
+          (All-push (IsOf c.args.self.now) made seat kept.own split.seat.0);
+      unused = All-same IsUnused c.push.new.self.items (made ++ seat ∷ []) pushed
+          (All-push IsUnused made seat kept.unused split.unused);
     }
 
 pub join_seat-requires : goal.join_seat-requires
@@ -32,5 +39,6 @@ join_seat-requires c =
       split.other.0 ∙ kept.table,
       ap (λ (me : Me (Unit {0}) Tally). me.1) split.other.1 ∙ kept.bare,
       omega (arith, c.args.self.now.slots),
-      joins _ _ _ _ _ (omega (arith, c.split-last.result.part)) (ap (λ (me : Me (Unit {0}) Tally). me.0.slot) split.other.1 ∙ kept.free),
+      joins _ _ _ _ _ (omega (arith, c.split-last.result.part))
+          (ap (λ (me : Me (Unit {0}) Tally). me.0.slot) split.other.1 ∙ kept.free),
     )

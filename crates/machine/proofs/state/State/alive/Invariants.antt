@@ -6,5 +6,6 @@ use Rattle.machine.proofs.state.State.alive.Given as goal
 abbrev pub invariant-loop-item : goal.invariant-loop-item
 invariant-loop-item l = record {
   fits : l.alive ≤ l.item-index;
-  count : l.alive ≡ length (alive_in l.limits (state_of l.self) l.moment (take l.item-index l.list));
+  count : l.alive ≡ length
+      (alive_in l.limits (state_of l.self) l.moment (take l.item-index l.list));
 }

@@ -12,5 +12,6 @@ returns-in-Ok-clause-ok c =
     let change = change_of c.args.change.now in
     c.in-Ok.ensures.ok
     ∙ absorbing_is_changing settings old change (ready_of c.in-Some.ready)
-    (subst (λ (r : Option Ready). IfSome r (λ ready. IsReadyFor settings old change (ready_of ready)))
+    (subst (λ (r : Option Ready). IfSome r
+    (λ ready. IsReadyFor settings old change (ready_of ready)))
     c.in-Some.is c.in_ok-reply.ensures.ready)

@@ -14,10 +14,15 @@ use Rattle.machine.proofs.state.State.candidates_of.Goals as goal
 
 pub candidates-requires : goal.candidates-requires
 candidates-requires c =
-    let table = effective (settings_of c.args.settings.now) (state_of c.args.self.now) (rules_of c.args.ask.now.local) in
+    let table = effective (settings_of c.args.settings.now) (state_of c.args.self.now)
+    (rules_of c.args.ask.now.local) in
     let names = named_in c.args.self.now.book in
-    let sound = sound_effective (settings_of c.args.settings.now) (state_of c.args.self.now) (rules_of c.args.ask.now.local) c.args.self.now.sound c.args.settings.now.sound c.args.ask.now.sound in
+    let sound = sound_effective (settings_of c.args.settings.now) (state_of c.args.self.now)
+    (rules_of c.args.ask.now.local) c.args.self.now.sound c.args.settings.now.sound
+    c.args.ask.now.sound in
     record {
-      filled = subst (λ (o : Outcome). IfBound IsFilled (ending_of o)) c.in-Bound.is (filled_outcome table names c.args.ask.now.path c.args.outcome.now c.requires);
-      bounded = subst (λ (o : Outcome). IfBound IsBounded (ending_of o)) c.in-Bound.is (bounded_outcome table names c.args.ask.now.path c.args.outcome.now c.requires sound);
+      filled = subst (λ (o : Outcome). IfBound IsFilled (ending_of o)) c.in-Bound.is
+          (filled_outcome table names c.args.ask.now.path c.args.outcome.now c.requires);
+      bounded = subst (λ (o : Outcome). IfBound IsBounded (ending_of o)) c.in-Bound.is
+          (bounded_outcome table names c.args.ask.now.path c.args.outcome.now c.requires sound);
     }

@@ -5,5 +5,6 @@ use Rattle.machine.proofs.state.State.decide_create.Goals as goal
 
 pub returns-in-Ok : goal.returns-in-Ok
 returns-in-Ok c =
-    created (state_of c.args.self.now) c.args.name.now c.in-Ok.ready c.args.self.now.sound (rules_of c.args.dtab.now) c.next_version-version.result
+    created (state_of c.args.self.now) c.args.name.now c.in-Ok.ready c.args.self.now.sound
+    (rules_of c.args.dtab.now) c.next_version-version.result
     c.next_version-version.ensures c.in-Ok.ensures.store c.requires c.in-Ok.ensures.taken

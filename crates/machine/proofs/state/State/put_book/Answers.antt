@@ -8,4 +8,5 @@ invariant_of-self-2-clause-sound c = c.args.self.now.sound
 
 pub invariant_of-self-2-clause-known : goal.invariant_of-self-2-clause-known
 invariant_of-self-2-clause-known c =
-    subst (λ (m : MarkMap). AreKnown m c.absorb.new.self.services) (sym c.keep.ensures) (known_kept c.args.self.now.marks c.absorb.new.self.services)
+    subst (λ (m : MarkMap). AreKnown m c.absorb.new.self.services) (sym c.keep.ensures)
+    (known_kept c.args.self.now.marks c.absorb.new.self.services)

@@ -7,8 +7,10 @@ use Rattle.machine.proofs.Sounds.{sound_nothing}
 use Rattle.machine.proofs.state.State.start.Goals as goal
 
 pub invariant_of-result-clause-sound : goal.invariant_of-result-clause-sound
-invariant_of-result-clause-sound c = subst (λ (s : Store). AreSoundSpaces s.spaces) (sym c.in_ok-start.ensures) sound_nothing
+invariant_of-result-clause-sound c =
+    subst (λ (s : Store). AreSoundSpaces s.spaces) (sym c.in_ok-start.ensures) sound_nothing
 
 pub invariant_of-result-clause-known : goal.invariant_of-result-clause-known
 invariant_of-result-clause-known c =
-    subst (λ (m : MarkMap). AreKnown m c.in_ok-start-2.field-0.services) (sym c.in_ok-start-3.ensures) (known_nothing c.in_ok-start-2.field-0.services)
+    subst (λ (m : MarkMap). AreKnown m c.in_ok-start-2.field-0.services)
+    (sym c.in_ok-start-3.ensures) (known_nothing c.in_ok-start-2.field-0.services)

@@ -17,5 +17,6 @@ returns-clause-others c =
 pub returns-clause-fewer : goal.returns-clause-fewer
 returns-clause-fewer c = λ some.
     let cut : length c.remove-first.new.self.items + 1 ≡ length c.args.kept.now.items =
-    ap (λ xs. length xs + 1) c.remove-first.ensures.items ∙ length-remove c.args.kept.now.items 0 some in
+    ap (λ xs. length xs + 1) c.remove-first.ensures.items
+    ∙ length-remove c.args.kept.now.items 0 some in
     omega (arith, cut)

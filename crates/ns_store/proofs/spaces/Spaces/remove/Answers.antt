@@ -10,12 +10,18 @@ use Rattle.ns_store.proofs.spaces.Spaces.remove.Goals as goal
 
 pub invariant_of-self : goal.invariant_of-self
 invariant_of-self c =
-    record { sorted = rw c.remove.ensures.items (sorted_gone c.args.self.now c.args.name.now c.in-Ok.at c.in-Ok.ensures.found c.remove.result) }
+    record {
+      sorted = rw c.remove.ensures.items
+          (sorted_gone c.args.self.now c.args.name.now c.in-Ok.at c.in-Ok.ensures.found
+          c.remove.result);
+    }
 
 pub returns-in-Ok : goal.returns-in-Ok
 returns-in-Ok c =
-    ap (λ (items : List Namespace). from_sorted {R = slice_cmp nat_cmp} (map entry_of items)) c.remove.ensures.items
+    ap (λ (items : List Namespace). from_sorted {R = slice_cmp nat_cmp} (map entry_of items))
+    c.remove.ensures.items
     ∙ map_gone c.args.self.now c.args.name.now c.in-Ok.at c.in-Ok.ensures.found c.remove.result
 
 pub returns-in_default : goal.returns-in_default
-returns-in_default c = absent c.args.self.now c.args.name.now c.search.result c.in_default.not-Ok c.search.ensures.absent
+returns-in_default c = absent c.args.self.now c.args.name.now c.search.result c.in_default.not-Ok
+    c.search.ensures.absent

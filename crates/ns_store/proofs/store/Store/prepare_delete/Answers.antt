@@ -7,4 +7,11 @@ use Rattle.ns_store.proofs.store.Store.prepare_delete.Goals as goal
 
 pub invariant_of-result : goal.invariant_of-result
 invariant_of-result c =
-    record { few = rw (c.in_ok-new.ensures.ok, c.remove.ensures, c.in_ok-spaces.ensures, c.deref.ensures) (len_removed _ _ c.args.self.now.few) }
+    record {
+      few = rw (
+        c.in_ok-new.ensures.ok,
+        c.remove.ensures,
+        c.in_ok-spaces.ensures,
+        c.deref.ensures,
+      ) (len_removed _ _ c.args.self.now.few);
+    }

@@ -47,7 +47,8 @@ returns-in-Ok-clause-asks g c =
       closes = ap not c.keeps.ensures;
     }) (caller_of c.find.new.pass)
     c.args.connection.now.budget c.send_found-made.new.connection.budget refl refl
-    f.0 c.find.new.names c.in-Ok.asked.pick c.send_found-made.result.how c.send_found-made.result.done f.1
+    f.0 c.find.new.names c.in-Ok.asked.pick c.send_found-made.result.how
+    c.send_found-made.result.done f.1
     f.2 f.3 c.send_found-made.ensures.words c.send_found-made.ensures.sends
 
 pub returns-in-Err-clause-asks : goal.returns-in-Err-clause-asks

@@ -26,5 +26,6 @@ returns-in-Ok-clause-replies g c =
     (g.D.Dialer.upstream c.receive_final.new.dialer).log c.clear.new.self c.receive_final.new.rest
     c.clear.ensures (g.P.Peer.line c.pass_reply-tried.new.peer) c.in-Ok.reply c.in-Ok.framing
     (g.D.Dialer.upstream c.pass_reply-tried.new.way.dialer).faults
-    (g.D.Dialer.upstream c.pass_reply-tried.new.way.dialer).log c.pass_reply-tried.result h.0 h.1 h.2 b.0
+    (g.D.Dialer.upstream c.pass_reply-tried.new.way.dialer).log c.pass_reply-tried.result h.0 h.1
+    h.2 b.0
     b.1 b.2

@@ -9,5 +9,6 @@ use Rattle.router.proofs.current.Current.peek.Goals as goal
 
 pub peek_kept-requires-clause-ending : goal.peek_kept-requires-clause-ending
 peek_kept-requires-clause-ending c =
-    kept_ending (settings_in c.args.self.now) (value_in c.args.self.now) (ask_of c.args.ask.now) (ending_of c.in-Some.outcome.now) c.requires.right
+    kept_ending (settings_in c.args.self.now) (value_in c.args.self.now) (ask_of c.args.ask.now)
+    (ending_of c.in-Some.outcome.now) c.requires.right
     (sym c.find.ensures ∙ ap (option_map (λ (o : Bor Outcome). ending_of o.now)) c.in-Some.is)

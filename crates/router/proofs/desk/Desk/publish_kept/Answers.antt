@@ -21,8 +21,11 @@ publish_for-requires-clause-fits g c =
     let w = c.args.self.now.writer in
     let whole = whole_of (opening_written w) (published_by w) in
     let S = whole_settings (opening_written w) (published_by w) ∙ c.args.self.now.settings in
-    subst (λ (b : Binding). Fits (settings_of (fold with_update (shown_by (opening_written w)) (published_by w)).0) whole (kept 0 0 (kept_of b))) (sym c.in_ok-new.ensures.ok)
-    (subst (λ (s : SettingsValue). Fits s whole (kept 0 0 (kept_of c.args.binding))) (sym S) c.requires.fits)
+    subst (λ (b : Binding).
+    Fits (settings_of (fold with_update (shown_by (opening_written w)) (published_by w)).0) whole
+    (kept 0 0 (kept_of b))) (sym c.in_ok-new.ensures.ok)
+    (subst (λ (s : SettingsValue). Fits s whole (kept 0 0 (kept_of c.args.binding)))
+    (sym S) c.requires.fits)
 
 pub invariant_of-pass-2-clause-stands : goal.invariant_of-pass-2-clause-stands
 invariant_of-pass-2-clause-stands g c =
@@ -30,10 +33,16 @@ invariant_of-pass-2-clause-stands g c =
     let w = c.args.self.now.writer in
     let p = c.args.pass.now in
     let us = published_by w in
-    let found = keep_found g.J.Naming.settings (operations_of us) (number_in p) (made_in p) (kept_in p) c.number.result p.kept (kept_of c.args.binding) c.requires.kept c.number.ensures.number p.stands.kept_is
-    ∙ ap (λ (b : Binding). Some (kept c.number.result p.kept (kept_of b))) (sym c.in_ok-new.ensures.ok) in
-    published_kept g.J.Naming.settings p.reader c.publish_for.new.reader p.made p.kept p.place p.stands e.same.0 c.of-2.result (keeping (kept_of c.args.binding)) (ap call_of c.of-2.ensures ∙ ap (λ (x : Binding). keeping (kept_of x)) c.of.ensures)
-    us _ e.before (e.seen ∙ e.published) e.item found (p.kept + 1) p.place refl refl (p.stands.place_is ∙ ap (λ (l : List Operation). place_of l) c.requires.seen)
+    let found = keep_found g.J.Naming.settings (operations_of us) (number_in p) (made_in p)
+    (kept_in p) c.number.result p.kept (kept_of c.args.binding) c.requires.kept
+    c.number.ensures.number p.stands.kept_is
+    ∙ ap (λ (b : Binding). Some (kept c.number.result p.kept (kept_of b)))
+    (sym c.in_ok-new.ensures.ok) in
+    published_kept g.J.Naming.settings p.reader c.publish_for.new.reader p.made p.kept p.place
+    p.stands e.same.0 c.of-2.result (keeping (kept_of c.args.binding))
+    (ap call_of c.of-2.ensures ∙ ap (λ (x : Binding). keeping (kept_of x)) c.of.ensures)
+    us _ e.before (e.seen ∙ e.published) e.item found (p.kept + 1) p.place refl refl
+    (p.stands.place_is ∙ ap (λ (l : List Operation). place_of l) c.requires.seen)
 
 pub returns-clause-called : goal.returns-clause-called
 returns-clause-called g c =
@@ -41,9 +50,14 @@ returns-clause-called g c =
     let w = c.args.self.now.writer in
     let p = c.args.pass.now in
     let us = published_by w in
-    let found = keep_found g.J.Naming.settings (operations_of us) (number_in p) (made_in p) (kept_in p) c.number.result p.kept (kept_of c.args.binding) c.requires.kept c.number.ensures.number p.stands.kept_is
-    ∙ ap (λ (b : Binding). Some (kept c.number.result p.kept (kept_of b))) (sym c.in_ok-new.ensures.ok) in
-    let h = published_called g.J.Naming.settings p.reader c.publish_for.new.reader p.made p.kept p.place p.stands e.same.0 c.of-2.result (keeping (kept_of c.args.binding)) (ap call_of c.of-2.ensures ∙ ap (λ (x : Binding). keeping (kept_of x)) c.of.ensures)
+    let found = keep_found g.J.Naming.settings (operations_of us) (number_in p) (made_in p)
+    (kept_in p) c.number.result p.kept (kept_of c.args.binding) c.requires.kept
+    c.number.ensures.number p.stands.kept_is
+    ∙ ap (λ (b : Binding). Some (kept c.number.result p.kept (kept_of b)))
+    (sym c.in_ok-new.ensures.ok) in
+    let h = published_called g.J.Naming.settings p.reader c.publish_for.new.reader p.made p.kept
+    p.place p.stands e.same.0 c.of-2.result (keeping (kept_of c.args.binding))
+    (ap call_of c.of-2.ensures ∙ ap (λ (x : Binding). keeping (kept_of x)) c.of.ensures)
     us _ e.before (e.seen ∙ e.published) e.item found in
     let seen = c.requires.seen in
     search (rules, h, seen)

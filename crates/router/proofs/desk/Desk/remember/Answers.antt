@@ -28,25 +28,36 @@ publish_kept-requires-clause-fits g c =
     let own = c.requires.own in
     let e = c.in-None.ensures in
     let ops = operations_of (published_by w) in
-    let front = subst (λ (l : List Operation). IsPrefix own.0 l) c.show.ensures.seen (prefix_trans own.0 (seen_in c.args.pass.now) (seen_in c.show.new.pass) own.1 c.show.ensures.more.seen) in
+    let front = subst (λ (l : List Operation). IsPrefix own.0 l) c.show.ensures.seen
+    (prefix_trans own.0 (seen_in c.args.pass.now) (seen_in c.show.new.pass) own.1
+    c.show.ensures.more.seen) in
     let fits = remembered_fits S ops k own.0 front e.fit own.2 e.kept in
-    let whole : whole_of (opening_written w') (published_by w') ≡ whole_of (opening_written w) (published_by w) =
-    ap (λ (o : Origin Current Update). whole_of o.opening.value (published_by w')) c.objection.ensures.writer.cell ∙ ap (λ (us : List Update). whole_of (opening_written w) us) c.objection.ensures.writer.published in
+    let whole : whole_of (opening_written w') (published_by w')
+    ≡ whole_of (opening_written w) (published_by w) =
+    ap (λ (o : Origin Current Update). whole_of o.opening.value (published_by w'))
+    c.objection.ensures.writer.cell ∙ ap (λ (us : List Update). whole_of (opening_written w) us)
+    c.objection.ensures.writer.published in
     subst (λ (v : Value). Fits S v (kept 0 0 k)) (sym (whole ∙ e.whole)) fits
 
 pub publish_kept-requires-clause-room : goal.publish_kept-requires-clause-room
 publish_kept-requires-clause-room g c =
-    subst (λ (us : List Update). kept_count (operations_of us) < 2 ^ 64 - 1) (sym c.objection.ensures.writer.published) c.in-None.ensures.room
+    subst (λ (us : List Update). kept_count (operations_of us) < 2 ^ 64 - 1)
+    (sym c.objection.ensures.writer.published) c.in-None.ensures.room
 
-pub returns-in_ok-publish_kept-in-None-clause-remembered : goal.returns-in_ok-publish_kept-in-None-clause-remembered
+pub returns-in_ok-publish_kept-in-None-clause-remembered :
+    goal.returns-in_ok-publish_kept-in-None-clause-remembered
 returns-in_ok-publish_kept-in-None-clause-remembered g c =
     let S = g.J.Naming.settings in
     let k = kept_of c.args.binding in
     let mid = c.show.new.pass in
-    let is : is_kept S (seen_in mid) k ≡ true = ap (λ (l : List Operation). is_kept S l k) c.show.ensures.seen ∙ c.in-None.ensures.kept in
+    let is : is_kept S (seen_in mid) k ≡ true =
+    ap (λ (l : List Operation). is_kept S l k) c.show.ensures.seen ∙ c.in-None.ensures.kept in
     let e = c.in_ok-publish_kept-in-None.ensures in
-    remembered_is c.args.pass.now mid c.publish_kept.new.pass (unanswered c.args.pass.now mid c.show.ensures.more) c.show.ensures.number c.show.ensures.counts.0 c.show.ensures.counts.1
-    (seen_in mid) refl k remembered.Kept true is (sym (kept_answer S (seen_in mid) k is)) e.called e.seen e.kept e.made (e.refusals ∙ c.show.ensures.more.refusals) e.seat
+    remembered_is c.args.pass.now mid c.publish_kept.new.pass
+    (unanswered c.args.pass.now mid c.show.ensures.more) c.show.ensures.number
+    c.show.ensures.counts.0 c.show.ensures.counts.1
+    (seen_in mid) refl k remembered.Kept true is (sym (kept_answer S (seen_in mid) k is)) e.called
+    e.seen e.kept e.made (e.refusals ∙ c.show.ensures.more.refusals) e.seat
 
 pub returns-in-Some-clause-remembered : goal.returns-in-Some-clause-remembered
 returns-in-Some-clause-remembered g c =
@@ -54,8 +65,15 @@ returns-in-Some-clause-remembered g c =
     let k = kept_of c.args.binding in
     let mid = c.show.new.pass in
     let new = c.show_call.new.pass in
-    let is : is_kept S (seen_in mid) k ≡ false = ap (λ (l : List Operation). is_kept S l k) c.show.ensures.seen ∙ c.in-Some.ensures.refused in
-    let said : c.in-Some.said ≡ remembered_as S (seen_in mid) k = c.in-Some.ensures.said ∙ ap (λ (l : List Operation). remembered_as S l k) (sym c.show.ensures.seen) in
-    let seen : seen_in new ≡ seen_in mid = c.show_call.ensures.seen ∙ (ap operations_of c.objection.ensures.writer.published ∙ sym c.show.ensures.seen) in
-    unkept_is c.args.pass.now mid new (unanswered c.args.pass.now mid c.show.ensures.more) c.show.ensures.number c.show.ensures.counts.0 c.show.ensures.counts.1
-    (seen_in mid) refl k c.in-Some.said is said (subst (λ (b : Binding). Entered mid new (keeping (kept_of b))) c.of.ensures c.show_call.ensures.entered) c.show_call.ensures.reads seen c.show.ensures.more.refusals
+    let is : is_kept S (seen_in mid) k ≡ false =
+    ap (λ (l : List Operation). is_kept S l k) c.show.ensures.seen ∙ c.in-Some.ensures.refused in
+    let said : c.in-Some.said ≡ remembered_as S (seen_in mid) k =
+    c.in-Some.ensures.said ∙ ap (λ (l : List Operation). remembered_as S l k)
+    (sym c.show.ensures.seen) in
+    let seen : seen_in new ≡ seen_in mid = c.show_call.ensures.seen
+    ∙ (ap operations_of c.objection.ensures.writer.published ∙ sym c.show.ensures.seen) in
+    unkept_is c.args.pass.now mid new (unanswered c.args.pass.now mid c.show.ensures.more)
+    c.show.ensures.number c.show.ensures.counts.0 c.show.ensures.counts.1
+    (seen_in mid) refl k c.in-Some.said is said
+    (subst (λ (b : Binding). Entered mid new (keeping (kept_of b))) c.of.ensures
+    c.show_call.ensures.entered) c.show_call.ensures.reads seen c.show.ensures.more.refusals

@@ -16,7 +16,12 @@ returns-clause-changed g c =
     let new = c.note.new.self in
     let state = (value_of S (seen_in mid)).state in
     let said = reply_value c.in_ok-reply.reply in
-    let refused : refusal state change ≡ Some said = success_refused state change c.in_ok-addr.addr said (sym c.success_of.ensures ∙ c.in_ok-addr.was) c.in_ok-reply.ensures.reply in
-    refused_is c.args.pass.now mid new c.glance.ensures.saw c.glance.ensures.number c.glance.ensures.counts.0 c.glance.ensures.counts.1
-    (seen_in mid) refl change c.in_ok-reply.reply (refused_so state change said refused) (answered_so S state change said refused)
-    (subst (λ (x : Change). Entered mid new (changing (change_of x))) c.of.ensures c.note.ensures.entered) c.note.ensures.reads c.note.ensures.seen
+    let refused : refusal state change ≡ Some said =
+    success_refused state change c.in_ok-addr.addr said
+    (sym c.success_of.ensures ∙ c.in_ok-addr.was) c.in_ok-reply.ensures.reply in
+    refused_is c.args.pass.now mid new c.glance.ensures.saw c.glance.ensures.number
+    c.glance.ensures.counts.0 c.glance.ensures.counts.1
+    (seen_in mid) refl change c.in_ok-reply.reply (refused_so state change said refused)
+    (answered_so S state change said refused)
+    (subst (λ (x : Change). Entered mid new (changing (change_of x))) c.of.ensures
+    c.note.ensures.entered) c.note.ensures.reads c.note.ensures.seen

@@ -15,7 +15,8 @@ returns-in-Waits g c =
       chain = stayed.chain;
       answered = waits_answered line_of c.args.caller
           (worker_value g.S.Stop.calls told_of old.worker)
-          (worker_value g.S.Stop.calls told_of c.serve.new.worker) old.lacked_memory c.in-Waits.caller
+          (worker_value g.S.Stop.calls told_of c.serve.new.worker) old.lacked_memory
+          c.in-Waits.caller
           c.serve.result stayed.stays c.in-Waits.is;
       which = refl;
       number = stayed.number;

@@ -30,6 +30,7 @@ returns g c =
       ends = did.ends;
       stops = c.stop_if_failing.ensures;
       number = each_same _
-          (λ (s : ApiServer g.row.J.Denot g.row.S.Denot g.row.X.Denot g.J.Naming). number_in s.worker.pass)
+          (λ (s : ApiServer g.row.J.Denot g.row.S.Denot g.row.X.Denot g.J.Naming).
+          number_in s.worker.pass)
           (λ s t v is. is.2) _ turns _ works.turns;
     }

@@ -13,5 +13,6 @@ compare_exchange-found-requires g c =
       ap (λ s. s.book) seen ∙ sym (ap (λ w. w.book) h),
       pen.0 ∙ (ap (λ s. s.book) seen ∙ sym (ap (λ w. w.book) h)),
       offer.0,
-      rw (ap (λ w. w.key) h, pen.1, offer.1, offer.3, ap (λ s. s.log) seen) (adds_moves self.seen.log c.args.operation.now self.count (sym self.counted)),
+      rw (ap (λ w. w.key) h, pen.1, offer.1, offer.3, ap (λ s. s.log) seen)
+          (adds_moves self.seen.log c.args.operation.now self.count (sym self.counted)),
     )

@@ -7,8 +7,17 @@ use Rattle.snap_cell.proofs.writer.Writer.publish.Goals as goal
 
 pub publish_entry-desk-requires-clause-ready : goal.publish_entry-desk-requires-clause-ready
 publish_entry-desk-requires-clause-ready g c =
-    let st = c.args.self.now.stands c.unwrap-desk.result (sym c.take.ensures.value ∙ c.unwrap-desk.ensures) in
-    rw (st.0, st.1, c.again.ensures) (c.args.operation, c.in-Some.known, refl, c.in-Some.ensures.0, c.in-Some.ensures.1, c.requires.fits, c.requires.caller)
+    let st = c.args.self.now.stands c.unwrap-desk.result
+    (sym c.take.ensures.value ∙ c.unwrap-desk.ensures) in
+    rw (st.0, st.1, c.again.ensures) (
+      c.args.operation,
+      c.in-Some.known,
+      refl,
+      c.in-Some.ensures.0,
+      c.in-Some.ensures.1,
+      c.requires.fits,
+      c.requires.caller,
+    )
 
 pub invariant_of-self-in-Err : goal.invariant_of-self-in-Err
 invariant_of-self-in-Err g c =
@@ -21,8 +30,10 @@ invariant_of-self-in-Err g c =
       one_list = w.one_list;
       head_is = w.head_is;
       there = there c.replace.new.self d c.replace.ensures.after;
-      stands = λ x is. in_some (λ z. Stands w.origin w.known z.desk.shown.value (view z.desk.place)) d
-          (ap (λ v. v.known) e.0 ∙ st.0, ap (λ v. v.origin) e.0 ∙ st.1, e.1 ∙ st.2) x (sym c.replace.ensures.after ∙ is);
+      stands = λ x is. in_some
+          (λ z. Stands w.origin w.known z.desk.shown.value (view z.desk.place)) d
+          (ap (λ v. v.known) e.0 ∙ st.0, ap (λ v. v.origin) e.0 ∙ st.1, e.1 ∙ st.2) x
+          (sym c.replace.ensures.after ∙ is);
       settled = λ t. absurd (cc t);
     }
 
@@ -39,6 +50,8 @@ invariant_of-self-in-Ok g c =
       head_is = w.head_is ∙ ap head_of (sym c.in-Some.ensures.1);
       there = there c.replace.new.self d c.replace.ensures.after;
       stands = λ x is. in_some (λ z. Stands w.origin known z.desk.shown.value (view z.desk.place)) d
-          (e.0.0 ∙ c.again.ensures, e.0.1 ∙ st.1, e.0.2 ∙ ap Some st.1) x (sym c.replace.ensures.after ∙ is);
-      settled = λ t x is. in_some (λ z. drop z.behind z.log.items ≡ []) d e.1 x (sym c.replace.ensures.after ∙ is);
+          (e.0.0 ∙ c.again.ensures, e.0.1 ∙ st.1, e.0.2 ∙ ap Some st.1) x
+          (sym c.replace.ensures.after ∙ is);
+      settled = λ t x is. in_some (λ z. drop z.behind z.log.items ≡ []) d e.1 x
+          (sym c.replace.ensures.after ∙ is);
     }

@@ -12,5 +12,7 @@ use Rattle.weave.proofs.world.World.change.Goals as goal
 pub note-requires-clause-nothing : goal.note-requires-clause-nothing
 note-requires-clause-nothing c = λ p here.
     let old = c.args.self.now in
-    ap (λ (k : Change). publishes_now (settings_of old.settings) c.args.number (ops_of old) (pass_of p) (changing (change_of k))) c.of.ensures
-    ∙ refused_none old c.args.number p (change_of c.args.change.now) c.requires.holds (sym c.requires.accepted ∙ ap is_some c.in-None.is)
+    ap (λ (k : Change). publishes_now (settings_of old.settings) c.args.number (ops_of old)
+    (pass_of p) (changing (change_of k))) c.of.ensures
+    ∙ refused_none old c.args.number p (change_of c.args.change.now) c.requires.holds
+    (sym c.requires.accepted ∙ ap is_some c.in-None.is)

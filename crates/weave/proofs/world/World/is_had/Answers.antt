@@ -14,4 +14,7 @@ returns c =
     let k = kept_of c.args.binding.now in
     c.is_some.ensures
     ∙ had_is old k _ c.find.result c.requires
-    (c.find.ensures ∙ (ap (λ (p : Labels). found_in (bindings_of old.cache) p (rules_of c.local.result.now)) c.path.ensures ∙ ap (λ (rs : List Rule). found_in (bindings_of old.cache) k.path rs) c.local.ensures))
+    (c.find.ensures ∙ (ap
+    (λ (p : Labels). found_in (bindings_of old.cache) p (rules_of c.local.result.now))
+    c.path.ensures ∙ ap (λ (rs : List Rule). found_in (bindings_of old.cache) k.path rs)
+    c.local.ensures))

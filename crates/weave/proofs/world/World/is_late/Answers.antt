@@ -7,4 +7,6 @@ use Rattle.weave.proofs.world.World.is_late.Goals as goal
 
 pub returns : goal.returns
 returns c =
-    ap (λ n. not (n == c.place-2.result)) (place_told c.args.self.now c.requires c.place.result c.place.ensures) ∙ ap (λ n. not (place_of (ops_of c.args.self.now) == n)) c.place-2.ensures
+    ap (λ n. not (n == c.place-2.result))
+    (place_told c.args.self.now c.requires c.place.result c.place.ensures)
+    ∙ ap (λ n. not (place_of (ops_of c.args.self.now) == n)) c.place-2.ensures

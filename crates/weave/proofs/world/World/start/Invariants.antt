@@ -6,4 +6,5 @@ use Rattle.weave.specs.World.{new_pass}
 use Rattle.weave.proofs.world.World.start.Given as goal
 
 abbrev pub invariant-loop-number : goal.invariant-loop-number
-invariant-loop-number l = (map pass_of l.all.items ≡ replicate l._number new_pass) × All (λ (p : Pass). (p.changes ≡ 0) × (p.keeps ≡ 0)) l.all.items
+invariant-loop-number l = (map pass_of l.all.items ≡ replicate l._number new_pass)
+    × All (λ (p : Pass). (p.changes ≡ 0) × (p.keeps ≡ 0)) l.all.items

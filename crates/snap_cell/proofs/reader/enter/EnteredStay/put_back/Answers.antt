@@ -7,4 +7,5 @@ use Rattle.snap_cell.specs.contracts.kept.Origin as origin
 use Rattle.snap_cell.proofs.reader.enter.EnteredStay.put_back.Goals as goal
 
 pub put_back-requires : goal.put_back-requires
-put_back-requires g c = ∥∥₁_elim c.requires (Coded-set (coded_option (origin.the_row g.row.V g.row.O).coded) _ _) (λ e. e)
+put_back-requires g c = ∥∥₁_elim c.requires
+    (Coded-set (coded_option (origin.the_row g.row.V g.row.O).coded) _ _) (λ e. e)
