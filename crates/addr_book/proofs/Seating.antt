@@ -143,8 +143,8 @@ pub free_rising : (n from : ℕ) (taken : List ℕ) → AreRising from (free_slo
 free_rising zero from taken = tt
 free_rising (suc n) from taken =
     let rest = free_rising n (from + 1) taken in
-    elim (list_any (λ slot. slot == from) taken) as (λ b.
-    AreRising from (cond b (free_slots n (from + 1) taken) (from ∷ free_slots n (from + 1) taken))) [
+    elim (list_any (λ slot. slot == from) taken) as (λ b. AreRising from
+    (cond b (free_slots n (from + 1) taken) (from ∷ free_slots n (from + 1) taken))) [
       | true ↦ lower from (from + 1) (free_slots n (from + 1) taken) (omega arith) rest
       | false ↦ (
         omega arith,

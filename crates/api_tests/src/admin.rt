@@ -20,7 +20,8 @@ const ROWS: [Exchange; 31] = [
         "GET /admin/ready",
         "",
         "",
-        "503 Service Unavailable\r\nContent-Type: text/plain\r\nContent-Length: 10\r\n\r\nnot-ready\n",
+        "503 Service Unavailable\r\nContent-Type: text/plain\r\nContent-Length: 10\r\n\r\n\
+            not-ready\n",
     ),
     Exchange(
         ADMIN,
@@ -59,7 +60,8 @@ const ROWS: [Exchange; 31] = [
         "GET /admin/metrics.json",
         "",
         "",
-        "200 OK\r\nContent-Type: application/json\r\nContent-Length: 51\r\n\r\n{\"changes\":1,\"marks\":0,\"namespaces\":0,\"services\":1}",
+        "200 OK\r\nContent-Type: application/json\r\nContent-Length: 51\r\n\r\n\
+            {\"changes\":1,\"marks\":0,\"namespaces\":0,\"services\":1}",
     ),
     Exchange(
         ADMIN,
@@ -73,7 +75,8 @@ const ROWS: [Exchange; 31] = [
         "GET /api/1/addrs/web",
         "",
         "",
-        "200 OK\r\nContent-Type: text/plain\r\nContent-Length: 28\r\n\r\n127.0.0.1 1 * 3\n127.0.0.1 2\n",
+        "200 OK\r\nContent-Type: text/plain\r\nContent-Length: 28\r\n\r\n127.0.0.1 1 * 3\n\
+            127.0.0.1 2\n",
     ),
     Exchange(
         ADMIN,
@@ -110,7 +113,8 @@ const ROWS: [Exchange; 31] = [
         "POST /api/1/addrs/web",
         "",
         "",
-        "405 Method Not Allowed\r\nAllow: GET, HEAD, PUT, DELETE\r\nContent-Type: text/plain\r\nContent-Length: 7\r\n\r\nmethod\n",
+        "405 Method Not Allowed\r\nAllow: GET, HEAD, PUT, DELETE\r\nContent-Type: text/plain\r\n\
+            Content-Length: 7\r\n\r\nmethod\n",
     ),
     Exchange(ADMIN, "DELETE /api/1/addrs/a%20b", "", "", BAD_NAME),
     Exchange(
@@ -118,7 +122,8 @@ const ROWS: [Exchange; 31] = [
         "GET /api/1/addrs/web",
         "",
         "",
-        "200 OK\r\nContent-Type: text/plain\r\nContent-Length: 28\r\n\r\n127.0.0.1 1 * 3\n127.0.0.1 2\n",
+        "200 OK\r\nContent-Type: text/plain\r\nContent-Length: 28\r\n\r\n127.0.0.1 1 * 3\n\
+            127.0.0.1 2\n",
     ),
     Exchange(ADMIN, "DELETE /api/1/addrs/none", "", "", DONE),
     Exchange(ADMIN, "DELETE /api/1/addrs/none", "", "", MISSING),
@@ -135,7 +140,9 @@ const ROWS: [Exchange; 31] = [
         "GET /delegator.json?x=1&path=/svc/a&path=b",
         "",
         "",
-        "200 OK\r\nContent-Type: application/json\r\nContent-Length: 141\r\n\r\n{\"lookups\":[{\"depth\":0,\"outcome\":\"bound\",\"path\":\"/svc/a\"},{\"depth\":1,\"outcome\":\"bound\",\"path\":\"/$/inet/127.0.0.1/8080/a\"}],\"outcome\":\"bound\"}",
+        "200 OK\r\nContent-Type: application/json\r\nContent-Length: 141\r\n\r\n\
+            {\"lookups\":[{\"depth\":0,\"outcome\":\"bound\",\"path\":\"/svc/a\"},{\"depth\":1,\
+            \"outcome\":\"bound\",\"path\":\"/$/inet/127.0.0.1/8080/a\"}],\"outcome\":\"bound\"}",
     ),
     Exchange(
         ADMIN,
@@ -149,7 +156,9 @@ const ROWS: [Exchange; 31] = [
         "GET /delegator.json?path=%2Fs&dtab=/s+%3D%3E+!",
         "",
         "",
-        "200 OK\r\nContent-Type: application/json\r\nContent-Length: 77\r\n\r\n{\"lookups\":[{\"depth\":0,\"outcome\":\"failing\",\"path\":\"/s\"}],\"outcome\":\"failing\"}",
+        "200 OK\r\nContent-Type: application/json\r\nContent-Length: 77\r\n\r\n\
+            {\"lookups\":[{\"depth\":0,\"outcome\":\"failing\",\"path\":\"/s\"}],\
+            \"outcome\":\"failing\"}",
     ),
     Exchange(ADMIN, "GET /delegator.json?dtab=", "", "", BAD_VIEW),
     Exchange(
@@ -165,7 +174,8 @@ const ROWS: [Exchange; 31] = [
         "GET /admin/shutdown",
         "",
         "",
-        "405 Method Not Allowed\r\nAllow: POST\r\nContent-Type: text/plain\r\nContent-Length: 7\r\n\r\nmethod\n",
+        "405 Method Not Allowed\r\nAllow: POST\r\nContent-Type: text/plain\r\n\
+            Content-Length: 7\r\n\r\nmethod\n",
     ),
     Exchange(
         ADMIN,

@@ -38,8 +38,8 @@ const LAST_PONG: &str =
     "200 OK\r\nContent-Type: text/plain\r\nContent-Length: 5\r\nConnection: close\r\n\r\npong\n";
 
 /// The refusal of a body that is too long.
-const TOO_LONG: &str =
-    "413 Content Too Large\r\nContent-Type: text/plain\r\nl5d-err: too-long\r\nContent-Length: 9\r\nConnection: close\r\n\r\ntoo-long\n";
+const TOO_LONG: &str = "413 Content Too Large\r\nContent-Type: text/plain\r\nl5d-err: too-long\r\n\
+        Content-Length: 9\r\nConnection: close\r\n\r\ntoo-long\n";
 
 const ROWS: [Ending; 23] = [
     Ending(
@@ -55,10 +55,13 @@ const ROWS: [Ending; 23] = [
     // One behind the other, each with its body, and a last one that is cut.
     Ending(
         Namerd,
-        "POST /api/1/dtabs/a HTTP/1.1\r\nHost: n\r\nTransfer-Encoding: chunked\r\n\r\n2\r\n/a\r\n4\r\n=>/b\r\n0\r\n\r\nGET /api/1/dtabs HTTP/1.1\r\nHost: n\r\nContent-Length: 3\r\n\r\nxyzPUT /api/1/dtabs/a HTTP/1.1\r\nHost: n\r\nContent-Length: 4\r\n\r\n/a=",
+        "POST /api/1/dtabs/a HTTP/1.1\r\nHost: n\r\nTransfer-Encoding: chunked\r\n\r\n2\r\n/a\r\n\
+            4\r\n=>/b\r\n0\r\n\r\nGET /api/1/dtabs HTTP/1.1\r\nHost: n\r\nContent-Length: 3\r\n\
+            \r\nxyzPUT /api/1/dtabs/a HTTP/1.1\r\nHost: n\r\nContent-Length: 4\r\n\r\n/a=",
         None,
         None,
-        "204 No Content\r\nETag: \"1\"\r\n\r\nHTTP/1.1 200 OK\r\nContent-Type: application/json\r\nContent-Length: 5\r\n\r\n[\"a\"]",
+        "204 No Content\r\nETag: \"1\"\r\n\r\nHTTP/1.1 200 OK\r\n\
+            Content-Type: application/json\r\nContent-Length: 5\r\n\r\n[\"a\"]",
         Ended::Cut,
         0,
     ),
@@ -74,7 +77,8 @@ const ROWS: [Ending; 23] = [
     // Nothing is answered behind a reply that closes.
     Ending(
         ADMIN,
-        "GET /admin/ping HTTP/1.1\r\nHost: n\r\nConnection: close\r\n\r\nGET /admin/ping HTTP/1.1\r\nHost: n\r\n\r\n",
+        "GET /admin/ping HTTP/1.1\r\nHost: n\r\nConnection: close\r\n\r\n\
+            GET /admin/ping HTTP/1.1\r\nHost: n\r\n\r\n",
         None,
         None,
         LAST_PONG,
@@ -93,7 +97,8 @@ const ROWS: [Ending; 23] = [
     // A shutdown is answered, and then done; on the other port it is no path.
     Ending(
         ADMIN,
-        "POST /admin/shutdown HTTP/1.1\r\nHost: n\r\n\r\nGET /admin/ping HTTP/1.1\r\nHost: n\r\n\r\n",
+        "POST /admin/shutdown HTTP/1.1\r\nHost: n\r\n\r\nGET /admin/ping HTTP/1.1\r\nHost: n\r\n\
+            \r\n",
         None,
         None,
         "200 OK\r\nContent-Type: text/plain\r\nContent-Length: 4\r\nConnection: close\r\n\r\nbye\n",
@@ -124,7 +129,8 @@ const ROWS: [Ending; 23] = [
         "GET /admin/ping HTTP/2.0\r\n\r\n",
         None,
         None,
-        "505 HTTP Version Not Supported\r\nContent-Type: text/plain\r\nl5d-err: version\r\nContent-Length: 8\r\nConnection: close\r\n\r\nversion\n",
+        "505 HTTP Version Not Supported\r\nContent-Type: text/plain\r\nl5d-err: version\r\n\
+            Content-Length: 8\r\nConnection: close\r\n\r\nversion\n",
         Ended::Closed,
         0,
     ),
@@ -133,7 +139,8 @@ const ROWS: [Ending; 23] = [
         "HEAD /admin/ping HTTP/1.1\r\n\r\n",
         None,
         None,
-        "400 Bad Request\r\nContent-Type: text/plain\r\nl5d-err: host\r\nContent-Length: 5\r\nConnection: close\r\n\r\n",
+        "400 Bad Request\r\nContent-Type: text/plain\r\nl5d-err: host\r\nContent-Length: 5\r\n\
+            Connection: close\r\n\r\n",
         Ended::Closed,
         0,
     ),
@@ -142,7 +149,8 @@ const ROWS: [Ending; 23] = [
         "CONNECT n:1 HTTP/1.1\r\nHost: n\r\n\r\n",
         None,
         None,
-        "501 Not Implemented\r\nContent-Type: text/plain\r\nl5d-err: connect\r\nContent-Length: 8\r\nConnection: close\r\n\r\nconnect\n",
+        "501 Not Implemented\r\nContent-Type: text/plain\r\nl5d-err: connect\r\n\
+            Content-Length: 8\r\nConnection: close\r\n\r\nconnect\n",
         Ended::Closed,
         0,
     ),
@@ -157,10 +165,12 @@ const ROWS: [Ending; 23] = [
     ),
     Ending(
         Namerd,
-        "PUT /api/1/dtabs/a HTTP/1.1\r\nHost: n\r\nTransfer-Encoding: chunked\r\n\r\n6\r\n/a=>/c 0\r\n\r\n",
+        "PUT /api/1/dtabs/a HTTP/1.1\r\nHost: n\r\nTransfer-Encoding: chunked\r\n\r\n6\r\n\
+            /a=>/c 0\r\n\r\n",
         None,
         None,
-        "400 Bad Request\r\nContent-Type: text/plain\r\nl5d-err: body\r\nContent-Length: 5\r\nConnection: close\r\n\r\nbody\n",
+        "400 Bad Request\r\nContent-Type: text/plain\r\nl5d-err: body\r\nContent-Length: 5\r\n\
+            Connection: close\r\n\r\nbody\n",
         Ended::Closed,
         0,
     ),
@@ -216,7 +226,8 @@ const ROWS: [Ending; 23] = [
         "PUT /api/1/dtabs/a HTTP/1.1\r\nContent-Length: 1048576\r\n\r\n",
         Some(1),
         None,
-        "400 Bad Request\r\nContent-Type: text/plain\r\nl5d-err: host\r\nContent-Length: 5\r\nConnection: close\r\n\r\nhost\n",
+        "400 Bad Request\r\nContent-Type: text/plain\r\nl5d-err: host\r\nContent-Length: 5\r\n\
+            Connection: close\r\n\r\nhost\n",
         Ended::Closed,
         0,
     ),
@@ -226,7 +237,8 @@ const ROWS: [Ending; 23] = [
         "GET /api/1/dtabs/a HTTP/1.1\r\nHost: n\r\nAccept: application/dtab\r\n\r\n",
         None,
         None,
-        "200 OK\r\nETag: \"1\"\r\nContent-Type: application/dtab\r\nContent-Length: 6\r\n\r\n/a=>/b",
+        "200 OK\r\nETag: \"1\"\r\nContent-Type: application/dtab\r\nContent-Length: 6\r\n\r\n\
+            /a=>/b",
         Ended::PeerEnded,
         0,
     ),

@@ -14,7 +14,8 @@ const ROWS: [Exchange; 14] = [
         "GET /feed/default",
         "",
         "",
-        "200 OK\r\nContent-Type: application/json\r\nContent-Length: 19\r\n\r\n{\"place\":0,\"run\":7}",
+        "200 OK\r\nContent-Type: application/json\r\nContent-Length: 19\r\n\r\n\
+            {\"place\":0,\"run\":7}",
     ),
     Exchange(
         Namerd,
@@ -28,7 +29,8 @@ const ROWS: [Exchange; 14] = [
         "GET /feed/default",
         "",
         "",
-        "200 OK\r\nContent-Type: application/json\r\nContent-Length: 59\r\n\r\n{\"dtab\":\"/svc=>/#/io.l5d.fs\",\"place\":1,\"run\":7,\"version\":1}",
+        "200 OK\r\nContent-Type: application/json\r\nContent-Length: 59\r\n\r\n\
+            {\"dtab\":\"/svc=>/#/io.l5d.fs\",\"place\":1,\"run\":7,\"version\":1}",
     ),
     Exchange(
         FEED,
@@ -51,7 +53,8 @@ const ROWS: [Exchange; 14] = [
         "GET /feed/default",
         "",
         "",
-        "200 OK\r\nContent-Type: application/json\r\nContent-Length: 41\r\n\r\n{\"dtab\":\"\",\"place\":2,\"run\":7,\"version\":2}",
+        "200 OK\r\nContent-Type: application/json\r\nContent-Length: 41\r\n\r\n\
+            {\"dtab\":\"\",\"place\":2,\"run\":7,\"version\":2}",
     ),
     Exchange(
         Namerd,
@@ -65,7 +68,8 @@ const ROWS: [Exchange; 14] = [
         "GET /feed/web",
         "Connection: close\r\n",
         "",
-        "200 OK\r\nContent-Type: application/json\r\nContent-Length: 52\r\nConnection: close\r\n\r\n{\"dtab\":\"/a\\\\x22=>/b\",\"place\":3,\"run\":7,\"version\":3}",
+        "200 OK\r\nContent-Type: application/json\r\nContent-Length: 52\r\nConnection: close\r\n\
+            \r\n{\"dtab\":\"/a\\\\x22=>/b\",\"place\":3,\"run\":7,\"version\":3}",
     ),
     // A namespace that is gone.
     Exchange(Namerd, "DELETE /api/1/dtabs/default", "", "", DONE),
@@ -74,7 +78,8 @@ const ROWS: [Exchange; 14] = [
         "GET /feed/default",
         "",
         "",
-        "200 OK\r\nContent-Type: application/json\r\nContent-Length: 19\r\n\r\n{\"place\":4,\"run\":7}",
+        "200 OK\r\nContent-Type: application/json\r\nContent-Length: 19\r\n\r\n\
+            {\"place\":4,\"run\":7}",
     ),
     // The path is tested before the method, and the method before the name.
     Exchange(FEED, "POST /feeds/default", "", "", BAD_PATH),

@@ -12,8 +12,8 @@ use std::test::Fail;
 
 const MADE: &str = "204 No Content\r\nETag: \"1\"\r\n\r\n";
 
-const TOO_LONG: &str =
-    "413 Content Too Large\r\nContent-Type: text/plain\r\nl5d-err: too-long\r\nContent-Length: 9\r\nConnection: close\r\n\r\ntoo-long\n";
+const TOO_LONG: &str = "413 Content Too Large\r\nContent-Type: text/plain\r\nl5d-err: too-long\r\n\
+        Content-Length: 9\r\nConnection: close\r\n\r\ntoo-long\n";
 
 const NO_ADDRS: &str =
     "400 Bad Request\r\nContent-Type: text/plain\r\nContent-Length: 6\r\n\r\naddrs\n";
@@ -126,19 +126,22 @@ const FULL: [Most; 3] = [
         Namerd,
         256,
         0,
-        "HTTP/1.1 507 Insufficient Storage\r\nContent-Type: text/plain\r\nContent-Length: 15\r\n\r\ntoo-many-names\n",
+        "HTTP/1.1 507 Insufficient Storage\r\nContent-Type: text/plain\r\nContent-Length: 15\r\n\
+            \r\ntoo-many-names\n",
     ),
     (
         ADMIN,
         4096,
         0,
-        "HTTP/1.1 507 Insufficient Storage\r\nContent-Type: text/plain\r\nContent-Length: 18\r\n\r\ntoo-many-services\n",
+        "HTTP/1.1 507 Insufficient Storage\r\nContent-Type: text/plain\r\nContent-Length: 18\r\n\
+            \r\ntoo-many-services\n",
     ),
     (
         ADMIN,
         8,
         1024,
-        "HTTP/1.1 507 Insufficient Storage\r\nContent-Type: text/plain\r\nContent-Length: 10\r\n\r\nbook-full\n",
+        "HTTP/1.1 507 Insufficient Storage\r\nContent-Type: text/plain\r\nContent-Length: 10\r\n\
+            \r\nbook-full\n",
     ),
 ];
 

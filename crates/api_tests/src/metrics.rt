@@ -30,7 +30,15 @@ impl Row for Scrape {
 
 /// The fields of the reply with all metrics, and the first of them.
 const FIRST: &str =
-    "200 OK\r\nContent-Type: text/plain; version=0.0.4; charset=utf-8\r\nContent-Length: 4949\r\n\r\n# HELP linker_changes_total Changes of tables, services and marks that were accepted.\n# TYPE linker_changes_total counter\nlinker_changes_total 6\n# HELP linker_tables_written_total Tables that were created or put.\n# TYPE linker_tables_written_total counter\nlinker_tables_written_total 0\n# HELP linker_marks Addresses with failures that count against them.\n# TYPE linker_marks gauge\nlinker_marks 1\n# HELP linker_namespaces Namespaces.\n# TYPE linker_namespaces gauge\nlinker_namespaces 0\n# HELP linker_services Services.\n# TYPE linker_services gauge\nlinker_services 1\n# HELP linker_requests_total ";
+    "200 OK\r\nContent-Type: text/plain; version=0.0.4; charset=utf-8\r\nContent-Length: 4949\r\n\
+        \r\n# HELP linker_changes_total Changes of tables, services and marks that were \
+        accepted.\n# TYPE linker_changes_total counter\nlinker_changes_total 6\n\
+        # HELP linker_tables_written_total Tables that were created or put.\n\
+        # TYPE linker_tables_written_total counter\nlinker_tables_written_total 0\n\
+        # HELP linker_marks Addresses with failures that count against them.\n\
+        # TYPE linker_marks gauge\nlinker_marks 1\n# HELP linker_namespaces Namespaces.\n\
+        # TYPE linker_namespaces gauge\nlinker_namespaces 0\n# HELP linker_services Services.\n\
+        # TYPE linker_services gauge\nlinker_services 1\n# HELP linker_requests_total ";
 
 const ROWS: [Scrape; 6] = [
     Scrape(
@@ -48,14 +56,18 @@ const ROWS: [Scrape; 6] = [
         "GET /admin/metrics/prometheus",
         "",
         FIRST,
-        "\nlinker_service_addresses{service=\"web\"} 2\n# HELP linker_service_live_addresses Addresses of a service that are alive.\n# TYPE linker_service_live_addresses gauge\nlinker_service_live_addresses{service=\"web\"} 1\n",
+        "\nlinker_service_addresses{service=\"web\"} 2\n\
+            # HELP linker_service_live_addresses Addresses of a service that are alive.\n\
+            # TYPE linker_service_live_addresses gauge\n\
+            linker_service_live_addresses{service=\"web\"} 1\n",
     ),
     Scrape(
         0,
         ADMIN,
         "PUT /admin/metrics/prometheus",
         "",
-        "405 Method Not Allowed\r\nAllow: GET, HEAD\r\nContent-Type: text/plain\r\nContent-Length: 7\r\n\r\n",
+        "405 Method Not Allowed\r\nAllow: GET, HEAD\r\nContent-Type: text/plain\r\n\
+            Content-Length: 7\r\n\r\n",
         "\r\n\r\nmethod\n",
     ),
     Scrape(
@@ -79,7 +91,8 @@ const ROWS: [Scrape; 6] = [
         ADMIN,
         "HEAD /admin/metrics/prometheus",
         "",
-        "200 OK\r\nContent-Type: text/plain; version=0.0.4; charset=utf-8\r\nContent-Length: 4949\r\n\r\n",
+        "200 OK\r\nContent-Type: text/plain; version=0.0.4; charset=utf-8\r\n\
+            Content-Length: 4949\r\n\r\n",
         "Content-Length: 4949\r\n\r\n",
     ),
 ];

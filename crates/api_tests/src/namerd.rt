@@ -5,11 +5,12 @@ use std::test::Fail;
 
 /// The reply where the table has version 2, and another was expected.
 const STALE_AT_2: &str =
-    "412 Precondition Failed\r\nETag: \"2\"\r\nContent-Type: text/plain\r\nContent-Length: 6\r\n\r\nstale\n";
+    "412 Precondition Failed\r\nETag: \"2\"\r\nContent-Type: text/plain\r\nContent-Length: 6\r\n\
+        \r\nstale\n";
 
 /// The reply to a method that no table takes.
-const BAD_METHOD: &str =
-    "405 Method Not Allowed\r\nAllow: GET, HEAD, POST, PUT, DELETE\r\nContent-Type: text/plain\r\nContent-Length: 7\r\n\r\nmethod\n";
+const BAD_METHOD: &str = "405 Method Not Allowed\r\nAllow: GET, HEAD, POST, PUT, DELETE\r\n\
+        Content-Type: text/plain\r\nContent-Length: 7\r\n\r\nmethod\n";
 
 const ROWS: [Exchange; 40] = [
     // A table is made once.
@@ -25,7 +26,8 @@ const ROWS: [Exchange; 40] = [
         "POST /api/1/dtabs/web",
         "",
         "/svc => /a",
-        "409 Conflict\r\nETag: \"1\"\r\nContent-Type: text/plain\r\nContent-Length: 7\r\n\r\nexists\n",
+        "409 Conflict\r\nETag: \"1\"\r\nContent-Type: text/plain\r\nContent-Length: 7\r\n\r\n\
+            exists\n",
     ),
     Exchange(
         Namerd,
@@ -64,7 +66,8 @@ const ROWS: [Exchange; 40] = [
         "GET /api/1/dtabs/web",
         "",
         "",
-        "200 OK\r\nETag: \"1\"\r\nContent-Type: application/json\r\nContent-Length: 30\r\n\r\n[{\"dst\":\"/a\",\"prefix\":\"/svc\"}]",
+        "200 OK\r\nETag: \"1\"\r\nContent-Type: application/json\r\nContent-Length: 30\r\n\r\n\
+            [{\"dst\":\"/a\",\"prefix\":\"/svc\"}]",
     ),
     Exchange(Namerd, "POST /api/1/dtabs/other", "", "/svc =>", BAD_DTAB),
     Exchange(Namerd, "GET /api/1/dtabs/other", "", "", MISSING),
@@ -125,21 +128,24 @@ const ROWS: [Exchange; 40] = [
         "GET /api/1/dtabs/web?x=1",
         "",
         "",
-        "200 OK\r\nETag: \"2\"\r\nContent-Type: application/json\r\nContent-Length: 40\r\n\r\n[{\"dst\":\"/#/io.l5d.fs\",\"prefix\":\"/svc\"}]",
+        "200 OK\r\nETag: \"2\"\r\nContent-Type: application/json\r\nContent-Length: 40\r\n\r\n\
+            [{\"dst\":\"/#/io.l5d.fs\",\"prefix\":\"/svc\"}]",
     ),
     Exchange(
         Namerd,
         "HEAD /api/1/dtabs/web",
         "Connection: x, Close\r\n",
         "",
-        "200 OK\r\nETag: \"2\"\r\nContent-Type: application/json\r\nContent-Length: 40\r\nConnection: close\r\n\r\n",
+        "200 OK\r\nETag: \"2\"\r\nContent-Type: application/json\r\nContent-Length: 40\r\n\
+            Connection: close\r\n\r\n",
     ),
     Exchange(
         Namerd,
         "GET http://n/api/1/dtabs/web",
         "Accept: text/html\r\nAccept: text/html, Application/DTAB;q=1\r\n",
         "",
-        "200 OK\r\nETag: \"2\"\r\nContent-Type: application/dtab\r\nContent-Length: 18\r\n\r\n/svc=>/#/io.l5d.fs",
+        "200 OK\r\nETag: \"2\"\r\nContent-Type: application/dtab\r\nContent-Length: 18\r\n\r\n\
+            /svc=>/#/io.l5d.fs",
     ),
     // A table with escapes, quotation marks and bytes past ASCII goes out as JSON, and comes back
     // the same.
@@ -155,13 +161,16 @@ const ROWS: [Exchange; 40] = [
         "GET /api/1/dtabs/web",
         "",
         "",
-        "200 OK\r\nETag: \"3\"\r\nContent-Type: application/json\r\nContent-Length: 88\r\n\r\n[{\"dst\":\"0.5 * /b\\\\x5c & 1 * !\",\"prefix\":\"/a\\\\x22\\\\xe9/*\"},{\"dst\":\"~ | $\",\"prefix\":\"/\"}]",
+        "200 OK\r\nETag: \"3\"\r\nContent-Type: application/json\r\nContent-Length: 88\r\n\r\n\
+            [{\"dst\":\"0.5 * /b\\\\x5c & 1 * !\",\"prefix\":\"/a\\\\x22\\\\xe9/*\"},\
+            {\"dst\":\"~ | $\",\"prefix\":\"/\"}]",
     ),
     Exchange(
         Namerd,
         "PUT /api/1/dtabs/web",
         "Content-Type: Application/JSON; charset=utf-8\r\n",
-        "[{\"dst\":\"0.5 * /b\\\\x5c & 1 * !\",\"prefix\":\"/a\\\\x22\\\\xe9/*\"},{\"prefix\":\" /\\u0020\",\"dst\":\"~ | $\"}]",
+        "[{\"dst\":\"0.5 * /b\\\\x5c & 1 * !\",\"prefix\":\"/a\\\\x22\\\\xe9/*\"},{\"prefix\":\" \
+            /\\u0020\",\"dst\":\"~ | $\"}]",
         "204 No Content\r\nETag: \"4\"\r\n\r\n",
     ),
     Exchange(
@@ -169,7 +178,8 @@ const ROWS: [Exchange; 40] = [
         "GET /api/1/dtabs/web",
         "Accept: application/dtab\r\n",
         "",
-        "200 OK\r\nETag: \"4\"\r\nContent-Type: application/dtab\r\nContent-Length: 43\r\n\r\n/a\\x22\\xe9/*=>0.5 * /b\\x5c & 1 * !;/=>~ | $",
+        "200 OK\r\nETag: \"4\"\r\nContent-Type: application/dtab\r\nContent-Length: 43\r\n\r\n\
+            /a\\x22\\xe9/*=>0.5 * /b\\x5c & 1 * !;/=>~ | $",
     ),
     // JSON that is no table.
     Exchange(
@@ -220,7 +230,8 @@ const ROWS: [Exchange; 40] = [
         "DELETE /api/1/dtabs/web",
         "If-Match: 3\r\n",
         "",
-        "412 Precondition Failed\r\nETag: \"4\"\r\nContent-Type: text/plain\r\nContent-Length: 6\r\n\r\nstale\n",
+        "412 Precondition Failed\r\nETag: \"4\"\r\nContent-Type: text/plain\r\n\
+            Content-Length: 6\r\n\r\nstale\n",
     ),
     Exchange(
         Namerd,

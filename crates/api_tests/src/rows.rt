@@ -31,7 +31,8 @@ pub(crate) const DONE: &str = "204 No Content\r\n\r\n";
 
 /// The reply to another method, where only GET and HEAD are taken.
 pub(crate) const READ_ONLY: &str =
-    "405 Method Not Allowed\r\nAllow: GET, HEAD\r\nContent-Type: text/plain\r\nContent-Length: 7\r\n\r\nmethod\n";
+    "405 Method Not Allowed\r\nAllow: GET, HEAD\r\nContent-Type: text/plain\r\n\
+        Content-Length: 7\r\n\r\nmethod\n";
 
 /// A row of a table.
 pub(crate) trait Row {

@@ -38,17 +38,20 @@ const TOLD: [(Spent, bool, &str); 3] = [
     (
         Spent::Versions,
         false,
-        "507 Insufficient Storage\r\nContent-Type: text/plain\r\nContent-Length: 15\r\n\r\nversions-spent\n",
+        "507 Insufficient Storage\r\nContent-Type: text/plain\r\nContent-Length: 15\r\n\r\n\
+            versions-spent\n",
     ),
     (
         Spent::History,
         false,
-        "507 Insufficient Storage\r\nContent-Type: text/plain\r\nContent-Length: 14\r\n\r\nhistory-spent\n",
+        "507 Insufficient Storage\r\nContent-Type: text/plain\r\nContent-Length: 14\r\n\r\n\
+            history-spent\n",
     ),
     (
         Spent::History,
         true,
-        "507 Insufficient Storage\r\nContent-Type: text/plain\r\nContent-Length: 14\r\nConnection: close\r\n\r\nhistory-spent\n",
+        "507 Insufficient Storage\r\nContent-Type: text/plain\r\nContent-Length: 14\r\n\
+            Connection: close\r\n\r\nhistory-spent\n",
     ),
 ];
 

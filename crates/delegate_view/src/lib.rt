@@ -18,8 +18,8 @@
 //! let (path, local) = view_ask(alloc, b"path=/svc/a&dtab=/svc+=>+/$/inet/127.0.0.1/80")?;
 //! let found = bind(alloc, &tables, &book, &path, Wanted::Trace, &mut steps)?;
 //! let text = view_text(alloc, &found.outcome, &found.trace)?;
-//! // {"lookups":[{"depth":0,"outcome":"bound","path":"/svc/a"},
-//! // {"depth":1,"outcome":"bound","path":"/$/inet/127.0.0.1/80/a"}],"outcome":"bound"}, in one line
+//! // in one line: {"lookups":[{"depth":0,"outcome":"bound","path":"/svc/a"},
+//! // {"depth":1,"outcome":"bound","path":"/$/inet/127.0.0.1/80/a"}],"outcome":"bound"}
 //! ```
 #![tactic(auto)]
 

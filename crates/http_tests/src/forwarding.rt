@@ -20,10 +20,12 @@ type Row = (&'static str, usize, &'static str, &'static str);
 static REQUESTS: [Row; 8] = [
     // A table, and a field that the Connection field names.
     (
-        "GET /x?y=1 HTTP/1.1|Host: Web|User-Agent: curl/8.5.0|Accept: */*|l5d-dtab: /svc/web => /$/inet/127.0.0.1/9001|Connection: x-gone, keep-alive|X-Gone: 1|X-Kept: 2||",
+        "GET /x?y=1 HTTP/1.1|Host: Web|User-Agent: curl/8.5.0|Accept: */*|l5d-dtab: /svc/web => \
+            /$/inet/127.0.0.1/9001|Connection: x-gone, keep-alive|X-Gone: 1|X-Kept: 2||",
         0,
         "/svc/web => /$/inet/127.0.0.1/9001",
-        "GET /x?y=1 HTTP/1.1|Host: Web|User-Agent: curl/8.5.0|Accept: */*|X-Kept: 2|Via: 1.1 linkerd|l5d-ctx-dtab: /svc/web=>/$/inet/127.0.0.1/9001|",
+        "GET /x?y=1 HTTP/1.1|Host: Web|User-Agent: curl/8.5.0|Accept: */*|X-Kept: 2|Via: 1.1 \
+            linkerd|l5d-ctx-dtab: /svc/web=>/$/inet/127.0.0.1/9001|",
     ),
     // An absolute target: its authority is the host, whatever the Host field says.
     (
@@ -54,21 +56,25 @@ static REQUESTS: [Row; 8] = [
     ),
     // Two Connection fields, names in other case, and blanks and empty pieces between them.
     (
-        "GET / HTTP/1.1|X-C: 1|Host: web|Connection: ,X-A ,\tx-b|X-a: 2|x-B: 3|X: 4|connection: CLOSE, x-c|X-AB: 5|x: 6||",
+        "GET / HTTP/1.1|X-C: 1|Host: web|Connection: ,X-A ,\tx-b|X-a: 2|x-B: 3|X: 4|connection: \
+            CLOSE, x-c|X-AB: 5|x: 6||",
         0,
         "",
         "GET / HTTP/1.1|Host: web|X: 4|X-AB: 5|x: 6|Via: 1.1 linkerd|",
     ),
     // What never goes on, named or not, and a received Via.
     (
-        "GET / HTTP/1.1|Host: web|Connection: te|TE: trailers|Keep-Alive: timeout=5|Proxy-Connection: close|Trailer: X|Upgrade: h2c|Expect: 100-continue|L5D-Ctx-Dtab: /a=>/b|l5d-dst-service: /a|l5d-dst-client: /b|l5d-dst-residual: /c|Via: 1.1 edge||",
+        "GET / HTTP/1.1|Host: web|Connection: te|TE: trailers|Keep-Alive: timeout=5|\
+            Proxy-Connection: close|Trailer: X|Upgrade: h2c|Expect: 100-continue|L5D-Ctx-Dtab: \
+            /a=>/b|l5d-dst-service: /a|l5d-dst-client: /b|l5d-dst-residual: /c|Via: 1.1 edge||",
         0,
         "",
         "GET / HTTP/1.1|Host: web|Via: 1.1 edge|Via: 1.1 linkerd|",
     ),
     // A Connection field has no effect on the lines that are written.
     (
-        "POST / HTTP/1.1|Via: 1.1 edge|Host: web|Transfer-Encoding: Chunked|Connection: host, transfer-encoding, via, connection||",
+        "POST / HTTP/1.1|Via: 1.1 edge|Host: web|Transfer-Encoding: Chunked|Connection: host, \
+            transfer-encoding, via, connection||",
         0,
         "",
         "POST / HTTP/1.1|Host: web|Transfer-Encoding: chunked|Via: 1.1 linkerd|",
@@ -77,7 +83,8 @@ static REQUESTS: [Row; 8] = [
 
 /// The last lines of each.
 const LAST: &str =
-    "l5d-dst-service: /svc/web\r\nl5d-dst-client: /$/inet/127.0.0.1/9001\r\nConnection: close\r\n\r\n";
+    "l5d-dst-service: /svc/web\r\nl5d-dst-client: /$/inet/127.0.0.1/9001\r\nConnection: close\r\n\
+        \r\n";
 
 /// Whether a text is made of these two.
 fn is_made_of(text: &[u8], front: &[u8], end: &[u8]) -> bool {
@@ -185,7 +192,8 @@ static REPLIES: [(&str, &str, bool, &str); 7] = [
         "HEAD",
         "HTTP/1.1 200 OK\r\nContent-Length: 007, 7\r\nVia: 1.1 edge\r\n\r\n",
         true,
-        "HTTP/1.1 200 OK\r\nVia: 1.1 edge\r\nContent-Length: 7\r\nVia: 1.1 linkerd\r\nConnection: close\r\n\r\n",
+        "HTTP/1.1 200 OK\r\nVia: 1.1 edge\r\nContent-Length: 7\r\nVia: 1.1 linkerd\r\n\
+            Connection: close\r\n\r\n",
     ),
     (
         "GET",
@@ -216,9 +224,11 @@ static REPLIES: [(&str, &str, bool, &str); 7] = [
     // lists.
     (
         "GET",
-        "HTTP/1.0 007\nHost: kept\nConnection: x-a,, X-B\nX-a: 1\nx-b: 2\nX-AB: 3\nL5d-Dtab: /a=>/b\n\n",
+        "HTTP/1.0 007\nHost: kept\nConnection: x-a,, X-B\nX-a: 1\nx-b: 2\nX-AB: 3\n\
+            L5d-Dtab: /a=>/b\n\n",
         true,
-        "HTTP/1.1 007 \r\nHost: kept\r\nX-AB: 3\r\nL5d-Dtab: /a=>/b\r\nVia: 1.0 linkerd\r\nConnection: close\r\n\r\n",
+        "HTTP/1.1 007 \r\nHost: kept\r\nX-AB: 3\r\nL5d-Dtab: /a=>/b\r\nVia: 1.0 linkerd\r\n\
+            Connection: close\r\n\r\n",
     ),
 ];
 

@@ -237,7 +237,8 @@ static TABLES: [(&str, usize, &str); 9] = [
     ("GET / HTTP/1.0||", 0, ""),
     ("GET / HTTP/1.0|l5d-dtab:|l5d-ctx-dtab: ;||", 0, ""),
     (
-        "GET / HTTP/1.0|l5d-dtab: /a => /b|L5D-Ctx-Dtab: /c => /d|x: y|l5d-ctx-dtab: /e=>!;/c=>/f|l5d-dtab: /a=>/g||",
+        "GET / HTTP/1.0|l5d-dtab: /a => /b|L5D-Ctx-Dtab: /c => /d|x: y|l5d-ctx-dtab: /e=>!;\
+            /c=>/f|l5d-dtab: /a=>/g||",
         0,
         "/c=>/d;/e=>!;/c=>/f;/a=>/b;/a=>/g",
     ),

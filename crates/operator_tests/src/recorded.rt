@@ -1,5 +1,5 @@
-//! What a worker records of exchanges of each way, over a clock and a journal in memory, and what is
-//! scraped of it.
+//! What a worker records of exchanges of each way, over a clock and a journal in memory, and what
+//! is scraped of it.
 ghost use Rattle.std.specs.Prelude.{◌≡◌, All};
 ghost use Rattle.count_words.specs.Seats.{HasCountedNone, IsWriterOf, Reads, size_of};
 

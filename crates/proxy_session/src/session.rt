@@ -54,8 +54,9 @@ impl<J: Naming, D: Dialer, C: Clock> Server<J, D, C> {
     /// its bytes has then given them all; and with `ReadFault` and `WriteFault` only where a read
     /// or a write failed. So where none does, and it ends neither `Quiet` nor `Drained`, every
     /// request that the client's bytes begin with is answered, up to one that closes, unless there
-    /// is no memory. `Spent` says that 10,000 were, and `Drained` that the listeners are closing: it
-    /// comes only where the client's connection said so. `Quiet` comes where that said that nothing came for a while, and only there.
+    /// is no memory. `Spent` says that 10,000 were, and `Drained` that the listeners are closing:
+    /// it comes only where the client's connection said so. `Quiet` comes where that said that
+    /// nothing came for a while, and only there.
     pub fn serve_stay<P: Peer, G: Gate, R: Wait, K: Recorder>(
         &mut self,
         context: &Context<'_, J, R>,

@@ -16,9 +16,9 @@
 //! |---|---|
 //! | `dtab TABLE` | the table of the namespace `default` |
 //! | `create NAME TABLE` | a new namespace |
-//! | `put NAME VERSION TABLE`, `delete NAME VERSION` | the namespace that has this version, `*` for any |
+//! | `put NAME VERSION TABLE`, `delete NAME VERSION` | the namespace of this version, `*` for any |
 //! | `get NAME`, `list` | a namespace's version and table, the names of all |
-//! | `addrs NAME ADDRESS ..`, `drop NAME` | a service's addresses, each `host:port` or `host:port*weight` |
+//! | `addrs NAME ADDRESS ..`, `drop NAME` | a service's addresses: `host:port`, or with `*weight` |
 //! | `fail ADDRESS MOMENT`, `good ADDRESS MOMENT` | a report on an address |
 //! | `pick PATH`, `pick PATH MOMENT WORD WORD WORD TABLE` | a replica for a path |
 //! | `view PATH` | how a path is delegated |
@@ -30,8 +30,8 @@
 //! `specs/Reply.antt`. What a whole script writes is its replay, as `specs/Replay.antt` has it;
 //! where memory is wanting it is the whole replies to its first lines, and where a write fails a
 //! front of the replay. [`read_all`] gives exactly the bytes of a source, and [`write_all`] hands
-//! them all on, each end with its cause. The turns of a generated run are exactly those of `specs/Turns.antt`, and
-//! its line is that of `specs/Storm.antt`.
+//! them all on, each end with its cause. The turns of a generated run are exactly those of
+//! `specs/Turns.antt`, and its line is that of `specs/Storm.antt`.
 //!
 //! Its tests are `state_tests`' module `lines`, and those of whole scripts `linker_tests`.
 //!

@@ -64,9 +64,9 @@ pub fn is_watchable<F: Folder>(folder: &mut F) -> Mem<bool>
 }
 
 /// Looks at the status file of the process until a signal asks for an end, and then calls the stop;
-/// or until the pause between two looks says that nothing is left to stop, or there is no such file.
-/// A look that failed, or for which there was no memory, is made again behind the next pause: so one
-/// at a moment without descriptors makes it deaf to no signal.
+/// or until the pause between two looks says that nothing is left to stop, or there is no such
+/// file. A look that failed, or for which there was no memory, is made again behind the next pause:
+/// so one at a moment without descriptors makes it deaf to no signal.
 ///
 /// # Errors
 /// [`AllocError`] where there was no memory for the last look before the pause that was the last.

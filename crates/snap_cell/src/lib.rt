@@ -4,9 +4,9 @@
 //! then the two change places. A [`Writer`] publishes operations ([`Writer::publish`]); a
 //! [`Reader`] enters the value ([`Reader::enter`]) and gets it lent by a [`Guard`], or in its own
 //! hands until it puts it back ([`Reader::take`], [`Reader::put_back`]). What was published reaches
-//! a reader by a [`Note`] ([`Writer::tell`], [`Reader::learn`]), by [`Reader::catch_up`], or when it
-//! enters. A reader tells of what it has seen by a note too ([`Reader::tell`]), so that a piece of
-//! work may go on with another reader, which sees no less. Any value that absorbs operations by
+//! a reader by a [`Note`] ([`Writer::tell`], [`Reader::learn`]), by [`Reader::catch_up`], or when
+//! it enters. A reader tells of what it has seen by a note too ([`Reader::tell`]), so that a piece
+//! of work may go on with another reader, which sees no less. Any value that absorbs operations by
 //! reference will do ([`Published`]), and any kind of item: a reader notes at which point of the
 //! list its items stand. The lists of operations and items exist in proofs alone: an item is a
 //! `Snapshot`, which has no bytes, so an enum of snapshots can name what a caller only lends.

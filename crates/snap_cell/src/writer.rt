@@ -37,7 +37,8 @@ where
     ghost one_list: { known.seen.book ≡ origin.empty.book },
     ghost head_is: { head ≡ head_of known.seen.book },
     ghost there: { IsSome desk },
-    ghost stands: { ForSome desk (λ d. Stands origin known d.desk.shown.value (view d.desk.place)) },
+    ghost stands: { ForSome desk (λ d.
+        Stands origin known d.desk.shown.value (view d.desk.place)) },
     ghost settled: { stuck ≡ false → ForSome desk (λ d. drop d.behind d.log.items ≡ []) },
 }
 

@@ -180,7 +180,8 @@ const SCHEDULES: [(&[Row<'static>], &str); 4] = [
             (0, "put default * /s => /$/inet/127.0.0.1/2"),
             (1, "remember"),
         ],
-        "; at 0 version 1; -; -; at 1 port 1; at 1 port 1; kept; not kept; at 1 version 2; not kept",
+        "; at 0 version 1; -; -; at 1 port 1; at 1 port 1; kept; not kept; at 1 version 2; not \
+            kept",
     ),
     // What is kept for a path is kept for the request's own table too, and for no other one.
     (

@@ -240,7 +240,8 @@ const LINES: [(By, &str, &str); 30] = [
     (
         By::Answer,
         "view /svc/web",
-        "{\"lookups\":[{\"depth\":0,\"outcome\":\"bound\",\"path\":\"/svc/web\"},{\"depth\":1,\"outcome\":\"bound\",\"path\":\"/#/io.l5d.fs/web\"}],\"outcome\":\"bound\"}",
+        "{\"lookups\":[{\"depth\":0,\"outcome\":\"bound\",\"path\":\"/svc/web\"},{\"depth\":1,\
+            \"outcome\":\"bound\",\"path\":\"/#/io.l5d.fs/web\"}],\"outcome\":\"bound\"}",
     ),
     // A mark leaves with its address.
     (By::Apply, "addrs web 127.0.0.1:2", "ok 1"),

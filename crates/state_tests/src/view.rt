@@ -34,7 +34,8 @@ const LOOKUPS: [Row; 2] = [
 ];
 
 const VIEW: &str =
-    "{\"lookups\":[{\"depth\":0,\"outcome\":\"negative\",\"path\":\"/svc/a\\\\x2fb\"},{\"depth\":11,\"outcome\":\"too-deep\",\"path\":\"/\"}],\"outcome\":\"too-deep\"}";
+    "{\"lookups\":[{\"depth\":0,\"outcome\":\"negative\",\"path\":\"/svc/a\\\\x2fb\"},\
+        {\"depth\":11,\"outcome\":\"too-deep\",\"path\":\"/\"}],\"outcome\":\"too-deep\"}";
 
 #[test]
 fn writes_a_view(rt: HostRuntime) -> Result<(), Fail> {
