@@ -1,5 +1,5 @@
 //! Many clients may wait to be accepted.
-use crate::clients::at;
+use crate::clients::{LOOPBACK, at};
 use line_base::{Mem, Net};
 use net_edge::SocketNet;
 use std::alloc::AllocGlobal;
@@ -27,7 +27,7 @@ fn connected(rt: &HostRuntime) -> Mem<u32> {
 
 /// The same while nobody asks a listener of this net for them.
 fn connected_over<N: Net>(rt: &HostRuntime, net: &mut N) -> Result<u32, Fail> {
-    let listeners = net.listen(0x7f00_0001, PORT, 1, 0)?.into_items();
+    let listeners = net.listen(LOOPBACK, PORT, 1, 0)?.into_items();
     let count = connected(rt);
     drop(listeners);
     Ok(count?)

@@ -1,5 +1,5 @@
 //! The end of a connection waits for what its client has yet to say, for a bounded time.
-use crate::clients::{at, next_client};
+use crate::clients::{LOOPBACK, at, next_client};
 use line_base::{Listener, Net};
 use net_edge::SocketNet;
 use std::io::{self, Write};
@@ -90,7 +90,7 @@ fn ends_over<R, N: Net>(rt: &R, net: &mut N) -> Result<(Duration, [Duration; 2])
 where
     R: Threads + Sync + rt::Clock + net::Net<Listener = TcpListener, Stream = TcpStream>,
 {
-    let mut listeners = net.listen(0x7f00_0001, PORT, 1, 0)?.into_items();
+    let mut listeners = net.listen(LOOPBACK, PORT, 1, 0)?.into_items();
     let told = match listeners.first_mut() {
         Some(listener) => ends(rt, listener),
         None => Err(Fail::from("no listener")),

@@ -1,19 +1,19 @@
 //! A kept connection that is not wanted any more is ended, and what was sent over it arrives.
 ghost use Rattle.std.specs.Prelude.{IsSome};
 
-use crate::bytes::{are_from, telling};
-use crate::clients::at;
-use line_base::{ConnectionPool, Dialer, Failed, Net};
+use crate::bytes::telling;
+use crate::clients::{LOOPBACK, at};
+use crate::dialed::dialed;
+use crate::slow::answer_early;
+use line_base::{ConnectionPool, Dialer, Net};
 use net_edge::SocketNet;
 use std::alloc::AllocGlobal;
-use std::io::{self, ErrorKind, Read, Write};
+use std::io::{self, ErrorKind, Read};
 use std::net::{self, TcpListener, TcpStream};
 use std::test::Fail;
 use std::thread::Threads;
 use std::time::Duration;
 use std::{rt, thread};
-
-const LOOPBACK: u32 = 0x7f00_0001;
 
 /// How many bytes are uploaded: more than a connection takes at once.
 const MANY: usize = 1_048_576;
@@ -23,14 +23,10 @@ const LONG: u32 = 600_000;
 
 /// Keeps a new connection to a replica, and gives the replica's side of it.
 fn keep_one<D: Dialer>(dialer: &mut D, replica: &TcpListener) -> io::Result<TcpStream> {
-    let port = replica.local_addr()?.port();
-    let Ok(()) = dialer.dial(LOOPBACK, port) else {
-        return Err(io::Error::from(ErrorKind::NotConnected));
-    };
+    let (stream, _) = dialed(dialer, LOOPBACK, replica)?;
     if dialer.keeps() {
         dialer.keep();
     }
-    let (stream, _) = replica.accept()?;
     Ok(stream)
 }
 
@@ -134,44 +130,6 @@ fn old_connections_are_ended(rt: HostRuntime) -> Result<(), Fail> {
     drop(net);
     assert!(rt; ended?);
     Ok(())
-}
-
-/// Reads to the end, a little at a time, from this place on, and gives the place of the end; 0
-/// where a read fails, or where these are not the bytes that were sent.
-fn end_place<R: rt::Clock>(rt: &R, stream: &mut TcpStream, from: usize) -> usize {
-    let mut piece = [0u8; 16_384];
-    let mut place = from;
-    for _ in 0..100_000 {
-        let Ok(count) = stream.read(&mut piece) else {
-            return 0;
-        };
-        if count == 0 {
-            return place;
-        }
-        if !are_from(&piece[..count], place) {
-            return 0;
-        }
-        place = place.saturating_add(count);
-        thread::sleep(rt, Duration::from_millis(1));
-    }
-    0
-}
-
-/// Answers behind the first of an upload's bytes, and reads on slowly. Gives how many of them came
-/// before the end.
-fn answer_early<R: rt::Clock>(rt: &R, replica: &TcpListener) -> usize {
-    let Ok((mut stream, _)) = replica.accept() else {
-        return 0;
-    };
-    let mut first = [0u8; 16];
-    let Ok(count) = stream.read(&mut first) else {
-        return 0;
-    };
-    let _ = stream.write(b"early");
-    if !are_from(&first[..count], 0) {
-        return 0;
-    }
-    end_place(rt, &mut stream, count)
 }
 
 /// Puts the open connection of a dialer aside.

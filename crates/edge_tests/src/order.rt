@@ -2,7 +2,7 @@
 ghost use Rattle.std.specs.Prelude.{IsSome};
 
 use crate::bytes::{are_from, telling};
-use crate::clients::next_client;
+use crate::clients::{LOOPBACK, next_client};
 use line_base::{ConnectionPool, Dialer, Failed, Listener, Net, Peer};
 use net_edge::SocketNet;
 use std::alloc::AllocGlobal;
@@ -11,7 +11,7 @@ use std::thread;
 use std::thread::Threads;
 
 /// Where the listener is.
-const LISTENING: (u32, u16) = (0x7f00_0001, 28_990);
+const LISTENING: (u32, u16) = (LOOPBACK, 28_990);
 
 /// How many bytes are given: more than a connection takes at once.
 const MANY: usize = 1_048_576;

@@ -1,5 +1,5 @@
 //! A client is waited for behind a reply where it was prompt before, and not where it paused.
-use crate::clients::{at, next_client};
+use crate::clients::{LOOPBACK, at, next_client};
 use line_base::{Event, Listener, Net, Next, Peer, Stop};
 use net_edge::SocketNet;
 use std::io::Write;
@@ -181,7 +181,7 @@ where
     N::L: Sync,
     <N::L as Listener>::P: Send,
 {
-    let mut listeners = net.listen(0x7f00_0001, PORT, 2, 0)?.into_items();
+    let mut listeners = net.listen(LOOPBACK, PORT, 2, 0)?.into_items();
     let mut client = match TcpStream::connect(rt, at(PORT)) {
         Ok(client) => client,
         Err(error) => {

@@ -1,4 +1,5 @@
 //! A listener tells of seconds that pass while somebody asks it.
+use crate::clients::LOOPBACK;
 use line_base::{Event, Listener, Net};
 use net_edge::SocketNet;
 use std::test::Fail;
@@ -28,7 +29,7 @@ fn seconds<R: rt::Clock, L: Listener>(rt: &R, listener: &mut L) -> [Option<u64>;
 
 /// The same of a listener of this net.
 fn seconds_over<R: rt::Clock, N: Net>(rt: &R, net: &mut N) -> Result<[Option<u64>; 2], Fail> {
-    let mut listeners = net.listen(0x7f00_0001, PORT, 1, 0)?.into_items();
+    let mut listeners = net.listen(LOOPBACK, PORT, 1, 0)?.into_items();
     let told = match listeners.first_mut() {
         Some(listener) => Ok(seconds(rt, listener)),
         None => Err(Fail::from("no listener")),

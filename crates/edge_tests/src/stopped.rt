@@ -1,4 +1,5 @@
 //! A stop from outside closes the listeners of a net over sockets.
+use crate::clients::LOOPBACK;
 use line_base::{Event, Listener, Mem, Net, Stop};
 use net_edge::SocketNet;
 use signal_watch::{RemoteStop, StopCell, StoppableNet};
@@ -34,7 +35,7 @@ fn is_closed<L: Listener>(listener: &mut L) -> bool {
 /// Whether a listener of this net is closed once this stop is called, behind the one that the net
 /// hands out.
 fn closes<N: Net, S: Stop>(net: &mut N, remote: &mut S) -> Result<bool, Fail> {
-    let mut listeners = net.listen(0x7f00_0001, PORT, 1, 0)?.into_items();
+    let mut listeners = net.listen(LOOPBACK, PORT, 1, 0)?.into_items();
     let stop = net.stopper();
     remote.stop();
     let closed = match listeners.first_mut() {

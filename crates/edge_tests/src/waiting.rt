@@ -1,5 +1,5 @@
 //! A client that waits is told by its number, to whichever listener is asked.
-use crate::clients::at;
+use crate::clients::{LOOPBACK, at};
 use line_base::{Event, Failed, Listener, Net, Next, Peer, Stop};
 use net_edge::SocketNet;
 use std::io::{self, Write};
@@ -95,7 +95,7 @@ fn told_of_two<L: Listener + Drop, S: Stop>(
 /// The same of two listeners of this net and of a client that connects to them; and how many
 /// clients may wait, of a hundred.
 fn told_over<N: Net>(rt: &HostRuntime, net: &mut N) -> Result<([u8; 8], u32), Fail> {
-    let mut listeners = net.listen(0x7f00_0001, 28_991, 2, 0)?.into_items();
+    let mut listeners = net.listen(LOOPBACK, 28_991, 2, 0)?.into_items();
     let client = TcpStream::connect(rt, at(28_991));
     let mut stop = net.stopper();
     let told = told_of_two(&mut listeners, client, &mut stop);

@@ -48,8 +48,7 @@
 //! Each adapter meets its trait: every call that fails is counted, and the counts of ends, peers,
 //! closes and stops are right. What the machine's bytes and moments are is not told: no clause of
 //! these adapters speaks of content. So these few lines, which hand each call on to the machine,
-//! are trusted to do so; tests over loopback show that they do: those of `edge_tests`, and of
-//! `shared_tests`' modules `adapters`, `edge` and `sockets`.
+//! are trusted to do so; the tests over loopback, in `edge_tests`, show that they do.
 //!
 //! # Example
 //! ```

@@ -1,27 +1,13 @@
 //! A net over loopback.
+use crate::clients::{LOOPBACK, at, port_of};
 use line_base::{ConnectionPool, Dialer, Event, Failed, Listener, Net, NetFault, Peer, Stop};
 use net_edge::SocketNet;
 use std::alloc::AllocGlobal;
-use std::net::{self, Ipv4Addr, SocketAddr, SocketAddrV4, TcpListener, TcpStream};
+use std::net::{self, TcpListener, TcpStream};
 use std::sync::atomic::{AtomicU32, Ordering};
 use std::test::Fail;
+use std::thread;
 use std::thread::Threads;
-use std::{io, thread};
-
-const LOOPBACK: u32 = 0x7f00_0001;
-
-/// A port of this machine.
-fn address(port: u16) -> SocketAddr {
-    SocketAddr::V4(SocketAddrV4::new(Ipv4Addr::from_bits(LOOPBACK), port))
-}
-
-/// A port that is free.
-fn free_port<R: net::Net<Listener = TcpListener, Stream = TcpStream>>(rt: &R) -> io::Result<u16> {
-    let listener = TcpListener::bind(rt, address(0))?;
-    let address = listener.local_addr();
-    drop(listener);
-    Ok(address?.port())
-}
 
 /// What the threads did that answer connections.
 #[derive(Drop)]
@@ -160,10 +146,10 @@ fn listen_at_two<R, N: Net>(
 where
     R: net::Net<Listener = TcpListener, Stream = TcpStream>,
 {
-    let one = free_port(rt)?;
+    let one = port_of(TcpListener::bind(rt, at(0)))?;
     listen(net, one, 2, listeners)?;
     let fault = net.listen(LOOPBACK, one, 1, 0).err();
-    let other = free_port(rt)?;
+    let other = port_of(TcpListener::bind(rt, at(0)))?;
     listen(net, other, 1, listeners)?;
     Ok(([one, other], fault))
 }
@@ -221,7 +207,7 @@ fn net_over_loopback(rt: HostRuntime) -> Result<(), Fail> {
     drop(net);
     let (port, played) = played?;
     let silence = [Err(Failed), Err(Failed)];
-    assert_eq!(rt; refused, Some(address(port)));
+    assert_eq!(rt; refused, Some(at(port)));
     assert_eq!(rt; played, (Some(NetFault::Failed), [4, 3, 4], 3, silence));
     Ok(())
 }
