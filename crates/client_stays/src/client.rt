@@ -103,8 +103,8 @@ impl<P: Peer, J: Handling> IdleClient<P, J> {
         ensures number { number_in server.new.pass ≡ number_in server.old.pass }
         ensures closed { (D.upstream server.old.way.dialer).open_to ≡ None
             → (D.upstream server.new.way.dialer).open_to ≡ None }
-        ensures keeps { (D.upstream server.new.way.dialer).keeps
-            ≡ (D.upstream server.old.way.dialer).keeps }
+        ensures pool { (D.upstream server.new.way.dialer).pool
+            ≡ (D.upstream server.old.way.dialer).pool }
     {
         let IdleClient {
             mut connection,

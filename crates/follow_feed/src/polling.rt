@@ -91,7 +91,7 @@ pub fn poll<D: Dialer>(
     ensures closed { (D.upstream dialer.old).open_to ≡ None
         → (D.upstream dialer.new).open_to ≡ None }
     ensures others { ((D.upstream dialer.new).kept ≡ (D.upstream dialer.old).kept)
-        × ((D.upstream dialer.new).keeps ≡ (D.upstream dialer.old).keeps) }
+        × ((D.upstream dialer.new).pool ≡ (D.upstream dialer.old).pool) }
 {
     let Ok(mut request) = request_to(alloc, leader, space) else {
         return Err(PollEnd::OutOfMemory);

@@ -5,14 +5,14 @@ use Rattle.line_base.specs.Dials.{HasSameLinks, Upstream}
 
 -- none of a call's own
 pub links_same : (a : Upstream) → HasSameLinks a a
-links_same a = record { open_to = refl; kept = refl; keeps = refl }
+links_same a = record { open_to = refl; kept = refl; pool = refl }
 
 -- over two calls
 pub links_on : {a b c : Upstream} → HasSameLinks a b → HasSameLinks b c → HasSameLinks a c
 links_on p q = record {
   open_to = q.open_to ∙ p.open_to;
   kept = q.kept ∙ p.kept;
-  keeps = q.keeps ∙ p.keeps;
+  pool = q.pool ∙ p.pool;
 }
 
 -- what was open is open

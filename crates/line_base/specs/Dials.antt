@@ -1,14 +1,14 @@
 -- What a dialer tells of itself, and what its log gains at each call, where it is told.
 use Rattle.std.specs.Prelude.{◌≡◌, ◌⊎◌, ℕ, ◌<◌, Bool, true, false, List, [], ◌∷◌, ◌++◌, length}
-use Rattle.std.specs.Prelude.{take, Option, Some, None, Result, Ok, Err, MatchResult}
+use Rattle.std.specs.Prelude.{nat_lt, take, Option, Some, None, Result, Ok, Err, MatchResult}
 use Rattle.line_base.specs.declared.dialer.ConnectionPool.{ConnectionPool}
 use Rattle.line_base.specs.declared.dialer.DialEvent.{DialEvent}
 use Rattle.line_base.specs.declared.dialer.DialEvent.TheVariants.{Dialed, Resumed, Sent, Got, Hung}
 
 -- a dialer: what it did, in order, where it tells it; the bytes that the other end has yet to give,
 -- where they are told; where the open connection leads, if one is open, by its address and its
--- port; where those lead that it keeps; how many it may keep, and for how long; whether it keeps
--- any; whether its last send or receive failed because it waited for too long; and how often a call
+-- port; where those lead that it keeps; how many it may keep, and for how long, which stays so;
+-- whether its last send or receive failed because it waited for too long; and how often a call
 -- failed. The count never falls, and stands still at the last value of a `u64`
 pub record Upstream : Type 0 where
   pub log : Option (List DialEvent)
@@ -16,15 +16,18 @@ pub record Upstream : Type 0 where
   pub open_to : Option (ℕ × ℕ)
   pub kept : List (ℕ × ℕ)
   pub pool : ConnectionPool
-  pub keeps : Bool
   pub late : Bool
   pub faults : ℕ
+
+-- a pool has room for a connection, so that some are kept
+abbrev pub has_room : ConnectionPool → Bool
+has_room pool = nat_lt 0 pool.max_size
 
 -- its connections are as they were
 pub record HasSameLinks (old new : Upstream) : Type 0 where
   pub open_to : new.open_to ≡ old.open_to
   pub kept : new.kept ≡ old.kept
-  pub keeps : new.keeps ≡ old.keeps
+  pub pool : new.pool ≡ old.pool
 
 -- a known log grows by these events
 abbrev pub Grows : Option (List DialEvent) → Option (List DialEvent) → List DialEvent → Type 0

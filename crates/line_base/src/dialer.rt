@@ -50,7 +50,8 @@ impl ConnectionPool {
 pub trait Dialer {
     ghost use Rattle.line_base.specs.Dials.{Upstream, AreSomeOf, HasSameLinks, Logs, LogsDial};
     ghost use Rattle.line_base.specs.Dials.{LogsHang, LogsReceive, LogsResume, LogsSend};
-    ghost use Rattle.line_base.specs.Dials.{KeepsLog, PutsAside, TakesOut, dialed_to, resumed_to};
+    ghost use Rattle.line_base.specs.Dials.{KeepsLog, PutsAside, TakesOut, dialed_to, has_room};
+    ghost use Rattle.line_base.specs.Dials.{resumed_to};
     ghost use Rattle.line_base.specs.declared.dialer.DialEvent.TheVariants.{Kept};
 
     /// What it tells of itself, as `Upstream` has it. A new one did nothing, has no connection, and
@@ -59,7 +60,7 @@ pub trait Dialer {
 
     /// Whether it keeps connections that are put aside.
     fn keeps(&self) -> bool
-        ensures { result ≡ (upstream self.now).keeps };
+        ensures { result ≡ has_room (upstream self.now).pool };
 
     /// Whether the last send or receive failed because it waited for too long.
     fn is_late(&self) -> bool
@@ -71,7 +72,7 @@ pub trait Dialer {
         ensures log { LogsDial (upstream self.old).log (upstream self.new).log ip port result }
         ensures cause { HasCause (upstream self.old).faults (upstream self.new).faults result }
         ensures others { ((upstream self.new).kept ≡ (upstream self.old).kept)
-            × ((upstream self.new).keeps ≡ (upstream self.old).keeps) };
+            × ((upstream self.new).pool ≡ (upstream self.old).pool) };
 
     /// Takes up a connection again that is kept to just this address and port, where one is over
     /// which nothing has come since: no byte, no end and no fault. It says whether there was one.
@@ -82,7 +83,7 @@ pub trait Dialer {
         ensures faults { (upstream self.new).faults ≡ (upstream self.old).faults }
         ensures others { TakesOut result (ip, port) (upstream self.old).kept
             (upstream self.new).kept }
-        ensures keeps { (upstream self.new).keeps ≡ (upstream self.old).keeps };
+        ensures pool { (upstream self.new).pool ≡ (upstream self.old).pool };
 
     /// Takes some bytes off the front of `bytes`, and gives their number: at least one, where there
     /// is one.
@@ -119,20 +120,20 @@ pub trait Dialer {
             (upstream self.new).log }
         ensures kept { (upstream self.new).faults ≡ (upstream self.old).faults }
         ensures others { ((upstream self.new).kept ≡ (upstream self.old).kept)
-            × ((upstream self.new).keeps ≡ (upstream self.old).keeps)
+            × ((upstream self.new).pool ≡ (upstream self.old).pool)
             × ((upstream self.new).late ≡ (upstream self.old).late) };
 
     /// Puts the connection aside, to be resumed, in place of ending it. It, and others that are
     /// kept, may be ended then or later.
     fn keep(&mut self)
         requires open_ { IsSome (upstream self.old).open_to }
-        requires keeps { IsTrue (upstream self.old).keeps }
+        requires keeps { IsTrue (has_room (upstream self.old).pool) }
         ensures closes { (upstream self.new).open_to ≡ None }
         ensures log { Logs (upstream self.old).log (upstream self.new).log Kept }
         ensures kept { (upstream self.new).faults ≡ (upstream self.old).faults }
         ensures others { PutsAside (upstream self.old).open_to (upstream self.old).kept
             (upstream self.new).kept }
-        ensures keeps { ((upstream self.new).keeps ≡ (upstream self.old).keeps)
+        ensures pool { ((upstream self.new).pool ≡ (upstream self.old).pool)
             × ((upstream self.new).late ≡ (upstream self.old).late) };
 
     /// Ends what was kept for too long. Call it before a long wait.
@@ -141,5 +142,5 @@ pub trait Dialer {
         ensures log { KeepsLog (upstream self.old).log (upstream self.new).log }
         ensures kept { (upstream self.new).faults ≡ (upstream self.old).faults }
         ensures others { AreSomeOf (upstream self.new).kept (upstream self.old).kept }
-        ensures keeps { (upstream self.new).keeps ≡ (upstream self.old).keeps };
+        ensures pool { (upstream self.new).pool ≡ (upstream self.old).pool };
 }

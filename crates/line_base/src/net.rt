@@ -1,5 +1,5 @@
 //! What makes listeners, dialers and stops, and takes them back.
-ghost use Rattle.std.specs.Prelude.{◌≡◌, ◌≤◌, ◌↔◌, ℕ, [], nat_lt, length, None, IsErr, IfOk};
+ghost use Rattle.std.specs.Prelude.{◌≡◌, ◌≤◌, ◌↔◌, ℕ, [], length, None, IsErr, IfOk};
 ghost use Rattle.std.specs.Prelude.{if◌then◌else◌};
 ghost use Rattle.line_base.specs.Counts.{HasCause, raised};
 
@@ -83,7 +83,6 @@ pub trait Net {
         ensures closed { (Self.D.upstream result).open_to ≡ None }
         ensures none_kept { (Self.D.upstream result).kept ≡ [] }
         ensures pool { (Self.D.upstream result).pool ≡ pool }
-        ensures keeps { (Self.D.upstream result).keeps ≡ nat_lt 0 pool.max_size }
         ensures log { IsNewLog (state self.old).told (Self.D.upstream result).log }
         ensures kept { (state self.new ≡ state self.old) × (faults self.new ≡ faults self.old) };
 

@@ -1,5 +1,5 @@
 -- What the objects in memory hold.
-use Rattle.std.specs.Prelude.{◌≡◌, ℕ, ◌-◌, ◌^◌, ◌==◌, nat_le, nat_lt, max, Bool, false, List}
+use Rattle.std.specs.Prelude.{◌≡◌, ℕ, ◌-◌, ◌^◌, ◌==◌, nat_le, max, Bool, false, List}
 use Rattle.std.specs.Prelude.{[], ◌∷◌, if◌then◌else◌, map, drop, Option, Some, None, Contains}
 use Rattle.std.specs.Prelude.{slice_index_or, Result, Ok, Err}
 use Rattle.line_base.specs.Accepts.{Listening}
@@ -166,7 +166,6 @@ upstream_of d = record {
   open_to = d.open_to;
   kept = map address_of d.kept;
   pool = d.pool;
-  keeps = nat_lt 0 d.pool.max_size;
   late = d.late;
   faults = d.faults;
 }

@@ -1,6 +1,6 @@
 //! A dialer in memory.
 ghost use Rattle.std.specs.Prelude.{◌≡◌, ◌≤◌, ◌<◌, ◌+◌, ◌++◌, ◌∷◌, ◌==◌, true, false, [], length};
-ghost use Rattle.std.specs.Prelude.{map, min, nat_lt, None, IsSome, IsTrue, Some, IsErr, IfOk};
+ghost use Rattle.std.specs.Prelude.{map, min, None, IsSome, IsTrue, Some, IsErr, IfOk};
 ghost use Rattle.std.specs.Prelude.{IfSome};
 ghost use Rattle.std.specs.Prelude.{IfNone, OnOk, OnErr, vec_len, vec_capacity, drop};
 ghost use Rattle.std.specs.Vec.Iter.{into_iter_items};
@@ -9,7 +9,7 @@ ghost use Rattle.std.specs.Io.KnownBytes.{Keeps, ReadConsumes};
 ghost use Rattle.line_base.specs.Counts.{HasCause, MovesNothing};
 ghost use Rattle.line_base.specs.Dials.{AreSomeOf, HasSameLinks, KeepsLog, Logs, LogsDial};
 ghost use Rattle.line_base.specs.Dials.{LogsHang, LogsReceive, LogsResume, LogsSend, PutsAside};
-ghost use Rattle.line_base.specs.Dials.{TakesOut, WasTaken, dialed_to, resumed_to};
+ghost use Rattle.line_base.specs.Dials.{TakesOut, WasTaken, dialed_to, has_room, resumed_to};
 ghost use Rattle.line_doubles.specs.Memory.{Answered, FailsNext, address_of, behind_call, called};
 ghost use Rattle.line_doubles.specs.Memory.{next_reply, piece_of, upstream_of};
 ghost use Rattle.line_base.specs.declared.dialer.DialEvent.TheVariants.{Kept};
@@ -391,7 +391,7 @@ impl Dialer for MemDialer {
 
     fn keep(&mut self)
         requires open_ { IsSome self.old.open_to }
-        requires keeps { IsTrue (nat_lt 0 self.old.pool.max_size) }
+        requires keeps { IsTrue (has_room self.old.pool) }
         ensures closes { self.new.open_to ≡ None }
         ensures log { Logs (Some self.old.log) (Some self.new.log) Kept }
         ensures kept { self.new.faults ≡ self.old.faults }

@@ -1,5 +1,5 @@
 //! A net in memory.
-ghost use Rattle.std.specs.Prelude.{◌≡◌, ◌≤◌, ◌<◌, ◌↔◌, ℕ, [], nat_lt, length, None, Some, Err};
+ghost use Rattle.std.specs.Prelude.{◌≡◌, ◌≤◌, ◌<◌, ◌↔◌, ℕ, [], length, None, Some, Err};
 ghost use Rattle.std.specs.Prelude.{IsErr, IfOk, IfSome, slice_index_or};
 ghost use Rattle.line_base.specs.Accepts.{new_listening};
 ghost use Rattle.line_base.specs.Counts.{HasCause};

@@ -6,8 +6,7 @@ use Rattle.line_log.specs.declared.memory.MemJournal.{MemJournal}
 use Rattle.line_log.specs.Lines.{texts}
 
 -- the path that a journal is over, the lines that it holds, where it tells them, and how many it
--- was
--- given that it wrote, and that it lost
+-- was given that it wrote, and that it lost
 pub record Logged : Type 0 where
   pub path : List ℕ
   pub lines : Option (List (List ℕ))

@@ -28,7 +28,7 @@ use Rattle.proxy_session.proofs.Closings.{SaysNeither, rests_quiet, writes_quiet
 use Rattle.proxy_session.proofs.Draining.{drained_cause, is_spent, never_drained, serves_quiet}
 use Rattle.proxy_session.proofs.Draining.{serves_rose, served_quiet, served_quiets}
 use Rattle.proxy_session.proofs.Splitting.{request_cause, request_closed, request_fell}
-use Rattle.proxy_session.proofs.Splitting.{request_keeps, request_number}
+use Rattle.proxy_session.proofs.Splitting.{request_pool, request_number}
 use Rattle.replica_try.proofs.Resting.{rests_same}
 use Rattle.proxy_session.proofs.Rising.{all_given, cause_on, ended_before, ended_behind}
 use Rattle.proxy_session.proofs.Rising.{later_below, later_raised, later_same, none_fell_on}
@@ -39,14 +39,14 @@ use Rattle.proxy_session.proofs.Rising.{tells_given, tells_same, writes_fell}
 pub record Lasts (old new : Standing) : Type 0 where
   pub fell : NoneFell old.line new.line
   pub closed : old.upstream.open_to ≡ None → new.upstream.open_to ≡ None
-  pub keeps : new.upstream.keeps ≡ old.upstream.keeps
+  pub pool : new.upstream.pool ≡ old.upstream.pool
   pub number : new.caller.number ≡ old.caller.number
 
 lasts_same : (a : Standing) → Lasts a a
 lasts_same a = record {
   fell = rests_fell a.line a.line (rests_same a.line);
   closed = λ is. is;
-  keeps = refl;
+  pool = refl;
   number = refl;
 }
 
@@ -54,7 +54,7 @@ lasts_on : (a b c : Standing) → Lasts a b → Lasts b c → Lasts a c
 lasts_on a b c p q = record {
   fell = none_fell_on a.line b.line c.line p.fell q.fell;
   closed = λ is. q.closed (p.closed is);
-  keeps = q.keeps ∙ p.keeps;
+  pool = q.pool ∙ p.pool;
   number = q.number ∙ p.number;
 }
 
@@ -69,7 +69,7 @@ reads_last old new r x = record {
     tells = tells_given old.line.left new.line.left x.head.taken x.head.given;
   };
   closed = λ is. x.upstream.links.open_to ∙ is;
-  keeps = x.upstream.links.keeps;
+  pool = x.upstream.links.pool;
   number = ap (λ (c : Caller). c.number) x.caller;
 }
 
@@ -77,7 +77,7 @@ told_last : (closing : Bool) (a : Standing) → Lasts a (having_told closing a)
 told_last false a = record {
   fell = rests_fell a.line a.line (rests_same a.line);
   closed = λ is. is;
-  keeps = refl;
+  pool = refl;
   number = refl;
 }
 told_last true a = record {
@@ -90,7 +90,7 @@ told_last true a = record {
     tells = tells_same a.line.left;
   };
   closed = λ is. is;
-  keeps = refl;
+  pool = refl;
   number = refl;
 }
 
@@ -101,7 +101,7 @@ module _ (settings : SettingsValue) (rule : Rule) where
   request_lasts head last n before behind old new r x = record {
     fell = request_fell settings rule head last n before behind old new r x;
     closed = request_closed settings rule head last n before behind old new r x;
-    keeps = request_keeps settings rule head last n before behind old new r x;
+    pool = request_pool settings rule head last n before behind old new r x;
     number = request_number settings rule head last n before behind old new r x;
   }
 
@@ -256,7 +256,7 @@ without_lasts old new result x =
     lasts_on old x.mid new (reads_last old x.mid (Err x.end) x.reads) (record {
       fell = w.1;
       closed = λ is. x.nothing.away.upstream.links.open_to ∙ is;
-      keeps = x.nothing.away.upstream.links.keeps;
+      pool = x.nothing.away.upstream.links.pool;
       number = ap (λ (c : Caller). c.number) x.nothing.caller;
     })
 
@@ -268,7 +268,7 @@ pub record Ending
     : Type 0 where
   pub cause : CauseOf result old.line line
   pub closed : old.upstream.open_to ≡ None → upstream.open_to ≡ None
-  pub keeps : upstream.keeps ≡ old.upstream.keeps
+  pub pool : upstream.pool ≡ old.upstream.pool
   pub number : caller.number ≡ old.caller.number
 
 ending_by : (old mid new : Standing) (result : Ended) → Lasts old mid → Lasts mid new
@@ -280,7 +280,7 @@ ending_by old mid new result first second cause =
           cause_within result old.line mid.line new.line new.line first.fell (rests_same new.line)
           cause;
       closed = all.closed;
-      keeps = all.keeps;
+      pool = all.pool;
       number = all.number;
     }
 
@@ -315,7 +315,7 @@ ending_of settings rule from (suc n) retries before behind old new result
 -- what a stay leaves as it was
 pub record Keeping (old : Standing) (upstream : Upstream) (caller : Caller) : Type 0 where
   pub closed : old.upstream.open_to ≡ None → upstream.open_to ≡ None
-  pub keeps : upstream.keeps ≡ old.upstream.keeps
+  pub pool : upstream.pool ≡ old.upstream.pool
   pub number : caller.number ≡ old.caller.number
 
 keeps_by : (settings : SettingsValue) (rule : Rule) (from n retries : ℕ)
@@ -328,12 +328,12 @@ keeps_by settings rule from n retries before behind old new paused.Quiet
     let up = ap (λ (s : Standing). s.upstream) still in
     record {
       closed = λ is. ap (λ (u : Upstream). u.open_to) up ∙ l.closed is;
-      keeps = ap (λ (u : Upstream). u.keeps) up ∙ l.keeps;
+      pool = ap (λ (u : Upstream). u.pool) up ∙ l.pool;
       number = ap (λ (s : Standing). s.caller.number) still ∙ l.number;
     }
 keeps_by settings rule from n retries before behind old new (paused.Ended end) sessions =
     let e = ending_of settings rule from n retries before behind (begun old) new end sessions in
-    record { closed = e.closed; keeps = e.keeps; number = e.number }
+    record { closed = e.closed; pool = e.pool; number = e.number }
 
 pub stay_keeps : (settings : SettingsValue) (rule : Rule) (from upto : ℕ)
     (before behind : Option BudgetValue) (old new : Standing) (result : Paused)

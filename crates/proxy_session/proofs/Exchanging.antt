@@ -8,6 +8,7 @@ use Rattle.http_wire.specs.declared.head.Head.{Head}
 use Rattle.identifier.specs.declared.rule.Rule.{Rule}
 use Rattle.exchange_tally.specs.declared.done.Done.{Done}
 use Rattle.line_base.specs.Lines.{Line}
+use Rattle.line_base.specs.Dials.{has_room}
 use Rattle.machine.specs.declared.chosen.Why.{Why}
 use Rattle.machine.specs.Code.{ask_of}
 use Rattle.machine.specs.Values.{SettingsValue, AskValue, PickValue, Replica, replica, none}
@@ -118,7 +119,7 @@ module _ (sought : Sought) (keeps : Bool) (going : Onward) (is_for : IsFor sough
 
 module _
     (settings : SettingsValue) (sought : Sought) (going : Onward) (old new : Standing)
-    (is_for : IsFor sought old.upstream.keeps going) (found_by : Caller)
+    (is_for : IsFor sought (has_room old.upstream.pool) going) (found_by : Caller)
     (before behind : Option BudgetValue)
     (path : (ask_of going.ask.now).path ≡ sought.path)
     (rules : (ask_of going.ask.now).own ≡ sought.rules)
@@ -142,12 +143,13 @@ module _
         → IsSent settings going.head.now going.last going.framing choice.addr choice.slot
         (IsHeadOf going choice.addr names texts) mid new result
         → IsSent settings going.head.now going.last sought.framing r.addr r.slot
-        (IsForwarded going.head.now sought (not old.upstream.keeps) r)
+        (IsForwarded going.head.now sought (not (has_room old.upstream.pool)) r)
         (having_asked old found_by old.moments new.words) new result
     resent result r choice names texts is s = record {
       onward = s.onward;
       is_head =
-          forwarded_so sought old.upstream.keeps going is_for path rules r choice names texts is
+          forwarded_so sought (has_room old.upstream.pool) going is_for path rules r choice names
+          texts is
           s.onward s.is_head;
       how = s.how;
       between = s.between;
@@ -177,12 +179,13 @@ module _
         → IsSentInVain settings going.head.now going.last going.framing choice.addr choice.slot
         (IsHeadOf going choice.addr names texts) going.fewer before mid new
         → IsSentInVain settings going.head.now going.last sought.framing r.addr r.slot
-        (IsForwarded going.head.now sought (not old.upstream.keeps) r) going.fewer before
+        (IsForwarded going.head.now sought (not (has_room old.upstream.pool)) r) going.fewer before
         (having_asked old found_by old.moments new.words) new
     resent_in_vain r choice names texts is s = record {
       onward = s.onward;
       is_head =
-          forwarded_so sought old.upstream.keeps going is_for path rules r choice names texts is
+          forwarded_so sought (has_room old.upstream.pool) going is_for path rules r choice names
+          texts is
           s.onward s.is_head;
       how = s.how;
       followed = rw (sym is_for.framing) s.followed;

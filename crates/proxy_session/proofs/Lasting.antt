@@ -5,7 +5,7 @@ use Rattle.http_wire.specs.declared.ended.Ended.{Ended}
 use Rattle.http_wire.specs.declared.head.Head.{Head}
 use Rattle.identifier.specs.declared.rule.Rule.{Rule}
 use Rattle.machine.specs.Values.{SettingsValue, AskValue, PickValue, none, replica}
-use Rattle.replica_try.proofs.Closed.{tries_closed, tries_keeps}
+use Rattle.replica_try.proofs.Closed.{tries_closed, tries_pool}
 use Rattle.replica_try.specs.declared.tried.Tried.{Tried}
 use Rattle.proxy_session.specs.Answering.{report_of}
 use Rattle.proxy_session.specs.Asking.{Finding, StopsAsking}
@@ -80,15 +80,15 @@ module _ (settings : SettingsValue) (rule : Rule) (head : Head) (last : Bool) (o
       tries_closed head x.sent.onward sought.framing last x.to.addr x.sent.between new.kept
       new.upstream x.sent.how old.line old.kept old.upstream x.sent.tries
 
-  -- whether the dialer keeps connections stays
-  pub exchange_keeps : Exchanges settings rule head last old new r
-      → new.upstream.keeps ≡ old.upstream.keeps
-  exchange_keeps (inl x) = x.nothing.away.upstream.links.keeps
-  exchange_keeps (inr (inl x)) = x.nothing.away.upstream.links.keeps
-  exchange_keeps (inr (inr (sought, seeks, (moment, moments, draws, inl x)))) =
-      x.away.upstream.links.keeps
-  exchange_keeps (inr (inr (sought, seeks, (moment, moments, draws, inr (inl x))))) =
-      x.away.upstream.links.keeps
-  exchange_keeps (inr (inr (sought, seeks, (moment, moments, draws, inr (inr x))))) =
-      tries_keeps head x.sent.onward sought.framing last x.to.addr x.sent.between new.kept
+  -- the dialer has the pool that it had
+  pub exchange_pool : Exchanges settings rule head last old new r
+      → new.upstream.pool ≡ old.upstream.pool
+  exchange_pool (inl x) = x.nothing.away.upstream.links.pool
+  exchange_pool (inr (inl x)) = x.nothing.away.upstream.links.pool
+  exchange_pool (inr (inr (sought, seeks, (moment, moments, draws, inl x)))) =
+      x.away.upstream.links.pool
+  exchange_pool (inr (inr (sought, seeks, (moment, moments, draws, inr (inl x))))) =
+      x.away.upstream.links.pool
+  exchange_pool (inr (inr (sought, seeks, (moment, moments, draws, inr (inr x))))) =
+      tries_pool head x.sent.onward sought.framing last x.to.addr x.sent.between new.kept
       new.upstream x.sent.how old.line old.kept old.upstream x.sent.tries

@@ -53,7 +53,7 @@ use Rattle.proxy_session.specs.Laws.{ExchangesReadBack, HeadsReadBack, RequestsR
 use Rattle.proxy_session.specs.Laws.{SendsHead, SendsOnce, SendsTry, IsAnsweredWhole, IsByteReplica}
 use Rattle.proxy_session.specs.Laws.{IsByteRule, IsWholeReply, ReadsAs, WasRead}
 use Rattle.proxy_session.specs.Onward.{IsForwarded, host_for}
-use Rattle.line_base.specs.Dials.{Grows, Upstream}
+use Rattle.line_base.specs.Dials.{Grows, Upstream, has_room}
 use Rattle.line_base.specs.Lines.{Line}
 use Rattle.replica_try.specs.Trying.{Backs, Converses, GoesOn, Replies, Tries, TriesAnew, Visits}
 use Rattle.replica_try.specs.Trying.{closes_behind, is_repeatable, is_reusable, is_silent}
@@ -478,10 +478,10 @@ module _ (rule : Rule) (head : Head) (sought : Sought) (to : Replica) (onward : 
         sent = v.sent;
         front = goes_on.front;
         got = v.got;
-        stop = stop_of before.keeps how;
+        stop = stop_of (has_room before.pool) how;
         stops =
-            ended_or_kept (stop_of before.keeps how) (leaves_reusable how) _
-            (stops_by before.keeps (leaves_reusable how) _ refl) goes_on.lasts;
+            ended_or_kept (stop_of (has_room before.pool) how) (leaves_reusable how) _
+            (stops_by (has_room before.pool) (leaves_reusable how) _ refl) goes_on.lasts;
         log = v.log;
       }
 
@@ -528,7 +528,7 @@ module _ (rule : Rule) (head : Head) (sought : Sought) (to : Replica) (onward : 
         silent =
             silent_got head onward sought.framing last old t.line kept t.left before.faults
             t.mid.faults (concat t.visit.sent) t.visit.got t.first silent t.visit.spoke;
-        hung = silent_hung before.keeps t.first silent;
+        hung = silent_hung (has_room before.pool) t.first silent;
         again = tried_again t.line new t.left kept_after t.mid now how t.anew;
       })
 
@@ -550,7 +550,8 @@ routed settings rule head last sought old new result read well seeks
     idles rule head old.upstream new.upstream unbound.away.upstream.log
 routed settings rule head last sought old new result read well seeks
     (moment, moments, draws, inr (inr found)) =
-    tried rule head sought found.to found.sent.onward last read well seeks (not old.upstream.keeps)
+    tried rule head sought found.to found.sent.onward last read well seeks
+    (not (has_room old.upstream.pool))
     found.sent.is_head
     old.line found.sent.between old.kept new.kept old.upstream new.upstream found.sent.how
     found.sent.tries
@@ -573,7 +574,8 @@ module _ (settings : SettingsValue) (rule : Rule) (head : Head) (last : Bool) (s
       → FailedAttempt settings head last sought fewer budget old new
       → SendsTry rule head old.upstream new.upstream
   attempted fewer budget old new (moment, moments, draws, x) =
-      tried rule head sought x.to x.sent.onward last read well seeks (not old.upstream.keeps)
+      tried rule head sought x.to x.sent.onward last read well seeks
+      (not (has_room old.upstream.pool))
       x.sent.is_head old.line
       new.line old.kept new.kept old.upstream new.upstream x.sent.how x.sent.tries
 

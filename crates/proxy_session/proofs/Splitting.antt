@@ -14,9 +14,9 @@ use Rattle.proxy_session.specs.Exchange.{Exchanges, Standing}
 use Rattle.proxy_session.specs.Requests.{Requests, TriesAgain}
 use Rattle.proxy_session.specs.Seeking.{Sought}
 use Rattle.proxy_session.proofs.Attempting.{last_routes}
-use Rattle.replica_try.proofs.Closed.{tries_closed, tries_keeps}
+use Rattle.replica_try.proofs.Closed.{tries_closed, tries_pool}
 use Rattle.proxy_session.proofs.Fitting.{exchange_fits}
-use Rattle.proxy_session.proofs.Lasting.{done_number, exchange_closed, exchange_keeps}
+use Rattle.proxy_session.proofs.Lasting.{done_number, exchange_closed, exchange_pool}
 use Rattle.proxy_session.proofs.Lasting.{exchange_number, finding_number}
 use Rattle.replica_try.proofs.Resting.{rests_same}
 use Rattle.proxy_session.proofs.Rising.{cause_on, exchange_done, none_fell_on, rests_fell}
@@ -27,7 +27,7 @@ pub record StaysPut (old new : Standing) : Type 0 where
   pub line : Rests old.line new.line
   pub kept : new.kept ≡ old.kept
   pub closed : old.upstream.open_to ≡ None → new.upstream.open_to ≡ None
-  pub keeps : new.upstream.keeps ≡ old.upstream.keeps
+  pub pool : new.upstream.pool ≡ old.upstream.pool
   pub number : new.caller.number ≡ old.caller.number
 
 put_same : (a : Standing) → StaysPut a a
@@ -35,7 +35,7 @@ put_same a = record {
   line = rests_same a.line;
   kept = refl;
   closed = λ is. is;
-  keeps = refl;
+  pool = refl;
   number = refl;
 }
 
@@ -44,7 +44,7 @@ put_on a b c p q = record {
   line = rests_on a.line b.line c.line p.line q.line;
   kept = q.kept ∙ p.kept;
   closed = λ is. q.closed (p.closed is);
-  keeps = q.keeps ∙ p.keeps;
+  pool = q.pool ∙ p.pool;
   number = q.number ∙ p.number;
 }
 
@@ -59,8 +59,8 @@ module _ (settings : SettingsValue) (head : Head) (last : Bool) (sought : Sought
         closed =
             λ is. tries_closed head s.onward sought.framing last x.to.addr new.line new.kept
             new.upstream s.how old.line old.kept old.upstream s.tries;
-        keeps =
-            tries_keeps head s.onward sought.framing last x.to.addr new.line new.kept new.upstream
+        pool =
+            tries_pool head s.onward sought.framing last x.to.addr new.line new.kept new.upstream
             s.how old.line old.kept old.upstream s.tries;
         number =
             done_number settings s.held new.caller (report_of s.how) x.to.addr moments new.moments
@@ -135,9 +135,9 @@ module _ (settings : SettingsValue) (rule : Rule) (head : Head) (last : Bool) (n
   request_closed is =
       exchange_closed settings rule head last split.0 new result split.2 (split.1.closed is)
 
-  pub request_keeps : new.upstream.keeps ≡ old.upstream.keeps
-  request_keeps =
-      exchange_keeps settings rule head last split.0 new result split.2 ∙ split.1.keeps
+  pub request_pool : new.upstream.pool ≡ old.upstream.pool
+  request_pool =
+      exchange_pool settings rule head last split.0 new result split.2 ∙ split.1.pool
 
   pub request_number : new.caller.number ≡ old.caller.number
   request_number =

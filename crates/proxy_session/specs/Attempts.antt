@@ -8,6 +8,7 @@ use Rattle.http_wire.specs.declared.ended.Ended.TheVariants as ended
 use Rattle.http_wire.specs.declared.frames.Framing.{Framing}
 use Rattle.http_wire.specs.declared.head.Head.{Head}
 use Rattle.line_base.specs.Lines.{Rests}
+use Rattle.line_base.specs.Dials.{has_room}
 use Rattle.machine.specs.Values.{SettingsValue, AskValue, Replica, replica}
 use Rattle.retry_budget.specs.Budget.{BudgetValue, behind_request, behind_spend, can_spend}
 use Rattle.replica_try.specs.declared.tried.Tried.{Tried}
@@ -101,7 +102,7 @@ pub record IsTriedInVain
   pub finds : Finding settings old.caller found ask (replica to)
   pub sent :
       IsSentInVain settings head last sought.framing to.addr to.slot
-      (IsForwarded head sought (not old.upstream.keeps) to)
+      (IsForwarded head sought (not (has_room old.upstream.pool)) to)
       fewer budget (having_asked old found moments new.words) new
 
 -- no attempt follows a try that was answered so: it is not one that is followed, or memory was

@@ -16,7 +16,7 @@ use Rattle.proxy_session.specs.Answering.{Ends, Refuses, own_of_why, report_of}
 use Rattle.proxy_session.specs.Asking.{Finding, StopsAsking, behind_draw, drawn}
 use Rattle.proxy_session.specs.Callers.{Caller, Holds, Reports, SeesMore}
 use Rattle.proxy_session.specs.Onward.{IsForwarded}
-use Rattle.line_base.specs.Dials.{IsIdle, Upstream}
+use Rattle.line_base.specs.Dials.{IsIdle, Upstream, has_room}
 use Rattle.line_base.specs.Lines.{Line, Rests}
 use Rattle.proxy_session.specs.Seeking.{Seeks, Sought}
 use Rattle.replica_try.specs.Trying.{Tries}
@@ -159,7 +159,7 @@ pub record IsTried
   pub finds : Finding settings old.caller found ask (replica to)
   pub sent :
       IsSent settings head last sought.framing to.addr to.slot
-      (IsForwarded head sought (not old.upstream.keeps) to)
+      (IsForwarded head sought (not (has_room old.upstream.pool)) to)
       (having_asked old found moments new.words) new
       result
 

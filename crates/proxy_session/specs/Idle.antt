@@ -7,5 +7,5 @@ pub record EndsIdle (old new : Upstream) : Type 0 where
   pub kept : AreSomeOf new.kept old.kept
   pub open_to : new.open_to ≡ old.open_to
   pub log : KeepsLog old.log new.log
-  pub keeps : new.keeps ≡ old.keeps
+  pub pool : new.pool ≡ old.pool
   pub faults : new.faults ≡ old.faults

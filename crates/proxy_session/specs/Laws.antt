@@ -219,8 +219,7 @@ pub record BringsHead (rule : Rule) (bytes : List ℕ) (head : Head) (behind : L
   pub cut : drop len bytes ≡ taken ++ behind
 
 -- the heads of so many requests stand in these bytes, one behind the other, and with so many
--- retries
--- of them all the dialer did just this for each in turn
+-- retries of them all the dialer did just this for each in turn
 abbrev pub SendsHeads : Rule → ℕ → ℕ → List ℕ → List ℕ → Upstream → Upstream → Type 0
 SendsHeads rule zero retries bytes behind old new =
     (retries ≡ 0) × (behind ≡ bytes) × Grows old.log new.log []

@@ -94,8 +94,8 @@ impl<J: Naming, D: Dialer, C: Clock> Server<J, D, C> {
             ≡ quiets_behind (Some result) (P.line connection.old.peer).quiets }
         ensures closed { (D.upstream self.old.way.dialer).open_to ≡ None
             → (D.upstream self.new.way.dialer).open_to ≡ None }
-        ensures keeps { (D.upstream self.new.way.dialer).keeps
-            ≡ (D.upstream self.old.way.dialer).keeps }
+        ensures pool { (D.upstream self.new.way.dialer).pool
+            ≡ (D.upstream self.old.way.dialer).pool }
         ensures seen { IsPrefix (seen_in self.old.pass) (seen_in self.new.pass) }
         ensures number { number_in self.new.pass ≡ number_in self.old.pass }
     {

@@ -1,4 +1,4 @@
--- No connection is open behind a try, and whether the dialer keeps connections stays.
+-- No connection is open behind a try, and the dialer has the pool that it had.
 use Rattle.std.proofs.Common.{◌≡◌, ◌∙◌, ℕ, Bool, List, inl, inr, None}
 use Rattle.addr_book.specs.declared.addr.Addr.{Addr}
 use Rattle.http_wire.specs.declared.frames.Framing.{Framing}
@@ -23,16 +23,16 @@ module _ (head : Head) (onward : List ℕ) (framing : Framing) (last : Bool) (ad
   tries_closed old kept before (inr (any, again, inl answered)) = answered.visit.closed
   tries_closed old kept before (inr (any, again, inr t)) = anew_closed t.line t.left t.mid t.anew
 
-  anew_keeps : (old : Line) (kept : List ℕ) (before : Upstream)
+  anew_pool : (old : Line) (kept : List ℕ) (before : Upstream)
       → TriesAnew head onward framing last addr old new kept kept_after before now how
-      → now.keeps ≡ before.keeps
-  anew_keeps old kept before (inl none) = none.keeps
-  anew_keeps old kept before (inr visit) = visit.keeps
+      → now.pool ≡ before.pool
+  anew_pool old kept before (inl none) = none.pool
+  anew_pool old kept before (inr visit) = visit.pool
 
-  pub tries_keeps : (old : Line) (kept : List ℕ) (before : Upstream)
+  pub tries_pool : (old : Line) (kept : List ℕ) (before : Upstream)
       → Tries head onward framing last addr old new kept kept_after before now how
-      → now.keeps ≡ before.keeps
-  tries_keeps old kept before (inl anew) = anew_keeps old kept before anew
-  tries_keeps old kept before (inr (any, again, inl answered)) = answered.visit.keeps
-  tries_keeps old kept before (inr (any, again, inr t)) =
-      anew_keeps t.line t.left t.mid t.anew ∙ t.visit.keeps
+      → now.pool ≡ before.pool
+  tries_pool old kept before (inl anew) = anew_pool old kept before anew
+  tries_pool old kept before (inr (any, again, inl answered)) = answered.visit.pool
+  tries_pool old kept before (inr (any, again, inr t)) =
+      anew_pool t.line t.left t.mid t.anew ∙ t.visit.pool

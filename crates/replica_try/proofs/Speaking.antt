@@ -20,7 +20,7 @@ use Rattle.replica_try.specs.declared.moved.Moved.{Moved}
 use Rattle.replica_try.specs.declared.tried.Tried.{Tried}
 use Rattle.replica_try.specs.Heads.{Hears}
 use Rattle.line_base.specs.Counts.{raised}
-use Rattle.line_base.specs.Dials.{Grows, HasSameLinks, Logs, LogsHang, Upstream}
+use Rattle.line_base.specs.Dials.{Grows, HasSameLinks, Logs, LogsHang, Upstream, has_room}
 use Rattle.line_base.specs.Lines.{Line, Rests}
 use Rattle.replica_try.specs.Trying.{Backs, Converses, GoesBack, GoesOn, GoesOnKept, Replies}
 use Rattle.replica_try.specs.Trying.{Speaks, Tries}
@@ -166,10 +166,10 @@ module _ (head : Head) (onward : List ℕ) (framing : Framing) (last : Bool) (ol
   pub speaks : (mid : Upstream) → HasSameLinks before mid
       → Talks head onward framing last old new kept kept_after before.faults mid.faults before.log
       mid.log how
-      → (stop : DialEvent) → stop ≡ stop_of before.keeps how → Logs mid.log now.log stop
-      → now.faults ≡ mid.faults → now.open_to ≡ None → now.keeps ≡ mid.keeps
+      → (stop : DialEvent) → stop ≡ stop_of (has_room before.pool) how → Logs mid.log now.log stop
+      → now.faults ≡ mid.faults → now.open_to ≡ None → now.pool ≡ mid.pool
       → Speaks head onward framing last old new kept kept_after before now how
-  speaks mid links talk stop is logs still closed keeps =
+  speaks mid links talk stop is logs still closed pool =
       let sends = map Sent talk.0 in
       let gots = map Got talk.1 in
       let all = grows_on before.log mid.log now.log (sends ++ gots) (stop ∷ []) talk.2
@@ -185,29 +185,29 @@ module _ (head : Head) (onward : List ℕ) (framing : Framing) (last : Bool) (ol
             subst (λ (f : ℕ). Converses head onward framing last old new kept kept_after
             before.faults f (concat talk.0) talk.1 how) (sym still) talk.3;
         closed = closed;
-        keeps = keeps ∙ links.keeps;
+        pool = pool ∙ links.pool;
       }
 
   -- a connection was opened or taken up again first
   pub visits : (first : Upstream) (start : DialEvent) → Logs before.log first.log start
-      → first.faults ≡ before.faults → first.keeps ≡ before.keeps
+      → first.faults ≡ before.faults → first.pool ≡ before.pool
       → Speaks head onward framing last old new kept kept_after first now how
       → Visits start head onward framing last old new kept kept_after before now how
-  visits first start logs same keeps s =
+  visits first start logs same pool s =
       record {
         sent = s.sent;
         got = s.got;
         log =
             grows_on before.log first.log now.log (start ∷ [])
-            (map Sent s.sent ++ (map Got s.got ++ stop_of before.keeps how ∷ []))
+            (map Sent s.sent ++ (map Got s.got ++ stop_of (has_room before.pool) how ∷ []))
             (grows_by_one before.log first.log start logs)
             (subst (λ (k : Bool). Grows first.log now.log
-            (map Sent s.sent ++ (map Got s.got ++ stop_of k how ∷ []))) keeps s.log);
+            (map Sent s.sent ++ (map Got s.got ++ stop_of k how ∷ []))) (ap has_room pool) s.log);
         spoke =
             subst (λ (f : ℕ). Converses head onward framing last old new kept kept_after f
             now.faults (concat s.sent) s.got how) same s.spoke;
         closed = s.closed;
-        keeps = s.keeps ∙ keeps;
+        pool = s.pool ∙ pool;
       }
 
 -- a hang ends what is open
@@ -239,22 +239,22 @@ module _ (head : Head) (onward : List ℕ) (framing : Framing) (last : Bool) (ad
     (old new : Line) (kept kept_after : List ℕ) (before first now : Upstream) (how : Tried) where
   -- once a kept connection was taken up
   pub tries_kept : Logs before.log first.log (Resumed addr.ip addr.port)
-      → first.faults ≡ before.faults → first.keeps ≡ before.keeps → before.keeps ≡ true
+      → first.faults ≡ before.faults → first.pool ≡ before.pool → has_room before.pool ≡ true
       → is_repeatable head framing ≡ true
       → GoesOnKept head onward framing last addr old new kept kept_after first now how
       → Tries head onward framing last addr old new kept kept_after before now how
-  tries_kept logs same keeps any again (inl (s, heard)) =
+  tries_kept logs same pool any again (inl (s, heard)) =
       inr (
         any,
         again,
         inl (record {
           visit =
               visits head onward framing last old new kept kept_after before now how first
-              (Resumed addr.ip addr.port) logs same keeps s;
+              (Resumed addr.ip addr.port) logs same pool s;
           heard = heard;
         }),
       )
-  tries_kept logs same keeps any again (inr (line, left, mid, silence, s, silent, anew)) =
+  tries_kept logs same pool any again (inr (line, left, mid, silence, s, silent, anew)) =
       inr (
         any,
         again,
@@ -265,7 +265,7 @@ module _ (head : Head) (onward : List ℕ) (framing : Framing) (last : Bool) (ad
           first = silence;
           visit =
               visits head onward framing last old line kept left before mid silence first
-              (Resumed addr.ip addr.port) logs same keeps s;
+              (Resumed addr.ip addr.port) logs same pool s;
           silent = silent;
           anew = anew;
         }),
@@ -273,10 +273,10 @@ module _ (head : Head) (onward : List ℕ) (framing : Framing) (last : Bool) (ad
 
   -- where none was taken up, which the log doesn't show
   pub tries_anew : Grows before.log first.log [] → first.faults ≡ before.faults
-      → first.keeps ≡ before.keeps
+      → first.pool ≡ before.pool
       → TriesAnew head onward framing last addr old new kept kept_after first now how
       → TriesAnew head onward framing last addr old new kept kept_after before now how
-  tries_anew quiet same keeps (inl none) =
+  tries_anew quiet same pool (inl none) =
       inl (record {
         line = none.line;
         kept_is = none.kept_is;
@@ -284,23 +284,24 @@ module _ (head : Head) (onward : List ℕ) (framing : Framing) (last : Bool) (ad
         fault = none.fault ∙ ap raised same;
         how_is = none.how_is;
         closed = none.closed;
-        keeps = none.keeps ∙ keeps;
+        pool = none.pool ∙ pool;
       })
-  tries_anew quiet same keeps (inr v) =
+  tries_anew quiet same pool (inr v) =
       inr (record {
         sent = v.sent;
         got = v.got;
         log =
             grows_on before.log first.log now.log []
             (Dialed addr.ip addr.port
-            ∷ (map Sent v.sent ++ (map Got v.got ++ stop_of before.keeps how ∷ []))) quiet
+            ∷ (map Sent v.sent ++ (map Got v.got ++ stop_of (has_room before.pool) how ∷ []))) quiet
             (subst (λ (k : Bool). Grows first.log now.log (Dialed addr.ip addr.port
-            ∷ (map Sent v.sent ++ (map Got v.got ++ stop_of k how ∷ [])))) keeps v.log);
+            ∷ (map Sent v.sent ++ (map Got v.got ++ stop_of k how ∷ []))))
+            (ap has_room pool) v.log);
         spoke =
             subst (λ (f : ℕ). Converses head onward framing last old new kept kept_after f
             now.faults (concat v.sent) v.got how) same v.spoke;
         closed = v.closed;
-        keeps = v.keeps ∙ keeps;
+        pool = v.pool ∙ pool;
       })
 
 -- the reply goes back behind the head that was made for it

@@ -28,7 +28,7 @@ use Rattle.replica_try.specs.declared.moved.Moved.{Moved}
 use Rattle.replica_try.specs.declared.tried.Tried.{Tried}
 use Rattle.replica_try.specs.declared.tried.Tried.TheVariants as tried
 use Rattle.replica_try.specs.Heads.{Hears}
-use Rattle.line_base.specs.Dials.{Upstream, Grows, Logs}
+use Rattle.line_base.specs.Dials.{Upstream, Grows, Logs, has_room}
 use Rattle.line_base.specs.Lines.{Line, Rests}
 
 -- ---- the request goes on
@@ -256,7 +256,7 @@ pub record NotDialed
   pub fault : now.faults ≡ raised before.faults
   pub how_is : how ≡ tried.NotDialed
   pub closed : now.open_to ≡ None
-  pub keeps : now.keeps ≡ before.keeps
+  pub pool : now.pool ≡ before.pool
 
 -- Over an open connection the two spoke, and then it was kept or ended. None is open behind that
 pub record Speaks
@@ -267,12 +267,12 @@ pub record Speaks
   pub got : List (List ℕ)
   pub log :
       Grows before.log now.log
-      (map Sent sent ++ (map Got got ++ stop_of before.keeps how ∷ []))
+      (map Sent sent ++ (map Got got ++ stop_of (has_room before.pool) how ∷ []))
   pub spoke :
       Converses head onward framing last old new kept kept_after before.faults now.faults
       (concat sent) got how
   pub closed : now.open_to ≡ None
-  pub keeps : now.keeps ≡ before.keeps
+  pub pool : now.pool ≡ before.pool
 
 -- a visit: a connection was opened or taken up again first, which `start` says
 pub record Visits
@@ -283,12 +283,12 @@ pub record Visits
   pub got : List (List ℕ)
   pub log :
       Grows before.log now.log (start ∷
-      (map Sent sent ++ (map Got got ++ stop_of before.keeps how ∷ [])))
+      (map Sent sent ++ (map Got got ++ stop_of (has_room before.pool) how ∷ [])))
   pub spoke :
       Converses head onward framing last old new kept kept_after before.faults now.faults
       (concat sent) got how
   pub closed : now.open_to ≡ None
-  pub keeps : now.keeps ≡ before.keeps
+  pub pool : now.pool ≡ before.pool
 
 -- over a new connection, unless none was opened
 abbrev pub TriesAnew : Head → List ℕ → Framing → Bool → Addr → Line → Line → List ℕ → List ℕ
@@ -330,18 +330,18 @@ pub record IsTriedTwice
 -- request may be sent again
 pub record TakesUp (head : Head) (framing : Framing) (addr : Addr) (before now : Upstream)
     : Type 0 where
-  pub any : before.keeps ≡ true
+  pub any : has_room before.pool ≡ true
   pub again : is_repeatable head framing ≡ true
   pub log : Logs before.log now.log (Resumed addr.ip addr.port)
   pub faults : now.faults ≡ before.faults
-  pub keeps : now.keeps ≡ before.keeps
+  pub pool : now.pool ≡ before.pool
   pub open_ : IsSome now.open_to
 
 -- none was
 pub record TakesNone (before now : Upstream) : Type 0 where
   pub log : Grows before.log now.log []
   pub faults : now.faults ≡ before.faults
-  pub keeps : now.keeps ≡ before.keeps
+  pub pool : now.pool ≡ before.pool
 
 -- the same, once the kept connection was taken up
 abbrev pub GoesOnKept : Head → List ℕ → Framing → Bool → Addr → Line → Line → List ℕ → List ℕ
@@ -361,6 +361,6 @@ abbrev pub Tries : Head → List ℕ → Framing → Bool → Addr → Line → 
     → Upstream → Tried → Type 0
 Tries head onward framing last addr old new kept kept_after before now how =
     TriesAnew head onward framing last addr old new kept kept_after before now how
-    ⊎ ((before.keeps ≡ true) × (is_repeatable head framing ≡ true)
+    ⊎ ((has_room before.pool ≡ true) × (is_repeatable head framing ≡ true)
     × (IsAnswered head onward framing last addr old new kept kept_after before now how
     ⊎ IsTriedTwice head onward framing last addr old new kept kept_after before now how))

@@ -58,7 +58,7 @@ impl Try<'_> {
             self.now.addr (P.line peer.old) (P.line peer.new) rest.old rest.new
             (D.upstream way.old.dialer) (D.upstream way.new.dialer) result }
         ensures closed { (D.upstream way.new.dialer).open_to ≡ None }
-        ensures keeps { (D.upstream way.new.dialer).keeps ≡ (D.upstream way.old.dialer).keeps }
+        ensures pool { (D.upstream way.new.dialer).pool ≡ (D.upstream way.old.dialer).pool }
     {
         if self.resume(way) {
             return self.run_kept(alloc, peer, rest, way);

@@ -225,7 +225,7 @@ module _ {P J L D C K S A B : Type 0} {h : Handled J} {g : Ghosts J} (line_of : 
         dialer = upstream old.server.server.way.dialer;
         new_dialer = (posted.log, posted.hung);
         pool = posted.pool;
-        kept = (posted.none_kept, posted.keeps);
+        kept = posted.none_kept;
         clock = to_come old.server.server.clock;
         forked = posted.clock;
         recorder = old.server.recorder;

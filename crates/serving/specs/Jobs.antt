@@ -1,5 +1,5 @@
 -- What a job has, how a new one is posted, and what a run of it does.
-use Rattle.std.specs.Prelude.{◌≡◌, ℕ, Bool, false, nat_lt, List, [], ◌∷◌, ◌++◌, map, Option, None}
+use Rattle.std.specs.Prelude.{◌≡◌, ℕ, Bool, false, List, [], ◌∷◌, ◌++◌, map, Option, None}
 use Rattle.rand_core.specs.Pcg32Seed.{pcg32_seed}
 use Rattle.rand_pcg.specs.Pcg.{pcg64_of_seed}
 use Rattle.line_base.specs.declared.listener.Endpoint.{Endpoint}
@@ -33,7 +33,7 @@ use Rattle.serving.specs.declared.job.ServingJob.{ServingJob}
 use Rattle.serving.specs.declared.job.ServingJob.TheVariants as job
 use Rattle.serving.specs.declared.proxy.ProxyServer.{ProxyServer}
 use Rattle.serving.specs.Interfaces.{AnswersTurn, desk_by, desk_of}
-use Rattle.serving.specs.Pools.{most_kept, pool_by}
+use Rattle.serving.specs.Pools.{pool_by}
 use Rattle.serving.specs.Posts.{Post, clients, interface}
 use Rattle.serving.specs.Sessions.{Attends, Going, going_by}
 
@@ -124,7 +124,6 @@ module _ {P J L D C K S A B : Type 0} {h : Handled J} {g : Ghosts J} (state : L 
     pub hung : (upstream j.server.server.way.dialer).open_to ≡ None
     pub none_kept : (upstream j.server.server.way.dialer).kept ≡ []
     pub pool : (upstream j.server.server.way.dialer).pool ≡ pool_by policy.pool
-    pub keeps : (upstream j.server.server.way.dialer).keeps ≡ nat_lt 0 (most_kept policy.pool)
     pub clock : Begins moments (to_come j.server.server.clock)
     pub words : j.server.server.words ≡ pcg64_of_seed (pcg32_seed 32 seed)
     pub policy_is : j.server.policy.now ≡ policy

@@ -1,5 +1,5 @@
 -- What came of the connections of one listener.
-use Rattle.std.specs.Prelude.{◌≡◌, ℕ, ◌+◌, ◌++◌, Bool, false, nat_lt, List, [], ◌∷◌, length}
+use Rattle.std.specs.Prelude.{◌≡◌, ℕ, ◌+◌, ◌++◌, Bool, false, List, [], ◌∷◌, length}
 use Rattle.std.specs.Prelude.{None, Option}
 use Rattle.rand_core.specs.Pcg32Seed.{pcg32_seed}
 use Rattle.rand_pcg.specs.Pcg.{pcg64_of_seed}
@@ -22,7 +22,7 @@ use Rattle.api_sessions.specs.Stays.{Idle as Caller}
 use Rattle.scrape.specs.Scrapes.{Scraping}
 use Rattle.client_stays.specs.Chains.{Idle}
 use Rattle.serving.specs.Interfaces.{AnswersTurn, desk_by}
-use Rattle.serving.specs.Pools.{most_kept, pool_by}
+use Rattle.serving.specs.Pools.{pool_by}
 use Rattle.serving.specs.Posts.{Post, clients, interface}
 use Rattle.serving.specs.Sessions.{Attends, Going}
 
@@ -115,7 +115,7 @@ module _ {J P K : Type 0} {g : Ghosts J} where
       pub dialer : Upstream
       pub new_dialer : IsNewLog told dialer.log × (dialer.open_to ≡ None)
       pub pool : dialer.pool ≡ pool_by policy.pool
-      pub kept : (dialer.kept ≡ []) × (dialer.keeps ≡ nat_lt 0 (most_kept policy.pool))
+      pub kept : dialer.kept ≡ []
       pub clock : Option (List ℕ)
       pub forked : Begins moments clock
       pub recorder : K

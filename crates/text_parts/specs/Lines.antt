@@ -25,8 +25,7 @@ abbrev pub HasNoFeedIn : List ℕ → ℕ → ℕ → Type 0
 HasNoFeedIn text from to = (k : ℕ) → from ≤ k → k < to → slice_index text k ≡ 10 → ⊥
 
 -- where the line that follows the one at a place begins: right behind the first line feed from
--- there
--- on, or at the text's end where there is none
+-- there on, or at the text's end where there is none
 abbrev pub IsNextLine : List ℕ → ℕ → ℕ → Type 0
 IsNextLine text at next =
     ((next ≡ length text) × HasNoFeedIn text at next)

@@ -32,8 +32,7 @@ module _ {P S : Type 0} where
   )
 
 -- the same of a worker, by what its hand counted: the peers that came to it and the connections
--- that
--- it took are as many as those that it gave back and left
+-- that it took are as many as those that it gave back and left
 pub worker_adds_up : {W P S A B : Type 0} (serves : W → Turn P S → W → Type 0)
     (ts : List (Turn P S))
     (w v : W) (l m : Listening P) (h g : Hand A B) → Works serves ts w v l m h g

@@ -1,5 +1,5 @@
 //! Connections that are dialed.
-ghost use Rattle.std.specs.Prelude.{◌≡◌, [], nat_lt, None, IfSome, option_map};
+ghost use Rattle.std.specs.Prelude.{◌≡◌, [], None, IfSome, option_map};
 ghost use Rattle.net_edge.specs.Pools.{addresses};
 
 use super::dial_socket::DialSocket;
@@ -99,7 +99,6 @@ impl<R: Net + Clock> Dialer for SocketDialer<'_, R> {
       open_to = option_map (λ u. (u.ip, u.port)) d.current;
       kept = addresses d.pool.kept.items;
       pool = d.pool.limits;
-      keeps = nat_lt 0 d.pool.limits.max_size;
       late = d.is_late;
       faults = d.faults;
     } };

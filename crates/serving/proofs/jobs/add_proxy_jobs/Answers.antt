@@ -4,8 +4,7 @@ use Rattle.std.proofs.Common.{◌≡◌, ◌+◌, ◌++◌, ◌%◌, ◌^◌, �
 use Rattle.std.proofs.Common.{List, vec_len}
 use Rattle.std.specs.List.{AllZip}
 use Rattle.std.specs.Vec.Iter.{into_iter_items}
-use Rattle.std.specs.Prelude.{Option, nat_lt}
-use Rattle.line_base.specs.declared.dialer.ConnectionPool.{ConnectionPool}
+use Rattle.std.specs.Prelude.{Option}
 use Rattle.line_base.specs.Nets.{IsNewLog, Networking, Returns, after_stopper}
 use Rattle.serving.specs.declared.policy.Policy.{Policy}
 use Rattle.linker_config.specs.declared.config.Port.{Port}
@@ -145,9 +144,6 @@ loop-listener-preserved g c =
             hung = rw c.of.ensures.dialer c.dialer.ensures.closed;
             none_kept = rw c.of.ensures.dialer c.dialer.ensures.none_kept;
             pool = rw c.of.ensures.dialer (c.dialer.ensures.pool ∙ c.pool_by.ensures);
-            keeps =
-                rw c.of.ensures.dialer (c.dialer.ensures.keeps
-                ∙ ap (λ (p : ConnectionPool). nat_lt 0 p.max_size) c.pool_by.ensures);
             clock = rw c.of.ensures.clock c.fork.ensures.0;
             words = c.of.ensures.words
                 ∙ (c.seed_from_u64.ensures

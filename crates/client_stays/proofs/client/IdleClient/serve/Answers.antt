@@ -113,7 +113,7 @@ returns-in-Quiet g c =
       number = served.number ∙ learned.number;
       closed = λ none. served.closed (ap (λ (w : Way g.row.D.Denot). (upstream w.dialer).open_to)
           learned.way ∙ none);
-      keeps = served.keeps ∙ ap (λ (w : Way g.row.D.Denot). (upstream w.dialer).keeps)
+      pool = served.pool ∙ ap (λ (w : Way g.row.D.Denot). (upstream w.dialer).pool)
           learned.way;
     }
 
@@ -171,6 +171,6 @@ returns-in-Ended g c =
       number = served.number ∙ learned.number;
       closed = λ none. served.closed (ap (λ (w : Way g.row.D.Denot). (upstream w.dialer).open_to)
           learned.way ∙ none);
-      keeps = served.keeps ∙ ap (λ (w : Way g.row.D.Denot). (upstream w.dialer).keeps)
+      pool = served.pool ∙ ap (λ (w : Way g.row.D.Denot). (upstream w.dialer).pool)
           learned.way;
     }

@@ -148,15 +148,15 @@ returns-in-Some-clause-closed g c =
     c.serve_next.new.self)
     c.in-Some.paused (returns-in-Some-clause-stay g c)).closed
 
-pub returns-in-Some-clause-keeps : goal.returns-in-Some-clause-keeps
-returns-in-Some-clause-keeps g c =
+pub returns-in-Some-clause-pool : goal.returns-in-Some-clause-pool
+returns-in-Some-clause-pool g c =
     let at = standing g.P.Peer.line g.D.Dialer.upstream g.C.Clock.to_come in
     (stay_keeps g.J.Naming.settings c.args.context.now.rule.now c.args.connection.now.served
     c.serve_next.new.connection.served c.args.connection.now.budget
     c.serve_next.new.connection.budget
     (at c.args.connection.now c.args.self.now) (at c.serve_next.new.connection
     c.serve_next.new.self)
-    c.in-Some.paused (returns-in-Some-clause-stay g c)).keeps
+    c.in-Some.paused (returns-in-Some-clause-stay g c)).pool
 
 pub returns-in-Some-clause-number : goal.returns-in-Some-clause-number
 returns-in-Some-clause-number g c =

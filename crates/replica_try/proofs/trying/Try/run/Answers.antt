@@ -1,6 +1,6 @@
 use Rattle.std.proofs.Common.{List, ℕ, subst, inl}
 use Rattle.replica_try.specs.Trying.{GoesOnKept, TriesAnew}
-use Rattle.replica_try.proofs.Closed.{tries_closed, tries_keeps}
+use Rattle.replica_try.proofs.Closed.{tries_closed, tries_pool}
 use Rattle.replica_try.proofs.Speaking.{tries_anew, tries_kept}
 use Rattle.replica_try.proofs.trying.Try.run.Goals as goal
 
@@ -16,7 +16,7 @@ returns-then-resume-clause-tries g c =
     let now = g.D.Dialer.upstream c.run_kept.new.way.dialer in
     tries_kept to.head.now c.args.way.now.out.items to.framing to.last to.addr
     (g.P.Peer.line c.args.peer.now) (g.P.Peer.line c.run_kept.new.peer) c.args.rest.now
-    c.run_kept.new.rest before first now c.run_kept.result taken.log taken.faults taken.keeps
+    c.run_kept.new.rest before first now c.run_kept.result taken.log taken.faults taken.pool
     taken.any taken.again
     (subst (λ (out : List ℕ). GoesOnKept to.head.now out to.framing to.last to.addr
     (g.P.Peer.line c.args.peer.now) (g.P.Peer.line c.run_kept.new.peer) c.args.rest.now
@@ -32,7 +32,7 @@ returns-clause-tries g c =
     inl (
     tries_anew to.head.now c.args.way.now.out.items to.framing to.last to.addr
     (g.P.Peer.line c.args.peer.now) (g.P.Peer.line c.run_anew.new.peer) c.args.rest.now
-    c.run_anew.new.rest before first now c.run_anew.result none.log none.faults none.keeps
+    c.run_anew.new.rest before first now c.run_anew.result none.log none.faults none.pool
     (subst (λ (out : List ℕ). TriesAnew to.head.now out to.framing to.last to.addr
     (g.P.Peer.line c.args.peer.now) (g.P.Peer.line c.run_anew.new.peer) c.args.rest.now
     c.run_anew.new.rest first now c.run_anew.result) c.resume.ensures.out c.run_anew.ensures)
@@ -47,10 +47,10 @@ returns-then-resume-clause-closed g c =
     (g.P.Peer.line c.args.peer.now) c.args.rest.now
     (g.D.Dialer.upstream c.args.way.now.dialer) (returns-then-resume-clause-tries g c)
 
-pub returns-then-resume-clause-keeps : goal.returns-then-resume-clause-keeps
-returns-then-resume-clause-keeps g c =
+pub returns-then-resume-clause-pool : goal.returns-then-resume-clause-pool
+returns-then-resume-clause-pool g c =
     let to = c.args.self.now in
-    tries_keeps to.head.now c.args.way.now.out.items to.framing to.last to.addr
+    tries_pool to.head.now c.args.way.now.out.items to.framing to.last to.addr
     (g.P.Peer.line c.run_kept.new.peer) c.run_kept.new.rest
     (g.D.Dialer.upstream c.run_kept.new.way.dialer) c.run_kept.result
     (g.P.Peer.line c.args.peer.now) c.args.rest.now
@@ -65,10 +65,10 @@ returns-clause-closed g c =
     (g.P.Peer.line c.args.peer.now) c.args.rest.now
     (g.D.Dialer.upstream c.args.way.now.dialer) (returns-clause-tries g c)
 
-pub returns-clause-keeps : goal.returns-clause-keeps
-returns-clause-keeps g c =
+pub returns-clause-pool : goal.returns-clause-pool
+returns-clause-pool g c =
     let to = c.args.self.now in
-    tries_keeps to.head.now c.args.way.now.out.items to.framing to.last to.addr
+    tries_pool to.head.now c.args.way.now.out.items to.framing to.last to.addr
     (g.P.Peer.line c.run_anew.new.peer) c.run_anew.new.rest
     (g.D.Dialer.upstream c.run_anew.new.way.dialer) c.run_anew.result
     (g.P.Peer.line c.args.peer.now) c.args.rest.now

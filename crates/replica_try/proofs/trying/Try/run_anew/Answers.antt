@@ -28,5 +28,5 @@ returns-in-Err g c =
       fault = c.in-Err.ensures.cause.by_one;
       how_is = refl;
       closed = c.in-Err.ensures.opens;
-      keeps = c.in-Err.ensures.others.1;
+      pool = c.in-Err.ensures.others.1;
     })

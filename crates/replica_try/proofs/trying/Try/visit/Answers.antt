@@ -1,6 +1,7 @@
-use Rattle.std.proofs.Common.{sym, ◌∙◌}
+use Rattle.std.proofs.Common.{ap, sym, ◌∙◌}
 use Rattle.line_base.proofs.Links.{still_open}
 use Rattle.line_base.specs.declared.dialer.DialEvent.TheVariants.{Hung, Kept}
+use Rattle.line_base.specs.Dials.{has_room}
 use Rattle.replica_try.proofs.Speaking.{hangs, hung_by, kept_by, speaks}
 use Rattle.replica_try.proofs.BothHold.{and_left}
 use Rattle.replica_try.proofs.trying.Try.visit.Goals as goal
@@ -22,9 +23,10 @@ returns-then-is_kept-clause-speaks g c =
     c.args.self.now.last (g.P.Peer.line c.args.peer.now)
     (g.P.Peer.line c.converse-tried.new.peer) c.args.rest.now c.converse-tried.new.rest before
     (g.D.Dialer.upstream c.keep.new.self) how mid stays c.converse-tried.ensures.spoke Kept
-    (kept_by before.keeps mid.keeps c.keeps.result how c.is_kept.result c.is_kept.ensures
-    c.keeps.ensures stays.keeps c.if-is_kept.true)
-    c.keep.ensures.log c.keep.ensures.kept c.keep.ensures.closes c.keep.ensures.keeps.0
+    (kept_by (has_room before.pool) (has_room mid.pool) c.keeps.result how c.is_kept.result
+    c.is_kept.ensures
+    c.keeps.ensures (ap has_room stays.pool) c.if-is_kept.true)
+    c.keep.ensures.log c.keep.ensures.kept c.keep.ensures.closes c.keep.ensures.pool.0
 
 pub returns-clause-speaks : goal.returns-clause-speaks
 returns-clause-speaks g c =
@@ -37,7 +39,8 @@ returns-clause-speaks g c =
     c.args.self.now.last (g.P.Peer.line c.args.peer.now)
     (g.P.Peer.line c.converse-tried.new.peer) c.args.rest.now c.converse-tried.new.rest before now
     how mid stays c.converse-tried.ensures.spoke Hung
-    (hung_by before.keeps mid.keeps c.keeps.result how c.is_kept.result c.is_kept.ensures
-    c.keeps.ensures stays.keeps c.if-is_kept.false)
+    (hung_by (has_room before.pool) (has_room mid.pool) c.keeps.result how c.is_kept.result
+    c.is_kept.ensures
+    c.keeps.ensures (ap has_room stays.pool) c.if-is_kept.false)
     (hangs mid.open_to mid.log now.log (still_open stays c.requires) c.hang.ensures.log)
     c.hang.ensures.kept c.hang.ensures.closes c.hang.ensures.others.1
