@@ -15,8 +15,9 @@ Task = collections.namedtuple("Task", "waits_for size call")
 # How a task of the longest chain is run, and how those beside it are, by `nice`.
 FIRST, BESIDE = 0, 10
 
-# In how many seconds a check reads one of the libraries below.
-SECONDS_A_LIBRARY = 2
+# In about how many seconds a check reads one of the libraries of statements below: the 49 below
+# `linker_commands` took 20 on each processor.
+SECONDS_A_LIBRARY = 0.5
 
 # How many lines of code of a crate are proved in a second, where nothing better is known.
 LINES_A_SECOND = 10
